@@ -1,0 +1,131 @@
+-- The integers have no divisors of zero; the map of the integers into a ring; the integers modulo a number.
+use mathlib.Core.Path.{_≡_, refl, sym, _∙_, ap, ap₂, subst}
+use mathlib.Core.Logic.{_≢_, _⊎_, inl, inr}
+use mathlib.Core.Bool.{Bool, true, false, not, cond}
+use Prim.Native.Nat.{ℕ, zero, suc, _+_ as _+ℕ_, _*_ as _*ℕ_, _-_ as _-ℕ_, _%_, _<_, _≤_}
+use native.Mathlib.Nat.{mul-pos, mod-add-mod, add-mod-mod}
+use native.Mathlib.Decide.{Fin·val-path}
+use native.Mathlib.Omega.{arith}
+use lib.Dec.{T, ltb, ltb→lt, nltb→le}
+use lib.IntN.{ℤ, pos, negsuc, negℤ, natAbs, _+ℤ_, _*ℤ_, subℕ}
+use Rattle.algebra.specs.Det.{det}
+use Rattle.algebra.specs.Integers.{ℤ-ring}
+use Rattle.algebra.specs.Modular.{mul-mod}
+use Rattle.algebra.specs.Residues.{Res, toRes, Res-ring}
+use Rattle.algebra.specs.Ring.{CRing, add-zero, add-neg, add-left-comm, mul-neg, add-cancel, mul-zero, neg-neg, neg-mul, neg-of-add, add-neg-cancel, neg-add-cancel}
+use Rattle.algebra.specs.Rows.{Hom, det-hom}
+use Rattle.algebra.specs.Sum.{neg-zero}
+
+abs-neg : (n : ℕ) → natAbs (negℤ (pos n)) ≡ n
+abs-neg zero = refl
+abs-neg (suc n) = refl
+
+pub abs-mul : (a b : ℤ) → natAbs (a *ℤ b) ≡ natAbs a *ℕ natAbs b
+abs-mul (pos m) (pos n) = refl
+abs-mul (pos m) (negsuc n) = abs-neg (m *ℕ suc n)
+abs-mul (negsuc m) (pos n) = abs-neg (suc m *ℕ n)
+abs-mul (negsuc m) (negsuc n) = refl
+
+abs-zero : (a : ℤ) → natAbs a ≡ 0 → a ≡ pos 0
+abs-zero (pos n) h = ap pos h
+abs-zero (negsuc n) h = absurd (omega arith)
+
+mul-zero-nat : (a b : ℕ) → a *ℕ b ≡ 0 → 0 < a → b ≡ 0
+mul-zero-nat a zero h l = refl
+mul-zero-nat a (suc b) h l = absurd (omega (arith, mul-pos l (suc-pos b)))
+  where
+    suc-pos : (b : ℕ) → 0 < suc b
+    suc-pos b = omega arith
+
+-- a ≢ 0 as a number
+pub nonzero : (a : ℤ) → a ≢ pos 0 → 0 < natAbs a
+nonzero (pos zero) h = absurd (h refl)
+nonzero (pos (suc n)) h = omega arith
+nonzero (negsuc n) h = omega arith
+
+pub no-divisors : (a b : ℤ) → a ≢ pos 0 → a *ℤ b ≡ pos 0 → b ≡ pos 0
+no-divisors a b z h = abs-zero b (mul-zero-nat (natAbs a) (natAbs b) (sym (abs-mul a b) ∙ ap natAbs h) (nonzero a z))
+
+pub cancel : (a b c : ℤ) → a ≢ pos 0 → a *ℤ b ≡ a *ℤ c → b ≡ c
+cancel a b c z h =
+    add-cancel ℤ-ring (negℤ c) b c
+    (ℤ-ring .add-comm (negℤ c) b
+    ∙ no-divisors a (b +ℤ negℤ c) z (ℤ-ring .mul-add a b (negℤ c) ∙ ap₂ _+ℤ_ h (mul-neg ℤ-ring a c) ∙ add-neg ℤ-ring (a *ℤ c))
+    ∙ sym (ℤ-ring .neg-add c))
+
+-- a map of the numbers, carried on to the integers
+abbrev pub ext : {S : Type 0} → CRing S → (ℕ → S) → ℤ → S
+ext 𝓢 ν (pos n) = ν n
+ext 𝓢 ν (negsuc n) = 𝓢 .neg (ν (suc n))
+
+module _ {S : Type 0} (𝓢 : CRing S) (ν : ℕ → S) (ν-add : (a b : ℕ) → ν (a +ℕ b) ≡ 𝓢 .add (ν a) (ν b)) (ν-mul : (a b : ℕ) → ν (a *ℕ b) ≡ 𝓢 .mul (ν a) (ν b)) (ν-one : ν 1 ≡ 𝓢 .unit) where
+  open CRing 𝓢 using (add as _+_, mul as _*_, neg as -_, nil as 𝟘, unit as 𝟙, add-assoc, add-comm, zero-add, neg-add, mul-assoc, mul-comm, one-mul, mul-add)
+
+  infixl 65 _+_
+  infixl 70 _*_
+  infix 75 -_
+  abbrev ι : ℤ → S
+  ι = ext 𝓢 ν
+
+  ν-zero : ν 0 ≡ 𝟘
+  ν-zero = add-cancel 𝓢 (ν 0) (ν 0) 𝟘 (sym (ν-add 0 0) ∙ sym (add-zero 𝓢 (ν 0)))
+
+  ι-neg : (a : ℤ) → ι (negℤ a) ≡ - ι a
+  ι-neg (pos zero) = ν-zero ∙ sym (neg-zero 𝓢) ∙ ap (λ x. - x) (sym ν-zero)
+  ι-neg (pos (suc n)) = refl
+  ι-neg (negsuc n) = sym (neg-neg 𝓢 (ν (suc n)))
+
+  ν-sub : (a b : ℕ) → b ≤ a → ν (a -ℕ b) ≡ ν a + (- ν b)
+  ν-sub a b l =
+      add-cancel 𝓢 (ν b) (ν (a -ℕ b)) (ν a + (- ν b))
+      (sym (ν-add b (a -ℕ b)) ∙ ap ν (add-sub a b l) ∙ sym (add-left-comm 𝓢 (ν b) (ν a) (- ν b) ∙ simp (add-neg 𝓢, add-zero 𝓢)))
+    where
+      add-sub : (a b : ℕ) → b ≤ a → b +ℕ (a -ℕ b) ≡ a
+      add-sub a b l = omega arith
+
+  ι-sub : (a b : ℕ) → ι (subℕ a b) ≡ ν a + (- ν b)
+  ι-sub a b = go (ltb a b) refl
+    where
+      suc-sub : a < b → suc (b -ℕ suc a) ≡ b -ℕ a
+      suc-sub l = omega arith
+
+      go : (t : Bool) → ltb a b ≡ t → ι (cond t (negsuc (b -ℕ suc a)) (pos (a -ℕ b))) ≡ ν a + (- ν b)
+      go true h =
+          let l = ltb→lt a b (subst T (sym h) tt) in
+          ap (λ n. - ν n) (suc-sub l) ∙ ap (λ x. - x) (ν-sub b a (omega arith)) ∙ simp (neg-of-add 𝓢, neg-neg 𝓢, add-comm)
+      go false h = ν-sub a b (nltb→le a b (subst (λ t. T (not t)) (sym h) tt))
+
+  ι-add : (a b : ℤ) → ι (a +ℤ b) ≡ ι a + ι b
+  ι-add (pos a) (pos b) = ν-add a b
+  ι-add (pos a) (negsuc b) = ι-sub a (suc b)
+  ι-add (negsuc a) (pos b) = ι-sub b (suc a) ∙ add-comm (ν b) (- ν (suc a))
+  ι-add (negsuc a) (negsuc b) = ap (λ n. - ν n) (two-suc a b) ∙ ap (λ x. - x) (ν-add (suc a) (suc b)) ∙ neg-of-add 𝓢 (ν (suc a)) (ν (suc b))
+    where
+      two-suc : (a b : ℕ) → suc (suc (a +ℕ b)) ≡ suc a +ℕ suc b
+      two-suc a b = omega arith
+
+  ι-mul : (a b : ℤ) → ι (a *ℤ b) ≡ ι a * ι b
+  ι-mul (pos a) (pos b) = ν-mul a b
+  ι-mul (pos a) (negsuc b) = ι-neg (pos (a *ℕ suc b)) ∙ ap (λ x. - x) (ν-mul a (suc b)) ∙ sym (mul-neg 𝓢 (ν a) (ν (suc b)))
+  ι-mul (negsuc a) (pos b) = ι-neg (pos (suc a *ℕ b)) ∙ ap (λ x. - x) (ν-mul (suc a) b) ∙ sym (neg-mul 𝓢 (ν (suc a)) (ν b))
+  ι-mul (negsuc a) (negsuc b) = ν-mul (suc a) (suc b) ∙ sym (simp (neg-mul 𝓢, mul-neg 𝓢, neg-neg 𝓢))
+
+  pub ι-hom : Hom ℤ-ring 𝓢 (ext 𝓢 ν)
+  ι-hom = record { h-add = ι-add; h-mul = ι-mul; h-neg = ι-neg; h-zero = ν-zero; h-one = ν-one }
+
+-- modulo m + 1
+module _ (m : ℕ) where
+  res-add : (a b : ℕ) → toRes m (a +ℕ b) ≡ Res-ring m .add (toRes m a) (toRes m b)
+  res-add a b = Fin·val-path (simp (mod-add-mod, add-mod-mod))
+
+  res-mul : (a b : ℕ) → toRes m (a *ℕ b) ≡ Res-ring m .mul (toRes m a) (toRes m b)
+  res-mul a b = Fin·val-path (mul-mod a b (suc m))
+
+  abbrev pub reduce : ℤ → Res m
+  reduce = ext (Res-ring m) (toRes m)
+
+  pub reduce-hom : Hom ℤ-ring (Res-ring m) reduce
+  reduce-hom = ι-hom (Res-ring m) (toRes m) res-add res-mul refl
+
+  pub det-mod : (n : ℕ) (a : ℕ → ℕ → ℤ) → reduce (det ℤ-ring n a) ≡ det (Res-ring m) n (λ r c. reduce (a r c))
+  det-mod = det-hom ℤ-ring (Res-ring m) reduce reduce-hom

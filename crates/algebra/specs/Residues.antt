@@ -1,0 +1,43 @@
+-- Z/(m+1): the numbers below m+1, with the operations modulo m+1.
+use mathlib.Core.Path.{_≡_, refl, sym, _∙_, ap}
+use Prim.Native.Nat.{ℕ, zero, suc, _+_, _*_, _-_, _%_, _<_, _≤_, Fin}
+use native.Mathlib.Nat.{mod-lt, mod-add-mod, add-mod-mod, mod-mod, mod-self, mod-eq-of-lt, zero-lt-suc, add-assoc, add-comm, mul-assoc, mul-comm, mul-add, one-mul, le-of-lt, sub-add-cancel}
+use native.Mathlib.Decide.{Fin·val-path}
+use native.Mathlib.Omega.{arith}
+use Rattle.algebra.specs.Modular.{mul-mod}
+use Rattle.algebra.specs.Ring.{CRing}
+
+pub mul-mod-l : (a b n : ℕ) → (a % n * b) % n ≡ (a * b) % n
+mul-mod-l a b n = mul-mod (a % n) b n ∙ ap (λ x. (x * (b % n)) % n) (mod-mod a n) ∙ sym (mul-mod a b n)
+
+pub mul-mod-r : (a b n : ℕ) → (a * (b % n)) % n ≡ (a * b) % n
+mul-mod-r a b n = mul-mod a (b % n) n ∙ ap (λ x. ((a % n) * x) % n) (mod-mod b n) ∙ sym (mul-mod a b n)
+
+module _ (m : ℕ) where
+  abbrev pub Res : Type 0
+  Res = Fin (suc m)
+
+  abbrev pub toRes : ℕ → Res
+  toRes a = (a % suc m, mod-lt a (zero-lt-suc m))
+
+  pub neg-ok : (a : Res) → ((suc m - a .0) % suc m + a .0) % suc m ≡ 0 % suc m
+  neg-ok a =
+      mod-add-mod (suc m - a .0) (suc m) (a .0) ∙ ap (λ x. x % suc m) (sub-add-cancel (le-of-lt (a .1)))
+      ∙ mod-self (suc m) ∙ sym (mod-eq-of-lt (zero-lt-suc m))
+
+  abbrev pub Res-ring : CRing Res
+  Res-ring = record {
+    add = λ a b. toRes (a .0 + b .0);
+    mul = λ a b. toRes (a .0 * b .0);
+    neg = λ a. toRes (suc m - a .0);
+    nil = toRes 0;
+    unit = toRes 1;
+    add-assoc = λ a b c. Fin·val-path (simp (mod-add-mod, add-mod-mod, add-assoc));
+    add-comm = λ a b. Fin·val-path (ap (λ x. x % suc m) (add-comm (a .0) (b .0)));
+    zero-add = λ a. Fin·val-path (mod-add-mod 0 (suc m) (a .0) ∙ ap (λ x. x % suc m) (omega arith) ∙ mod-eq-of-lt (a .1));
+    neg-add = λ a. Fin·val-path (neg-ok a);
+    mul-assoc = λ a b c. Fin·val-path (simp (mul-mod-l, mul-mod-r, mul-assoc));
+    mul-comm = λ a b. Fin·val-path (ap (λ x. x % suc m) (mul-comm (a .0) (b .0)));
+    one-mul = λ a. Fin·val-path (mul-mod-l 1 (a .0) (suc m) ∙ ap (λ x. x % suc m) (one-mul (a .0)) ∙ mod-eq-of-lt (a .1));
+    mul-add = λ a b c. Fin·val-path (simp (mul-mod-r, mod-add-mod, add-mod-mod, mul-add));
+  }

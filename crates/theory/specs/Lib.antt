@@ -1,0 +1,9 @@
+pub mod Certificates
+pub mod Examples
+pub mod PointThree
+pub mod ReachedLaws
+pub mod ReachedSteps
+pub mod ReducedLaws
+pub mod ResultantLaws
+pub mod StarredRows
+pub mod Words

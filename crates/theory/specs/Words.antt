@@ -1,0 +1,172 @@
+-- The resultant in sent degrees, over any ring, the constant first; modulo n; the words' resultant is the ring's.
+use mathlib.Core.Path.{_≡_, refl, sym, _∙_, ap, ap₂, fun-ext, subst}
+use mathlib.Core.Logic.{_≢_}
+use mathlib.Core.List.{List, [], _∷_}
+use mathlib.Core.Bool.{Bool, true, false, not, cond}
+use Prim.Native.Nat.{ℕ, zero, suc, _<_, _≤_, _%_, pred, _+_ as _+ℕ_, _*_ as _*ℕ_, _-_ as _-ℕ_}
+use native.Mathlib.Nat.{mod-eq-of-lt, add-mul-mod-self-left, mod-mod, mod-lt, zero-lt-suc}
+use native.Mathlib.Decide.{Fin·val-path, decLe}
+use native.Mathlib.Omega.{arith}
+use lib.ListN.{length, getD, List·getD-eq-default}
+use lib.Dec.{T, leb, ltb, leb→le, nleb→lt, ltb→lt, nltb→le}
+use lib.IntN.{ℤ, pos, negsuc, negℤ, _+ℤ_, _*ℤ_}
+use Rattle.definitions.specs.Polynomials.{coef, deg, total, convolve, tabulate, product}
+use Rattle.definitions.specs.Resultants.{entry, sylvester, alternating, beside, determinant, residue, resultant}
+use Rattle.algebra.specs.Block.{up, up-is}
+use Rattle.algebra.specs.Det.{det, minor}
+use Rattle.algebra.specs.Domain.{reduce, reduce-hom}
+use Rattle.algebra.specs.Euclid.{res-mod}
+use Rattle.algebra.specs.Integers.{ℤ-ring}
+use Rattle.algebra.specs.Index.{skip}
+use Rattle.algebra.specs.SentResultant.{Rs, rv-hom, Rs-mul}
+use Rattle.algebra.specs.Sum.{alt}
+use Rattle.algebra.specs.Residues.{Res, toRes, Res-ring, mul-mod-l, mul-mod-r}
+use Rattle.algebra.specs.Resultant.{stack, shift, shift-low, conv, res, res-mul-ℤ}
+use Rattle.algebra.specs.Reverse.{rv, rv-at, rv-out, rv-cong, shift-at, conv-rv, conv-out}
+use Rattle.algebra.specs.Ring.{CRing}
+use Rattle.algebra.specs.Rows.{Hom}
+
+pub coef-out : (f : List ℕ) (k : ℕ) → deg f < k → coef f k ≡ 0
+coef-out [] zero l = absurd (omega arith)
+coef-out [] (suc k) l = refl
+coef-out (x ∷ f) k l = List·getD-eq-default (x ∷ f) 0 {n = k} (omega arith)
+
+pub coef-tabulate : (n : ℕ) (F : ℕ → ℕ) (k : ℕ) → k < n → coef (tabulate n F) k ≡ F k
+coef-tabulate zero F k l = absurd (omega arith)
+coef-tabulate (suc n) F zero l = refl
+coef-tabulate (suc n) F (suc k) l = coef-tabulate n (λ i. F (suc i)) k (omega arith)
+
+pub length-tabulate : (n : ℕ) (F : ℕ → ℕ) → length (tabulate n F) ≡ n
+length-tabulate zero F = refl
+length-tabulate (suc n) F = ap suc (length-tabulate n (λ i. F (suc i)))
+
+pub residue-reduce : (m : ℕ) (z : ℤ) → residue (suc m) z ≡ reduce m z .0
+residue-reduce m (pos a) = refl
+residue-reduce m (negsuc a) = refl
+
+abbrev pub whole : List ℕ → ℕ → ℤ
+whole f k = pos (coef f k)
+
+abbrev pub words : (m : ℕ) → List ℕ → ℕ → Res m
+words m f k = toRes m (coef f k)
+
+entry-is : (d : ℕ) (f : List ℕ) (i j : ℕ) → entry d f i j ≡ shift ℤ-ring i (rv ℤ-ring d (whole f)) j
+entry-is d f i j = go (leb i j) refl (leb j (i +ℕ d)) refl
+  where
+    go : (s : Bool) → leb i j ≡ s → (t : Bool) → leb j (i +ℕ d) ≡ t
+        → cond s (cond t (pos (coef f (i +ℕ d -ℕ j))) (pos 0)) (pos 0) ≡ shift ℤ-ring i (rv ℤ-ring d (whole f)) j
+    go true h true g =
+        let p = leb→le i j (subst T (sym h) tt) in
+        let q = leb→le j (i +ℕ d) (subst T (sym g) tt) in
+        sym (shift-at ℤ-ring i (rv ℤ-ring d (whole f)) j (j -ℕ i) (omega arith) ∙ rv-at ℤ-ring d (whole f) (j -ℕ i) (i +ℕ d -ℕ j) (omega arith))
+    go true h false g =
+        let p = leb→le i j (subst T (sym h) tt) in
+        let q = nleb→lt j (i +ℕ d) (subst (λ t. T (not t)) (sym g) tt) in
+        sym (shift-at ℤ-ring i (rv ℤ-ring d (whole f)) j (j -ℕ i) (omega arith) ∙ rv-out ℤ-ring d (whole f) (j -ℕ i) (omega arith))
+    go false h true g = sym (shift-low ℤ-ring i j (rv ℤ-ring d (whole f)) (nleb→lt i j (subst (λ t. T (not t)) (sym h) tt)))
+    go false h false g = sym (shift-low ℤ-ring i j (rv ℤ-ring d (whole f)) (nleb→lt i j (subst (λ t. T (not t)) (sym h) tt)))
+
+stack-cond : (e : ℕ) (a b : ℕ → ℕ → ℤ) (r c : ℕ) → cond (ltb r e) (a r c) (b (r -ℕ e) c) ≡ stack e a b r c
+stack-cond e a b r c = go (ltb r e) refl
+  where
+    top : (e : ℕ) (a b : ℕ → ℕ → ℤ) (r : ℕ) → r < e → stack e a b r c ≡ a r c
+    top zero a b r l = absurd (omega arith)
+    top (suc e) a b zero l = refl
+    top (suc e) a b (suc r) l = top e (λ i. a (suc i)) b r (omega arith)
+
+    rest : (e : ℕ) (a b : ℕ → ℕ → ℤ) (r s : ℕ) → e +ℕ s ≡ r → stack e a b r c ≡ b s c
+    rest zero a b r s h = ap (λ (k : ℕ). b k c) (omega arith)
+    rest (suc e) a b zero s h = absurd (omega arith)
+    rest (suc e) a b (suc r) s h = rest e (λ i. a (suc i)) b r s (omega arith)
+
+    go : (t : Bool) → ltb r e ≡ t → cond t (a r c) (b (r -ℕ e) c) ≡ stack e a b r c
+    go true h = sym (top e a b r (ltb→lt r e (subst T (sym h) tt)))
+    go false h = let l = nltb→le r e (subst (λ t. T (not t)) (sym h) tt) in sym (rest e a b r (r -ℕ e) (omega arith))
+
+beside-is : (i r : ℕ) → beside i r ≡ skip i r
+beside-is zero r = refl
+beside-is (suc i) zero = refl
+beside-is (suc i) (suc r) = ap suc (beside-is i r)
+
+alternating-is : (n : ℕ) (F : ℕ → ℤ) → alternating n F ≡ alt ℤ-ring n F
+alternating-is zero F = refl
+alternating-is (suc n) F = ap (λ (x : ℤ). F zero +ℤ negℤ x) (alternating-is n (λ i. F (suc i)))
+
+-- the reader's determinant is the ring's, over the integers
+pub determinant-is : (n : ℕ) (a : ℕ → ℕ → ℤ) → determinant n a ≡ det ℤ-ring n a
+unfolding determinant det
+determinant-is zero a = refl
+determinant-is (suc n) a =
+    alternating-is (suc n) (λ i. a i 0 *ℤ determinant n (λ r c. a (beside i r) (suc c)))
+    ∙ ap (alt ℤ-ring (suc n)) (fun-ext (λ i. ap (λ (x : ℤ). a i 0 *ℤ x)
+    (ap (determinant n) (fun-ext (λ r. fun-ext (λ c. ap (λ (x : ℕ). a x (suc c)) (beside-is i r)))) ∙ determinant-is n (minor ℤ-ring i a))))
+
+pub sylvester-is : (f g : List ℕ) → determinant (deg f +ℕ deg g) (sylvester f g) ≡ Rs ℤ-ring (deg f) (deg g) (whole f) (whole g)
+unfolding res
+sylvester-is f g =
+    determinant-is (deg f +ℕ deg g) (sylvester f g)
+    ∙ ap₂ (λ (k : ℕ) (a : ℕ → ℕ → ℤ). det ℤ-ring k a) (swap (deg f) (deg g) (up-is (deg g) (deg f)))
+    (fun-ext (λ r. fun-ext (λ c.
+    ap₂ (λ x y. cond (ltb r (deg g)) x y) (entry-is (deg f) f r c) (entry-is (deg g) g (r -ℕ deg g) c)
+    ∙ stack-cond (deg g) (λ i. shift ℤ-ring i (rv ℤ-ring (deg f) (whole f))) (λ i. shift ℤ-ring i (rv ℤ-ring (deg g) (whole g))) r c)))
+  where
+    swap : (d e : ℕ) → up e d ≡ e +ℕ d → d +ℕ e ≡ up e d
+    swap d e h = omega arith
+
+-- the resultant of words is the ring's
+pub resultant-is : (m : ℕ) (f g : List ℕ) → resultant (suc m) f g ≡ Rs (Res-ring m) (deg f) (deg g) (words m f) (words m g) .0
+unfolding resultant
+resultant-is m f g =
+    residue-reduce m (determinant (deg f +ℕ deg g) (sylvester f g))
+    ∙ ap (λ (z : Res m). z .0) (ap (reduce m) (sylvester-is f g)
+    ∙ res-mod m (deg g) (deg f) (rv ℤ-ring (deg f) (whole f)) (rv ℤ-ring (deg g) (whole g))
+    ∙ ap₂ (res (Res-ring m) (deg g) (deg f)) (fun-ext (rv-hom ℤ-ring (Res-ring m) (reduce m) (reduce-hom m) (deg f) (whole f))) (fun-ext (rv-hom ℤ-ring (Res-ring m) (reduce m) (reduce-hom m) (deg g) (whole g))))
+
+pub total-cong : (n : ℕ) (F G : ℕ → ℕ) → ((i : ℕ) → i < n → F i ≡ G i) → total n F ≡ total n G
+total-cong zero F G h = refl
+total-cong (suc n) F G h = ap₂ _+ℕ_ (h 0 (omega arith)) (total-cong n (λ i. F (suc i)) (λ i. G (suc i)) (λ i l. h (suc i) (omega arith)))
+
+pub convolve-zero : (p q : ℕ → ℕ) → convolve p q 0 ≡ p 0 *ℕ q 0
+convolve-zero p q = omega arith
+
+pub convolve-suc : (p q : ℕ → ℕ) (k : ℕ) → convolve p q (suc k) ≡ p 0 *ℕ q (suc k) +ℕ convolve (λ i. p (suc i)) q k
+convolve-suc p q k = ap₂ (λ x y. p 0 *ℕ q x +ℕ y) (whole-of k) (total-cong (suc k) _ _ (λ i l. ap (λ x. p (suc i) *ℕ q x) (less k i)))
+  where
+    whole-of : (k : ℕ) → suc k -ℕ 0 ≡ suc k
+    whole-of k = omega arith
+
+    less : (k i : ℕ) → suc k -ℕ suc i ≡ k -ℕ i
+    less k i = omega arith
+
+-- the sum of products of words is the ring's
+pub convolve-is : (m : ℕ) (p q : ℕ → ℕ) (k : ℕ) → toRes m (convolve p q k) ≡ conv (Res-ring m) (λ i. toRes m (p i)) (λ i. toRes m (q i)) k
+convolve-is m p q zero = ap (toRes m) (convolve-zero p q) ∙ reduce-hom m .h-mul (pos (p 0)) (pos (q 0))
+convolve-is m p q (suc k) =
+    ap (toRes m) (convolve-suc p q k) ∙ reduce-hom m .h-add (pos (p 0 *ℕ q (suc k))) (pos (convolve (λ i. p (suc i)) q k))
+    ∙ ap₂ (Res-ring m .add) (reduce-hom m .h-mul (pos (p 0)) (pos (q (suc k)))) (convolve-is m (λ i. p (suc i)) q k)
+
+pub words-out : (m : ℕ) (f : List ℕ) (k : ℕ) → deg f < k → words m f k ≡ toRes m 0
+words-out m f k l = ap (toRes m) (coef-out f k l)
+
+pub deg-product : (n : ℕ) (f g : List ℕ) → deg (product n f g) ≡ deg f +ℕ deg g
+deg-product n f g = length-tabulate (deg f +ℕ deg g) (λ i. convolve (coef f) (coef g) (suc i) % n)
+
+pub words-product : (m : ℕ) (f g : List ℕ) (k : ℕ) → words m (product (suc m) f g) k ≡ conv (Res-ring m) (words m f) (words m g) k
+words-product m f g k = go (decLe k (deg f +ℕ deg g))
+  where
+    go : Dec (k ≤ deg f +ℕ deg g) → words m (product (suc m) f g) k ≡ conv (Res-ring m) (words m f) (words m g) k
+    go (yes l) =
+        ap (toRes m) (coef-tabulate (suc (deg f +ℕ deg g)) (λ k. convolve (coef f) (coef g) k % suc m) k (omega arith))
+        ∙ Fin·val-path (mod-mod (convolve (coef f) (coef g) k) (suc m)) ∙ convolve-is m (coef f) (coef g) k
+    go (no l) =
+        words-out m (product (suc m) f g) k (omega (arith, deg-product (suc m) f g))
+        ∙ sym (conv-out (Res-ring m) (deg f) (deg g) (words m f) (words m g) (words-out m f) (words-out m g) k (omega arith))
+
+-- THE LAW OF PRODUCTS for the words' resultant
+pub law-of-products : (n : ℕ) → 1 ≤ n → (f g h : List ℕ) → resultant n (product n f g) h ≡ (resultant n f h *ℕ resultant n g h) % n
+law-of-products zero l f g h = absurd (omega arith)
+law-of-products (suc m) l f g h =
+    resultant-is m (product (suc m) f g) h
+    ∙ ap (λ (z : Res m). z .0) (ap₂ (λ (d : ℕ) (u : ℕ → Res m). Rs (Res-ring m) d (deg h) u (words m h)) (deg-product (suc m) f g) (fun-ext (words-product m f g))
+    ∙ Rs-mul m (deg f) (deg g) (deg h) (words m f) (words m g) (words m h) (words-out m f) (words-out m g))
+    ∙ ap₂ (λ x y. (x *ℕ y) % suc m) (sym (resultant-is m f h)) (sym (resultant-is m g h))
