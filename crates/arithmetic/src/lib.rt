@@ -1,0 +1,80 @@
+// Residues modulo n, n at most 32 bits: the leaves that every loop of the engine calls. One division a call.
+//
+//   reduce          x modulo n, x of 64 bits
+//   add_mod, sub_mod, mul_mod, mul_add_mod
+//   sum_two         x + c a + m b by one division
+//   power           x to the power k
+ghost use mathlib.Core.Path.{_≡_};
+ghost use Prim.Native.Nat.{ℕ, _+_, _-_, _*_, _%_, _^_, _<_, _≤_};
+
+// x modulo n.
+pub fn reduce(n: u32, x: u64) -> u32
+    requires { ⌜ 1 ≤ n ⌝ }
+    ensures { λ r. ⌜ r ≡ x % n ⌝ }
+{
+    let p = x % (n as u64);
+    p as u32
+}
+
+pub fn mul_mod(n: u32, a: u32, b: u32) -> u32
+    requires { ⌜ 1 ≤ n ⌝ }
+    ensures { λ r. ⌜ r ≡ (a * b) % n ⌝ }
+{
+    reduce(n, (a as u64) * (b as u64))
+}
+
+pub fn add_mod(n: u32, a: u32, b: u32) -> u32
+    requires { ⌜ 1 ≤ n ⌝ }
+    ensures { λ r. ⌜ r ≡ (a + b) % n ⌝ }
+{
+    reduce(n, (a as u64) + (b as u64))
+}
+
+// a - b, as a + (n - b), for b at most n.
+pub fn sub_mod(n: u32, a: u32, b: u32) -> u32
+    requires { ⌜ (1 ≤ n) × (b ≤ n) ⌝ }
+    ensures { λ r. ⌜ r ≡ (a + (n - b)) % n ⌝ }
+{
+    reduce(n, (a as u64) + ((n - b) as u64))
+}
+
+// a + m b. A product is taken away by m = n - c.
+pub fn mul_add_mod(n: u32, a: u32, m: u32, b: u32) -> u32
+    requires { ⌜ 1 ≤ n ⌝ }
+    ensures { λ r. ⌜ r ≡ (a + m * b) % n ⌝ }
+{
+    reduce(n, (a as u64) + (m as u64) * (b as u64))
+}
+
+// x + c a + m b. The sum is kept below n 2^32 by one comparison.
+pub fn sum_two(n: u32, x: u32, c: u32, a: u32, m: u32, b: u32) -> u32
+    requires { ⌜ (1 ≤ n) × ((x ≤ n) × (m ≤ n)) ⌝ }
+    ensures { λ r. ⌜ r ≡ (x + c * a + m * b) % n ⌝ }
+{
+    let k = (n as u64) * 4294967296;
+    let p = (c as u64) * (a as u64);
+    let q = (m as u64) * (b as u64) + (x as u64);
+    let h = k - q;
+    if p >= h {
+        return reduce(n, p - h);
+    }
+    reduce(n, p + q)
+}
+
+// x to the power k, by squaring.
+pub fn power(n: u32, x: u32, k: usize) -> u32
+    requires { ⌜ 1 ≤ n ⌝ }
+    ensures { λ r. ⌜ r ≡ (x ^ k) % n ⌝ }
+{
+    let mut r = reduce(n, 1);
+    let mut y = x;
+    let mut j = k;
+    while 0 < j {
+        if j % 2 == 1 {
+            r = mul_mod(n, r, y);
+        }
+        y = mul_mod(n, y, y);
+        j = j / 2;
+    }
+    r
+}

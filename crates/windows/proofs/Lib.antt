@@ -1,0 +1,4 @@
+pub mod Leaf
+pub mod Lift
+pub mod Pairs
+pub mod Parts
