@@ -80,6 +80,7 @@ module _ {n a k s t x y : ℕ} (l : 0 < n) (g : Signed n a k s t x y) (h : 0 < y
 pub signed-even : {n a k s t x y : ℕ} → 0 < n → Signed n a k s t x y → y ≡ 0 → k ≡ 0 → GcdCofactor n a x (n - s)
 signed-even {n} {a} {k} {s} {t} {x} {y} pos g e o = record {
       gcd = same-end (g .same) e;
+      at-most = omega arith;
       bezout = c-cancel (s * a) pos (c-trans (c-eq {b = n * a} (sums (n - s) (let l = g .less in omega arith))) (c-trans (record { same = mul-mod-right n a ∙ sym (zero-mod n) }) (c-sym (g .even o .0)))) .same
     }
   where
@@ -87,4 +88,4 @@ signed-even {n} {a} {k} {s} {t} {x} {y} pos g e o = record {
     sums m e = rw (← e) (omega arith)
 
 pub signed-odd : {n a k s t x y : ℕ} → Signed n a k s t x y → y ≡ 0 → (k ≡ 0 → ⊥) → GcdCofactor n a x s
-signed-odd {n} {a} {k} {s} {t} {x} {y} g e o = record { gcd = same-end (g .same) e; bezout = g .odd (let b = g .bit in omega arith) .0 .same }
+signed-odd {n} {a} {k} {s} {t} {x} {y} g e o = record { gcd = same-end (g .same) e; at-most = g .less; bezout = g .odd (let b = g .bit in omega arith) .0 .same }
