@@ -6,3 +6,4 @@ pub mod Chinese
 pub mod Logarithm
 pub mod Primes
 pub mod Nilpotents
+pub mod Kinds
