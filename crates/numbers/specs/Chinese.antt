@@ -6,7 +6,7 @@
 --   joined-exists, joined-unique
 use mathlib.Core.Path.{_≡_, sym, _∙_}
 use Prim.Native.Nat.{ℕ, zero, suc, _+_, _-_, _*_, _/_, _%_, _^_, _<_, _≤_, _∣_}
-use native.Mathlib.Nat.{mod-lt, mod-eq-of-lt, zero-mod, zero-mul, one-mul, mul-comm, add-zero, mul-pos, dvd-mul-left, dvd-mul-right, add-sub-of-le}
+use native.Mathlib.Nat.{mod-lt, mod-eq-of-lt, mod-mod-of-dvd, le-of-lt, zero-mod, zero-mul, one-mul, mul-comm, add-zero, mul-pos, dvd-mul-left, dvd-mul-right, add-sub-of-le}
 use native.Mathlib.Decide.{decLe}
 use native.Mathlib.Omega.{arith}
 use Rattle.definitions.specs.Residues.{Inverse, IsUnit, Coprime}
@@ -60,10 +60,13 @@ joined-of {n₁} {n₂} {e} x y l₁ l₂ b i =
     turn : (n z : ℕ) → y + z ≡ n → y + (x + z) ≡ x + n * 1
     turn n z h = omega arith
 
-pub joined-exists : {n₁ n₂ : ℕ} → 1 ≤ n₁ → 1 ≤ n₂ → Coprime n₁ n₂ → (x y : ℕ) → y ≤ n₁ * n₂ → (r : ℕ) × Joined n₁ n₂ x y r
-joined-exists {n₁} {n₂} l₁ l₂ c x y b =
+pub joined-exists : {n₁ n₂ : ℕ} → 1 ≤ n₁ → 1 ≤ n₂ → Coprime n₁ n₂ → (x y : ℕ) → (r : ℕ) × Joined n₁ n₂ x y r
+joined-exists {n₁} {n₂} l₁ l₂ c x y =
+    let n : ℕ = n₁ * n₂ in
+    let z : ℕ = y % n in
     let e = idempotent-exists l₁ l₂ c in
-    ((y + e .0 * ((x + (n₁ * n₂ - y)) % (n₁ * n₂))) % (n₁ * n₂), joined-of x y l₁ l₂ b (e .1))
+    let j = joined-of x z l₁ l₂ (le-of-lt (mod-lt y (mul-pos l₁ l₂))) (e .1) in
+    ((z + e .0 * ((x + (n - z)) % n)) % n, record { below = j .below; first = j .first; second = j .second ∙ mod-mod-of-dvd n₂ y (dvd-mul-left n₂ n₁) })
 
 pub chinese-same : {n₁ n₂ x y : ℕ} → 1 ≤ n₁ → 1 ≤ n₂ → Coprime n₁ n₂ → Cong n₁ x y → Cong n₂ x y → Cong (n₁ * n₂) x y
 chinese-same {n₁} {n₂} {x} {y} l₁ l₂ c p q = pick (decLe x y)

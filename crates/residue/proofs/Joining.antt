@@ -9,10 +9,6 @@ use Rattle.numbers.specs.Divisors.{IsGcd, GcdCofactor}
 use Rattle.numbers.specs.Units.{gcd-of-coprime}
 use Rattle.numbers.specs.Chinese.{Idempotent, Joined, idempotent-of, joined-of}
 
--- a cofactor times the other modulus does not pass the product
-pub cofactor-times : {n₁ n₂ g s : ℕ} → GcdCofactor n₁ n₂ g s → s * n₂ ≤ n₁ * n₂
-cofactor-times {n₁} {n₂} c = mul-le-mul-right n₂ (c .at-most)
-
 pub idempotent-ends : {n₁ n₂ g s : ℕ} → 1 ≤ n₁ → 1 ≤ n₂ → Coprime n₁ n₂ → GcdCofactor n₁ n₂ g s
     → ((s * n₂) % (n₁ * n₂) < n₁ * n₂) × (((s * n₂) % (n₁ * n₂) % n₁ ≡ 1 % n₁) × ((s * n₂) % (n₁ * n₂) % n₂ ≡ 0))
 idempotent-ends {n₁} {n₂} {g} {s} l₁ l₂ c b =
