@@ -1,35 +1,28 @@
--- Columns, a corner, and block triangular matrices.
-use mathlib.Core.Path.{_≡_, refl, sym, _∙_, ap, ap₂, fun-ext, subst}
-use mathlib.Core.Logic.{_≢_}
-use Prim.Native.Nat.{ℕ, zero, suc, _<_, _≤_, _+_ as _+ℕ_}
-use native.Mathlib.Nat.{suc-add, zero-add as nat-zero-add}
+-- Block triangular matrices: where the block right of the first m rows' first m columns is 0, or the block below it, the determinant is the product of two.
+--
+--   corner, corner-row   the first column is 0 below the corner; the first row is 0 beside it
+--   pad m v         the first m entries of v, then zeros
+--   low m a         the rows and columns from m on
+--   block           the top right block is 0
+--   block-up        the bottom left block is 0
+--
+-- Letters: a, w are matrices; v a row; m, p the sizes of the blocks.
+use mathlib.Core.Path.{_≡_, refl, sym, _∙_, ap, ap₂, fun-ext}
+use Prim.Native.Nat.{ℕ, zero, suc, _<_, _≤_}
 use native.Mathlib.Omega.{arith}
-use Rattle.algebra.specs.Det.{comb, minor, det, det-cong}
-use Rattle.algebra.specs.Form.{Form, Linear, pull, det-form, e, unique, det-transpose}
-use Rattle.algebra.specs.Index.{ins, skip}
-use Rattle.algebra.specs.Plain.{equal}
-use Rattle.algebra.specs.Product.{over, under, over-self}
-use Rattle.algebra.specs.Ring.{CRing, add-zero, add-neg, add-cancel, mul-zero, mul-neg}
-use Rattle.algebra.specs.Sum.{alt, alt-zero, neg-zero, zero-mul}
-
--- m + p, by recursion on m
-abbrev pub up : ℕ → ℕ → ℕ
-up zero p = p
-up (suc m) p = suc (up m p)
-
-pub up-is : (m p : ℕ) → up m p ≡ m +ℕ p
-up-is zero p = sym (nat-zero-add p)
-up-is (suc m) p = ap suc (up-is m p) ∙ sym (suc-add m p)
+use Rattle.algebra.specs.Determinant.{comb, det-cong, det, minor}
+use Rattle.algebra.specs.Form.{det-form, det-transpose, e, Linear, pull, unique}
+use Rattle.algebra.specs.MatrixProduct.{under, over-self, over}
+use Rattle.algebra.specs.Ring.{CRing, add-zero, mul-zero, neg-zero, zero-mul}
+use Rattle.algebra.specs.Stack.{up-is, up}
+use Rattle.algebra.specs.Sum.{alt-zero}
 
 module _ {R : Type 0} (𝓡 : CRing R) where
-  open CRing 𝓡 using (add as _+_, mul as _*_, neg as -_, nil as 𝟘, unit as 𝟙, add-assoc, add-comm, zero-add, neg-add, mul-assoc, mul-comm, one-mul, mul-add)
+  open CRing 𝓡 using (add as _+_, mul as _*_, neg as -_, nil as 𝟘, zero-add, one-mul)
 
   infixl 65 _+_
   infixl 70 _*_
   infix 75 -_
-  -- two equal columns
-  pub equal-columns : (n i k : ℕ) → i < k → k < n → (a : ℕ → ℕ → R) → ((r : ℕ) → r < n → a r i ≡ a r k) → det 𝓡 n a ≡ 𝟘
-  equal-columns n i k l p a h = sym (det-transpose 𝓡 n a) ∙ equal 𝓡 (det-form 𝓡 n) i k l p (λ r c. a c r) h
 
   -- the first column is 0 below the corner; the first row is 0 beside it
   pub corner : (n : ℕ) (a : ℕ → ℕ → R) → ((i : ℕ) → i < n → a (suc i) 0 ≡ 𝟘) → det 𝓡 (suc n) a ≡ a 0 0 * det 𝓡 n (λ r c. a (suc r) (suc c))
@@ -71,6 +64,10 @@ module _ {R : Type 0} (𝓡 : CRing R) where
   abbrev pub low : ℕ → (ℕ → ℕ → R) → ℕ → ℕ → R
   low zero w = w
   low (suc m) w = low m (λ r c. w (suc r) (suc c))
+
+  pub low-is : (n : ℕ) (w : ℕ → ℕ → R) (r c : ℕ) → low n w r c ≡ w (up n r) (up n c)
+  low-is zero w r c = refl
+  low-is (suc n) w r c = low-is n (λ r c. w (suc r) (suc c)) r c
 
   pad-zero : (m : ℕ) (c : ℕ) → pad m (λ i. 𝟘) c ≡ 𝟘
   pad-zero zero c = refl

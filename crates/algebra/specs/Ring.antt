@@ -1,4 +1,11 @@
-use mathlib.Core.Path.{_≡_, refl, sym, _∙_, ap}
+-- Commutative rings as a flat record of operations and laws, what follows from the laws, and maps between rings. Every theorem of this crate takes its ring 𝓡 first.
+--
+--   CRing R         a commutative ring on the type R
+--   pw x n          x to the n-th power
+--   Hom 𝓡 𝓢 φ      φ is a map of rings
+--
+-- Letters: a, b, c, x are elements of R; 𝟘 and 𝟙 are the ring's zero and one.
+use mathlib.Core.Path.{_≡_, refl, sym, _∙_, ap, ap₂}
 use Prim.Native.Nat.{ℕ, zero, suc}
 
 pub record CRing (R : Type 0) : Type 0 where
@@ -22,6 +29,7 @@ module _ {R : Type 0} (𝓡 : CRing R) where
   infixl 65 _+_
   infixl 70 _*_
   infix 75 -_
+
   pub add-zero : (a : R) → a + 𝟘 ≡ a
   add-zero a = add-comm a 𝟘 ∙ zero-add a
 
@@ -60,3 +68,28 @@ module _ {R : Type 0} (𝓡 : CRing R) where
 
   pub neg-add-cancel : (a b : R) → (- a) + (a + b) ≡ b
   neg-add-cancel a b = sym (add-assoc (- a) a b) ∙ ap (λ x. x + b) (neg-add a) ∙ zero-add b
+
+  pub neg-zero : - 𝟘 ≡ 𝟘
+  neg-zero = sym (add-zero (- 𝟘)) ∙ neg-add 𝟘
+
+  pub zero-mul : (a : R) → 𝟘 * a ≡ 𝟘
+  zero-mul a = mul-comm 𝟘 a ∙ mul-zero a
+
+  pub mul-one : (a : R) → a * 𝟙 ≡ a
+  mul-one a = mul-comm a 𝟙 ∙ one-mul a
+
+  abbrev pub pw : R → ℕ → R
+  pw x zero = 𝟙
+  pw x (suc n) = x * pw x n
+
+  pub pw-one : (x : R) → x ≡ 𝟙 → (k : ℕ) → pw x k ≡ 𝟙
+  pw-one x h zero = refl
+  pw-one x h (suc k) = ap₂ _*_ h (pw-one x h k) ∙ one-mul 𝟙
+
+-- a map of rings
+pub record Hom {R S : Type 0} (𝓡 : CRing R) (𝓢 : CRing S) (φ : R → S) : Type 0 where
+  pub h-add : (a b : R) → φ (𝓡 .add a b) ≡ 𝓢 .add (φ a) (φ b)
+  pub h-mul : (a b : R) → φ (𝓡 .mul a b) ≡ 𝓢 .mul (φ a) (φ b)
+  pub h-neg : (a : R) → φ (𝓡 .neg a) ≡ 𝓢 .neg (φ a)
+  pub h-zero : φ (𝓡 .nil) ≡ 𝓢 .nil
+  pub h-one : φ (𝓡 .unit) ≡ 𝓢 .unit

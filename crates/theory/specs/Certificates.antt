@@ -1,28 +1,24 @@
 -- A certificate of D: cofactors that reach it, and a monic polynomial of degree 1 or more that divides both modulo D.
-use mathlib.Core.Path.{_≡_, refl, sym, _∙_, ap, ap₂, fun-ext, subst}
+use mathlib.Core.Path.{_≡_, refl, sym, _∙_, ap, fun-ext, subst}
 use mathlib.Core.List.{List, [], _∷_}
-use mathlib.Core.Bool.{Bool, true, false}
-use Prim.Native.Nat.{ℕ, zero, suc, _<_, _≤_, _%_, _/_, _∣_, pred, _+_ as _+ℕ_, _*_ as _*ℕ_, _-_ as _-ℕ_}
+use Prim.Native.Nat.{ℕ, zero, suc, _≤_, _%_, _/_, _∣_, _*_ as _*ℕ_}
+use native.Mathlib.Decide.{Fin·val-path}
 use native.Mathlib.Nat.{mod-eq-of-lt, zero-lt-suc, dvd-of-mod-eq-zero, mul-div-cancel'}
-use native.Mathlib.Decide.{Fin·val-path, decLt}
 use native.Mathlib.Omega.{arith}
-use lib.ListN.{length, getD}
-use lib.Dec.{T, leb, ltb, eqb, leb→le, eqb→eq}
 use lib.IntN.{pos}
-use Rattle.definitions.specs.Polynomials.{coef, total, convolve, constant, Multiplied}
-use Rattle.definitions.specs.Resultants.{resultant, Reached, Reduced}
-use Rattle.algebra.specs.Auto.{by-ring, quote}
-use Rattle.algebra.specs.Domain.{reduce-hom}
-use Rattle.algebra.specs.Ideal.{Finite, fin-add, fin-mul, Combines, const-mul}
+use lib.ListN.{length}
+use Rattle.definitions.specs.Polynomials.{coef, Multiplied}
+use Rattle.definitions.specs.Resultants.{Reached, Reduced}
+use Rattle.algebra.specs.Ideal.{Combines}
+use Rattle.algebra.specs.MonicDivision.{monic-rest}
+use Rattle.algebra.specs.Normaliser.{by-ring, quote}
+use Rattle.algebra.specs.Reduction.{reduce-hom}
 use Rattle.algebra.specs.Residues.{Res, toRes, Res-ring}
-use Rattle.algebra.specs.Resultant.{conv}
-use Rattle.algebra.specs.Ring.{CRing, add-neg, neg-neg}
-use Rattle.algebra.specs.Series.{series, Short, const, conv-const, monic-rest}
-use Rattle.algebra.specs.Sum.{neg-zero}
+use Rattle.algebra.specs.Ring.{CRing, add-neg, neg-neg, neg-zero}
+use Rattle.algebra.specs.Series.{Finite, fin-add, fin-mul, const-mul, conv, series, Short, const}
 use Rattle.theory.specs.ReachedLaws.{words-finite, words-short, to-ring, from-ring}
-use Rattle.theory.specs.ReachedSteps.{coef-beyond}
 use Rattle.theory.specs.ReducedLaws.{reached-mod}
-use Rattle.theory.specs.Words.{words, convolve-is, coef-out}
+use Rattle.theory.specs.Words.{words, convolve-is}
 
 module _ {R : Type 0} (𝓡 : CRing R) where
   open CRing (series 𝓡) using (add as _+_, mul as _*_, neg as -_, nil as 𝟘, unit as 𝟙)

@@ -1,7 +1,6 @@
 -- The resultants of the twelve rows, computed.
 use mathlib.Core.Path.{_≡_, refl}
-use mathlib.Core.List.{List, [], _∷_}
-use Prim.Native.Nat.{ℕ}
+use mathlib.Core.List.{[], _∷_}
 use Rattle.definitions.specs.Polynomials.{product}
 use Rattle.definitions.specs.Resultants.{determinant, resultant}
 

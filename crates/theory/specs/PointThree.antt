@@ -1,11 +1,11 @@
 -- Point 3 as one claim about seven answers; the resultant through a content and through coprime moduli.
-use mathlib.Core.Path.{_≡_, refl, sym, _∙_, ap, ap₂, subst}
-use mathlib.Core.List.{List, [], _∷_}
-use Prim.Native.Nat.{ℕ, zero, suc, _<_, _≤_, _%_, _^_, _∣_, _+_, _*_, _-_}
+use mathlib.Core.Path.{_≡_, sym, _∙_, ap, ap₂, subst}
+use mathlib.Core.List.{List}
+use Prim.Native.Nat.{ℕ, zero, suc, _<_, _≤_, _%_, _^_, _∣_, _+_, _*_}
 use native.Mathlib.Nat.{mod-mod, mod-eq-of-lt, pow-succ', mul-pos, dvd-refl, dvd-mul-left, dvd-mul-right}
 use native.Mathlib.Omega.{arith}
-use Rattle.definitions.specs.Polynomials.{coef, deg, product}
-use Rattle.definitions.specs.Resultants.{resultant, Reached, Reduced}
+use Rattle.definitions.specs.Polynomials.{deg, product}
+use Rattle.definitions.specs.Resultants.{resultant, Reduced}
 use Rattle.theory.specs.ReachedLaws.{reduced-product}
 use Rattle.theory.specs.ReachedSteps.{plus-mod, times-mod, lift-mod, Times}
 use Rattle.theory.specs.ResultantLaws.{resultant-scale-first, resultant-mod}

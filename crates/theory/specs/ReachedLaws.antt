@@ -1,22 +1,21 @@
 -- The constants reached by words, and the reduced resultant.
 use mathlib.Core.Path.{_≡_, refl, sym, _∙_, ap, ap₂, fun-ext}
-use mathlib.Core.List.{List, [], _∷_}
+use mathlib.Core.List.{List}
 use Prim.Native.Nat.{ℕ, zero, suc, _<_, _≤_, _%_, _∣_, _+_ as _+ℕ_, _*_ as _*ℕ_}
-use native.Mathlib.Nat.{mod-lt, mod-mod, mod-eq-of-lt, zero-lt-suc, dvd-refl, dvd-trans, dvd-antisymm, dvd-mod-iff, dvd-mul-left-of-dvd}
 use native.Mathlib.Decide.{Fin·val-path, decLt}
+use native.Mathlib.Nat.{mod-lt, mod-mod, mod-eq-of-lt, dvd-refl, dvd-antisymm, dvd-mod-iff}
 use native.Mathlib.Omega.{arith}
-use lib.ListN.{length, getD, List·getD-eq-default}
 use lib.IntN.{pos}
+use lib.ListN.{length, List·getD-eq-default}
 use Rattle.definitions.specs.Polynomials.{coef, deg, convolve, tabulate, product, constant}
 use Rattle.definitions.specs.Resultants.{resultant, Combination, Reached, Reduced}
-use Rattle.algebra.specs.Adjugate.{Cofactors, cofactors}
-use Rattle.algebra.specs.Domain.{reduce, reduce-hom}
-use Rattle.algebra.specs.Ideal.{Finite, Combines, const-mul, of-left, of-right, of-both}
+use Rattle.algebra.specs.Cofactors.{cofactors}
+use Rattle.algebra.specs.Ideal.{Combines, of-left, of-right, of-both}
+use Rattle.algebra.specs.Reduction.{reduce-hom}
 use Rattle.algebra.specs.Residues.{Res, toRes, Res-ring}
-use Rattle.algebra.specs.Resultant.{conv, res}
 use Rattle.algebra.specs.Ring.{CRing}
-use Rattle.algebra.specs.SentResultant.{Rs}
-use Rattle.algebra.specs.Series.{series, Short, const}
+use Rattle.algebra.specs.SentLaws.{Rs}
+use Rattle.algebra.specs.Series.{Finite, const-mul, conv, Short, const}
 use Rattle.theory.specs.Words.{words, words-out, words-product, convolve-is, coef-tabulate, length-tabulate, resultant-is}
 
 -- only c modulo n matters

@@ -1,20 +1,18 @@
 -- What changes the polynomials or the modulus and keeps the constants reached: contents, unit factors, remainders, coprime moduli.
 use mathlib.Core.Path.{_≡_, refl, sym, _∙_, ap, ap₂, fun-ext, subst}
-use mathlib.Core.List.{List, [], _∷_}
+use mathlib.Core.List.{List}
 use Prim.Native.Nat.{ℕ, zero, suc, _<_, _≤_, _%_, _/_, _∣_, _+_, _*_, _-_}
-use native.Mathlib.Nat.{zero-div, mod-lt, mod-mod, mod-eq-of-lt, add-mod, zero-lt-suc, div-add-mod, add-mul-mod-self-left, mod-mod-of-dvd, mul-mod-right, dvd-refl, dvd-trans, dvd-add, dvd-mod-iff, dvd-mul-left, dvd-mul-right, dvd-mul-left-of-dvd, dvd-mul-right-of-dvd, mul-dvd-mul, dvd-of-mod-eq-zero, mod-eq-zero-of-dvd, mul-div-cancel', mul-le-mul, mul-pos, le-of-dvd, eq-of-mul-eq-mul-left}
 use native.Mathlib.Decide.{Fin·val-path, decLt}
+use native.Mathlib.Nat.{zero-div, mod-lt, mod-eq-of-lt, add-mod, zero-lt-suc, div-add-mod, add-mul-mod-self-left, mod-mod-of-dvd, mul-mod-right, dvd-mod-iff, dvd-mul-right, dvd-of-mod-eq-zero, mul-div-cancel', mul-le-mul, mul-pos, eq-of-mul-eq-mul-left}
 use native.Mathlib.Omega.{arith}
-use lib.ListN.{length, getD, List·getD-eq-default}
-use Rattle.definitions.specs.Polynomials.{coef, deg, total, convolve, tabulate, constant}
-use Rattle.definitions.specs.Resultants.{Combination, Reached, Reduced}
-use Rattle.algebra.specs.Ideal.{Combines, unit-in, unit-out, rest-in, rest-out}
-use Rattle.algebra.specs.Residues.{Res, toRes, Res-ring, mul-mod-l, mul-mod-r}
-use Rattle.algebra.specs.Resultant.{conv}
-use Rattle.algebra.specs.Ring.{CRing, add-neg, neg-neg}
-use Rattle.algebra.specs.Series.{series, Short, const, monic-zero, monic-rest}
-use Rattle.algebra.specs.Sum.{neg-zero}
-use Rattle.theory.specs.ReachedLaws.{reached-same, words-short, words-finite, to-ring, from-ring, only-any, all-any}
+use lib.ListN.{length, List·getD-eq-default}
+use Rattle.definitions.specs.Polynomials.{coef, total, convolve, tabulate, constant}
+use Rattle.definitions.specs.Resultants.{Reached}
+use Rattle.algebra.specs.MonicDivision.{monic-zero, monic-rest}
+use Rattle.algebra.specs.Residues.{Res, toRes, Res-ring, mul-mod-r}
+use Rattle.algebra.specs.Ring.{add-neg, neg-neg, neg-zero}
+use Rattle.algebra.specs.Series.{conv, Short, const}
+use Rattle.theory.specs.ReachedLaws.{words-short}
 use Rattle.theory.specs.Words.{words, convolve-is, coef-tabulate, length-tabulate, total-cong}
 
 -- remainders

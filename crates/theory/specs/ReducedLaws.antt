@@ -1,20 +1,18 @@
 -- The reduced resultant through the steps: contents, unit factors, remainders, coprime moduli, modulus 1.
 use mathlib.Core.Path.{_≡_, refl, sym, _∙_, ap, ap₂, fun-ext, subst}
-use mathlib.Core.List.{List, [], _∷_}
-use Prim.Native.Nat.{ℕ, zero, suc, _<_, _≤_, _%_, _/_, _∣_, _+_, _*_, _-_}
-use native.Mathlib.Nat.{mod-eq-of-lt, mod-mod, mod-one, mul-mod-right, mod-mod-of-dvd, dvd-refl, dvd-trans, dvd-add, one-dvd, dvd-mod-iff, dvd-mul-left, dvd-mul-right, mul-dvd-mul, mul-dvd-mul-left, dvd-of-mul-dvd-mul-left, mul-div-cancel', mul-le-mul, mul-pos}
+use mathlib.Core.List.{List, []}
+use Prim.Native.Nat.{ℕ, zero, suc, _<_, _≤_, _%_, _/_, _∣_, _+_, _*_}
 use native.Mathlib.Decide.{Fin·val-path}
+use native.Mathlib.Nat.{mod-one, mod-mod-of-dvd, dvd-refl, dvd-trans, dvd-add, one-dvd, dvd-mod-iff, dvd-mul-left, dvd-mul-right, mul-dvd-mul, mul-dvd-mul-left, dvd-of-mul-dvd-mul-left, mul-div-cancel', mul-le-mul, mul-pos}
 use native.Mathlib.Omega.{arith}
-use lib.ListN.{length}
 use lib.IntN.{pos}
+use lib.ListN.{length}
 use Rattle.definitions.specs.Polynomials.{Multiplied, Divided, coef, convolve, tabulate, constant}
-use Rattle.definitions.specs.Resultants.{Combination, Reached, Reduced}
-use Rattle.algebra.specs.Domain.{reduce-hom}
-use Rattle.algebra.specs.Ideal.{Combines, exchange, unit-in, unit-out, rest-in, rest-out}
+use Rattle.definitions.specs.Resultants.{Reached, Reduced}
+use Rattle.algebra.specs.Ideal.{exchange, unit-in, unit-out, rest-in, rest-out}
+use Rattle.algebra.specs.Reduction.{reduce-hom}
 use Rattle.algebra.specs.Residues.{Res, toRes, Res-ring}
-use Rattle.algebra.specs.Resultant.{conv}
-use Rattle.algebra.specs.Ring.{CRing}
-use Rattle.algebra.specs.Series.{const}
+use Rattle.algebra.specs.Series.{conv, const}
 use Rattle.theory.specs.ReachedLaws.{words-finite, to-ring, from-ring, only-any, all-any}
 use Rattle.theory.specs.ReachedSteps.{plus-mod, times-mod, lift-mod, convolve-scale-left, convolve-add-left, coef-whole, coef-beyond, Times, content-divides, content-down, content-up, monic-divides, monic-down, monic-up}
 use Rattle.theory.specs.Words.{words, convolve-is}

@@ -1,27 +1,23 @@
 -- The laws of the resultant for words modulo n. Lists count by their length and by their words modulo n.
 use mathlib.Core.Path.{_≡_, refl, sym, _∙_, ap, ap₂, fun-ext}
-use mathlib.Core.List.{List, [], _∷_}
-use Prim.Native.Nat.{ℕ, zero, suc, _<_, _≤_, _%_, _^_, _∣_, _+_, _*_, _-_}
-use native.Mathlib.Nat.{mod-mod, mod-eq-of-lt, mod-lt, mod-self, add-mod-mod, sub-add-cancel, le-of-lt, pow-zero, pow-suc, mul-comm, dvd-mul-right, mod-mod-of-dvd}
+use mathlib.Core.List.{List}
+use Prim.Native.Nat.{ℕ, zero, suc, _≤_, _%_, _^_, _∣_, _+_, _*_, _-_}
 use native.Mathlib.Decide.{Fin·val-path, decLe}
+use native.Mathlib.Nat.{mod-lt, mod-self, add-mod-mod, sub-add-cancel, le-of-lt, pow-zero, pow-suc, mul-comm, mod-mod-of-dvd}
 use native.Mathlib.Omega.{arith}
-use lib.ListN.{length}
 use lib.IntN.{ℤ, pos, negsuc}
-use Rattle.definitions.specs.Polynomials.{coef, deg, convolve, tabulate, constant, Multiplied, Divided}
+use Rattle.definitions.specs.Polynomials.{coef, deg, convolve, tabulate, Multiplied, Divided}
 use Rattle.definitions.specs.Resultants.{determinant, residue, sylvester, resultant}
-use Rattle.algebra.specs.Det.{det}
-use Rattle.algebra.specs.Domain.{reduce, reduce-hom}
-use Rattle.algebra.specs.Integers.{ℤ-ring}
-use Rattle.algebra.specs.Modular.{mul-mod}
-use Rattle.algebra.specs.Residues.{Res, toRes, Res-ring, mul-mod-l, mul-mod-r}
-use Rattle.algebra.specs.Resultant.{conv, res, pw}
+use Rattle.algebra.specs.ProductLaw.{Rs-mul}
+use Rattle.algebra.specs.Reduction.{reduce-hom}
+use Rattle.algebra.specs.Residues.{Res, toRes, Res-ring, mul-mod-l}
 use Rattle.algebra.specs.Reverse.{rv, rv-at, rv-out}
-use Rattle.algebra.specs.Ring.{CRing}
-use Rattle.algebra.specs.SentLaws.{Rs-cong, Rs-drop-first, Rs-drop-second, Rs-scale-first, Rs-scale-second, Rs-swap, Rs-reverse, Rs-const-first, Rs-const-second, Rs-divide, Rs-short}
-use Rattle.algebra.specs.SentResultant.{Rs, Rs-mul}
+use Rattle.algebra.specs.Ring.{pw}
+use Rattle.algebra.specs.SentLaws.{Rs-drop-first, Rs-drop-second, Rs-scale-first, Rs-scale-second, Rs-swap, Rs-reverse, Rs-const-first, Rs-const-second, Rs-divide, Rs-short, Rs}
+use Rattle.algebra.specs.Series.{conv}
 use Rattle.algebra.specs.Sum.{sgn}
-use Rattle.theory.specs.ReachedSteps.{times-mod, lift-mod, mul-mod-mul, Times}
-use Rattle.theory.specs.Words.{words, words-out, convolve-is, residue-reduce, resultant-is, coef-tabulate, length-tabulate}
+use Rattle.theory.specs.ReachedSteps.{Times}
+use Rattle.theory.specs.Words.{words, words-out, convolve-is, resultant-is, coef-tabulate, length-tabulate}
 
 -- x with the sign (-1)^k, modulo n
 abbrev pub signed : ℕ → ℕ → ℕ → ℕ

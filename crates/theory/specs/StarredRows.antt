@@ -1,16 +1,16 @@
 -- The proved tabulate: one test, one lemma, one theorem.
-use mathlib.Core.Path.{_≡_, refl, sym, _∙_, ap, ap₂, subst}
+use mathlib.Core.Path.{_≡_, refl, sym, _∙_, ap, ap₂}
 use mathlib.Core.List.{List, [], _∷_}
 use mathlib.Core.Bool.{Bool, true, false, _&&_}
 use Prim.Native.Nat.{ℕ, zero, suc, _<_, _≤_, _%_, pred, _+_, _*_, _-_}
-use native.Mathlib.Nat.{dvd-of-mod-eq-zero, mul-zero, zero-mul}
 use native.Mathlib.Decide.{decLt}
+use native.Mathlib.Nat.{dvd-of-mod-eq-zero, mul-zero, zero-mul}
 use native.Mathlib.Omega.{arith}
-use lib.ListN.{length}
 use lib.Dec.{T, leb, eqb, leb→le, eqb→eq}
+use lib.ListN.{length}
 use Rattle.definitions.specs.Polynomials.{coef, total, convolve, constant, Multiplied}
-use Rattle.definitions.specs.Resultants.{determinant, resultant, Combination, Reached, Reduced}
-use Rattle.theory.specs.Certificates.{Ground, certified}
+use Rattle.definitions.specs.Resultants.{determinant, resultant, Reached, Reduced}
+use Rattle.theory.specs.Certificates.{certified}
 use Rattle.theory.specs.ReachedSteps.{coef-beyond}
 
 -- a line of the tabulate

@@ -1,30 +1,28 @@
 -- The resultant in sent degrees, over any ring, the constant first; modulo n; the words' resultant is the ring's.
 use mathlib.Core.Path.{_≡_, refl, sym, _∙_, ap, ap₂, fun-ext, subst}
-use mathlib.Core.Logic.{_≢_}
 use mathlib.Core.List.{List, [], _∷_}
 use mathlib.Core.Bool.{Bool, true, false, not, cond}
-use Prim.Native.Nat.{ℕ, zero, suc, _<_, _≤_, _%_, pred, _+_ as _+ℕ_, _*_ as _*ℕ_, _-_ as _-ℕ_}
-use native.Mathlib.Nat.{mod-eq-of-lt, add-mul-mod-self-left, mod-mod, mod-lt, zero-lt-suc}
+use Prim.Native.Nat.{ℕ, zero, suc, _<_, _≤_, _%_, _+_ as _+ℕ_, _*_ as _*ℕ_, _-_ as _-ℕ_}
 use native.Mathlib.Decide.{Fin·val-path, decLe}
+use native.Mathlib.Nat.{mod-mod}
 use native.Mathlib.Omega.{arith}
-use lib.ListN.{length, getD, List·getD-eq-default}
 use lib.Dec.{T, leb, ltb, leb→le, nleb→lt, ltb→lt, nltb→le}
 use lib.IntN.{ℤ, pos, negsuc, negℤ, _+ℤ_, _*ℤ_}
+use lib.ListN.{length, List·getD-eq-default}
 use Rattle.definitions.specs.Polynomials.{coef, deg, total, convolve, tabulate, product}
 use Rattle.definitions.specs.Resultants.{entry, sylvester, alternating, beside, determinant, residue, resultant}
-use Rattle.algebra.specs.Block.{up, up-is}
-use Rattle.algebra.specs.Det.{det, minor}
-use Rattle.algebra.specs.Domain.{reduce, reduce-hom}
-use Rattle.algebra.specs.Euclid.{res-mod}
-use Rattle.algebra.specs.Integers.{ℤ-ring}
+use Rattle.algebra.specs.Determinant.{det, minor}
 use Rattle.algebra.specs.Index.{skip}
-use Rattle.algebra.specs.SentResultant.{Rs, rv-hom, Rs-mul}
+use Rattle.algebra.specs.Integers.{ℤ-ring}
+use Rattle.algebra.specs.ProductLaw.{Rs-mul}
+use Rattle.algebra.specs.Reduction.{reduce, reduce-hom}
+use Rattle.algebra.specs.Residues.{Res, toRes, Res-ring}
+use Rattle.algebra.specs.Resultant.{res-mod, shift, shift-low, res, shift-at}
+use Rattle.algebra.specs.Reverse.{rv-hom, rv, rv-at, rv-out}
+use Rattle.algebra.specs.SentLaws.{Rs}
+use Rattle.algebra.specs.Series.{conv, conv-out}
+use Rattle.algebra.specs.Stack.{up, up-is, stack}
 use Rattle.algebra.specs.Sum.{alt}
-use Rattle.algebra.specs.Residues.{Res, toRes, Res-ring, mul-mod-l, mul-mod-r}
-use Rattle.algebra.specs.Resultant.{stack, shift, shift-low, conv, res, res-mul-ℤ}
-use Rattle.algebra.specs.Reverse.{rv, rv-at, rv-out, rv-cong, shift-at, conv-rv, conv-out}
-use Rattle.algebra.specs.Ring.{CRing}
-use Rattle.algebra.specs.Rows.{Hom}
 
 pub coef-out : (f : List ℕ) (k : ℕ) → deg f < k → coef f k ≡ 0
 coef-out [] zero l = absurd (omega arith)

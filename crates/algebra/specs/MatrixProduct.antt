@@ -1,19 +1,27 @@
--- What follows from uniqueness: the determinant of a product, and of a product of the top rows.
-use mathlib.Core.Path.{_≡_, refl, sym, _∙_, ap, ap₂, fun-ext, subst}
-use Prim.Native.Nat.{ℕ, zero, suc, _+_ as _+ℕ_, _<_, _≤_}
+-- What follows from uniqueness for products: det (A B) = det A · det B, and the determinant of a matrix whose top rows are multiplied by another.
+--
+--   act n b v       the row v times the matrix b of n rows
+--   mmul n a b      the product of matrices
+--   over m a w      the first m rows of a, the others of w
+--   under           a form of the top rows, those below fixed
+--   det-over        det [A · top of W ; rest of W] = det A · det W
+--
+-- Letters: a, b, w are matrices; u, v rows; m, n, N numbers of rows.
+use mathlib.Core.Path.{_≡_, refl, sym, _∙_, ap, ap₂, fun-ext}
+use Prim.Native.Nat.{ℕ, zero, suc, _<_, _≤_}
 use native.Mathlib.Omega.{arith}
-use Rattle.algebra.specs.Det.{comb, det, det-cong}
-use Rattle.algebra.specs.Form.{Form, Linear, pull, det-form, e, basis, unique}
+use Rattle.algebra.specs.Determinant.{det-cong, det, comb}
+use Rattle.algebra.specs.Form.{Form, det-form, e, basis, Linear, pull, unique}
 use Rattle.algebra.specs.Index.{ins}
-use Rattle.algebra.specs.Ring.{CRing, add-zero, add-neg, add-left-comm, mul-left-comm, add-mul, add-cancel, mul-zero, mul-neg}
+use Rattle.algebra.specs.Ring.{CRing, add-mul}
 use Rattle.algebra.specs.Sum.{sum, sum-cong, sum-lin}
 
 module _ {R : Type 0} (𝓡 : CRing R) where
-  open CRing 𝓡 using (add as _+_, mul as _*_, neg as -_, nil as 𝟘, unit as 𝟙, add-assoc, add-comm, zero-add, neg-add, mul-assoc, mul-comm, one-mul, mul-add)
+  open CRing 𝓡 using (add as _+_, mul as _*_, mul-assoc, mul-comm)
 
   infixl 65 _+_
   infixl 70 _*_
-  infix 75 -_
+
   -- a row times a matrix of n rows
   abbrev pub act : ℕ → (ℕ → ℕ → R) → (ℕ → R) → ℕ → R
   act n b v c = sum 𝓡 n (λ k. v k * b k c)

@@ -1,30 +1,34 @@
--- The cofactors of one column, and the resultant as a short combination.
-use mathlib.Core.Path.{_≡_, refl, sym, _∙_, ap, ap₂, fun-ext}
+-- The cofactors of one column of a matrix, and from the last column of Sylvester's: the resultant is u f + v g with u of e coefficients and v of d.
+--
+--   cofactor n a k j    the cofactor of the entry in row j and column k
+--   Cofactors d e f g x    u and v with u f + v g = x, u of e coefficients and v of d
+--   cofactors           those of the resultant, where d + e ≥ 1
+--
+-- Letters: a is a matrix; f, g are series, the constant first, of degrees d and e; p is a place of the product, c a column.
+use mathlib.Core.Path.{_≡_, refl, sym, _∙_, ap, ap₂}
 use mathlib.Core.Logic.{_≢_}
 use Prim.Native.Nat.{ℕ, zero, suc, _<_, _≤_, _+_ as _+ℕ_, _-_ as _-ℕ_}
-use native.Mathlib.Decide.{ℕ-discrete, decLt}
+use native.Mathlib.Decide.{decLt}
 use native.Mathlib.Omega.{arith}
-use Rattle.algebra.specs.Block.{up, up-is, pad}
-use Rattle.algebra.specs.Det.{det}
-use Rattle.algebra.specs.Form.{Form, det-form, det-transpose, e, basis, spread}
-use Rattle.algebra.specs.Ideal.{conv-short, Finite, Combines}
+use Rattle.algebra.specs.Block.{pad}
+use Rattle.algebra.specs.Determinant.{det}
+use Rattle.algebra.specs.Form.{det-form, det-transpose, e, basis, spread}
 use Rattle.algebra.specs.Index.{ins, skip, ins-eta}
-use Rattle.algebra.specs.Plain.{put, repeated}
-use Rattle.algebra.specs.Product.{act}
-use Rattle.algebra.specs.Resultant.{stack, shift, conv, act-conv, sylvester, res}
-use Rattle.algebra.specs.Reverse.{rv, rv-out, rv-twice, shift-rv, sum-last}
-use Rattle.algebra.specs.Ring.{CRing, add-zero, add-left-comm}
-use Rattle.algebra.specs.SentResultant.{Rs}
-use Rattle.algebra.specs.Series.{series, Short, const}
-use Rattle.algebra.specs.Signs.{back, back-at}
-use Rattle.algebra.specs.Sum.{sum, sum-cong}
+use Rattle.algebra.specs.Resultant.{shift, act-conv, sylvester, res}
+use Rattle.algebra.specs.Reverse.{rv, shift-rv}
+use Rattle.algebra.specs.Ring.{CRing}
+use Rattle.algebra.specs.Rows.{put, repeated}
+use Rattle.algebra.specs.SentLaws.{Rs}
+use Rattle.algebra.specs.Series.{Short, const, conv-short, conv}
+use Rattle.algebra.specs.Stack.{back-at, up, back, up-is, stack}
+use Rattle.algebra.specs.Sum.{sum, sum-cong, sum-last}
 
 module _ {R : Type 0} (𝓡 : CRing R) where
-  open CRing 𝓡 using (add as _+_, mul as _*_, neg as -_, nil as 𝟘, unit as 𝟙, add-assoc, add-comm, zero-add, neg-add, mul-assoc, mul-comm, one-mul, mul-add)
+  open CRing 𝓡 using (add as _+_, mul as _*_, nil as 𝟘, add-assoc, zero-add, mul-comm)
 
   infixl 65 _+_
   infixl 70 _*_
-  infix 75 -_
+
   -- the cofactors of the column k
   unfoldable pub cofactor : ℕ → (ℕ → ℕ → R) → ℕ → ℕ → R
   cofactor n a k j = det 𝓡 n (put 𝓡 k (e 𝓡 j) (λ c r. a r c))
