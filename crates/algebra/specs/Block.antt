@@ -3,8 +3,8 @@
 --   corner, corner-row   the first column is 0 below the corner; the first row is 0 beside it
 --   pad m v         the first m entries of v, then zeros
 --   low m a         the rows and columns from m on
---   block           the top right block is 0
---   block-up        the bottom left block is 0
+--   det-block-lower      the top right block is 0
+--   det-block-upper      the bottom left block is 0
 --
 -- Letters: a, w are matrices; v a row; m, p the sizes of the blocks.
 use mathlib.Core.Path.{_≡_, refl, sym, _∙_, ap, ap₂, fun-ext}
@@ -88,8 +88,8 @@ module _ {R : Type 0} (𝓡 : CRing R) where
   pad-self (suc m) (suc n) v h (suc c) l = pad-self m n (λ i. v (suc i)) (λ c p q. h (suc c) (omega arith) (omega arith)) c (omega arith)
 
   -- the top right block is 0
-  pub block : (m p : ℕ) (a : ℕ → ℕ → R) → ((r c : ℕ) → r < m → m ≤ c → c < up m p → a r c ≡ 𝟘) → det 𝓡 (up m p) a ≡ det 𝓡 m a * det 𝓡 p (low m a)
-  block m p a h =
+  pub det-block-lower : (m p : ℕ) (a : ℕ → ℕ → R) → ((r c : ℕ) → r < m → m ≤ c → c < up m p → a r c ≡ 𝟘) → det 𝓡 (up m p) a ≡ det 𝓡 m a * det 𝓡 p (low m a)
+  det-block-lower m p a h =
       det-cong 𝓡 (up m p) a (over 𝓡 m (λ r. pad m (a r)) a)
       (λ r c x y. sym (over-self 𝓡 m (λ r. pad m (a r)) a c (λ r l. pad-self m (up m p) (a r) (λ c u v. h r c l u v) c y) r))
       ∙ unique 𝓡 m (pull 𝓡 (under 𝓡 (det-form 𝓡 (up m p)) m (omega (arith, up-is m p)) a) (pad-linear m (up m p))) a
@@ -100,7 +100,7 @@ module _ {R : Type 0} (𝓡 : CRing R) where
   low-flip (suc m) a = low-flip m (λ r c. a (suc r) (suc c))
 
   -- the bottom left block is 0
-  pub block-up : (m p : ℕ) (a : ℕ → ℕ → R) → ((r c : ℕ) → c < m → m ≤ r → r < up m p → a r c ≡ 𝟘) → det 𝓡 (up m p) a ≡ det 𝓡 m a * det 𝓡 p (low m a)
-  block-up m p a h =
-      sym (det-transpose 𝓡 (up m p) a) ∙ block m p (λ r c. a c r) (λ r c. h c r)
+  pub det-block-upper : (m p : ℕ) (a : ℕ → ℕ → R) → ((r c : ℕ) → c < m → m ≤ r → r < up m p → a r c ≡ 𝟘) → det 𝓡 (up m p) a ≡ det 𝓡 m a * det 𝓡 p (low m a)
+  det-block-upper m p a h =
+      sym (det-transpose 𝓡 (up m p) a) ∙ det-block-lower m p (λ r c. a c r) (λ r c. h c r)
       ∙ ap₂ _*_ (det-transpose 𝓡 m a) (ap (det 𝓡 p) (low-flip m a) ∙ det-transpose 𝓡 p (low m a))

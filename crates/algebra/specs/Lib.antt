@@ -1,13 +1,13 @@
 pub mod Block
 pub mod Cofactors
 pub mod Determinant
+pub mod Division
 pub mod Form
 pub mod Ideal
 pub mod Index
 pub mod Integers
 pub mod LeadingLaws
 pub mod MatrixProduct
-pub mod MonicDivision
 pub mod Normaliser
 pub mod ProductLaw
 pub mod Reduction
@@ -20,3 +20,5 @@ pub mod SentLaws
 pub mod Series
 pub mod Stack
 pub mod Sum
+pub mod UnitTimesMonic
+pub mod Units

@@ -13,7 +13,7 @@ use native.Mathlib.Decide.{Fin·val-path}
 use native.Mathlib.Nat.{add-mul-mod-self-left, mod-eq-of-lt, zero-lt-suc}
 use native.Mathlib.Omega.{arith}
 use lib.IntN.{ℤ, pos, natAbs, _*ℤ_}
-use Rattle.algebra.specs.Block.{block-up, low-is}
+use Rattle.algebra.specs.Block.{det-block-upper, low-is}
 use Rattle.algebra.specs.Determinant.{prod-const, det-upper, det, det-cong, prod-up}
 use Rattle.algebra.specs.Form.{det-form, e, pull, unique, e-low, e-own}
 use Rattle.algebra.specs.Integers.{ℤ-ring, cancel, no-divisors}
@@ -21,7 +21,7 @@ use Rattle.algebra.specs.MatrixProduct.{act-e, over, mmul, act-linear, d
 use Rattle.algebra.specs.Reduction.{reduce, reduce-hom}
 use Rattle.algebra.specs.Residues.{Res, toRes, Res-ring}
 use Rattle.algebra.specs.Resultant.{shift, sylvester, res, act-shift, shift-low, shift-own, shift-up, res-mod}
-use Rattle.algebra.specs.Reverse.{rv, rv-out, conv-rv}
+use Rattle.algebra.specs.Reverse.{rv, rv-out, rv-zero, conv-rv}
 use Rattle.algebra.specs.Ring.{CRing, mul-left-comm, pw}
 use Rattle.algebra.specs.Rows.{over-stack, fix-rows}
 use Rattle.algebra.specs.SentLaws.{Rs}
@@ -92,7 +92,7 @@ module _ {R : Type 0} (𝓡 : CRing R) where
     unfolding wide top-h low-f res
     wide-det =
         ap (λ (k : ℕ). det 𝓡 k wide) (up-swap m n p)
-        ∙ block-up 𝓡 n (up m p) wide (λ r c x y z. wide-low r c x y (omega (arith, up-is n (up m p), up-is m p, up-is (up m n) p, up-is m n)))
+        ∙ det-block-upper 𝓡 n (up m p) wide (λ r c x y z. wide-low r c x y (omega (arith, up-is n (up m p), up-is m p, up-is (up m n) p, up-is m n)))
         ∙ ap₂ _*_
         (det-upper 𝓡 n wide (λ r c x y. ap (λ (v : ℕ → R). v c) (stack-top (up m n) top-h low-f r (omega (arith, up-is m n))) ∙ shift-low 𝓡 r c h y)
         ∙ prod-const 𝓡 n (λ i. wide i i) (h 0) (λ i l. ap (λ (v : ℕ → R). v i) (stack-top (up m n) top-h low-f i (omega (arith, up-is m n))) ∙ shift-own 𝓡 i h))
@@ -121,6 +121,14 @@ pub res-mul-ℤ : (m n p : ℕ) (f g h : ℕ → ℤ) → ((k : ℕ) → m < k �
 res-mul-ℤ m n p f g h zf zg zh z =
     cancel (pw ℤ-ring (h 0) n) _ _ (pw-nonzero (h 0) z n)
     (res-mul ℤ-ring m n p f g h zf zg zh ∙ mul-left-comm ℤ-ring (res ℤ-ring m n g f) (pw ℤ-ring (h 0) n) (res ℤ-ring m p h f))
+
+-- the same in sent degrees, the constant first: f, g in degrees a, b, the top coefficient of g not 0, h in degree e
+pub Rs-mul-ℤ : (a b e : ℕ) (f g h : ℕ → ℤ) → ((i : ℕ) → a < i → f i ≡ pos 0) → ((i : ℕ) → b < i → g i ≡ pos 0) → g b ≢ pos 0
+    → Rs ℤ-ring (a +ℕ b) e (conv ℤ-ring f g) h ≡ Rs ℤ-ring a e f h *ℤ Rs ℤ-ring b e g h
+Rs-mul-ℤ a b e f g h zf zg top =
+    ap₂ (λ (k : ℕ) (u : ℕ → ℤ). res ℤ-ring e k u (rv ℤ-ring e h)) (sym (up-is a b)) (sym (fun-ext (conv-rv ℤ-ring a b f g zf zg)))
+    ∙ res-mul-ℤ e a b (rv ℤ-ring e h) (rv ℤ-ring a f) (rv ℤ-ring b g)
+    (rv-out ℤ-ring e h) (rv-out ℤ-ring a f) (rv-out ℤ-ring b g) (λ z. top (sym (rv-zero ℤ-ring b g) ∙ z))
 
 module _ (m : ℕ) where
   lift : Res m → ℤ

@@ -8,9 +8,9 @@
 -- Letters: a, b are numbers, integers or residues; m, k moduli less 1.
 use mathlib.Core.Path.{_≡_, refl, sym, _∙_, ap, subst}
 use mathlib.Core.Bool.{Bool, true, false, not, cond}
-use Prim.Native.Nat.{ℕ, zero, suc, _<_, _≤_, _+_ as _+ℕ_, _-_ as _-ℕ_, _*_ as _*ℕ_}
+use Prim.Native.Nat.{ℕ, zero, suc, _<_, _≤_, _∣_, _+_ as _+ℕ_, _-_ as _-ℕ_, _*_ as _*ℕ_}
 use native.Mathlib.Decide.{Fin·val-path}
-use native.Mathlib.Nat.{mod-add-mod, add-mod-mod}
+use native.Mathlib.Nat.{mod-add-mod, add-mod-mod, mod-mod-of-dvd}
 use native.Mathlib.Omega.{arith}
 use lib.Dec.{T, ltb, ltb→lt, nltb→le}
 use lib.IntN.{ℤ, pos, negsuc, negℤ, _+ℤ_, _*ℤ_, subℕ}
@@ -81,17 +81,44 @@ module _ {S : Type 0} (𝓢 : CRing S) (ν : ℕ → S) (ν-add : (a b : ℕ) �
   ι-hom = record { h-add = ι-add; h-mul = ι-mul; h-neg = ι-neg; h-zero = ν-zero; h-one = ν-one }
 
 module _ (m : ℕ) where
-  res-add : (a b : ℕ) → toRes m (a +ℕ b) ≡ Res-ring m .add (toRes m a) (toRes m b)
-  res-add a b = Fin·val-path (simp (mod-add-mod, add-mod-mod))
+  toRes-add : (a b : ℕ) → toRes m (a +ℕ b) ≡ Res-ring m .add (toRes m a) (toRes m b)
+  toRes-add a b = Fin·val-path (simp (mod-add-mod, add-mod-mod))
 
-  res-mul : (a b : ℕ) → toRes m (a *ℕ b) ≡ Res-ring m .mul (toRes m a) (toRes m b)
-  res-mul a b = Fin·val-path (mul-mod a b (suc m))
+  toRes-mul : (a b : ℕ) → toRes m (a *ℕ b) ≡ Res-ring m .mul (toRes m a) (toRes m b)
+  toRes-mul a b = Fin·val-path (mul-mod a b (suc m))
 
   abbrev pub reduce : ℤ → Res m
   reduce = ext (Res-ring m) (toRes m)
 
   pub reduce-hom : Hom ℤ-ring (Res-ring m) reduce
-  reduce-hom = ι-hom (Res-ring m) (toRes m) res-add res-mul refl
+  reduce-hom = ι-hom (Res-ring m) (toRes m) toRes-add toRes-mul refl
 
   pub det-mod : (n : ℕ) (a : ℕ → ℕ → ℤ) → reduce (det ℤ-ring n a) ≡ det (Res-ring m) n (λ r c. reduce (a r c))
   det-mod = det-hom ℤ-ring (Res-ring m) reduce reduce-hom
+
+abbrev pub lower : (m k : ℕ) → Res m → Res k
+lower m k a = toRes k (a .0)
+
+-- k + 1 divides m + 1
+module _ (m k : ℕ) (divides : suc k ∣ suc m) where
+  -- the residue of a number, through Z/(m + 1)
+  pub lower-toRes : (a : ℕ) → lower m k (toRes m a) ≡ toRes k a
+  lower-toRes a = Fin·val-path (mod-mod-of-dvd (suc k) a divides)
+
+  lower-add : (a b : Res m) → lower m k (Res-ring m .add a b) ≡ Res-ring k .add (lower m k a) (lower m k b)
+  lower-add a b = lower-toRes (a .0 +ℕ b .0) ∙ toRes-add k (a .0) (b .0)
+
+  pub lower-hom : Hom (Res-ring m) (Res-ring k) (lower m k)
+  lower-hom = record {
+    h-add = lower-add;
+    h-mul = λ a b. lower-toRes (a .0 *ℕ b .0) ∙ toRes-mul k (a .0) (b .0);
+    h-neg = λ a.
+        add-cancel (Res-ring k) (lower m k a) (lower m k (Res-ring m .neg a)) (Res-ring k .neg (lower m k a))
+        (sym (lower-add a (Res-ring m .neg a)) ∙ ap (lower m k) (add-neg (Res-ring m) a) ∙ lower-toRes 0 ∙ sym (add-neg (Res-ring k) (lower m k a)));
+    h-zero = lower-toRes 0;
+    h-one = lower-toRes 1;
+  }
+
+  pub lower-reduce : (z : ℤ) → lower m k (reduce m z) ≡ reduce k z
+  lower-reduce (pos a) = lower-toRes a
+  lower-reduce (negsuc a) = lower-hom .h-neg (toRes m (suc a)) ∙ ap (Res-ring k .neg) (lower-toRes (suc a))

@@ -135,6 +135,13 @@ module _ {R : Type 0} (𝓡 : CRing R) where
   pub fin-neg : {f : ℕ → R} → Finite f → Finite (- f)
   fin-neg F = record { size = F .size; short = record { out = λ k l. ap (𝓡 .neg) (F .short .out k l) ∙ neg-zero 𝓡 } }
 
+  pub fin-const : (x : R) → Finite (const 𝓡 x)
+  fin-const x = record { size = 1; short = record { out = go } }
+    where
+      go : (k : ℕ) → 1 ≤ k → const 𝓡 x k ≡ 𝓡 .nil
+      go zero h = absurd (omega arith)
+      go (suc k) h = refl
+
   pub const-mul : (a b : R) → const 𝓡 a * const 𝓡 b ≡ const 𝓡 (𝓡 .mul a b)
   const-mul a b = fun-ext (λ k. conv-const 𝓡 a (const 𝓡 b) k ∙ go k)
     where
