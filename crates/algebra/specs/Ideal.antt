@@ -8,12 +8,14 @@
 --   grounded                  multiples of a monic polynomial of degree 1 or more combine to no constant but 0
 --
 -- Letters: f, g, h, q, r, u, v, w are series, the constant first.
-use mathlib.Core.Path.{_≡_, refl, _∙_, ap, ap₂}
+use mathlib.Core.Path.{_≡_, refl, sym, _∙_, ap, ap₂}
 use mathlib.Core.List.{[], _∷_}
-use Prim.Native.Nat.{ℕ}
+use Prim.Native.Nat.{ℕ, zero, suc, _≤_}
+use native.Mathlib.Omega.{arith}
+use Rattle.algebra.specs.Division.{monic-rest}
 use Rattle.algebra.specs.Normaliser.{quote, by-ring}
-use Rattle.algebra.specs.Ring.{CRing}
-use Rattle.algebra.specs.Series.{series, fin-add, Finite, fin-mul, fin-neg}
+use Rattle.algebra.specs.Ring.{CRing, add-neg, neg-neg, neg-zero}
+use Rattle.algebra.specs.Series.{series, Short, const, Finite, fin-add, fin-mul, fin-neg}
 
 module _ {R : Type 0} (𝓡 : CRing R) where
   open CRing (series 𝓡) using (add as _+_, mul as _*_, neg as -_, unit as 𝟙)
@@ -110,3 +112,47 @@ module _ {R : Type 0} (𝓡 : CRing R) where
     where
       turn : (u v f q r : ℕ → R) → (u + v * q) * f + v * r ≡ u * f + v * (q * f + r)
       turn u v f q r = by-ring (series 𝓡) (u ∷ v ∷ f ∷ q ∷ r ∷ []) (search quote depth 20) (search quote depth 20) refl
+
+  -- multiples of what is reached
+  pub multiple : {f g w : ℕ → R} (j : ℕ → R) → Finite 𝓡 j → Combines f g w → Combines f g (j * w)
+  multiple {f} {g} j J c = record {
+    u = j * c .u;
+    v = j * c .v;
+    fin-u = fin-mul 𝓡 J (c .fin-u);
+    fin-v = fin-mul 𝓡 J (c .fin-v);
+    eq = turn j (c .u) (c .v) f g ∙ ap (λ (x : ℕ → R). j * x) (c .eq);
+  }
+    where
+      turn : (j u v f g : ℕ → R) → j * u * f + j * v * g ≡ j * (u * f + v * g)
+      turn j u v f g = by-ring (series 𝓡) (j ∷ u ∷ v ∷ f ∷ g ∷ []) (search quote depth 20) (search quote depth 20) refl
+
+  -- multiples of a monic polynomial of degree t ≥ 1 reach no constant but 0
+  pub grounded : (t : ℕ) (w a b : ℕ → R) (c : R) → 1 ≤ t → w t ≡ 𝓡 .unit → Short 𝓡 (suc t) w → Finite 𝓡 a → Finite 𝓡 b → Combines (w * a) (w * b) (const 𝓡 c) → c ≡ 𝓡 .nil
+  grounded t w a b c l top short A B x =
+      sym (neg-neg 𝓡 c) ∙ ap (𝓡 .neg) (monic-rest 𝓡 (Q .size) t q w rest (Q .short) top short short-rest eq 0) ∙ neg-zero 𝓡
+    where
+      q : ℕ → R
+      q = x .u * a + x .v * b
+
+      Q : Finite 𝓡 q
+      Q = fin-add 𝓡 (fin-mul 𝓡 (x .fin-u) A) (fin-mul 𝓡 (x .fin-v) B)
+
+      rest : ℕ → R
+      rest = const 𝓡 (𝓡 .neg c)
+
+      short-rest : Short 𝓡 t rest
+      short-rest = record { out = go }
+        where
+          go : (k : ℕ) → t ≤ k → rest k ≡ 𝓡 .nil
+          go zero h = absurd (omega arith)
+          go (suc k) h = refl
+
+      turn : (u v w a b : ℕ → R) → (u * a + v * b) * w ≡ u * (w * a) + v * (w * b)
+      turn u v w a b = by-ring (series 𝓡) (u ∷ v ∷ w ∷ a ∷ b ∷ []) (search quote depth 20) (search quote depth 20) refl
+
+      eq : (k : ℕ) → 𝓡 .add ((q * w) k) (rest k) ≡ 𝓡 .nil
+      eq k = ap (λ (z : ℕ → R). 𝓡 .add (z k) (rest k)) (turn (x .u) (x .v) w a b ∙ x .eq) ∙ cancel k
+        where
+          cancel : (k : ℕ) → 𝓡 .add (const 𝓡 c k) (rest k) ≡ 𝓡 .nil
+          cancel zero = add-neg 𝓡 c
+          cancel (suc k) = 𝓡 .zero-add (𝓡 .nil)

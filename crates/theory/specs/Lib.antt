@@ -1,6 +1,7 @@
 pub mod Certificates
 pub mod Examples
 pub mod PointThree
+pub mod PolynomialLaws
 pub mod ReachedLaws
 pub mod ReachedSteps
 pub mod ReducedLaws

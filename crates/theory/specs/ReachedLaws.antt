@@ -16,7 +16,7 @@ use Rattle.algebra.specs.Residues.{Res, toRes, Res-ring}
 use Rattle.algebra.specs.Ring.{CRing}
 use Rattle.algebra.specs.SentLaws.{Rs}
 use Rattle.algebra.specs.Series.{Finite, const-mul, conv, Short, const}
-use Rattle.theory.specs.Words.{words, words-out, words-product, convolve-is, coef-tabulate, length-tabulate, resultant-is}
+use Rattle.theory.specs.Words.{words, words-out, words-product, convolve-is, coef-tabulate, length-tabulate, resultant-is, words-cong}
 
 -- only c modulo n matters
 pub reached-same : {n : ℕ} {f g : List ℕ} {c c′ : ℕ} → c % n ≡ c′ % n → Reached n f g c → Reached n f g c′
@@ -122,6 +122,21 @@ module _ (m : ℕ) where
 
   pub resultant-reached : (f g : List ℕ) → 1 ≤ deg f +ℕ deg g → Reached (suc m) f g (resultant (suc m) f g)
   resultant-reached f g l = let c = resultant-cofactors f g l in record { u = c .u; v = c .v; combination = c .combination }
+
+-- what is reached depends only on the words modulo n
+pub reached-cong : (n : ℕ) → 1 ≤ n → (f f′ g g′ : List ℕ) → ((k : ℕ) → coef f k % n ≡ coef f′ k % n) → ((k : ℕ) → coef g k % n ≡ coef g′ k % n) → (c : ℕ) → Reached n f g c → Reached n f′ g′ c
+reached-cong zero l f f′ g g′ hf hg c r = absurd (omega arith)
+reached-cong (suc m) l f f′ g g′ hf hg c r = from-ring m (rw (words-cong m f f′ hf, words-cong m g g′ hg) at (to-ring m r))
+
+-- and so does D
+pub reduced-cong : (n : ℕ) → 1 ≤ n → (f f′ g g′ : List ℕ) → ((k : ℕ) → coef f k % n ≡ coef f′ k % n) → ((k : ℕ) → coef g k % n ≡ coef g′ k % n) → (D : ℕ) → Reduced n f g D → Reduced n f′ g′ D
+reduced-cong n l f f′ g g′ hf hg D r = record {
+  divides = r .divides;
+  least = r .least;
+  most = r .most;
+  only = λ c p x. r .only c p (reached-cong n l f′ f g′ g (λ k. sym (hf k)) (λ k. sym (hg k)) c x);
+  all = λ c p x. reached-cong n l f f′ g g′ hf hg c (r .all c p x);
+}
 
 -- the bound c < n may be dropped
 pub only-any : {n D : ℕ} {f g : List ℕ} → 1 ≤ n → Reduced n f g D → (c : ℕ) → Reached n f g c → D ∣ c

@@ -8,7 +8,7 @@ use native.Mathlib.Omega.{arith}
 use lib.ListN.{length, List·getD-eq-default}
 use Rattle.definitions.specs.Polynomials.{coef, total, convolve, tabulate, constant}
 use Rattle.definitions.specs.Resultants.{Reached}
-use Rattle.algebra.specs.MonicDivision.{monic-zero, monic-rest}
+use Rattle.algebra.specs.Division.{monic-zero, monic-rest}
 use Rattle.algebra.specs.Residues.{Res, toRes, Res-ring, mul-mod-r}
 use Rattle.algebra.specs.Ring.{add-neg, neg-neg, neg-zero}
 use Rattle.algebra.specs.Series.{conv, Short, const}

@@ -5,17 +5,15 @@ use Prim.Native.Nat.{ℕ, zero, suc, _<_, _≤_, _%_, _/_, _∣_, _+_, _*_}
 use native.Mathlib.Decide.{Fin·val-path}
 use native.Mathlib.Nat.{mod-one, mod-mod-of-dvd, dvd-refl, dvd-trans, dvd-add, one-dvd, dvd-mod-iff, dvd-mul-left, dvd-mul-right, mul-dvd-mul, mul-dvd-mul-left, dvd-of-mul-dvd-mul-left, mul-div-cancel', mul-le-mul, mul-pos}
 use native.Mathlib.Omega.{arith}
-use lib.IntN.{pos}
 use lib.ListN.{length}
 use Rattle.definitions.specs.Polynomials.{Multiplied, Divided, coef, convolve, tabulate, constant}
 use Rattle.definitions.specs.Resultants.{Reached, Reduced}
 use Rattle.algebra.specs.Ideal.{exchange, unit-in, unit-out, rest-in, rest-out}
-use Rattle.algebra.specs.Reduction.{reduce-hom}
-use Rattle.algebra.specs.Residues.{Res, toRes, Res-ring}
+use Rattle.algebra.specs.Residues.{toRes, Res-ring}
 use Rattle.algebra.specs.Series.{conv, const}
 use Rattle.theory.specs.ReachedLaws.{words-finite, to-ring, from-ring, only-any, all-any}
 use Rattle.theory.specs.ReachedSteps.{plus-mod, times-mod, lift-mod, convolve-scale-left, convolve-add-left, coef-whole, coef-beyond, Times, content-divides, content-down, content-up, monic-divides, monic-down, monic-up}
-use Rattle.theory.specs.Words.{words, convolve-is}
+use Rattle.theory.specs.Words.{words, convolve-is, divided-is, multiplied-is}
 
 -- D is multiplied by c when the modulus is
 scaled : (c n D : ℕ) (f f′ g g′ : List ℕ) → 1 ≤ c → 1 ≤ n → ((C : ℕ) → Reached (c * n) f g C → c ∣ C) → ((C : ℕ) → Reached (c * n) f g (c * C) → Reached n f′ g′ C)
@@ -61,9 +59,6 @@ pub record InversePolynomial (n : ℕ) (a i : List ℕ) : Type 0 where
   pub at : (k : ℕ) → convolve (coef i) (coef a) k % n ≡ constant 1 k % n
 
 module _ (m : ℕ) where
-  multiplied-is : (f a b : List ℕ) → Multiplied (suc m) f a b → words m f ≡ conv (Res-ring m) (words m a) (words m b)
-  multiplied-is f a b h = fun-ext (λ k. Fin·val-path (h .at k) ∙ convolve-is m (coef a) (coef b) k)
-
   inverse-is : (a i : List ℕ) → InversePolynomial (suc m) a i → conv (Res-ring m) (words m i) (words m a) ≡ const (Res-ring m) (toRes m 1)
   inverse-is a i h = fun-ext (λ k. sym (convolve-is m (coef i) (coef a) k) ∙ Fin·val-path (h .at k) ∙ one k)
     where
@@ -71,24 +66,19 @@ module _ (m : ℕ) where
       one zero = refl
       one (suc k) = refl
 
-  divided-is : (g f q r : List ℕ) → Divided (suc m) g f q r → words m g ≡ (λ k. Res-ring m .add (conv (Res-ring m) (words m q) (words m f) k) (words m r k))
-  divided-is g f q r h =
-      fun-ext (λ k. sym (Fin·val-path (h .at k)) ∙ reduce-hom m .h-add (pos (convolve (coef q) (coef f) k)) (pos (coef r k))
-      ∙ ap (λ (x : Res m). Res-ring m .add x (words m r k)) (convolve-is m (coef q) (coef f) k))
-
   -- D2
   pub unit-down : (f a h g : List ℕ) (C : ℕ) → Multiplied (suc m) f a h → Reached (suc m) f g C → Reached (suc m) h g C
-  unit-down f a h g C p r = from-ring m (unit-out (Res-ring m) (words-finite m a) (rw (multiplied-is f a h p) at (to-ring m r)))
+  unit-down f a h g C p r = from-ring m (unit-out (Res-ring m) (words-finite m a) (rw (multiplied-is m f a h p) at (to-ring m r)))
 
   pub unit-up : (f a i h g : List ℕ) (C : ℕ) → Multiplied (suc m) f a h → InversePolynomial (suc m) a i → Reached (suc m) h g C → Reached (suc m) f g C
-  unit-up f a i h g C p q r = from-ring m (rw (multiplied-is f a h p) (unit-in (Res-ring m) (words-finite m i) (inverse-is a i q) (to-ring m r)))
+  unit-up f a i h g C p q r = from-ring m (rw (multiplied-is m f a h p) (unit-in (Res-ring m) (words-finite m i) (inverse-is a i q) (to-ring m r)))
 
   -- D3
   pub rest-down : (f g q r : List ℕ) (C : ℕ) → Divided (suc m) g f q r → Reached (suc m) f g C → Reached (suc m) f r C
-  rest-down f g q r C h x = from-ring m (rest-out (Res-ring m) (words-finite m q) (rw (divided-is g f q r h) at (to-ring m x)))
+  rest-down f g q r C h x = from-ring m (rest-out (Res-ring m) (words-finite m q) (rw (divided-is m g f q r h) at (to-ring m x)))
 
   pub rest-up : (f g q r : List ℕ) (C : ℕ) → Divided (suc m) g f q r → Reached (suc m) f r C → Reached (suc m) f g C
-  rest-up f g q r C h x = from-ring m (rw (divided-is g f q r h) (rest-in (Res-ring m) (words-finite m q) (to-ring m x)))
+  rest-up f g q r C h x = from-ring m (rw (divided-is m g f q r h) (rest-in (Res-ring m) (words-finite m q) (to-ring m x)))
 
   pub flip : (f g : List ℕ) (C : ℕ) → Reached (suc m) f g C → Reached (suc m) g f C
   flip f g C x = from-ring m (exchange (Res-ring m) (to-ring m x))

@@ -9,12 +9,11 @@ use native.Mathlib.Omega.{arith}
 use lib.Dec.{T, leb, ltb, leb→le, nleb→lt, ltb→lt, nltb→le}
 use lib.IntN.{ℤ, pos, negsuc, negℤ, _+ℤ_, _*ℤ_}
 use lib.ListN.{length, List·getD-eq-default}
-use Rattle.definitions.specs.Polynomials.{coef, deg, total, convolve, tabulate, product}
+use Rattle.definitions.specs.Polynomials.{coef, deg, total, convolve, tabulate, product, Divided, Multiplied}
 use Rattle.definitions.specs.Resultants.{entry, sylvester, alternating, beside, determinant, residue, resultant}
 use Rattle.algebra.specs.Determinant.{det, minor}
 use Rattle.algebra.specs.Index.{skip}
 use Rattle.algebra.specs.Integers.{ℤ-ring}
-use Rattle.algebra.specs.ProductLaw.{Rs-mul}
 use Rattle.algebra.specs.Reduction.{reduce, reduce-hom}
 use Rattle.algebra.specs.Residues.{Res, toRes, Res-ring}
 use Rattle.algebra.specs.Resultant.{res-mod, shift, shift-low, res, shift-at}
@@ -143,6 +142,19 @@ convolve-is m p q (suc k) =
     ap (toRes m) (convolve-suc p q k) ∙ reduce-hom m .h-add (pos (p 0 *ℕ q (suc k))) (pos (convolve (λ i. p (suc i)) q k))
     ∙ ap₂ (Res-ring m .add) (reduce-hom m .h-mul (pos (p 0)) (pos (q (suc k)))) (convolve-is m (λ i. p (suc i)) q k)
 
+-- equations between words are equations of series
+pub multiplied-is : (m : ℕ) (f a b : List ℕ) → Multiplied (suc m) f a b → words m f ≡ conv (Res-ring m) (words m a) (words m b)
+multiplied-is m f a b h = fun-ext (λ k. Fin·val-path (h .at k) ∙ convolve-is m (coef a) (coef b) k)
+
+pub divided-is : (m : ℕ) (g f q r : List ℕ) → Divided (suc m) g f q r → words m g ≡ (λ k. Res-ring m .add (conv (Res-ring m) (words m q) (words m f) k) (words m r k))
+divided-is m g f q r h =
+    fun-ext (λ k. sym (Fin·val-path (h .at k)) ∙ reduce-hom m .h-add (pos (convolve (coef q) (coef f) k)) (pos (coef r k))
+    ∙ ap (λ (x : Res m). Res-ring m .add x (words m r k)) (convolve-is m (coef q) (coef f) k))
+
+-- words count modulo n only
+pub words-cong : (m : ℕ) (f f′ : List ℕ) → ((k : ℕ) → coef f k % suc m ≡ coef f′ k % suc m) → words m f ≡ words m f′
+words-cong m f f′ h = fun-ext (λ k. Fin·val-path (h k))
+
 pub words-out : (m : ℕ) (f : List ℕ) (k : ℕ) → deg f < k → words m f k ≡ toRes m 0
 words-out m f k l = ap (toRes m) (coef-out f k l)
 
@@ -159,12 +171,3 @@ words-product m f g k = go (decLe k (deg f +ℕ deg g))
     go (no l) =
         words-out m (product (suc m) f g) k (omega (arith, deg-product (suc m) f g))
         ∙ sym (conv-out (Res-ring m) (deg f) (deg g) (words m f) (words m g) (words-out m f) (words-out m g) k (omega arith))
-
--- THE LAW OF PRODUCTS for the words' resultant
-pub law-of-products : (n : ℕ) → 1 ≤ n → (f g h : List ℕ) → resultant n (product n f g) h ≡ (resultant n f h *ℕ resultant n g h) % n
-law-of-products zero l f g h = absurd (omega arith)
-law-of-products (suc m) l f g h =
-    resultant-is m (product (suc m) f g) h
-    ∙ ap (λ (z : Res m). z .0) (ap₂ (λ (d : ℕ) (u : ℕ → Res m). Rs (Res-ring m) d (deg h) u (words m h)) (deg-product (suc m) f g) (fun-ext (words-product m f g))
-    ∙ Rs-mul m (deg f) (deg g) (deg h) (words m f) (words m g) (words m h) (words-out m f) (words-out m g))
-    ∙ ap₂ (λ x y. (x *ℕ y) % suc m) (sym (resultant-is m f h)) (sym (resultant-is m g h))
