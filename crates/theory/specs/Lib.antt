@@ -1,4 +1,5 @@
 pub mod Certificates
+pub mod Computed
 pub mod Examples
 pub mod PointThree
 pub mod PolynomialLaws
