@@ -10,8 +10,8 @@
 --   monic-zero, monic-rest    divide-zero and divide-rest for a monic h
 --
 -- Letters: f is divided, h divides, q and r are quotient and remainder; n and j are lengths.
-use mathlib.Core.Path.{_≡_, refl, sym, _∙_, ap, ap₂, fun-ext}
-use mathlib.Core.List.{List, [], _∷_}
+use mathlib.Core.Path.{_≡_, refl, sym, _∙_, ap, ap₂}
+use mathlib.Core.List.{[], _∷_}
 use Prim.Native.Nat.{ℕ, zero, suc, _≤_, _+_ as _+ℕ_}
 use native.Mathlib.Decide.{ℕ-discrete}
 use native.Mathlib.Omega.{arith}

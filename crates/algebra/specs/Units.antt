@@ -8,8 +8,8 @@
 --   inverse-unique    a series has one inverse at most
 --
 -- Letters: u, v, w are series, the constant first; i is the inverse of the constant; n is a degree.
-use mathlib.Core.Path.{_≡_, refl, sym, _∙_, ap, ap₂, fun-ext}
-use mathlib.Core.List.{List, [], _∷_}
+use mathlib.Core.Path.{_≡_, refl, sym, _∙_, ap, fun-ext}
+use mathlib.Core.List.{[], _∷_}
 use Prim.Native.Nat.{ℕ, zero, suc, _<_, _≤_}
 use native.Mathlib.Omega.{arith}
 use Rattle.algebra.specs.Block.{pad}

@@ -9,7 +9,7 @@
 --   unit-times-monic-unique   degree, unit part and monic part are fixed
 --
 -- Letters: f is divided, or factored; g divides; q and r are quotient and remainder; u is a unit polynomial, h monic of degree t, w an inverse; m is n less 1.
-use mathlib.Core.Path.{_≡_, refl, sym, _∙_, ap, ap₂, fun-ext}
+use mathlib.Core.Path.{_≡_, sym, _∙_, ap, ap₂, fun-ext}
 use mathlib.Core.List.{List}
 use Prim.Native.Nat.{ℕ, zero, suc, _<_, _≤_, _%_, _^_, _+_, _-_}
 use native.Mathlib.Decide.{Fin·val-path, decLt}
@@ -23,11 +23,11 @@ use Rattle.definitions.specs.Residues.{IsUnit, IsNilpotent}
 use Rattle.algebra.specs.Division.{Lead, Quotient, divide, divide-unique}
 use Rattle.algebra.specs.Reduction.{reduce-hom}
 use Rattle.algebra.specs.Residues.{Res, toRes, Res-ring}
-use Rattle.algebra.specs.Series.{conv, const, Short, series}
+use Rattle.algebra.specs.Series.{conv, Short, series}
 use Rattle.algebra.specs.UnitTimesMonic.{Monic as MonicSeries, degree-unique, monic-unique, unit-unique}
 use Rattle.algebra.specs.Units.{Nilpotent, Invertible, unit-polynomial, inverse-unique}
-use Rattle.theory.specs.ReachedLaws.{words-short, words-finite, spell, words-spell}
-use Rattle.theory.specs.ReducedLaws.{InversePolynomial}
+use Rattle.theory.specs.ReachedLaws.{words-short, words-finite, spell, words-spell, constant-is}
+use Rattle.theory.specs.ReducedLaws.{InversePolynomial, inverse-is}
 use Rattle.theory.specs.ResultantLaws.{power-is}
 use Rattle.theory.specs.Words.{words, words-out, convolve-is, coef-tabulate, length-tabulate, divided-is, multiplied-is}
 
@@ -120,13 +120,6 @@ module _ (m : ℕ) where
   invertible-is u U =
       unit-polynomial (Res-ring m) (length u) (words m u) (toRes m (U .unit .inverse)) (words-short m u) (unit-is m (coef u 0) (U .unit)) (λ k l. nilpotent-is m (coef u k) (U .nilpotent k l))
 
-  one-is : (k : ℕ) → toRes m (constant 1 k) ≡ const (Res-ring m) (toRes m 1) k
-  one-is zero = refl
-  one-is (suc k) = refl
-
-  inverse-series : (u w : List ℕ) → ((k : ℕ) → convolve (coef w) (coef u) k % suc m ≡ constant 1 k % suc m) → conv (Res-ring m) (words m w) (words m u) ≡ const (Res-ring m) (toRes m 1)
-  inverse-series u w h = fun-ext (λ k. sym (convolve-is m (coef w) (coef u) k) ∙ Fin·val-path (h k) ∙ one-is k)
-
   monic-is : (t : ℕ) (h : List ℕ) → Monic (suc m) t h → MonicSeries (Res-ring m) t (words m h)
   monic-is t h M = record { lead = Fin·val-path (M .lead); short = record { out = λ k l. of-zero m (coef h k) (M .above k l) } }
 
@@ -149,14 +142,14 @@ unit-polynomial-inverse (suc m) l u U = record { w = w; is = record { at = λ k.
     at k =
         convolve-is m (coef w) (coef u) k
         ∙ ap (λ (x : ℕ → Res m). conv (Res-ring m) x (words m u) k) (fun-ext (words-spell m (I .finite .size) (I .w) (I .finite .short)))
-        ∙ ap (λ (x : ℕ → Res m). x k) (I .eq) ∙ sym (one-is m k)
+        ∙ ap (λ (x : ℕ → Res m). x k) (I .eq) ∙ sym (constant-is m 1 k)
 
 -- "Its inverse fits in K times d, plus 1, words": whatever fits is one list
 pub inverse-of-unique : (n : ℕ) → 1 ≤ n → (u w w′ : List ℕ) → InverseOf n u w → InverseOf n u w′ → w ≡ w′
 inverse-of-unique zero l u w w′ i i′ = absurd (omega arith)
 inverse-of-unique (suc m) l u w w′ i i′ =
     equal-words m w w′ (i .length-w ∙ sym (i′ .length-w)) (i .residues-w) (i′ .residues-w)
-    (λ k. ap (λ (x : ℕ → Res m). x k) (inverse-unique (series (Res-ring m)) (words m u) (words m w) (words m w′) (inverse-series m u w (i .equation)) (inverse-series m u w′ (i′ .equation))))
+    (λ k. ap (λ (x : ℕ → Res m). x k) (inverse-unique (series (Res-ring m)) (words m u) (words m w) (words m w′) (inverse-is m u w (record { at = i .equation })) (inverse-is m u w′ (record { at = i′ .equation }))))
 
 -- "Both are fixed by this."
 pub unit-times-monic-unique : (n : ℕ) → 2 ≤ n → (f : List ℕ) (t t′ : ℕ) (u u′ h h′ : List ℕ) → UnitTimesMonic n f t u h → UnitTimesMonic n f t′ u′ h′ → (t ≡ t′) × ((u ≡ u′) × (h ≡ h′))

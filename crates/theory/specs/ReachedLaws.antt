@@ -1,21 +1,30 @@
--- The constants reached by words, and the reduced resultant.
-use mathlib.Core.Path.{_≡_, refl, sym, _∙_, ap, ap₂, fun-ext}
+-- The constants reached by two polynomials, and the reduced resultant D: at most one, it divides the resultant, and the law of products for D.
+--
+--   reached-same, reached-cong       c, f and g count modulo n only
+--   words-finite, spell, to-ring, from-ring    words as polynomials over Z/(m + 1) and back
+--   Of-length, resultant-cofactors   multipliers of given lengths; those of the resultant, e and d words long
+--   only-any, all-any, reduced-by    the bound c < n is not needed
+--   reached-multiple, reduced-from   multiples are reached, so it is enough to reach D
+--   reduced-cong, reduced-unique, reduced-product, reduced-divides
+--
+-- Letters: m is n less 1; u, v are multipliers; c is a constant; D, E, A, B, P are reduced resultants.
+use mathlib.Core.Path.{_≡_, refl, sym, _∙_, ap, ap₂, fun-ext, subst}
 use mathlib.Core.List.{List}
-use Prim.Native.Nat.{ℕ, zero, suc, _<_, _≤_, _%_, _∣_, _+_ as _+ℕ_, _*_ as _*ℕ_}
+use Prim.Native.Nat.{ℕ, zero, suc, _<_, _≤_, _%_, _/_, _∣_, _+_ as _+ℕ_, _*_ as _*ℕ_}
 use native.Mathlib.Decide.{Fin·val-path, decLt}
-use native.Mathlib.Nat.{mod-lt, mod-mod, mod-eq-of-lt, dvd-refl, dvd-antisymm, dvd-mod-iff}
+use native.Mathlib.Nat.{mod-lt, mod-mod, mod-eq-of-lt, dvd-refl, dvd-antisymm, dvd-mod-iff, mul-comm, mul-div-cancel'}
 use native.Mathlib.Omega.{arith}
 use lib.IntN.{pos}
 use lib.ListN.{length, List·getD-eq-default}
 use Rattle.definitions.specs.Polynomials.{coef, deg, convolve, tabulate, product, constant}
 use Rattle.definitions.specs.Resultants.{resultant, Combination, Reached, Reduced}
 use Rattle.algebra.specs.Cofactors.{cofactors}
-use Rattle.algebra.specs.Ideal.{Combines, of-left, of-right, of-both}
+use Rattle.algebra.specs.Ideal.{Combines, of-left, of-right, of-both, multiple}
 use Rattle.algebra.specs.Reduction.{reduce-hom}
 use Rattle.algebra.specs.Residues.{Res, toRes, Res-ring}
 use Rattle.algebra.specs.Ring.{CRing}
 use Rattle.algebra.specs.SentLaws.{Rs}
-use Rattle.algebra.specs.Series.{Finite, const-mul, conv, Short, const}
+use Rattle.algebra.specs.Series.{Finite, const-mul, conv, Short, const, fin-const}
 use Rattle.theory.specs.Words.{words, words-out, words-product, convolve-is, coef-tabulate, length-tabulate, resultant-is, words-cong}
 
 -- only c modulo n matters
@@ -62,7 +71,7 @@ module _ (m : ℕ) where
       reduce-hom m .h-add (pos (convolve (coef u) (coef f) k)) (pos (convolve (coef v) (coef g) k))
       ∙ ap₂ _+_ (convolve-is m (coef u) (coef f) k) (convolve-is m (coef v) (coef g) k)
 
-  constant-is : (c k : ℕ) → toRes m (constant c k) ≡ const (Res-ring m) (toRes m c) k
+  pub constant-is : (c k : ℕ) → toRes m (constant c k) ≡ const (Res-ring m) (toRes m c) k
   constant-is c zero = refl
   constant-is c (suc k) = refl
 
@@ -145,15 +154,31 @@ only-any {n} {D} {f} {g} l r c x = dvd-mod-iff D {m = c} {n = n} (r .divides) .0
 pub all-any : {n D : ℕ} {f g : List ℕ} → 1 ≤ n → Reduced n f g D → (c : ℕ) → D ∣ c → Reached n f g c
 all-any {n} {D} {f} {g} l r c x = reached-same (mod-mod c n) (r .all (c % n) (mod-lt c l) (dvd-mod-iff D {m = c} {n = n} (r .divides) .1 x))
 
--- and it is enough to reach D, and to divide what is reached
+-- nor in a proof
 pub reduced-by : (n D : ℕ) (f g : List ℕ) → 1 ≤ n → D ∣ n → 1 ≤ D → D ≤ n → ((c : ℕ) → Reached n f g c → D ∣ c) → ((c : ℕ) → D ∣ c → Reached n f g c) → Reduced n f g D
 reduced-by n D f g l d p q a b = record { divides = d; least = p; most = q; only = λ c _. a c; all = λ c _. b c }
+
+-- multiples of what is reached
+pub reached-multiple : (n : ℕ) → 1 ≤ n → (f g : List ℕ) (D j : ℕ) → Reached n f g D → Reached n f g (j *ℕ D)
+reached-multiple zero l f g D j r = absurd (omega arith)
+reached-multiple (suc m) l f g D j r =
+    from-ring m (rw (reduce-hom m .h-mul (pos j) (pos D), ← const-mul (Res-ring m) (toRes m j) (toRes m D)) (multiple (Res-ring m) (const (Res-ring m) (toRes m j)) (fin-const (Res-ring m) (toRes m j)) (to-ring m r)))
+
+-- so it is enough to reach D, and to divide what is reached
+pub reduced-from : (n D : ℕ) (f g : List ℕ) → 1 ≤ n → D ∣ n → 1 ≤ D → D ≤ n → Reached n f g D → ((c : ℕ) → Reached n f g c → D ∣ c) → Reduced n f g D
+reduced-from n D f g l d p q r only = record {
+  divides = d;
+  least = p;
+  most = q;
+  only = λ c _. only c;
+  all = λ c _ x. subst (Reached n f g) (mul-comm (c / D) D ∙ mul-div-cancel' D x) (reached-multiple n l f g D (c / D) r);
+}
 
 -- AT MOST ONE D
 pub reduced-unique : {n D E : ℕ} {f g : List ℕ} → 1 ≤ n → Reduced n f g D → Reduced n f g E → D ≡ E
 reduced-unique {n} {D} {E} l r s = dvd-antisymm (only-any l r E (all-any l s E (dvd-refl E))) (only-any l s D (all-any l r D (dvd-refl D)))
 
--- THE LAW OF PRODUCTS for D
+-- THE LAW OF PRODUCTS for D: a multiple of each of the two, a divisor of their ordinary product
 pub reduced-product : (n : ℕ) → 1 ≤ n → (f g h : List ℕ) (P A B : ℕ) → Reduced n (product n f g) h P → Reduced n f h A → Reduced n g h B → (A ∣ P) × (B ∣ P) × (P ∣ A *ℕ B)
 reduced-product zero l f g h P A B p a b = absurd (omega arith)
 reduced-product (suc m) l f g h P A B p a b = (
@@ -162,7 +187,7 @@ reduced-product (suc m) l f g h P A B p a b = (
   only-any l p (A *ℕ B) (reach-both m f g h A B (all-any l a A (dvd-refl A)) (all-any l b B (dvd-refl B))),
 )
 
--- D divides the resultant, but where both are constants
+-- "D divides the resultant when d + e >= 1"
 pub reduced-divides : (n : ℕ) → 1 ≤ n → (f g : List ℕ) (D : ℕ) → 1 ≤ deg f +ℕ deg g → Reduced n f g D → D ∣ resultant n f g
 reduced-divides zero l f g D p r = absurd (omega arith)
 reduced-divides (suc m) l f g D p r = only-any l r (resultant (suc m) f g) (resultant-reached m f g p)

@@ -1,4 +1,15 @@
--- What changes the polynomials or the modulus and keeps the constants reached: contents, unit factors, remainders, coprime moduli.
+-- What changes polynomials and modulus and keeps the constants reached: a common content (D1), and a content of the second where the first is monic (D4). With the laws of
+-- remainders and of sums of products that these rest on.
+--
+--   plus-mod, times-mod              sums and products of equal remainders
+--   mul-mod-mul, lift-mod, drop-mod  remainders modulo n and modulo c n
+--   convolve-mod, convolve-scale, convolve-add-left    sums of products
+--   coef-whole, coef-beyond          a tabulated list; beyond the words
+--   Times n c f f′                   f is c f′ modulo n
+--   content-divides, content-down, content-up    D1
+--   monic-divides, monic-down, monic-up          D4
+--
+-- Letters: c is a content, C a constant; h is monic of degree t, r = c r′; u, v are multipliers; k is a place.
 use mathlib.Core.Path.{_≡_, refl, sym, _∙_, ap, ap₂, fun-ext, subst}
 use mathlib.Core.List.{List}
 use Prim.Native.Nat.{ℕ, zero, suc, _<_, _≤_, _%_, _/_, _∣_, _+_, _*_, _-_}
@@ -74,7 +85,7 @@ convolve-add-left a b q k = total-cong (suc k) _ _ (λ i l. turn (a i) (b i) (q 
     turn : (a b q : ℕ) → (a + b) * q ≡ a * q + b * q
     turn a b q = omega arith
 
--- a tabulate as coefficients, where the rest is 0
+-- a tabulated list as coefficients, where the rest is 0
 pub coef-whole : (n : ℕ) (F : ℕ → ℕ) → ((k : ℕ) → n ≤ k → F k ≡ 0) → (k : ℕ) → coef (tabulate n F) k ≡ F k
 coef-whole n F z k = go (decLt k n)
   where

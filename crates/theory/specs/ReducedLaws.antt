@@ -1,5 +1,17 @@
--- The reduced resultant through the steps: contents, unit factors, remainders, coprime moduli, modulus 1.
-use mathlib.Core.Path.{_≡_, refl, sym, _∙_, ap, ap₂, fun-ext, subst}
+-- The reduced resultant through the steps of the engine, as equivalences for constants and as equations for D.
+--
+--   reduced-content      D1: f = c f′ and g = c g′ modulo c n
+--   reduced-unit         D2: f = a h with a invertible
+--   reduced-rest         D3: g = q f + r
+--   reduced-monic        D4: h monic of degree 1 or more and r = c r′ modulo c n
+--   reduced-one          D5: modulo 1
+--   reduced-split        D6: modulo n₁ n₂, coprime
+--   reduced-flip         f and g exchanged
+--   InversePolynomial    i a = 1 modulo n
+--   reached-mod          what is reached modulo n is reached modulo a divisor
+--
+-- Letters: m is n less 1; c is a content, C a constant; a has the inverse i; q and r are quotient and remainder.
+use mathlib.Core.Path.{_≡_, sym, _∙_, ap, ap₂, fun-ext, subst}
 use mathlib.Core.List.{List, []}
 use Prim.Native.Nat.{ℕ, zero, suc, _<_, _≤_, _%_, _/_, _∣_, _+_, _*_}
 use native.Mathlib.Decide.{Fin·val-path}
@@ -11,7 +23,7 @@ use Rattle.definitions.specs.Resultants.{Reached, Reduced}
 use Rattle.algebra.specs.Ideal.{exchange, unit-in, unit-out, rest-in, rest-out}
 use Rattle.algebra.specs.Residues.{toRes, Res-ring}
 use Rattle.algebra.specs.Series.{conv, const}
-use Rattle.theory.specs.ReachedLaws.{words-finite, to-ring, from-ring, only-any, all-any}
+use Rattle.theory.specs.ReachedLaws.{words-finite, constant-is, to-ring, from-ring, only-any, all-any}
 use Rattle.theory.specs.ReachedSteps.{plus-mod, times-mod, lift-mod, convolve-scale-left, convolve-add-left, coef-whole, coef-beyond, Times, content-divides, content-down, content-up, monic-divides, monic-down, monic-up}
 use Rattle.theory.specs.Words.{words, convolve-is, divided-is, multiplied-is}
 
@@ -59,12 +71,8 @@ pub record InversePolynomial (n : ℕ) (a i : List ℕ) : Type 0 where
   pub at : (k : ℕ) → convolve (coef i) (coef a) k % n ≡ constant 1 k % n
 
 module _ (m : ℕ) where
-  inverse-is : (a i : List ℕ) → InversePolynomial (suc m) a i → conv (Res-ring m) (words m i) (words m a) ≡ const (Res-ring m) (toRes m 1)
-  inverse-is a i h = fun-ext (λ k. sym (convolve-is m (coef i) (coef a) k) ∙ Fin·val-path (h .at k) ∙ one k)
-    where
-      one : (k : ℕ) → toRes m (constant 1 k) ≡ const (Res-ring m) (toRes m 1) k
-      one zero = refl
-      one (suc k) = refl
+  pub inverse-is : (a i : List ℕ) → InversePolynomial (suc m) a i → conv (Res-ring m) (words m i) (words m a) ≡ const (Res-ring m) (toRes m 1)
+  inverse-is a i h = fun-ext (λ k. sym (convolve-is m (coef i) (coef a) k) ∙ Fin·val-path (h .at k) ∙ constant-is m 1 k)
 
   -- D2
   pub unit-down : (f a h g : List ℕ) (C : ℕ) → Multiplied (suc m) f a h → Reached (suc m) f g C → Reached (suc m) h g C

@@ -1,4 +1,17 @@
--- The laws of the resultant for words modulo n. Lists count by their length and by their words modulo n.
+-- The laws of the resultant for words modulo n. A list counts by its length and by its words modulo n; nothing is asked of top words.
+--
+--   signed n k x, reversed f         x with the sign (-1)^k; the words in the other order
+--   resultant-cong                   words that agree modulo n
+--   resultant-drop-first, resultant-drop-second      R1: a zero top word
+--   resultant-scale-first, resultant-scale-second    R2: a constant factor
+--   resultant-add                    R3: q f added to g
+--   resultant-swap, resultant-reversed               R4 and R5: exchanged; read from the other end
+--   resultant-const-first, resultant-const-second    one is a constant
+--   resultant-divide, resultant-short                R7 for any top word: g = q f + r; g shorter than f
+--   resultant-multiplied, law-of-products            R6: f = a b; the product word list
+--   resultant-mod, resultant-content, resultant-joined    modulo a divisor of n; a content; coprime moduli
+--
+-- Letters: m is n less 1; d, e are the sent degrees of f and g; c is a constant.
 use mathlib.Core.Path.{_≡_, refl, sym, _∙_, ap, ap₂, fun-ext}
 use mathlib.Core.List.{List}
 use Prim.Native.Nat.{ℕ, zero, suc, _<_, _≤_, _%_, _^_, _∣_, _+_, _*_, _-_}

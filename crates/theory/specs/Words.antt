@@ -1,4 +1,13 @@
--- The resultant in sent degrees, over any ring, the constant first; modulo n; the words' resultant is the ring's.
+-- From words to the ring: the definitions' determinant, resultant and sums of products are those of the algebra over Z/(m + 1), so that its theorems speak of words.
+--
+--   words m f           the coefficients of f as residues modulo m + 1
+--   coef-tabulate, length-tabulate    the words of a tabulated list
+--   determinant-is, sylvester-is, resultant-is    determinant, Sylvester's matrix and resultant
+--   convolve-is, multiplied-is, divided-is        products, f = a b, and g = q f + r
+--   words-product       the product word list
+--   words-cong          words count modulo n only
+--
+-- Letters: m is n less 1; f, g, q, r, a, b are word lists, p, q sequences of numbers; d, e are sent degrees; k is a place.
 use mathlib.Core.Path.{_≡_, refl, sym, _∙_, ap, ap₂, fun-ext, subst}
 use mathlib.Core.List.{List, [], _∷_}
 use mathlib.Core.Bool.{Bool, true, false, not, cond}
