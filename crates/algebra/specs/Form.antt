@@ -214,7 +214,7 @@ module _ {R : Type 0} (𝓡 : CRing R) where
   pub det-rdet : (n : ℕ) (a : ℕ → ℕ → R) → det 𝓡 n a ≡ rdet n a
   det-rdet n a = row-unique n (det-form n) a ∙ ap (λ x. rdet n a * x) (det-e n) ∙ mul-one 𝓡 (rdet n a)
 
-  -- UNIQUENESS
+  -- UNIQUENESS of the alternating form
   pub unique : (n : ℕ) {D : (ℕ → ℕ → R) → R} → Form n n D → (a : ℕ → ℕ → R) → D a ≡ det 𝓡 n a * D e
   unique n {D} F a = row-unique n F a ∙ ap (λ x. x * D e) (sym (det-rdet n a))
 

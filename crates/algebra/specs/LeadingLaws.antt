@@ -66,7 +66,7 @@ module _ {R : Type 0} (𝓡 : CRing R) where
       ap (λ (b : ℕ → ℕ → R). det 𝓡 (up m n) (stack m (λ i. shift 𝓡 i f) b)) (fun-ext (λ i. fun-ext (λ c. shift-scale 𝓡 x i g c)))
       ∙ scale-all 𝓡 (fix-rows 𝓡 m (det-form 𝓡 (up m n)) (λ i. shift 𝓡 i f)) x (λ i. shift 𝓡 i g)
 
-  -- f of degree m, q of degree d, g of degree d + m
+  -- R3: f of degree m, q of degree d, g of degree d + m
   pub res-add : (m d : ℕ) (f g q : ℕ → R) → ((k : ℕ) → d < k → q k ≡ 𝓡 .nil)
       → res 𝓡 m (up d m) (λ i. conv 𝓡 q f i + g i) f ≡ res 𝓡 m (up d m) g f
   unfolding res

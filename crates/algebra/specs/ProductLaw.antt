@@ -103,7 +103,7 @@ module _ {R : Type 0} (𝓡 : CRing R) where
         ∙ ap₂ (λ (u v : ℕ → R). stack m u v r) (fun-ext (λ i. shift-up 𝓡 n i c h)) (fun-ext (λ i. shift-up 𝓡 n i c f))
         ∙ sym (stack-map (λ (v : ℕ → R). v c) m (λ i. shift 𝓡 i h) (λ i. shift 𝓡 i f) r)))
 
-    -- THE RESULTANT OF A PRODUCT
+    -- R6 over any ring, up to a power of the leading coefficient of h
     pub res-mul : pw 𝓡 (h 0) n * res 𝓡 m (up n p) (conv 𝓡 g h) f ≡ res 𝓡 m n g f * (pw 𝓡 (h 0) n * res 𝓡 m p h f)
     unfolding res
     res-mul =
@@ -161,7 +161,7 @@ module _ (m : ℕ) where
   unfolding topped
   topped-top h z = absurd (omega (arith, ap natAbs z))
 
-  -- THE LAW OF PRODUCTS modulo m + 1, leading coefficients first
+  -- R6 modulo m + 1, leading coefficients first
   pub res-mul-Res : (k n p : ℕ) (f g h : ℕ → Res m) → ((i : ℕ) → k < i → f i ≡ toRes m 0) → ((i : ℕ) → n < i → g i ≡ toRes m 0) → ((i : ℕ) → p < i → h i ≡ toRes m 0)
       → res (Res-ring m) k (up n p) (conv (Res-ring m) g h) f ≡ Res-ring m .mul (res (Res-ring m) k n g f) (res (Res-ring m) k p h f)
   res-mul-Res k n p f g h zf zg zh =

@@ -15,7 +15,7 @@ use Rattle.algebra.specs.Ring.{CRing}
 spread : (n q r s t : ℕ) → (n * q + r) * (n * s + t) ≡ r * t + n * (q * (n * s + t) + r * s)
 spread n q r s t = omega arith
 
--- missing in native.Mathlib.Nat
+-- a product modulo n depends on its factors modulo n
 pub mul-mod : (a b n : ℕ) → (a * b) % n ≡ ((a % n) * (b % n)) % n
 mul-mod a b n =
     ap (λ x. x % n) (ap₂ _*_ (sym (div-add-mod a n)) (sym (div-add-mod b n)) ∙ spread n (a / n) (a % n) (b / n) (b % n))

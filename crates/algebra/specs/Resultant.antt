@@ -1,8 +1,8 @@
 -- Sylvester's matrix and the resultant over a ring, the leading coefficients first, and the map of rings. The order of the arguments is that of the rows.
 --
 --   shift i f       i zeros, then f
---   sylvester m f g m rows of f, each one place further right, above the rows of g
---   res m n f g     its determinant, with n rows of g: f of degree n, g of degree m
+--   sylvester m g f m rows of g, each one place further right, above the rows of f
+--   res m n g f     its determinant, with n rows of f: g of degree n, f of degree m
 --   res-hom, res-mod    a map of rings, and the integers modulo k + 1
 --
 -- Letters: f, g, h are series, the leading coefficient first; m, n numbers of rows; i a row, c a column.
@@ -93,7 +93,7 @@ module _ {R : Type 0} (𝓡 : CRing R) where
   pub act-shift : (n d i : ℕ) (f h : ℕ → R) → ((k : ℕ) → d < k → f k ≡ 𝟘) → i +ℕ d < n → (c : ℕ) → act 𝓡 n (λ k. shift k h) (shift i f) c ≡ shift i (conv 𝓡 f h) c
   act-shift n d i f h z l c = act-conv n (shift i f) h (λ k p. shift-zero i (suc d) f (λ k q. z k q) k (omega (arith, up-is i (suc d)))) c ∙ conv-shift i f h c
 
-  -- SYLVESTER: m rows of g (of degree n) above n rows of f (of degree m)
+  -- m rows of g (of degree n) above the rows of f (of degree m)
   abbrev pub sylvester : ℕ → (ℕ → R) → (ℕ → R) → ℕ → ℕ → R
   sylvester m g f = stack m (λ i. shift i g) (λ i. shift i f)
 

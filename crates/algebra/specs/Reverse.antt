@@ -49,7 +49,6 @@ module _ {R : Type 0} (𝓡 : CRing R) where
   rv-mul (suc d) f g zero = refl
   rv-mul (suc d) f g (suc i) = rv-mul d f g i
 
-  -- R2
   pub rv-scale : (x : R) (d : ℕ) (f : ℕ → R) (i : ℕ) → rv d (λ k. x * f k) i ≡ x * rv d f i
   rv-scale x zero f zero = refl
   rv-scale x zero f (suc i) = sym (mul-zero 𝓡 x)

@@ -19,7 +19,7 @@ use Rattle.algebra.specs.Form.{Form, spread, fix-top, bilinear, sink}
 use Rattle.algebra.specs.Index.{ins, skip, ins-eta, View, here, there, view, ins-at, ins-skip, skip-above, skip-ne}
 use Rattle.algebra.specs.MatrixProduct.{over}
 use Rattle.algebra.specs.Ring.{CRing, add-zero, mul-zero, pw}
-use Rattle.algebra.specs.Stack.{up, back, stack-bottom, up-is, stack}
+use Rattle.algebra.specs.Stack.{up, back, stack-bottom, up-is, stack, stack-top}
 use Rattle.algebra.specs.Sum.{sum, sgn, sgn-twice, sgn-add, sgn-zero}
 
 -- 0 + 1 + … + (n - 1)
@@ -165,13 +165,8 @@ module _ {R : Type 0} (𝓡 : CRing R) where
   -- the blocks change places
   pub blocks : {N k : ℕ} {D : (ℕ → ℕ → R) → R} → Form 𝓡 N k D → (m n : ℕ) → N ≡ m +ℕ n → (a b : ℕ → ℕ → R) → D (stack m a b) ≡ sgn 𝓡 (n *ℕ m) (D (stack n b a))
   blocks {D = D} F m zero h a b =
-      F .cong (stack m a b) a (λ r c p q. ap (λ (v : ℕ → R). v c) (only m a b r (omega arith))) ∙ ap (λ (j : ℕ). sgn 𝓡 j (D a)) (none m)
+      F .cong (stack m a b) a (λ r c p q. ap (λ (v : ℕ → R). v c) (stack-top m a b r (omega arith))) ∙ ap (λ (j : ℕ). sgn 𝓡 j (D a)) (none m)
     where
-      only : (m : ℕ) (a b : ℕ → ℕ → R) (r : ℕ) → r < m → stack m a b r ≡ a r
-      only zero a b r l = absurd (omega arith)
-      only (suc m) a b zero l = refl
-      only (suc m) a b (suc r) l = only m (λ i. a (suc i)) b r (omega arith)
-
       none : (m : ℕ) → 0 ≡ 0 *ℕ m
       none m = omega arith
   blocks {N = zero} F m (suc n) h a b = absurd (omega arith)

@@ -41,6 +41,7 @@ module _ {R : Type 0} (𝓡 : CRing R) where
   pub Rs-drop-second : (d e : ℕ) (f g : ℕ → R) → g (suc e) ≡ 𝟘 → Rs 𝓡 d (suc e) f g ≡ f d * Rs 𝓡 d e f g
   Rs-drop-second d e f g z = res-drop-second 𝓡 e d (rv 𝓡 d f) (rv 𝓡 (suc e) g) z ∙ ap (λ x. x * Rs 𝓡 d e f g) (rv-zero 𝓡 d f)
 
+  -- R2
   pub Rs-scale-first : (d e : ℕ) (x : R) (f g : ℕ → R) → Rs 𝓡 d e (λ i. x * f i) g ≡ pw 𝓡 x e * Rs 𝓡 d e f g
   Rs-scale-first d e x f g = ap (λ (u : ℕ → R). res 𝓡 e d u (rv 𝓡 e g)) (fun-ext (rv-scale 𝓡 x d f)) ∙ res-scale-first 𝓡 e d x (rv 𝓡 d f) (rv 𝓡 e g)
 

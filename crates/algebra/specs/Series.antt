@@ -96,11 +96,7 @@ module _ {R : Type 0} (𝓡 : CRing R) where
   pub conv-out : (d e : ℕ) (f g : ℕ → R) → ((k : ℕ) → d < k → f k ≡ 𝟘) → ((k : ℕ) → e < k → g k ≡ 𝟘) → (k : ℕ) → d +ℕ e < k → conv f g k ≡ 𝟘
   conv-out d e f g zf zg zero h = absurd (omega arith)
   conv-out zero e f g zf zg (suc k) h =
-      ap₂ (λ x y. f 0 * x + y) (zg (suc k) (omega arith)) (conv-none (λ i. f (suc i)) g (λ i. zf (suc i) (omega arith)) k) ∙ simp (mul-zero 𝓡, zero-add)
-    where
-      conv-none : (f h : ℕ → R) → ((i : ℕ) → f i ≡ 𝟘) → (c : ℕ) → conv f h c ≡ 𝟘
-      conv-none f h z zero = ap (λ x. x * h 0) (z 0) ∙ zero-mul 𝓡 (h 0)
-      conv-none f h z (suc c) = ap₂ (λ x y. x * h (suc c) + y) (z 0) (conv-none (λ i. f (suc i)) h (λ i. z (suc i)) c) ∙ simp (zero-mul 𝓡, zero-add)
+      ap₂ (λ x y. f 0 * x + y) (zg (suc k) (omega arith)) (conv-zero (λ i. f (suc i)) g (λ i. zf (suc i) (omega arith)) k) ∙ simp (mul-zero 𝓡, zero-add)
   conv-out (suc d) e f g zf zg (suc k) h =
       ap₂ (λ x y. f 0 * x + y) (zg (suc k) (omega arith)) (conv-out d e (λ i. f (suc i)) g (λ k l. zf (suc k) (omega arith)) zg k (omega arith)) ∙ simp (mul-zero 𝓡, zero-add)
 

@@ -73,7 +73,7 @@ stack-all P zero q a b h g r l = g r l
 stack-all P (suc m) q a b h g zero l = h 0 (omega arith)
 stack-all P (suc m) q a b h g (suc r) l = stack-all (λ i. P (suc i)) m q (λ i. a (suc i)) b (λ i p. h (suc i) (omega arith)) g r (omega arith)
 
--- a (d - 1), …, a 0, then a d, …
+-- a (n - 1), …, a 0, then a n, …
 abbrev pub back : {X : Type 0} → ℕ → (ℕ → X) → ℕ → X
 back zero a r = a r
 back (suc n) a zero = a n

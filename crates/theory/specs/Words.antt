@@ -29,7 +29,7 @@ use Rattle.algebra.specs.Resultant.{res-mod, shift, shift-low, res, shift-at}
 use Rattle.algebra.specs.Reverse.{rv-hom, rv, rv-at, rv-out}
 use Rattle.algebra.specs.SentLaws.{Rs}
 use Rattle.algebra.specs.Series.{conv, conv-out}
-use Rattle.algebra.specs.Stack.{up, up-is, stack}
+use Rattle.algebra.specs.Stack.{up, up-is, stack, stack-top}
 use Rattle.algebra.specs.Sum.{alt}
 
 pub coef-out : (f : List ℕ) (k : ℕ) → deg f < k → coef f k ≡ 0
@@ -75,18 +75,13 @@ entry-is d f i j = go (leb i j) refl (leb j (i +ℕ d)) refl
 stack-cond : (e : ℕ) (a b : ℕ → ℕ → ℤ) (r c : ℕ) → cond (ltb r e) (a r c) (b (r -ℕ e) c) ≡ stack e a b r c
 stack-cond e a b r c = go (ltb r e) refl
   where
-    top : (e : ℕ) (a b : ℕ → ℕ → ℤ) (r : ℕ) → r < e → stack e a b r c ≡ a r c
-    top zero a b r l = absurd (omega arith)
-    top (suc e) a b zero l = refl
-    top (suc e) a b (suc r) l = top e (λ i. a (suc i)) b r (omega arith)
-
     rest : (e : ℕ) (a b : ℕ → ℕ → ℤ) (r s : ℕ) → e +ℕ s ≡ r → stack e a b r c ≡ b s c
     rest zero a b r s h = ap (λ (k : ℕ). b k c) (omega arith)
     rest (suc e) a b zero s h = absurd (omega arith)
     rest (suc e) a b (suc r) s h = rest e (λ i. a (suc i)) b r s (omega arith)
 
     go : (t : Bool) → ltb r e ≡ t → cond t (a r c) (b (r -ℕ e) c) ≡ stack e a b r c
-    go true h = sym (top e a b r (ltb→lt r e (subst T (sym h) tt)))
+    go true h = sym (ap (λ (v : ℕ → ℤ). v c) (stack-top e a b r (ltb→lt r e (subst T (sym h) tt))))
     go false h = let l = nltb→le r e (subst (λ t. T (not t)) (sym h) tt) in sym (rest e a b r (r -ℕ e) (omega arith))
 
 beside-is : (i r : ℕ) → beside i r ≡ skip i r
