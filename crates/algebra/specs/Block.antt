@@ -1,4 +1,5 @@
--- Block triangular matrices: where the block right of the first m rows' first m columns is 0, or the block below it, the determinant is the product of two.
+-- Block triangular matrices: where the block right of the first m rows' first m columns is 0, or the block below it, the determinant is the
+-- product of two.
 --
 --   corner, corner-row   the first column is 0 below the corner; the first row is 0 beside it
 --   pad m v         the first m entries of v, then zeros
@@ -23,7 +24,6 @@ module _ {R : Type 0} (𝓡 : CRing R) where
   infixl 65 _+_
   infixl 70 _*_
   infix 75 -_
-
   -- the first column is 0 below the corner; the first row is 0 beside it
   pub corner : (n : ℕ) (a : ℕ → ℕ → R) → ((i : ℕ) → i < n → a (suc i) 0 ≡ 𝟘) → det 𝓡 (suc n) a ≡ a 0 0 * det 𝓡 n (λ r c. a (suc r) (suc c))
   unfolding det
@@ -32,7 +32,8 @@ module _ {R : Type 0} (𝓡 : CRing R) where
       (alt-zero 𝓡 n _ (λ i l. ap (λ x. x * det 𝓡 n (minor 𝓡 (suc i) a)) (h i l) ∙ zero-mul 𝓡 _))
       ∙ simp (neg-zero 𝓡, add-zero 𝓡)
 
-  pub corner-row : (n : ℕ) (a : ℕ → ℕ → R) → ((j : ℕ) → j < n → a 0 (suc j) ≡ 𝟘) → det 𝓡 (suc n) a ≡ a 0 0 * det 𝓡 n (λ r c. a (suc r) (suc c))
+  pub corner-row : (n : ℕ) (a : ℕ → ℕ → R) → ((j : ℕ) → j < n → a 0 (suc j) ≡ 𝟘)
+      → det 𝓡 (suc n) a ≡ a 0 0 * det 𝓡 n (λ r c. a (suc r) (suc c))
   corner-row n a h =
       sym (det-transpose 𝓡 (suc n) a) ∙ corner n (λ r c. a c r) h ∙ ap (λ x. a 0 0 * x) (det-transpose 𝓡 n (λ r c. a (suc r) (suc c)))
 
@@ -88,7 +89,8 @@ module _ {R : Type 0} (𝓡 : CRing R) where
   pad-self (suc m) (suc n) v h (suc c) l = pad-self m n (λ i. v (suc i)) (λ c p q. h (suc c) (omega arith) (omega arith)) c (omega arith)
 
   -- the top right block is 0
-  pub det-block-lower : (m p : ℕ) (a : ℕ → ℕ → R) → ((r c : ℕ) → r < m → m ≤ c → c < up m p → a r c ≡ 𝟘) → det 𝓡 (up m p) a ≡ det 𝓡 m a * det 𝓡 p (low m a)
+  pub det-block-lower : (m p : ℕ) (a : ℕ → ℕ → R) → ((r c : ℕ) → r < m → m ≤ c → c < up m p → a r c ≡ 𝟘)
+      → det 𝓡 (up m p) a ≡ det 𝓡 m a * det 𝓡 p (low m a)
   det-block-lower m p a h =
       det-cong 𝓡 (up m p) a (over 𝓡 m (λ r. pad m (a r)) a)
       (λ r c x y. sym (over-self 𝓡 m (λ r. pad m (a r)) a c (λ r l. pad-self m (up m p) (a r) (λ c u v. h r c l u v) c y) r))
@@ -100,7 +102,8 @@ module _ {R : Type 0} (𝓡 : CRing R) where
   low-flip (suc m) a = low-flip m (λ r c. a (suc r) (suc c))
 
   -- the bottom left block is 0
-  pub det-block-upper : (m p : ℕ) (a : ℕ → ℕ → R) → ((r c : ℕ) → c < m → m ≤ r → r < up m p → a r c ≡ 𝟘) → det 𝓡 (up m p) a ≡ det 𝓡 m a * det 𝓡 p (low m a)
+  pub det-block-upper : (m p : ℕ) (a : ℕ → ℕ → R) → ((r c : ℕ) → c < m → m ≤ r → r < up m p → a r c ≡ 𝟘)
+      → det 𝓡 (up m p) a ≡ det 𝓡 m a * det 𝓡 p (low m a)
   det-block-upper m p a h =
       sym (det-transpose 𝓡 (up m p) a) ∙ det-block-lower m p (λ r c. a c r) (λ r c. h c r)
       ∙ ap₂ _*_ (det-transpose 𝓡 m a) (ap (det 𝓡 p) (low-flip m a) ∙ det-transpose 𝓡 p (low m a))

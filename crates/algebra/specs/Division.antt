@@ -1,5 +1,5 @@
--- Division by a polynomial h of degree t whose leading coefficient has the inverse i: f = q h + r with r of t coefficients exists, and only once. A monic h is the case
--- i = 1.
+-- Division by a polynomial h of degree t whose leading coefficient has the inverse i: f = q h + r with r of t coefficients exists, and only
+-- once. A monic h is the case i = 1.
 --
 --   conv-top                  the coefficient of a product at the sum of the degrees
 --   Lead t h i                h is of degree t and i is the inverse of its leading coefficient
@@ -30,15 +30,16 @@ module _ {R : Type 0} (𝓡 : CRing R) where
   infixl 65 _⊞_
   infixl 70 _⊠_
   infix 75 ⊟_
-
   -- the coefficient at the sum of two degrees
   pub conv-top : (a t : ℕ) (q h : ℕ → R) → Short 𝓡 (suc a) q → Short 𝓡 (suc t) h → (k : ℕ) → k ≡ a +ℕ t → conv 𝓡 q h k ≡ q a * h t
   conv-top zero t q h zq zh zero e = ap (λ (i : ℕ). q 0 * h i) (omega arith)
   conv-top zero t q h zq zh (suc k) e =
-      ap (λ y. q 0 * h (suc k) + y) (conv-zero 𝓡 (λ i. q (suc i)) h (λ i. zq .out (suc i) (omega arith)) k) ∙ add-zero 𝓡 _ ∙ ap (λ (i : ℕ). q 0 * h i) (omega arith)
+      ap (λ y. q 0 * h (suc k) + y) (conv-zero 𝓡 (λ i. q (suc i)) h (λ i. zq .out (suc i) (omega arith)) k) ∙ add-zero 𝓡 _
+      ∙ ap (λ (i : ℕ). q 0 * h i) (omega arith)
   conv-top (suc a) t q h zq zh zero e = absurd (omega arith)
   conv-top (suc a) t q h zq zh (suc k) e =
-      ap₂ (λ x y. q 0 * x + y) (zh .out (suc k) (omega arith)) (conv-top a t (λ i. q (suc i)) h (record { out = λ k l. zq .out (suc k) (omega arith) }) zh k (omega arith))
+      ap₂ (λ x y. q 0 * x + y) (zh .out (suc k) (omega arith))
+      (conv-top a t (λ i. q (suc i)) h (record { out = λ k l. zq .out (suc k) (omega arith) }) zh k (omega arith))
       ∙ ap (λ x. x + q (suc a) * h t) (mul-zero 𝓡 (q 0)) ∙ zero-add _
 
   pub record Lead (t : ℕ) (h : ℕ → R) (i : R) : Type 0 where
@@ -46,7 +47,8 @@ module _ {R : Type 0} (𝓡 : CRing R) where
     pub short : Short 𝓡 (suc t) h
 
   -- q h + r = 0, r shorter than h
-  pub divide-zero : (n t : ℕ) (q h r : ℕ → R) (i : R) → Short 𝓡 n q → Lead t h i → Short 𝓡 t r → ((k : ℕ) → conv 𝓡 q h k + r k ≡ 𝟘) → (k : ℕ) → q k ≡ 𝟘
+  pub divide-zero : (n t : ℕ) (q h r : ℕ → R) (i : R) → Short 𝓡 n q → Lead t h i → Short 𝓡 t r → ((k : ℕ) → conv 𝓡 q h k + r k ≡ 𝟘)
+      → (k : ℕ) → q k ≡ 𝟘
   divide-zero zero t q h r i zq m zr e k = zq .out k (omega arith)
   divide-zero (suc n) t q h r i zq m zr e k = divide-zero n t q h r i (record { out = less }) m zr e k
     where
@@ -67,17 +69,20 @@ module _ {R : Type 0} (𝓡 : CRing R) where
           go (yes p) = ap q p ∙ top
           go (no p) = zq .out k (omega arith)
 
-  pub divide-rest : (n t : ℕ) (q h r : ℕ → R) (i : R) → Short 𝓡 n q → Lead t h i → Short 𝓡 t r → ((k : ℕ) → conv 𝓡 q h k + r k ≡ 𝟘) → (k : ℕ) → r k ≡ 𝟘
+  pub divide-rest : (n t : ℕ) (q h r : ℕ → R) (i : R) → Short 𝓡 n q → Lead t h i → Short 𝓡 t r → ((k : ℕ) → conv 𝓡 q h k + r k ≡ 𝟘)
+      → (k : ℕ) → r k ≡ 𝟘
   divide-rest n t q h r i zq m zr e k =
       sym (zero-add (r k)) ∙ ap (λ x. x + r k) (sym (conv-zero 𝓡 q h (divide-zero n t q h r i zq m zr e) k)) ∙ e k
 
   pub monic-lead : (t : ℕ) (h : ℕ → R) → h t ≡ 𝟙 → Short 𝓡 (suc t) h → Lead t h 𝟙
   monic-lead t h m zh = record { inverse = mul-one 𝓡 (h t) ∙ m; short = zh }
 
-  pub monic-zero : (n t : ℕ) (q h r : ℕ → R) → Short 𝓡 n q → h t ≡ 𝟙 → Short 𝓡 (suc t) h → Short 𝓡 t r → ((k : ℕ) → conv 𝓡 q h k + r k ≡ 𝟘) → (k : ℕ) → q k ≡ 𝟘
+  pub monic-zero : (n t : ℕ) (q h r : ℕ → R) → Short 𝓡 n q → h t ≡ 𝟙 → Short 𝓡 (suc t) h → Short 𝓡 t r → ((k : ℕ) → conv 𝓡 q h k + r k ≡ 𝟘)
+      → (k : ℕ) → q k ≡ 𝟘
   monic-zero n t q h r zq m zh = divide-zero n t q h r 𝟙 zq (monic-lead t h m zh)
 
-  pub monic-rest : (n t : ℕ) (q h r : ℕ → R) → Short 𝓡 n q → h t ≡ 𝟙 → Short 𝓡 (suc t) h → Short 𝓡 t r → ((k : ℕ) → conv 𝓡 q h k + r k ≡ 𝟘) → (k : ℕ) → r k ≡ 𝟘
+  pub monic-rest : (n t : ℕ) (q h r : ℕ → R) → Short 𝓡 n q → h t ≡ 𝟙 → Short 𝓡 (suc t) h → Short 𝓡 t r → ((k : ℕ) → conv 𝓡 q h k + r k ≡ 𝟘)
+      → (k : ℕ) → r k ≡ 𝟘
   monic-rest n t q h r zq m zh = divide-rest n t q h r 𝟙 zq (monic-lead t h m zh)
 
   pub record Quotient (j t : ℕ) (f h : ℕ → R) : Type 0 where

@@ -23,7 +23,6 @@ module _ {R : Type 0} (𝓡 : CRing R) where
   infixl 65 _+_
   infixl 70 _*_
   infix 75 -_
-
   -- w is u f + v g for some polynomials u and v
   pub record Combines (f g w : ℕ → R) : Type 0 where
     pub u : ℕ → R
@@ -62,7 +61,8 @@ module _ {R : Type 0} (𝓡 : CRing R) where
     u = c .u * d .u;
     v = c .u * f * d .v + c .v * d .u * g + c .v * d .v * h;
     fin-u = fin-mul 𝓡 (c .fin-u) (d .fin-u);
-    fin-v = fin-add 𝓡 (fin-add 𝓡 (fin-mul 𝓡 (fin-mul 𝓡 (c .fin-u) F) (d .fin-v)) (fin-mul 𝓡 (fin-mul 𝓡 (c .fin-v) (d .fin-u)) G)) (fin-mul 𝓡 (fin-mul 𝓡 (c .fin-v) (d .fin-v)) H);
+    fin-v = fin-add 𝓡 (fin-add 𝓡 (fin-mul 𝓡 (fin-mul 𝓡 (c .fin-u) F) (d .fin-v)) (fin-mul 𝓡 (fin-mul 𝓡 (c .fin-v) (d .fin-u)) G))
+        (fin-mul 𝓡 (fin-mul 𝓡 (c .fin-v) (d .fin-v)) H);
     eq = turn (c .u) (c .v) (d .u) (d .v) f g h ∙ ap₂ _*_ (c .eq) (d .eq);
   }
     where
@@ -70,7 +70,14 @@ module _ {R : Type 0} (𝓡 : CRing R) where
       turn u v a b f g h = by-ring (series 𝓡) (u ∷ v ∷ f ∷ g ∷ h ∷ a ∷ b ∷ []) (search quote depth 20) (search quote depth 20) refl
 
   pub exchange : {f g w : ℕ → R} → Combines f g w → Combines g f w
-  exchange {f} {g} c = record { u = c .v; v = c .u; fin-u = c .fin-v; fin-v = c .fin-u; eq = series 𝓡 .add-comm (c .v * g) (c .u * f) ∙ c .eq }
+  exchange {f} {g} c = record {
+    u = c .v;
+    v = c .u;
+    fin-u = c .fin-v;
+    fin-v = c .fin-u;
+    eq = series 𝓡 .add-comm (c .v * g) (c .u * f)
+        ∙ c .eq;
+  }
 
   -- D2: a unit factor, i * a = 1
   pub unit-in : {a i f g w : ℕ → R} → Finite 𝓡 i → i * a ≡ 𝟙 → Combines f g w → Combines (a * f) g w
@@ -79,7 +86,8 @@ module _ {R : Type 0} (𝓡 : CRing R) where
     v = c .v;
     fin-u = fin-mul 𝓡 (c .fin-u) I;
     fin-v = c .fin-v;
-    eq = turn (c .u) (c .v) a i f g ∙ ap (λ (x : ℕ → R). c .u * (x * f) + c .v * g) h ∙ ap (λ (x : ℕ → R). c .u * x + c .v * g) (series 𝓡 .one-mul f) ∙ c .eq;
+    eq = turn (c .u) (c .v) a i f g ∙ ap (λ (x : ℕ → R). c .u * (x * f) + c .v * g) h
+        ∙ ap (λ (x : ℕ → R). c .u * x + c .v * g) (series 𝓡 .one-mul f) ∙ c .eq;
   }
     where
       turn : (u v a i f g : ℕ → R) → u * i * (a * f) + v * g ≡ u * (i * a * f) + v * g
@@ -127,7 +135,8 @@ module _ {R : Type 0} (𝓡 : CRing R) where
       turn j u v f g = by-ring (series 𝓡) (j ∷ u ∷ v ∷ f ∷ g ∷ []) (search quote depth 20) (search quote depth 20) refl
 
   -- multiples of a monic polynomial of degree t ≥ 1 reach no constant but 0
-  pub grounded : (t : ℕ) (w a b : ℕ → R) (c : R) → 1 ≤ t → w t ≡ 𝓡 .unit → Short 𝓡 (suc t) w → Finite 𝓡 a → Finite 𝓡 b → Combines (w * a) (w * b) (const 𝓡 c) → c ≡ 𝓡 .nil
+  pub grounded : (t : ℕ) (w a b : ℕ → R) (c : R) → 1 ≤ t → w t ≡ 𝓡 .unit → Short 𝓡 (suc t) w → Finite 𝓡 a → Finite 𝓡 b
+      → Combines (w * a) (w * b) (const 𝓡 c) → c ≡ 𝓡 .nil
   grounded t w a b c l top short A B x =
       sym (neg-neg 𝓡 c) ∙ ap (𝓡 .neg) (monic-rest 𝓡 (Q .size) t q w rest (Q .short) top short short-rest eq 0) ∙ neg-zero 𝓡
     where

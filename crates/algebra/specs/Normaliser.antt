@@ -1,5 +1,6 @@
--- A normal form for expressions in a commutative ring, so that an identity is proved by computing both sides: a polynomial is a sorted list of monomials with
--- their signs, a monomial a sorted list of atoms. `by-ring 𝓡 ρ (search quote depth 20) (search quote depth 20) refl` proves x ≡ y where ρ lists the atoms, ten at most.
+-- A normal form for expressions in a commutative ring, so that an identity is proved by computing both sides: a polynomial is a sorted list
+-- of monomials with their signs, a monomial a sorted list of atoms. `by-ring 𝓡 ρ (search quote depth 20) (search quote depth 20) refl`
+-- proves x ≡ y where ρ lists the atoms, ten at most.
 --
 --   E, den ρ e      expressions over numbered atoms, and their value where ρ lists the atoms
 --   norm e          the normal form
@@ -131,7 +132,6 @@ module _ {R : Type 0} (𝓡 : CRing R) (ρ : List R) where
   infixl 65 _+_
   infixl 70 _*_
   infix 75 -_
-
   abbrev pub at : List R → ℕ → R
   at [] i = 𝟘
   at (x ∷ xs) zero = x
@@ -178,7 +178,8 @@ module _ {R : Type 0} (𝓡 : CRing R) (ρ : List R) where
   mulT-ok (plus m) (plus n) = mulM-ok m n
   mulT-ok (plus m) (minus n) = ap (λ y. - y) (mulM-ok m n) ∙ sym (mul-neg 𝓡 (evM m) (evM n))
   mulT-ok (minus m) (plus n) = ap (λ y. - y) (mulM-ok m n) ∙ sym (neg-mul 𝓡 (evM m) (evM n))
-  mulT-ok (minus m) (minus n) = mulM-ok m n ∙ sym (neg-mul 𝓡 (evM m) (- evM n) ∙ ap (λ y. - y) (mul-neg 𝓡 (evM m) (evM n)) ∙ neg-neg 𝓡 (evM m * evM n))
+  mulT-ok (minus m) (minus n) = mulM-ok m n ∙ sym (neg-mul 𝓡 (evM m) (- evM n) ∙ ap (λ y. - y) (mul-neg 𝓡 (evM m) (evM n))
+      ∙ neg-neg 𝓡 (evM m * evM n))
 
   merge-ok : (t u : Term) (us : Poly) → mono t ≡ mono u → evP (merge t u us) ≡ evT t + (evT u + evP us)
   unfolding evP evT

@@ -24,13 +24,13 @@ abbrev pub ext : {S : Type 0} → CRing S → (ℕ → S) → ℤ → S
 ext 𝓢 ν (pos n) = ν n
 ext 𝓢 ν (negsuc n) = 𝓢 .neg (ν (suc n))
 
-module _ {S : Type 0} (𝓢 : CRing S) (ν : ℕ → S) (ν-add : (a b : ℕ) → ν (a +ℕ b) ≡ 𝓢 .add (ν a) (ν b)) (ν-mul : (a b : ℕ) → ν (a *ℕ b) ≡ 𝓢 .mul (ν a) (ν b)) (ν-one : ν 1 ≡ 𝓢 .unit) where
+module _ {S : Type 0} (𝓢 : CRing S) (ν : ℕ → S) (ν-add : (a b : ℕ) → ν (a +ℕ b) ≡ 𝓢 .add (ν a) (ν b))
+    (ν-mul : (a b : ℕ) → ν (a *ℕ b) ≡ 𝓢 .mul (ν a) (ν b)) (ν-one : ν 1 ≡ 𝓢 .unit) where
   open CRing 𝓢 using (add as _+_, mul as _*_, neg as -_, nil as 𝟘, add-comm)
 
   infixl 65 _+_
   infixl 70 _*_
   infix 75 -_
-
   abbrev ι : ℤ → S
   ι = ext 𝓢 ν
 
@@ -114,7 +114,8 @@ module _ (m k : ℕ) (divides : suc k ∣ suc m) where
     h-mul = λ a b. lower-toRes (a .0 *ℕ b .0) ∙ toRes-mul k (a .0) (b .0);
     h-neg = λ a.
         add-cancel (Res-ring k) (lower m k a) (lower m k (Res-ring m .neg a)) (Res-ring k .neg (lower m k a))
-        (sym (lower-add a (Res-ring m .neg a)) ∙ ap (lower m k) (add-neg (Res-ring m) a) ∙ lower-toRes 0 ∙ sym (add-neg (Res-ring k) (lower m k a)));
+        (sym (lower-add a (Res-ring m .neg a)) ∙ ap (lower m k) (add-neg (Res-ring m) a) ∙ lower-toRes 0
+        ∙ sym (add-neg (Res-ring k) (lower m k a)));
     h-zero = lower-toRes 0;
     h-one = lower-toRes 1;
   }

@@ -1,4 +1,5 @@
--- Sylvester's matrix and the resultant over a ring, the leading coefficients first, and the map of rings. The order of the arguments is that of the rows.
+-- Sylvester's matrix and the resultant over a ring, the leading coefficients first, and the map of rings. The order of the arguments is
+-- that of the rows.
 --
 --   shift i f       i zeros, then f
 --   sylvester m g f m rows of g, each one place further right, above the rows of f
@@ -25,7 +26,6 @@ module _ {R : Type 0} (𝓡 : CRing R) where
 
   infixl 65 _+_
   infixl 70 _*_
-
   -- i zeros, then f
   abbrev pub shift : ℕ → (ℕ → R) → ℕ → R
   shift zero f c = f c
@@ -90,8 +90,10 @@ module _ {R : Type 0} (𝓡 : CRing R) where
   act-conv (suc n) f h z (suc c) = ap (λ x. f 0 * h (suc c) + x) (act-conv n (λ i. f (suc i)) h (λ k l. z (suc k) (omega arith)) c)
 
   -- x^i f times the shifts of h, from enough entries
-  pub act-shift : (n d i : ℕ) (f h : ℕ → R) → ((k : ℕ) → d < k → f k ≡ 𝟘) → i +ℕ d < n → (c : ℕ) → act 𝓡 n (λ k. shift k h) (shift i f) c ≡ shift i (conv 𝓡 f h) c
-  act-shift n d i f h z l c = act-conv n (shift i f) h (λ k p. shift-zero i (suc d) f (λ k q. z k q) k (omega (arith, up-is i (suc d)))) c ∙ conv-shift i f h c
+  pub act-shift : (n d i : ℕ) (f h : ℕ → R) → ((k : ℕ) → d < k → f k ≡ 𝟘) → i +ℕ d < n → (c : ℕ)
+      → act 𝓡 n (λ k. shift k h) (shift i f) c ≡ shift i (conv 𝓡 f h) c
+  act-shift n d i f h z l c = act-conv n (shift i f) h (λ k p. shift-zero i (suc d) f (λ k q. z k q) k (omega (arith, up-is i (suc d)))) c
+      ∙ conv-shift i f h c
 
   -- m rows of g (of degree n) above the rows of f (of degree m)
   abbrev pub sylvester : ℕ → (ℕ → R) → (ℕ → R) → ℕ → ℕ → R
@@ -116,7 +118,8 @@ module _ {R S : Type 0} (𝓡 : CRing R) (𝓢 : CRing S) (φ : R → S) (H : Ho
   unfolding res
   res-hom m n g f =
       det-hom 𝓡 𝓢 φ H (up m n) (sylvester 𝓡 m g f)
-      ∙ ap (det 𝓢 (up m n)) (fun-ext (λ r. fun-ext (λ c. sylvester-hom m (λ i. shift 𝓡 i g) (λ i. shift 𝓡 i f) (λ i. shift 𝓢 i (λ j. φ (g j))) (λ i. shift 𝓢 i (λ j. φ (f j))) (λ i c. shift-hom i g c) (λ i c. shift-hom i f c) r c)))
+      ∙ ap (det 𝓢 (up m n)) (fun-ext (λ r. fun-ext (λ c. sylvester-hom m (λ i. shift 𝓡 i g) (λ i. shift 𝓡 i f)
+      (λ i. shift 𝓢 i (λ j. φ (g j))) (λ i. shift 𝓢 i (λ j. φ (f j))) (λ i c. shift-hom i g c) (λ i c. shift-hom i f c) r c)))
 
 pub res-mod : (k m n : ℕ) (g f : ℕ → ℤ) → reduce k (res ℤ-ring m n g f) ≡ res (Res-ring k) m n (λ i. reduce k (g i)) (λ i. reduce k (f i))
 res-mod k m n g f = res-hom ℤ-ring (Res-ring k) (reduce k) (reduce-hom k) m n g f

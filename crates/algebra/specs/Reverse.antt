@@ -19,7 +19,6 @@ module _ {R : Type 0} (𝓡 : CRing R) where
 
   infixl 65 _+_
   infixl 70 _*_
-
   -- f d, …, f 0, then zeros
   abbrev pub rv : ℕ → (ℕ → R) → ℕ → R
   rv zero f zero = f zero
@@ -66,14 +65,18 @@ module _ {R : Type 0} (𝓡 : CRing R) where
   sum-rv (suc d) f = ap (λ x. f (suc d) + x) (sum-rv d f) ∙ sym (sum-last 𝓡 (suc d) f)
 
   -- the same entry from both ends
-  pub shift-rv : (e : ℕ) (g : ℕ → R) → ((k : ℕ) → e < k → g k ≡ 𝟘) → (i j c c′ : ℕ) → c +ℕ c′ ≡ i +ℕ j +ℕ e → shift 𝓡 i (rv e g) c ≡ shift 𝓡 j g c′
+  pub shift-rv : (e : ℕ) (g : ℕ → R) → ((k : ℕ) → e < k → g k ≡ 𝟘) → (i j c c′ : ℕ) → c +ℕ c′ ≡ i +ℕ j +ℕ e
+      → shift 𝓡 i (rv e g) c ≡ shift 𝓡 j g c′
   shift-rv e g z i j c c′ h = go (decLe i c) (decLe j c′)
     where
       go : Dec (i ≤ c) → Dec (j ≤ c′) → shift 𝓡 i (rv e g) c ≡ shift 𝓡 j g c′
       go (yes p) (yes q) =
-          shift-at 𝓡 i (rv e g) c (c -ℕ i) (omega arith) ∙ rv-at e g (c -ℕ i) (c′ -ℕ j) (omega arith) ∙ sym (shift-at 𝓡 j g c′ (c′ -ℕ j) (omega arith))
-      go (yes p) (no q) = shift-at 𝓡 i (rv e g) c (c -ℕ i) (omega arith) ∙ rv-out e g (c -ℕ i) (omega arith) ∙ sym (shift-low 𝓡 j c′ g (omega arith))
-      go (no p) (yes q) = shift-low 𝓡 i c (rv e g) (omega arith) ∙ sym (shift-at 𝓡 j g c′ (c′ -ℕ j) (omega arith) ∙ z (c′ -ℕ j) (omega arith))
+          shift-at 𝓡 i (rv e g) c (c -ℕ i) (omega arith) ∙ rv-at e g (c -ℕ i) (c′ -ℕ j) (omega arith)
+          ∙ sym (shift-at 𝓡 j g c′ (c′ -ℕ j) (omega arith))
+      go (yes p) (no q) = shift-at 𝓡 i (rv e g) c (c -ℕ i) (omega arith) ∙ rv-out e g (c -ℕ i) (omega arith)
+          ∙ sym (shift-low 𝓡 j c′ g (omega arith))
+      go (no p) (yes q) = shift-low 𝓡 i c (rv e g) (omega arith)
+          ∙ sym (shift-at 𝓡 j g c′ (c′ -ℕ j) (omega arith) ∙ z (c′ -ℕ j) (omega arith))
       go (no p) (no q) = absurd (omega arith)
 
   -- the product, read from the other end
@@ -91,7 +94,8 @@ module _ {R : Type 0} (𝓡 : CRing R) where
           ∙ act-conv 𝓡 (suc d) f g (λ k p. zf k (omega arith)) (d +ℕ e -ℕ c)
           ∙ sym (rv-at (d +ℕ e) (conv 𝓡 f g) c (d +ℕ e -ℕ c) (omega arith))
       go (no l) =
-          conv-out 𝓡 d e (rv d f) (rv e g) (λ k p. rv-out d f k p) (λ k p. rv-out e g k p) c (omega arith) ∙ sym (rv-out (d +ℕ e) (conv 𝓡 f g) c (omega arith))
+          conv-out 𝓡 d e (rv d f) (rv e g) (λ k p. rv-out d f k p) (λ k p. rv-out e g k p) c (omega arith)
+          ∙ sym (rv-out (d +ℕ e) (conv 𝓡 f g) c (omega arith))
 
 module _ {R S : Type 0} (𝓡 : CRing R) (𝓢 : CRing S) (φ : R → S) (H : Hom 𝓡 𝓢 φ) where
   pub rv-hom : (d : ℕ) (f : ℕ → R) (i : ℕ) → φ (rv 𝓡 d f i) ≡ rv 𝓢 d (λ k. φ (f k)) i

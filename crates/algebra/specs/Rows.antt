@@ -1,4 +1,5 @@
--- Row operations on any form, so on the determinant: rows that are equal, multiplied, added to each other, exchanged; whole blocks that are scaled, exchanged or reversed.
+-- Row operations on any form, so on the determinant: rows that are equal, multiplied, added to each other, exchanged; whole blocks that are
+-- scaled, exchanged or reversed.
 --
 --   put k w a       the matrix a with the row k replaced by w
 --   linear          linear in the row k, said of entries
@@ -40,15 +41,17 @@ module _ {R : Type 0} (𝓡 : CRing R) where
   infixl 65 _+_
   infixl 70 _*_
   infix 75 -_
-
   -- two equal rows, at i and at k + 1 > i
-  pub equal-rows : {m n : ℕ} {D : (ℕ → ℕ → R) → R} → Form 𝓡 m n D → (i k : ℕ) → i ≤ k → suc k < m → (v : ℕ → R) (b : ℕ → ℕ → R) → D (ins i v (ins k v b)) ≡ 𝟘
+  pub equal-rows : {m n : ℕ} {D : (ℕ → ℕ → R) → R} → Form 𝓡 m n D → (i k : ℕ) → i ≤ k → suc k < m → (v : ℕ → R) (b : ℕ → ℕ → R)
+      → D (ins i v (ins k v b)) ≡ 𝟘
   equal-rows {m = zero} F i k p l v b = absurd (omega arith)
   equal-rows {m = suc zero} F i k p l v b = absurd (omega arith)
-  equal-rows {m = suc (suc m)} {D = D} F zero k p l v b = sgn-zero 𝓡 k _ (sym (F .two 0 (omega arith) v b) ∙ sink 𝓡 (fix-top 𝓡 F v) k (omega arith) v b)
+  equal-rows {m = suc (suc m)} {D = D} F zero k p l v b = sgn-zero 𝓡 k _
+      (sym (F .two 0 (omega arith) v b) ∙ sink 𝓡 (fix-top 𝓡 F v) k (omega arith) v b)
   equal-rows {m = suc (suc m)} F (suc i) zero p l v b = absurd (omega arith)
   equal-rows {m = suc (suc m)} {D = D} F (suc i) (suc k) p l v b =
-      ap D (fun-ext (elim [ zero ↦ refl | suc r ↦ refl ])) ∙ equal-rows (fix-top 𝓡 F (b 0)) i k (omega arith) (omega arith) v (λ r. b (suc r))
+      ap D (fun-ext (elim [ zero ↦ refl | suc r ↦ refl ])) ∙ equal-rows (fix-top 𝓡 F (b 0)) i k (omega arith) (omega arith) v
+      (λ r. b (suc r))
 
   -- a, with the row k replaced by w
   abbrev pub put : ℕ → (ℕ → R) → (ℕ → ℕ → R) → ℕ → ℕ → R
@@ -77,7 +80,8 @@ module _ {R : Type 0} (𝓡 : CRing R) where
   agree : (m n k : ℕ) (w : ℕ → R) (a b : ℕ → ℕ → R) → ((c : ℕ) → c < n → a k c ≡ w c) → ((r c : ℕ) → r < m → c < n → r ≢ k → a r c ≡ b r c)
       → (r c : ℕ) → r < m → c < n → View k r → a r c ≡ put k w b r c
   agree m n k w a b h g r c p q here = h c q ∙ ap (λ v. v c) (sym (put-same k w b))
-  agree m n k w a b h g r c p q (there s) = g (skip k s) c p q (skip-ne k s) ∙ ap (λ v. v c) (sym (put-other k w b (skip k s) (skip-ne k s)))
+  agree m n k w a b h g r c p q (there s) = g (skip k s) c p q (skip-ne k s)
+      ∙ ap (λ v. v c) (sym (put-other k w b (skip k s) (skip-ne k s)))
 
   module _ {m n : ℕ} {D : (ℕ → ℕ → R) → R} (F : Form 𝓡 m n D) where
     -- rows k: that of a is x times that of b and that of d; elsewhere they agree
@@ -93,7 +97,8 @@ module _ {R : Type 0} (𝓡 : CRing R) where
     -- a matrix by its rows i < k + 1 and the others
     apart : (i k : ℕ) → i ≤ k → (a : ℕ → ℕ → R) → a ≡ ins i (a i) (ins k (a (suc k)) (λ r. a (skip i (skip k r))))
     apart i k l a =
-        sym (ap (λ (j : ℕ). ins i (a i) (ins k (a j) (λ r. a (skip i (skip k r))))) (sym (skip-above i k l)) ∙ ap (ins i (a i)) (ins-eta k (λ r. a (skip i r))) ∙ ins-eta i a)
+        sym (ap (λ (j : ℕ). ins i (a i) (ins k (a j) (λ r. a (skip i (skip k r))))) (sym (skip-above i k l))
+        ∙ ap (ins i (a i)) (ins-eta k (λ r. a (skip i r))) ∙ ins-eta i a)
 
     -- two equal rows
     equal-fun : (i k : ℕ) → i ≤ k → suc k < m → (a : ℕ → ℕ → R) → a i ≡ a (suc k) → D a ≡ 𝟘
@@ -104,7 +109,8 @@ module _ {R : Type 0} (𝓡 : CRing R) where
     pub equal : (i k : ℕ) → i < k → k < m → (a : ℕ → ℕ → R) → ((c : ℕ) → c < n → a i c ≡ a k c) → D a ≡ 𝟘
     equal i zero l p a h = absurd (omega arith)
     equal i (suc k) l p a h =
-        F .cong a (put (suc k) (a i) a) (λ r c x y. agree m n (suc k) (a i) a a (λ c y. sym (h c y)) (λ r c x y z. refl) r c x y (view (suc k) r))
+        F .cong a (put (suc k) (a i) a) (λ r c x y. agree m n (suc k) (a i) a a (λ c y. sym (h c y)) (λ r c x y z. refl) r c x y
+        (view (suc k) r))
         ∙ equal-fun i k (omega arith) p (put (suc k) (a i) a) (put-other (suc k) (a i) a i (omega arith) ∙ sym (put-same (suc k) (a i) a))
 
     -- the row i, put at k ≢ i too
@@ -138,7 +144,8 @@ module _ {R : Type 0} (𝓡 : CRing R) where
         none : (v : ℕ → R) → D (put i v (put k v a)) ≡ 𝟘
         none v = ap (λ w. D (put i w (put k v a))) (sym (put-same k v a)) ∙ repeated k i q p (λ h. z (sym h)) (put k v a)
 
-  pub lin-scale : {m n : ℕ} {D : (ℕ → ℕ → R) → R} → Form 𝓡 m n D → (k : ℕ) → k < m → (x : R) (v : ℕ → R) (b : ℕ → ℕ → R) → D (ins k (λ c. x * v c) b) ≡ x * D (ins k v b)
+  pub lin-scale : {m n : ℕ} {D : (ℕ → ℕ → R) → R} → Form 𝓡 m n D → (k : ℕ) → k < m → (x : R) (v : ℕ → R) (b : ℕ → ℕ → R)
+      → D (ins k (λ c. x * v c) b) ≡ x * D (ins k v b)
   lin-scale {D = D} F k l x v b =
       ap (λ (w : ℕ → R). D (ins k w b)) (fun-ext (λ c. sym (add-zero 𝓡 (x * v c))))
       ∙ spread 𝓡 (λ v. D (ins k v b)) (λ c v u. F .lin k l c v u b) 1 (λ j. x) (λ j. v) ∙ add-zero 𝓡 (x * D (ins k v b))
@@ -159,13 +166,16 @@ module _ {R : Type 0} (𝓡 : CRing R) where
   stack-split (suc m) a b zero = refl
   stack-split (suc m) a b (suc r) = stack-split m (λ i. a (suc i)) b r
 
-  pub rise : {m n : ℕ} {D : (ℕ → ℕ → R) → R} → Form 𝓡 (suc m) n D → (j : ℕ) → j < suc m → (v : ℕ → R) (b : ℕ → ℕ → R) → D (ins j v b) ≡ sgn 𝓡 j (D (ins 0 v b))
+  pub rise : {m n : ℕ} {D : (ℕ → ℕ → R) → R} → Form 𝓡 (suc m) n D → (j : ℕ) → j < suc m → (v : ℕ → R) (b : ℕ → ℕ → R)
+      → D (ins j v b) ≡ sgn 𝓡 j (D (ins 0 v b))
   rise {D = D} F j l v b = sym (sgn-twice 𝓡 j (D (ins j v b))) ∙ ap (sgn 𝓡 j) (sym (sink 𝓡 F j l v b))
 
   -- the blocks change places
-  pub blocks : {N k : ℕ} {D : (ℕ → ℕ → R) → R} → Form 𝓡 N k D → (m n : ℕ) → N ≡ m +ℕ n → (a b : ℕ → ℕ → R) → D (stack m a b) ≡ sgn 𝓡 (n *ℕ m) (D (stack n b a))
+  pub blocks : {N k : ℕ} {D : (ℕ → ℕ → R) → R} → Form 𝓡 N k D → (m n : ℕ) → N ≡ m +ℕ n → (a b : ℕ → ℕ → R)
+      → D (stack m a b) ≡ sgn 𝓡 (n *ℕ m) (D (stack n b a))
   blocks {D = D} F m zero h a b =
-      F .cong (stack m a b) a (λ r c p q. ap (λ (v : ℕ → R). v c) (stack-top m a b r (omega arith))) ∙ ap (λ (j : ℕ). sgn 𝓡 j (D a)) (none m)
+      F .cong (stack m a b) a (λ r c p q. ap (λ (v : ℕ → R). v c) (stack-top m a b r (omega arith)))
+      ∙ ap (λ (j : ℕ). sgn 𝓡 j (D a)) (none m)
     where
       none : (m : ℕ) → 0 ≡ 0 *ℕ m
       none m = omega arith
@@ -184,7 +194,8 @@ module _ {R : Type 0} (𝓡 : CRing R) where
   backward {n = zero} F a = refl
   backward {n = suc n} {D = D} F a =
       ap D (fun-ext (elim [ zero ↦ refl | suc r ↦ refl ])) ∙ backward (fix-top 𝓡 F (a n)) a
-      ∙ ap (sgn 𝓡 (tri n)) (sink 𝓡 F n (omega arith) (a n) a ∙ ap (sgn 𝓡 n) (F .cong _ a (λ r c p q. ap (λ (v : ℕ → R). v c) (last n a r (omega arith)))))
+      ∙ ap (sgn 𝓡 (tri n)) (sink 𝓡 F n (omega arith) (a n) a
+      ∙ ap (sgn 𝓡 n) (F .cong _ a (λ r c p q. ap (λ (v : ℕ → R). v c) (last n a r (omega arith)))))
       ∙ sym (sgn-add 𝓡 (tri n) n (D a)) ∙ ap (λ (j : ℕ). sgn 𝓡 j (D a)) (comm (tri n) n)
     where
       comm : (x y : ℕ) → x +ℕ y ≡ y +ℕ x
@@ -200,7 +211,8 @@ module _ {R : Type 0} (𝓡 : CRing R) where
   pub fix-rows : {q n : ℕ} (m : ℕ) {D : (ℕ → ℕ → R) → R} → Form 𝓡 (up m q) n D → (a : ℕ → ℕ → R) → Form 𝓡 q n (λ b. D (stack m a b))
   fix-rows zero F a = F
   fix-rows {q} {n} (suc m) {D} F a =
-      subst (Form 𝓡 q n) (fun-ext (λ b. ap D (fun-ext (elim [ zero ↦ refl | suc r ↦ refl ])))) (fix-rows m (fix-top 𝓡 F (a 0)) (λ i. a (suc i)))
+      subst (Form 𝓡 q n) (fun-ext (λ b. ap D (fun-ext (elim [ zero ↦ refl | suc r ↦ refl ]))))
+      (fix-rows m (fix-top 𝓡 F (a 0)) (λ i. a (suc i)))
 
   pub over-stack : (m : ℕ) (x a b : ℕ → ℕ → R) (r : ℕ) → over 𝓡 m x (stack m a b) r ≡ stack m x b r
   over-stack zero x a b r = refl
@@ -226,7 +238,8 @@ module _ {R : Type 0} (𝓡 : CRing R) where
       ap D (split a′)
       ∙ ap (λ (v : ℕ → R). D (ins 0 v t)) (fun-ext (λ c. h 0 c (omega arith)))
       ∙ absorb (λ v. D (ins 0 v t)) (λ c v u. F .lin 0 (omega arith) c v u t) q (x 0) b (a 0)
-      (λ k l. equal F 0 (suc (up m k)) (omega arith) (omega (arith, up-is m k, up-is m q)) (ins 0 (b k) t) (λ c p. ap (λ (v : ℕ → R). v c) (sym (stack-bottom m (λ i. a′ (suc i)) b k))))
+      (λ k l. equal F 0 (suc (up m k)) (omega arith) (omega (arith, up-is m k, up-is m q)) (ins 0 (b k) t)
+      (λ c p. ap (λ (v : ℕ → R). v c) (sym (stack-bottom m (λ i. a′ (suc i)) b k))))
       ∙ absorb-rows m q n (fix-top 𝓡 F (a 0)) (λ i. x (suc i)) (λ i. a (suc i)) (λ i. a′ (suc i)) b (λ i c l. h (suc i) c (omega arith))
       ∙ ap D (sym (split a))
     where

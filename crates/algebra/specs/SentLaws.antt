@@ -1,4 +1,5 @@
--- The resultant over a ring in sent degrees, the constant first, and its laws R1 to R5 and R7. Only the coefficients up to the sent degrees count; the top one may be 0.
+-- The resultant over a ring in sent degrees, the constant first, and its laws R1 to R5 and R7. Only the coefficients up to the sent degrees
+-- count; the top one may be 0.
 --
 --   Rs 𝓡 d e f g                        the resultant, f in degree d and g in degree e
 --   Rs-drop-first, Rs-drop-second        R1: the top coefficient of f, of g, is 0
@@ -33,7 +34,6 @@ module _ {R : Type 0} (𝓡 : CRing R) where
 
   infixl 65 _+_
   infixl 70 _*_
-
   -- R1
   pub Rs-drop-first : (d e : ℕ) (f g : ℕ → R) → f (suc d) ≡ 𝟘 → Rs 𝓡 (suc d) e f g ≡ sgn 𝓡 e (g e * Rs 𝓡 d e f g)
   Rs-drop-first d e f g z = res-drop-first 𝓡 e d (rv 𝓡 (suc d) f) (rv 𝓡 e g) z ∙ ap (λ x. sgn 𝓡 e (x * Rs 𝓡 d e f g)) (rv-zero 𝓡 e g)
@@ -43,10 +43,12 @@ module _ {R : Type 0} (𝓡 : CRing R) where
 
   -- R2
   pub Rs-scale-first : (d e : ℕ) (x : R) (f g : ℕ → R) → Rs 𝓡 d e (λ i. x * f i) g ≡ pw 𝓡 x e * Rs 𝓡 d e f g
-  Rs-scale-first d e x f g = ap (λ (u : ℕ → R). res 𝓡 e d u (rv 𝓡 e g)) (fun-ext (rv-scale 𝓡 x d f)) ∙ res-scale-first 𝓡 e d x (rv 𝓡 d f) (rv 𝓡 e g)
+  Rs-scale-first d e x f g = ap (λ (u : ℕ → R). res 𝓡 e d u (rv 𝓡 e g)) (fun-ext (rv-scale 𝓡 x d f))
+      ∙ res-scale-first 𝓡 e d x (rv 𝓡 d f) (rv 𝓡 e g)
 
   pub Rs-scale-second : (d e : ℕ) (x : R) (f g : ℕ → R) → Rs 𝓡 d e f (λ i. x * g i) ≡ pw 𝓡 x d * Rs 𝓡 d e f g
-  Rs-scale-second d e x f g = ap (λ (u : ℕ → R). res 𝓡 e d (rv 𝓡 d f) u) (fun-ext (rv-scale 𝓡 x e g)) ∙ res-scale-second 𝓡 e d x (rv 𝓡 d f) (rv 𝓡 e g)
+  Rs-scale-second d e x f g = ap (λ (u : ℕ → R). res 𝓡 e d (rv 𝓡 d f) u) (fun-ext (rv-scale 𝓡 x e g))
+      ∙ res-scale-second 𝓡 e d x (rv 𝓡 d f) (rv 𝓡 e g)
 
   -- R4
   pub Rs-swap : (d e : ℕ) (f g : ℕ → R) → Rs 𝓡 d e f g ≡ sgn 𝓡 (d *ℕ e) (Rs 𝓡 e d g f)
@@ -68,7 +70,8 @@ module _ {R : Type 0} (𝓡 : CRing R) where
   pub Rs-add-second : (d k : ℕ) (f g q : ℕ → R) → ((i : ℕ) → d < i → f i ≡ 𝟘) → ((i : ℕ) → k < i → q i ≡ 𝟘)
       → Rs 𝓡 d (k +ℕ d) f (λ i. conv 𝓡 q f i + g i) ≡ Rs 𝓡 d (k +ℕ d) f g
   Rs-add-second d k f g q zf zq =
-      Rs-swap d (k +ℕ d) f (λ i. conv 𝓡 q f i + g i) ∙ ap (sgn 𝓡 (d *ℕ (k +ℕ d))) (Rs-add-first d k f g q zf zq) ∙ sym (Rs-swap d (k +ℕ d) f g)
+      Rs-swap d (k +ℕ d) f (λ i. conv 𝓡 q f i + g i) ∙ ap (sgn 𝓡 (d *ℕ (k +ℕ d))) (Rs-add-first d k f g q zf zq)
+      ∙ sym (Rs-swap d (k +ℕ d) f g)
 
   -- the constants
   pub Rs-const-first : (e : ℕ) (f g : ℕ → R) → Rs 𝓡 0 e f g ≡ pw 𝓡 (f 0) e
@@ -104,7 +107,8 @@ module _ {R : Type 0} (𝓡 : CRing R) where
       go : (k : ℕ) → Rs 𝓡 d (up k e) f g ≡ pw 𝓡 (f d) k * Rs 𝓡 d e f g
       go zero = sym (one-mul (Rs 𝓡 d e f g))
       go (suc k) =
-          Rs-drop-second d (up k e) f g (z (suc (up k e)) (omega (arith, up-is k e))) ∙ ap (λ x. f d * x) (go k) ∙ sym (mul-assoc (f d) (pw 𝓡 (f d) k) (Rs 𝓡 d e f g))
+          Rs-drop-second d (up k e) f g (z (suc (up k e)) (omega (arith, up-is k e))) ∙ ap (λ x. f d * x) (go k)
+          ∙ sym (mul-assoc (f d) (pw 𝓡 (f d) k) (Rs 𝓡 d e f g))
 
   pub Rs-swap-next : (s : ℕ) (f g : ℕ → R) → Rs 𝓡 (suc s) s f g ≡ Rs 𝓡 s (suc s) g f
   Rs-swap-next s f g = Rs-swap (suc s) s f g ∙ ap (λ (k : ℕ). sgn 𝓡 k (Rs 𝓡 s (suc s) g f)) (turn s) ∙ sgn-next 𝓡 s (Rs 𝓡 s (suc s) g f)
@@ -123,13 +127,18 @@ module _ {R : Type 0} (𝓡 : CRing R) where
       turn s k = omega arith
 
   -- no division: g shorter than f
-  pub Rs-short : (s k e : ℕ) (f g : ℕ → R) → k +ℕ e ≡ s → ((i : ℕ) → e < i → g i ≡ 𝟘) → Rs 𝓡 s (suc s) g f ≡ pw 𝓡 (f (suc s)) k * Rs 𝓡 (suc s) e f g
+  pub Rs-short : (s k e : ℕ) (f g : ℕ → R) → k +ℕ e ≡ s → ((i : ℕ) → e < i → g i ≡ 𝟘)
+      → Rs 𝓡 s (suc s) g f ≡ pw 𝓡 (f (suc s)) k * Rs 𝓡 (suc s) e f g
   Rs-short s k e f g h z = sym (Rs-swap-next s f g) ∙ ap (λ (n : ℕ). Rs 𝓡 (suc s) n f g) (sym h) ∙ Rs-pad-second (suc s) k e f g z
 
   -- R7: f monic
-  pub Rs-monic : (s k : ℕ) (f q r : ℕ → R) → f (suc s) ≡ 𝟙 → ((i : ℕ) → suc s < i → f i ≡ 𝟘) → ((i : ℕ) → k < i → q i ≡ 𝟘) → ((i : ℕ) → s < i → r i ≡ 𝟘)
+  pub Rs-monic : (s k : ℕ) (f q r : ℕ → R) → f (suc s) ≡ 𝟙 → ((i : ℕ) → suc s < i → f i ≡ 𝟘) → ((i : ℕ) → k < i → q i ≡ 𝟘)
+      → ((i : ℕ) → s < i → r i ≡ 𝟘)
       → Rs 𝓡 (suc s) (k +ℕ suc s) f (λ i. conv 𝓡 q f i + r i) ≡ Rs 𝓡 s (suc s) r f
-  Rs-monic s k f q r h zf zq zr = Rs-divide s k f q r zf zq zr ∙ ap (λ x. x * Rs 𝓡 s (suc s) r f) (pw-one 𝓡 (f (suc s)) h (suc k)) ∙ one-mul _
+  Rs-monic s k f q r h zf zq zr = Rs-divide s k f q r zf zq zr ∙ ap (λ x. x * Rs 𝓡 s (suc s) r f) (pw-one 𝓡 (f (suc s)) h (suc k))
+      ∙ one-mul _
 
-  pub Rs-monic-short : (s e : ℕ) (f g : ℕ → R) → e ≤ s → f (suc s) ≡ 𝟙 → ((i : ℕ) → e < i → g i ≡ 𝟘) → Rs 𝓡 (suc s) e f g ≡ Rs 𝓡 s (suc s) g f
-  Rs-monic-short s e f g l h z = sym (Rs-short s (s -ℕ e) e f g (omega arith) z ∙ ap (λ x. x * Rs 𝓡 (suc s) e f g) (pw-one 𝓡 (f (suc s)) h (s -ℕ e)) ∙ one-mul _)
+  pub Rs-monic-short : (s e : ℕ) (f g : ℕ → R) → e ≤ s → f (suc s) ≡ 𝟙 → ((i : ℕ) → e < i → g i ≡ 𝟘)
+      → Rs 𝓡 (suc s) e f g ≡ Rs 𝓡 s (suc s) g f
+  Rs-monic-short s e f g l h z = sym (Rs-short s (s -ℕ e) e f g (omega arith) z
+      ∙ ap (λ x. x * Rs 𝓡 (suc s) e f g) (pw-one 𝓡 (f (suc s)) h (s -ℕ e)) ∙ one-mul _)

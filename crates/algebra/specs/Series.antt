@@ -1,5 +1,5 @@
--- Power series over a ring are a ring again, their coefficients' sequences under convolution. Polynomials are the series with a bound on their length, so an identity
--- of polynomials is an identity of this ring.
+-- Power series over a ring are a ring again, their coefficients' sequences under convolution. Polynomials are the series with a bound on
+-- their length, so an identity of polynomials is an identity of this ring.
 --
 --   conv f g k      the coefficient k of the product
 --   const x         the constant x
@@ -14,12 +14,25 @@ use native.Mathlib.Omega.{arith}
 use Rattle.algebra.specs.Ring.{CRing, add-zero, add-left-comm, mul-zero, add-mul, Hom, neg-zero, zero-mul}
 
 module _ {R : Type 0} (𝓡 : CRing R) where
-  open CRing 𝓡 using (add as _+_, mul as _*_, neg as -_, nil as 𝟘, unit as 𝟙, add-assoc, add-comm, zero-add, neg-add, mul-assoc, mul-comm, one-mul, mul-add)
+  open CRing 𝓡 using (
+    add as _+_,
+    mul as _*_,
+    neg as -_,
+    nil as 𝟘,
+    unit as 𝟙,
+    add-assoc,
+    add-comm,
+    zero-add,
+    neg-add,
+    mul-assoc,
+    mul-comm,
+    one-mul,
+    mul-add,
+  )
 
   infixl 65 _+_
   infixl 70 _*_
   infix 75 -_
-
   -- the product of two polynomials
   abbrev pub conv : (ℕ → R) → (ℕ → R) → ℕ → R
   conv f h zero = f 0 * h 0
@@ -37,7 +50,8 @@ module _ {R : Type 0} (𝓡 : CRing R) where
 
   pub conv-zero : (f h : ℕ → R) → ((i : ℕ) → f i ≡ 𝟘) → (c : ℕ) → conv f h c ≡ 𝟘
   conv-zero f h z zero = ap (λ x. x * h 0) (z 0) ∙ zero-mul 𝓡 (h 0)
-  conv-zero f h z (suc c) = ap₂ (λ x y. x * h (suc c) + y) (z 0) (conv-zero (λ i. f (suc i)) h (λ i. z (suc i)) c) ∙ simp (zero-mul 𝓡, zero-add)
+  conv-zero f h z (suc c) = ap₂ (λ x y. x * h (suc c) + y) (z 0) (conv-zero (λ i. f (suc i)) h (λ i. z (suc i)) c)
+      ∙ simp (zero-mul 𝓡, zero-add)
 
   -- the constant x
   abbrev pub const : R → ℕ → R
@@ -59,7 +73,8 @@ module _ {R : Type 0} (𝓡 : CRing R) where
   pub conv-assoc : (f g h : ℕ → R) (c : ℕ) → conv (conv f g) h c ≡ conv f (conv g h) c
   conv-assoc f g h zero = mul-assoc (f 0) (g 0) (h 0)
   conv-assoc f g h (suc c) =
-      ap (λ y. f 0 * g 0 * h (suc c) + y) (conv-lin (f 0) (λ i. g (suc i)) (conv (λ i. f (suc i)) g) h c ∙ ap (λ y. f 0 * conv (λ i. g (suc i)) h c + y) (conv-assoc (λ i. f (suc i)) g h c))
+      ap (λ y. f 0 * g 0 * h (suc c) + y) (conv-lin (f 0) (λ i. g (suc i)) (conv (λ i. f (suc i)) g) h c
+      ∙ ap (λ y. f 0 * conv (λ i. g (suc i)) h c + y) (conv-assoc (λ i. f (suc i)) g h c))
       ∙ assoc-step (f 0) (g 0) (h (suc c)) (conv (λ i. g (suc i)) h c) (conv (λ i. f (suc i)) (conv g h) c)
 
   pub conv-const : (x : R) (f : ℕ → R) (c : ℕ) → conv (const x) f c ≡ x * f c
@@ -96,9 +111,11 @@ module _ {R : Type 0} (𝓡 : CRing R) where
   pub conv-out : (d e : ℕ) (f g : ℕ → R) → ((k : ℕ) → d < k → f k ≡ 𝟘) → ((k : ℕ) → e < k → g k ≡ 𝟘) → (k : ℕ) → d +ℕ e < k → conv f g k ≡ 𝟘
   conv-out d e f g zf zg zero h = absurd (omega arith)
   conv-out zero e f g zf zg (suc k) h =
-      ap₂ (λ x y. f 0 * x + y) (zg (suc k) (omega arith)) (conv-zero (λ i. f (suc i)) g (λ i. zf (suc i) (omega arith)) k) ∙ simp (mul-zero 𝓡, zero-add)
+      ap₂ (λ x y. f 0 * x + y) (zg (suc k) (omega arith)) (conv-zero (λ i. f (suc i)) g (λ i. zf (suc i) (omega arith)) k)
+      ∙ simp (mul-zero 𝓡, zero-add)
   conv-out (suc d) e f g zf zg (suc k) h =
-      ap₂ (λ x y. f 0 * x + y) (zg (suc k) (omega arith)) (conv-out d e (λ i. f (suc i)) g (λ k l. zf (suc k) (omega arith)) zg k (omega arith)) ∙ simp (mul-zero 𝓡, zero-add)
+      ap₂ (λ x y. f 0 * x + y) (zg (suc k) (omega arith)) (conv-out d e (λ i. f (suc i)) g (λ k l. zf (suc k) (omega arith)) zg k
+      (omega arith)) ∙ simp (mul-zero 𝓡, zero-add)
 
 module _ {R : Type 0} (𝓡 : CRing R) where
   open CRing (series 𝓡) using (add as _+_, mul as _*_, neg as -_)
@@ -106,10 +123,12 @@ module _ {R : Type 0} (𝓡 : CRing R) where
   infixl 65 _+_
   infixl 70 _*_
   infix 75 -_
-
   pub conv-short : (a b : ℕ) (f g : ℕ → R) → Short 𝓡 a f → Short 𝓡 (suc b) g → Short 𝓡 (a +ℕ b) (f * g)
   conv-short zero b f g zf zg = record { out = λ k l. conv-zero 𝓡 f g (λ i. zf .out i (omega arith)) k }
-  conv-short (suc a) b f g zf zg = record { out = λ k l. conv-out 𝓡 a b f g (λ k l. zf .out k (omega arith)) (λ k l. zg .out k (omega arith)) k (omega arith) }
+  conv-short (suc a) b f g zf zg = record {
+    out = λ k l. conv-out 𝓡 a b f g (λ k l. zf .out k (omega arith))
+        (λ k l. zg .out k (omega arith)) k (omega arith);
+  }
 
   -- a polynomial
   pub record Finite (f : ℕ → R) : Type 0 where

@@ -64,14 +64,17 @@ pub rows-cong : {R : Type 0} (c m q : ℕ) (a b a′ b′ : ℕ → ℕ → R) �
     → (r : ℕ) → r < up m q → stack m a b r c ≡ stack m a′ b′ r c
 rows-cong c zero q a b a′ b′ h g r l = g r l
 rows-cong c (suc m) q a b a′ b′ h g zero l = h 0 (omega arith)
-rows-cong c (suc m) q a b a′ b′ h g (suc r) l = rows-cong c m q (λ i. a (suc i)) b (λ i. a′ (suc i)) b′ (λ i p. h (suc i) (omega arith)) g r (omega arith)
+rows-cong c (suc m) q a b a′ b′ h g (suc r) l = rows-cong c m q (λ i. a (suc i)) b (λ i. a′ (suc i)) b′ (λ i p. h (suc i) (omega arith)) g r
+    (omega arith)
 
 -- what holds of the rows of both holds of a stack's
-pub stack-all : {X : Type 0} (P : ℕ → X → Type 0) (m q : ℕ) (a b : ℕ → X) → ((i : ℕ) → i < m → P i (a i)) → ((i : ℕ) → i < q → P (up m i) (b i))
+pub stack-all : {X : Type 0} (P : ℕ → X → Type 0) (m q : ℕ) (a b : ℕ → X) → ((i : ℕ) → i < m → P i (a i))
+    → ((i : ℕ) → i < q → P (up m i) (b i))
     → (r : ℕ) → r < up m q → P r (stack m a b r)
 stack-all P zero q a b h g r l = g r l
 stack-all P (suc m) q a b h g zero l = h 0 (omega arith)
-stack-all P (suc m) q a b h g (suc r) l = stack-all (λ i. P (suc i)) m q (λ i. a (suc i)) b (λ i p. h (suc i) (omega arith)) g r (omega arith)
+stack-all P (suc m) q a b h g (suc r) l = stack-all (λ i. P (suc i)) m q (λ i. a (suc i)) b (λ i p. h (suc i) (omega arith)) g r
+    (omega arith)
 
 -- a (n - 1), …, a 0, then a n, …
 abbrev pub back : {X : Type 0} → ℕ → (ℕ → X) → ℕ → X

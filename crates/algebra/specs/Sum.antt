@@ -18,7 +18,6 @@ module _ {R : Type 0} (𝓡 : CRing R) where
   infixl 65 _+_
   infixl 70 _*_
   infix 75 -_
-
   -- Σ_{i<n} f i
   abbrev pub sum : ℕ → (ℕ → R) → R
   sum zero f = 𝟘
@@ -78,7 +77,8 @@ module _ {R : Type 0} (𝓡 : CRing R) where
     where
       none : 0 *ℕ 1 ≡ 0
       none = refl
-  sgn-next (suc s) x = ap (λ (k : ℕ). sgn k x) (more s) ∙ sgn-add (s *ℕ suc s) (suc s +ℕ suc s) x ∙ sgn-next s (sgn (suc s +ℕ suc s) x) ∙ sgn-even (suc s) x
+  sgn-next (suc s) x = ap (λ (k : ℕ). sgn k x) (more s) ∙ sgn-add (s *ℕ suc s) (suc s +ℕ suc s) x ∙ sgn-next s (sgn (suc s +ℕ suc s) x)
+      ∙ sgn-even (suc s) x
     where
       more : (s : ℕ) → suc s *ℕ suc (suc s) ≡ s *ℕ suc s +ℕ (suc s +ℕ suc s)
       more s = omega arith
@@ -93,7 +93,8 @@ module _ {R : Type 0} (𝓡 : CRing R) where
 
   pub sgn-assoc : (j : ℕ) (x y z : R) → x * (y * sgn j z) ≡ sgn j (x * y) * z
   sgn-assoc j x y z =
-      sym (mul-assoc x y (sgn j z)) ∙ sgn-mul j (x * y) z ∙ ap (sgn j) (mul-comm (x * y) z) ∙ sym (sgn-mul j z (x * y)) ∙ mul-comm z (sgn j (x * y))
+      sym (mul-assoc x y (sgn j z)) ∙ sgn-mul j (x * y) z ∙ ap (sgn j) (mul-comm (x * y) z) ∙ sym (sgn-mul j z (x * y))
+      ∙ mul-comm z (sgn j (x * y))
 
   -- f 0 − f 1 + f 2 − …, n terms
   abbrev pub alt : ℕ → (ℕ → R) → R
@@ -102,20 +103,24 @@ module _ {R : Type 0} (𝓡 : CRing R) where
 
   pub alt-cong : (n : ℕ) (f g : ℕ → R) → ((i : ℕ) → i < n → f i ≡ g i) → alt n f ≡ alt n g
   alt-cong zero f g h = refl
-  alt-cong (suc n) f g h = ap₂ (λ x y. x + (- y)) (h zero (omega arith)) (alt-cong n (λ i. f (suc i)) (λ i. g (suc i)) (λ i l. h (suc i) (omega arith)))
+  alt-cong (suc n) f g h = ap₂ (λ x y. x + (- y)) (h zero (omega arith))
+      (alt-cong n (λ i. f (suc i)) (λ i. g (suc i)) (λ i l. h (suc i) (omega arith)))
 
   pub alt-zero : (n : ℕ) (f : ℕ → R) → ((i : ℕ) → i < n → f i ≡ 𝟘) → alt n f ≡ 𝟘
   alt-zero zero f h = refl
-  alt-zero (suc n) f h = ap₂ (λ x y. x + (- y)) (h zero (omega arith)) (alt-zero n (λ i. f (suc i)) (λ i l. h (suc i) (omega arith))) ∙ add-neg 𝓡 𝟘
+  alt-zero (suc n) f h = ap₂ (λ x y. x + (- y)) (h zero (omega arith)) (alt-zero n (λ i. f (suc i)) (λ i l. h (suc i) (omega arith)))
+      ∙ add-neg 𝓡 𝟘
 
   pub alt-lin : (n : ℕ) (c : R) (f g h : ℕ → R) → ((i : ℕ) → i < n → f i ≡ c * g i + h i) → alt n f ≡ c * alt n g + alt n h
   alt-lin zero c f g h e = sym (ap (λ x. x + 𝟘) (mul-zero 𝓡 c) ∙ zero-add 𝟘)
   alt-lin (suc n) c f g h e =
-      ap₂ (λ x y. x + (- y)) (e zero (omega arith)) (alt-lin n c (λ i. f (suc i)) (λ i. g (suc i)) (λ i. h (suc i)) (λ i l. e (suc i) (omega arith)))
+      ap₂ (λ x y. x + (- y)) (e zero (omega arith)) (alt-lin n c (λ i. f (suc i)) (λ i. g (suc i)) (λ i. h (suc i))
+      (λ i l. e (suc i) (omega arith)))
       ∙ simp (mul-add, neg-of-add 𝓡, mul-neg 𝓡, add-assoc, add-comm, add-left-comm 𝓡)
 
   -- two neighbours cancel, the others are 0
-  pub alt-adj : (k m : ℕ) (f : ℕ → R) → k < suc m → f k ≡ f (suc k) → ((i : ℕ) → i < m → f (skip k (skip k i)) ≡ 𝟘) → alt (suc (suc m)) f ≡ 𝟘
+  pub alt-adj : (k m : ℕ) (f : ℕ → R) → k < suc m → f k ≡ f (suc k) → ((i : ℕ) → i < m → f (skip k (skip k i)) ≡ 𝟘)
+      → alt (suc (suc m)) f ≡ 𝟘
   alt-adj zero m f l e h =
       ap₂ (λ x y. x + (- (f 1 + (- y)))) e (alt-zero m (λ i. f (suc (suc i))) h)
       ∙ simp (neg-zero 𝓡, add-zero 𝓡, add-neg 𝓡)

@@ -39,7 +39,8 @@ module _ {R : Type 0} (𝓡 : CRing R) where
     times : ratio * h′ ≡ h
     unfolding ratio
     times =
-        turn (U .w) u′ h′ ∙ ap (λ (x : ℕ → R). U .w * x) (sym eq) ∙ sym (turn (U .w) u h) ∙ ap (λ (x : ℕ → R). x * h) (U .eq) ∙ series 𝓡 .one-mul h
+        turn (U .w) u′ h′ ∙ ap (λ (x : ℕ → R). U .w * x) (sym eq) ∙ sym (turn (U .w) u h) ∙ ap (λ (x : ℕ → R). x * h) (U .eq)
+        ∙ series 𝓡 .one-mul h
       where
         turn : (w u h : ℕ → R) → w * u * h ≡ w * (u * h)
         turn w u h = series 𝓡 .mul-assoc w u h
@@ -47,7 +48,8 @@ module _ {R : Type 0} (𝓡 : CRing R) where
     pub degree-unique : (t t′ : ℕ) → Monic t h → Monic t′ h′ → t < t′ → 𝓡 .unit ≡ 𝓡 .nil
     degree-unique t t′ M M′ l =
         sym (M .lead) ∙ sym (neg-neg 𝓡 (h t))
-        ∙ ap (𝓡 .neg) (monic-rest 𝓡 (fin-ratio .size) t′ ratio h′ (- h) (fin-ratio .short) (M′ .lead) (M′ .short) short (λ k. ap (λ (x : ℕ → R). 𝓡 .add (x k) (𝓡 .neg (h k))) times ∙ add-neg 𝓡 (h k)) t)
+        ∙ ap (𝓡 .neg) (monic-rest 𝓡 (fin-ratio .size) t′ ratio h′ (- h) (fin-ratio .short) (M′ .lead) (M′ .short) short
+        (λ k. ap (λ (x : ℕ → R). 𝓡 .add (x k) (𝓡 .neg (h k))) times ∙ add-neg 𝓡 (h k)) t)
         ∙ neg-zero 𝓡
       where
         short : Short 𝓡 t′ (- h)
@@ -63,7 +65,8 @@ module _ {R : Type 0} (𝓡 : CRing R) where
         where
           go : (k : ℕ) → t ≤ k → Dec (k ≡ t) → 𝓡 .add (h′ k) (𝓡 .neg (h k)) ≡ 𝓡 .nil
           go k l (yes p) = ap₂ (λ x y. 𝓡 .add x (𝓡 .neg y)) (ap h′ p ∙ M′ .lead) (ap h p ∙ M .lead) ∙ add-neg 𝓡 (𝓡 .unit)
-          go k l (no p) = ap₂ (λ x y. 𝓡 .add x (𝓡 .neg y)) (M′ .short .out k (omega arith)) (M .short .out k (omega arith)) ∙ add-neg 𝓡 (𝓡 .nil)
+          go k l (no p) = ap₂ (λ x y. 𝓡 .add x (𝓡 .neg y)) (M′ .short .out k (omega arith)) (M .short .out k (omega arith))
+              ∙ add-neg 𝓡 (𝓡 .nil)
 
       none : (k : ℕ) → ((ratio + (- 𝟙)) * h′ + rest) k ≡ 𝓡 .nil
       unfolding rest
@@ -84,10 +87,12 @@ module _ {R : Type 0} (𝓡 : CRing R) where
 
       pub monic-unique : h ≡ h′
       unfolding rest
-      monic-unique = sym (equal h′ h (fun-ext (monic-rest 𝓡 (fin-less .size) t (ratio + (- 𝟙)) h′ rest (fin-less .short) (M′ .lead) (M′ .short) short-rest none)))
+      monic-unique = sym (equal h′ h (fun-ext (monic-rest 𝓡 (fin-less .size) t (ratio + (- 𝟙)) h′ rest (fin-less .short) (M′ .lead)
+          (M′ .short) short-rest none)))
 
       pub unit-unique : u ≡ u′
       unfolding ratio
       unit-unique =
           inverse-unique (series 𝓡) (U .w) u u′ (mul-comm u (U .w) ∙ U .eq)
-          (mul-comm u′ (U .w) ∙ equal ratio 𝟙 (fun-ext (monic-zero 𝓡 (fin-less .size) t (ratio + (- 𝟙)) h′ rest (fin-less .short) (M′ .lead) (M′ .short) short-rest none)))
+          (mul-comm u′ (U .w) ∙ equal ratio 𝟙 (fun-ext (monic-zero 𝓡 (fin-less .size) t (ratio + (- 𝟙)) h′ rest (fin-less .short) (M′ .lead)
+          (M′ .short) short-rest none)))

@@ -1,5 +1,5 @@
--- A polynomial whose constant is a unit and whose other coefficients are nilpotent has a polynomial as its inverse. One coefficient is added at a time: where w v = 1 and
--- a is nilpotent, w (v + a xⁿ) = 1 - z with z nilpotent, and 1 - z has the inverse 1 + z + z² + ….
+-- A polynomial whose constant is a unit and whose other coefficients are nilpotent has a polynomial as its inverse. One coefficient is
+-- added at a time: where w v = 1 and a is nilpotent, w (v + a xⁿ) = 1 - z with z nilpotent, and 1 - z has the inverse 1 + z + z² + ….
 --
 --   geometric k z     1 + z + … + z^(k-1)
 --   Nilpotent a       some power of a is 0
@@ -114,7 +114,8 @@ module _ {R : Type 0} (𝓡 : CRing R) where
       none : pw (series 𝓡) z (N .exponent) ≡ 𝟘
       none =
           pw-mul (series 𝓡) (const 𝓡 a) (- (I .w * x)) (N .exponent)
-          ∙ ap (λ (y : ℕ → R). y * pw (series 𝓡) (- (I .w * x)) (N .exponent)) (const-pw a (N .exponent) ∙ ap (const 𝓡) (N .power) ∙ const-zero)
+          ∙ ap (λ (y : ℕ → R). y * pw (series 𝓡) (- (I .w * x)) (N .exponent))
+          (const-pw a (N .exponent) ∙ ap (const 𝓡) (N .power) ∙ const-zero)
           ∙ zero-mul (series 𝓡) _
 
       turn : (g w v c x : ℕ → R) → g * w * (v + c * x) ≡ g * (w * v + (- (c * (- (w * x)))))
@@ -124,12 +125,15 @@ module _ {R : Type 0} (𝓡 : CRing R) where
   by-terms zero u i h N = record {
     w = const 𝓡 i;
     finite = fin-const 𝓡 i;
-    eq = ap (λ (x : ℕ → R). const 𝓡 i * x) (fun-ext (elim [ zero ↦ refl | suc k ↦ refl ])) ∙ const-mul 𝓡 i (u 0) ∙ ap (const 𝓡) (𝓡 .mul-comm i (u 0) ∙ h);
+    eq = ap (λ (x : ℕ → R). const 𝓡 i * x) (fun-ext (elim [ zero ↦ refl | suc k ↦ refl ])) ∙ const-mul 𝓡 i (u 0)
+        ∙ ap (const 𝓡) (𝓡 .mul-comm i (u 0) ∙ h);
   }
-  by-terms (suc n) u i h N = rw (sym next) (grow (pad 𝓡 (suc n) u) (e 𝓡 (suc n)) (u (suc n)) (by-terms n u i h N) (N (suc n) (omega arith)) (record { size = suc (suc n); short = record { out = λ k l. e-high 𝓡 (suc n) k l } }))
+  by-terms (suc n) u i h N = rw (sym next) (grow (pad 𝓡 (suc n) u) (e 𝓡 (suc n)) (u (suc n)) (by-terms n u i h N) (N (suc n) (omega arith))
+      (record { size = suc (suc n); short = record { out = λ k l. e-high 𝓡 (suc n) k l } }))
     where
       next : pad 𝓡 (suc n) u + const 𝓡 (u (suc n)) * e 𝓡 (suc n) ≡ pad 𝓡 (suc (suc n)) u
       next = fun-ext (λ k. ap (𝓡 .add (pad 𝓡 (suc n) u k)) (conv-const 𝓡 (u (suc n)) (e 𝓡 (suc n)) k) ∙ sym (pad-next 𝓡 (suc n) u k))
 
-  pub unit-polynomial : (n : ℕ) (u : ℕ → R) (i : R) → Short 𝓡 n u → 𝓡 .mul (u 0) i ≡ 𝓡 .unit → ((k : ℕ) → 0 < k → Nilpotent 𝓡 (u k)) → Invertible u
+  pub unit-polynomial : (n : ℕ) (u : ℕ → R) (i : R) → Short 𝓡 n u → 𝓡 .mul (u 0) i ≡ 𝓡 .unit → ((k : ℕ) → 0 < k → Nilpotent 𝓡 (u k))
+      → Invertible u
   unit-polynomial n u i z h N = rw (sym (fun-ext (pad-whole 𝓡 (suc n) u (λ k l. z .out k (omega arith))))) (by-terms n u i h N)

@@ -1,4 +1,5 @@
--- A certificate of D: multipliers that reach it, and a ground that no smaller constant is reached, a monic polynomial of degree 1 or more that divides both modulo D.
+-- A certificate of D: multipliers that reach it, and a ground that no smaller constant is reached, a monic polynomial of degree 1 or more
+-- that divides both modulo D.
 --
 --   Ground D f g      w monic of degree t, f = w a and g = w b modulo D
 --   ground-divides    then D divides what is reached
@@ -35,9 +36,12 @@ pub record Ground (D : ℕ) (f g : List ℕ) : Type 0 where
 pub ground-divides : (D : ℕ) → 1 ≤ D → (f g : List ℕ) → Ground D f g → (c : ℕ) → Reached D f g c → D ∣ c
 ground-divides zero l f g G c r = absurd (omega arith)
 ground-divides (suc m) l f g G c r =
-    dvd-of-mod-eq-zero (suc m) (ap (λ (z : Res m). z .0) (grounded (Res-ring m) (G .t) (words m (G .w)) (words m (G .a)) (words m (G .b)) (toRes m c) (G .t-pos)
-    (Fin·val-path (G .top)) (record { out = λ k h. words-short m (G .w) .out k (omega (arith, G .above)) }) (words-finite m (G .a)) (words-finite m (G .b))
-    (rw (multiplied-is m f (G .w) (G .a) (G .left), multiplied-is m g (G .w) (G .b) (G .right)) at (to-ring m r))) ∙ mod-eq-of-lt (zero-lt-suc m))
+    dvd-of-mod-eq-zero (suc m) (ap (λ (z : Res m). z .0) (grounded (Res-ring m) (G .t) (words m (G .w)) (words m (G .a)) (words m (G .b))
+    (toRes m c) (G .t-pos)
+    (Fin·val-path (G .top)) (record { out = λ k h. words-short m (G .w) .out k (omega (arith, G .above)) }) (words-finite m (G .a))
+    (words-finite m (G .b))
+    (rw (multiplied-is m f (G .w) (G .a) (G .left), multiplied-is m g (G .w) (G .b) (G .right)) at (to-ring m r)))
+    ∙ mod-eq-of-lt (zero-lt-suc m))
 
 pub certified : (n D : ℕ) (f g : List ℕ) → 1 ≤ n → D ∣ n → 1 ≤ D → D ≤ n → Reached n f g D → Ground D f g → Reduced n f g D
 certified n D f g l d p q r G = reduced-from n D f g l d p q r (λ c x. ground-divides D p f g G c (reached-mod D n f g c d x))

@@ -1,5 +1,5 @@
--- Facts about given word lists by computation: a test of the first words, and a lemma that it is enough, since all further words are 0. So an example or a line of a table
--- costs one `tt`.
+-- Facts about given word lists by computation: a test of the first words, and a lemma that it is enough, since all further words are 0. So
+-- an example or a line of a table costs one `tt`.
 --
 --   up-to n P                 P 0, …, P (n - 1) are all true
 --   below-by, multiplied-by, divided-by, inverse-by, combined-by    the facts, each from its test
@@ -55,12 +55,14 @@ multiplied-by n f a b t = record {
 }
 
 abbrev pub divided : ℕ → List ℕ → List ℕ → List ℕ → List ℕ → Bool
-divided n g f q r = up-to (length g + (length q + length f) + length r) (λ k. eqb ((convolve (coef q) (coef f) k + coef r k) % n) (coef g k % n))
+divided n g f q r = up-to (length g + (length q + length f) + length r)
+    (λ k. eqb ((convolve (coef q) (coef f) k + coef r k) % n) (coef g k % n))
 
 pub divided-by : (n : ℕ) (g f q r : List ℕ) → T (divided n g f q r) → Divided n g f q r
 divided-by n g f q r t = record {
   at = agree (length g + (length q + length f) + length r) (λ k. (convolve (coef q) (coef f) k + coef r k) % n) (λ k. coef g k % n) t
-      (λ k l. ap (λ x. x % n) (ap₂ _+_ (convolve-beyond q f k (omega arith)) (coef-beyond r k (omega arith)) ∙ sym (coef-beyond g k (omega arith))));
+      (λ k l. ap (λ x. x % n) (ap₂ _+_ (convolve-beyond q f k (omega arith)) (coef-beyond r k (omega arith))
+      ∙ sym (coef-beyond g k (omega arith))));
 }
 
 -- the constant c has no words from place 1 on
@@ -78,10 +80,13 @@ inverse-by n u w t =
 
 abbrev pub combined : ℕ → List ℕ → List ℕ → List ℕ → List ℕ → ℕ → Bool
 combined n f g u v c =
-    up-to (suc (length u + length f + (length v + length g))) (λ k. eqb ((convolve (coef u) (coef f) k + convolve (coef v) (coef g) k) % n) (constant c k % n))
+    up-to (suc (length u + length f + (length v + length g)))
+    (λ k. eqb ((convolve (coef u) (coef f) k + convolve (coef v) (coef g) k) % n) (constant c k % n))
 
 pub combined-by : (n : ℕ) (f g u v : List ℕ) (c : ℕ) → T (combined n f g u v c) → Combination n f g u v c
 combined-by n f g u v c t = record {
-  sum = agree (suc (length u + length f + (length v + length g))) (λ k. (convolve (coef u) (coef f) k + convolve (coef v) (coef g) k) % n) (λ k. constant c k % n) t
-      (λ k l. ap (λ x. x % n) (ap₂ _+_ (convolve-beyond u f k (omega arith)) (convolve-beyond v g k (omega arith)) ∙ sym (constant-beyond c k (omega arith))));
+  sum = agree (suc (length u + length f + (length v + length g))) (λ k. (convolve (coef u) (coef f) k + convolve (coef v) (coef g) k) % n)
+      (λ k. constant c k % n) t
+      (λ k l. ap (λ x. x % n) (ap₂ _+_ (convolve-beyond u f k (omega arith)) (convolve-beyond v g k (omega arith))
+      ∙ sym (constant-beyond c k (omega arith))));
 }

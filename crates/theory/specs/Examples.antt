@@ -1,5 +1,5 @@
--- The worked examples of document 01, checked against the definitions, and values from outside: K and L, the kinds of residues, division, unit times monic, inverse, true
--- degree, the row that is not starred, and products and resultants that another program gave.
+-- The worked examples of document 01, checked against the definitions, and values from outside: K and L, the kinds of residues, division,
+-- unit times monic, inverse, true degree, the row that is not starred, and products and resultants that another program gave.
 use mathlib.Core.Path.{_≡_, refl}
 use mathlib.Core.List.{[], _∷_}
 use Prim.Native.Nat.{zero, suc}
@@ -67,18 +67,20 @@ factors-4 = record {
   unit = record {
     unit = record { inverse = 3; is = record { below = omega arith; one = refl } };
     nilpotent = elim [
-        zero ↦ λ l. absurd (omega arith)
+      | zero ↦ λ l. absurd (omega arith)
       | suc zero ↦ λ l. record { exponent = 2; power = refl }
       | suc (suc zero) ↦ λ l. record { exponent = 1; power = refl }
-      | suc (suc (suc k)) ↦ λ l. record { exponent = 1; power = refl } ];
+      | suc (suc (suc k)) ↦ λ l. record { exponent = 1; power = refl }
+    ];
   };
   monic = record {
     lead = refl;
     above = elim [
-        zero ↦ λ l. absurd (omega arith)
+      | zero ↦ λ l. absurd (omega arith)
       | suc zero ↦ λ l. absurd (omega arith)
       | suc (suc zero) ↦ λ l. refl
-      | suc (suc (suc k)) ↦ λ l. refl ];
+      | suc (suc (suc k)) ↦ λ l. refl
+    ];
   };
   equation = multiplied-by 4 (3 ∷ 1 ∷ 2 ∷ []) (3 ∷ 2 ∷ 0 ∷ []) (1 ∷ 1 ∷ 0 ∷ []) tt;
 }
@@ -86,7 +88,11 @@ factors-4 = record {
 -- "Modulo 8 the inverse of 1,2 is 1,6,4", filled up to K d + 1 = 4 words
 inverse-8 : InverseOf 8 (1 ∷ 2 ∷ []) (1 ∷ 6 ∷ 4 ∷ 0 ∷ [])
 unfolding K halvings
-inverse-8 = record { length-w = refl; residues-w = below-by 8 (1 ∷ 6 ∷ 4 ∷ 0 ∷ []) tt; equation = inverse-by 8 (1 ∷ 2 ∷ []) (1 ∷ 6 ∷ 4 ∷ 0 ∷ []) tt }
+inverse-8 = record {
+  length-w = refl;
+  residues-w = below-by 8 (1 ∷ 6 ∷ 4 ∷ 0 ∷ []) tt;
+  equation = inverse-by 8 (1 ∷ 2 ∷ []) (1 ∷ 6 ∷ 4 ∷ 0 ∷ []) tt;
+}
 
 -- "the place of the highest nonzero coefficient, and 0 for the zero polynomial"
 degree-below-zeros : true-degree (2 ∷ 1 ∷ 0 ∷ []) ≡ 1

@@ -1,5 +1,6 @@
--- Point 3, the law of products, as one claim about seven answers modulo one n: the product of f and g, then the resultant and the reduced resultant of that product, of
--- f and of g, each as first polynomial with h as second. It is about any seven answers that are what the definitions say, so about whatever functions give them.
+-- Point 3, the law of products, as one claim about seven answers modulo one n: the product of f and g, then the resultant and the reduced
+-- resultant of that product, of f and of g, each as first polynomial with h as second. It is about any seven answers that are what the
+-- definitions say, so about whatever functions give them.
 --
 --   SevenAnswers     what the product, the resultant and the reduced resultant promise of the seven answers
 --   LawOfProducts    what then holds between them
@@ -14,7 +15,8 @@ use Rattle.definitions.specs.Resultants.{resultant, Reduced}
 use Rattle.theory.specs.ReachedLaws.{reduced-product}
 use Rattle.theory.specs.ResultantLaws.{law-of-products}
 
--- "They are the product of f and g, then the resultant and the D of that product, of f and of g, each as first polynomial with h as second."
+-- "They are the product of f and g, then the resultant and the D of that product, of f and of g, each as first polynomial with h as
+-- second."
 pub record SevenAnswers (n : ℕ) (f g h p : List ℕ) (r rf rg D Df Dg : ℕ) : Type 0 where
   pub product-of : p ≡ product n f g
   pub resultant-of-product : r ≡ resultant n p h
@@ -31,11 +33,13 @@ pub record LawOfProducts (n r rf rg D Df Dg : ℕ) : Type 0 where
   pub multiple-of-second : Dg ∣ D
   pub divides-product : D ∣ Df * Dg
 
--- POINT 3: the resultant of the product is the product of the resultants modulo n, for all words and every n, zero top words and divisors of zero included; D of the product
--- is a multiple of the D of each factor and divides their ordinary product.
-pub point-three : (n : ℕ) → 1 ≤ n → (f g h p : List ℕ) (r rf rg D Df Dg : ℕ) → SevenAnswers n f g h p r rf rg D Df Dg → LawOfProducts n r rf rg D Df Dg
+-- POINT 3: the resultant of the product is the product of the resultants modulo n, for all words and every n, zero top words and divisors
+-- of zero included; D of the product is a multiple of the D of each factor and divides their ordinary product.
+pub point-three : (n : ℕ) → 1 ≤ n → (f g h p : List ℕ) (r rf rg D Df Dg : ℕ) → SevenAnswers n f g h p r rf rg D Df Dg
+    → LawOfProducts n r rf rg D Df Dg
 point-three n l f g h p r rf rg D Df Dg a =
-    let d = reduced-product n l f g h D Df Dg (subst (λ (q : List ℕ). Reduced n q h D) (a .product-of) (a .reduced-of-product)) (a .reduced-of-first) (a .reduced-of-second) in
+    let d = reduced-product n l f g h D Df Dg (subst (λ (q : List ℕ). Reduced n q h D) (a .product-of) (a .reduced-of-product))
+    (a .reduced-of-first) (a .reduced-of-second) in
     record {
       resultants =
           a .resultant-of-product ∙ ap (λ (q : List ℕ). resultant n q h) (a .product-of) ∙ law-of-products n l f g h

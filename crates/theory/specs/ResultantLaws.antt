@@ -48,23 +48,28 @@ module _ (m : ℕ) where
 
   pub power-is : (c k : ℕ) → pw (Res-ring m) (toRes m c) k ≡ toRes m (c ^ k)
   power-is c zero = ap (toRes m) (sym (pow-zero c))
-  power-is c (suc k) = ap (Res-ring m .mul (toRes m c)) (power-is c k) ∙ sym (reduce-hom m .h-mul (pos c) (pos (c ^ k))) ∙ ap (toRes m) (mul-comm c (c ^ k) ∙ sym (pow-suc c k))
+  power-is c (suc k) = ap (Res-ring m .mul (toRes m c)) (power-is c k) ∙ sym (reduce-hom m .h-mul (pos c) (pos (c ^ k)))
+      ∙ ap (toRes m) (mul-comm c (c ^ k) ∙ sym (pow-suc c k))
 
   power-times : (c k : ℕ) (x : Res m) → Res-ring m .mul (pw (Res-ring m) (toRes m c) k) x .0 ≡ (c ^ k * x .0) % suc m
   power-times c k x = ap (λ (y : Res m). Res-ring m .mul y x .0) (power-is c k) ∙ mul-mod-l (c ^ k) (x .0) (suc m)
 
   -- by degree and words
-  at : (d e : ℕ) (f g : List ℕ) (F G : ℕ → Res m) → deg f ≡ d → deg g ≡ e → words m f ≡ F → words m g ≡ G → resultant (suc m) f g ≡ Rs (Res-ring m) d e F G .0
+  at : (d e : ℕ) (f g : List ℕ) (F G : ℕ → Res m) → deg f ≡ d → deg g ≡ e → words m f ≡ F → words m g ≡ G
+      → resultant (suc m) f g ≡ Rs (Res-ring m) d e F G .0
   at d e f g F G hd he hf hg =
-      resultant-is m f g ∙ ap₂ (λ (d e : ℕ). Rs (Res-ring m) d e (words m f) (words m g) .0) hd he ∙ ap₂ (λ (F G : ℕ → Res m). Rs (Res-ring m) d e F G .0) hf hg
+      resultant-is m f g ∙ ap₂ (λ (d e : ℕ). Rs (Res-ring m) d e (words m f) (words m g) .0) hd he
+      ∙ ap₂ (λ (F G : ℕ → Res m). Rs (Res-ring m) d e F G .0) hf hg
 
-  pub resultant-cong : (f f′ g g′ : List ℕ) → deg f ≡ deg f′ → deg g ≡ deg g′ → ((k : ℕ) → coef f k % suc m ≡ coef f′ k % suc m) → ((k : ℕ) → coef g k % suc m ≡ coef g′ k % suc m)
+  pub resultant-cong : (f f′ g g′ : List ℕ) → deg f ≡ deg f′ → deg g ≡ deg g′ → ((k : ℕ) → coef f k % suc m ≡ coef f′ k % suc m)
+      → ((k : ℕ) → coef g k % suc m ≡ coef g′ k % suc m)
       → resultant (suc m) f g ≡ resultant (suc m) f′ g′
   resultant-cong f f′ g g′ hd he hf hg =
       at (deg f′) (deg g′) f g (words m f′) (words m g′) hd he (words-cong m f f′ hf) (words-cong m g g′ hg) ∙ sym (resultant-is m f′ g′)
 
   -- R6
-  pub resultant-multiplied : (f a b g : List ℕ) → deg f ≡ deg a + deg b → Multiplied (suc m) f a b → resultant (suc m) f g ≡ (resultant (suc m) a g * resultant (suc m) b g) % suc m
+  pub resultant-multiplied : (f a b g : List ℕ) → deg f ≡ deg a + deg b → Multiplied (suc m) f a b
+      → resultant (suc m) f g ≡ (resultant (suc m) a g * resultant (suc m) b g) % suc m
   resultant-multiplied f a b g h p =
       at (deg a + deg b) (deg g) f g (conv (Res-ring m) (words m a) (words m b)) (words m g) h refl (multiplied-is m f a b p) refl
       ∙ ap (λ (x : Res m). x .0) (Rs-mul m (deg a) (deg b) (deg g) (words m a) (words m b) (words m g) (words-out m a) (words-out m b))
@@ -79,32 +84,39 @@ module _ (m : ℕ) where
       → resultant (suc m) f g ≡ signed (suc m) (deg g) ((coef g (deg g) * resultant (suc m) f′ g) % suc m)
   resultant-drop-first f f′ g h e =
       at (suc (deg f′)) (deg g) f g (words m f′) (words m g) h refl (words-cong m f f′ e) refl
-      ∙ ap (λ (x : Res m). x .0) (Rs-drop-first (Res-ring m) (deg f′) (deg g) (words m f′) (words m g) (words-out m f′ (suc (deg f′)) (omega arith)))
+      ∙ ap (λ (x : Res m). x .0) (Rs-drop-first (Res-ring m) (deg f′) (deg g) (words m f′) (words m g)
+      (words-out m f′ (suc (deg f′)) (omega arith)))
       ∙ signed-is (deg g) _
-      ∙ ap (signed (suc m) (deg g)) (mul-mod-l (coef g (deg g)) _ (suc m) ∙ ap (λ x. (coef g (deg g) * x) % suc m) (sym (resultant-is m f′ g)))
+      ∙ ap (signed (suc m) (deg g)) (mul-mod-l (coef g (deg g)) _ (suc m)
+      ∙ ap (λ x. (coef g (deg g) * x) % suc m) (sym (resultant-is m f′ g)))
 
   pub resultant-drop-second : (f g g′ : List ℕ) → deg g ≡ suc (deg g′) → ((k : ℕ) → coef g k % suc m ≡ coef g′ k % suc m)
       → resultant (suc m) f g ≡ (coef f (deg f) * resultant (suc m) f g′) % suc m
   resultant-drop-second f g g′ h e =
       at (deg f) (suc (deg g′)) f g (words m f) (words m g′) refl h refl (words-cong m g g′ e)
-      ∙ ap (λ (x : Res m). x .0) (Rs-drop-second (Res-ring m) (deg f) (deg g′) (words m f) (words m g′) (words-out m g′ (suc (deg g′)) (omega arith)))
+      ∙ ap (λ (x : Res m). x .0) (Rs-drop-second (Res-ring m) (deg f) (deg g′) (words m f) (words m g′)
+      (words-out m g′ (suc (deg g′)) (omega arith)))
       ∙ mul-mod-l (coef f (deg f)) _ (suc m) ∙ ap (λ x. (coef f (deg f) * x) % suc m) (sym (resultant-is m f g′))
 
   -- R2
   times-is : (c : ℕ) (f f′ : List ℕ) → Times (suc m) c f f′ → words m f ≡ (λ k. Res-ring m .mul (toRes m c) (words m f′ k))
   times-is c f f′ t = fun-ext (λ k. Fin·val-path (t .at k) ∙ reduce-hom m .h-mul (pos c) (pos (coef f′ k)))
 
-  pub resultant-scale-first : (c : ℕ) (f f′ g : List ℕ) → deg f ≡ deg f′ → Times (suc m) c f f′ → resultant (suc m) f g ≡ (c ^ deg g * resultant (suc m) f′ g) % suc m
+  pub resultant-scale-first : (c : ℕ) (f f′ g : List ℕ) → deg f ≡ deg f′ → Times (suc m) c f f′
+      → resultant (suc m) f g ≡ (c ^ deg g * resultant (suc m) f′ g) % suc m
   resultant-scale-first c f f′ g h t =
       at (deg f′) (deg g) f g _ (words m g) h refl (times-is c f f′ t) refl
       ∙ ap (λ (x : Res m). x .0) (Rs-scale-first (Res-ring m) (deg f′) (deg g) (toRes m c) (words m f′) (words m g))
-      ∙ power-times c (deg g) (Rs (Res-ring m) (deg f′) (deg g) (words m f′) (words m g)) ∙ ap (λ x. (c ^ deg g * x) % suc m) (sym (resultant-is m f′ g))
+      ∙ power-times c (deg g) (Rs (Res-ring m) (deg f′) (deg g) (words m f′) (words m g))
+      ∙ ap (λ x. (c ^ deg g * x) % suc m) (sym (resultant-is m f′ g))
 
-  pub resultant-scale-second : (c : ℕ) (f g g′ : List ℕ) → deg g ≡ deg g′ → Times (suc m) c g g′ → resultant (suc m) f g ≡ (c ^ deg f * resultant (suc m) f g′) % suc m
+  pub resultant-scale-second : (c : ℕ) (f g g′ : List ℕ) → deg g ≡ deg g′ → Times (suc m) c g g′
+      → resultant (suc m) f g ≡ (c ^ deg f * resultant (suc m) f g′) % suc m
   resultant-scale-second c f g g′ h t =
       at (deg f) (deg g′) f g (words m f) _ refl h refl (times-is c g g′ t)
       ∙ ap (λ (x : Res m). x .0) (Rs-scale-second (Res-ring m) (deg f) (deg g′) (toRes m c) (words m f) (words m g′))
-      ∙ power-times c (deg f) (Rs (Res-ring m) (deg f) (deg g′) (words m f) (words m g′)) ∙ ap (λ x. (c ^ deg f * x) % suc m) (sym (resultant-is m f g′))
+      ∙ power-times c (deg f) (Rs (Res-ring m) (deg f) (deg g′) (words m f) (words m g′))
+      ∙ ap (λ x. (c ^ deg f * x) % suc m) (sym (resultant-is m f g′))
 
   -- R4
   pub resultant-swap : (f g : List ℕ) → resultant (suc m) f g ≡ signed (suc m) (deg f * deg g) (resultant (suc m) g f)
@@ -120,10 +132,13 @@ module _ (m : ℕ) where
   reversed-is f = fun-ext (λ k. go k (decLe k (deg f)))
     where
       go : (k : ℕ) → Dec (k ≤ deg f) → words m (reversed f) k ≡ rv (Res-ring m) (deg f) (words m f) k
-      go k (yes l) = ap (toRes m) (coef-tabulate (suc (deg f)) (λ k. coef f (deg f - k)) k (omega arith)) ∙ sym (rv-at (Res-ring m) (deg f) (words m f) k (deg f - k) (omega arith))
-      go k (no l) = words-out m (reversed f) k (omega (arith, deg-reversed f)) ∙ sym (rv-out (Res-ring m) (deg f) (words m f) k (omega arith))
+      go k (yes l) = ap (toRes m) (coef-tabulate (suc (deg f)) (λ k. coef f (deg f - k)) k (omega arith))
+          ∙ sym (rv-at (Res-ring m) (deg f) (words m f) k (deg f - k) (omega arith))
+      go k (no l) = words-out m (reversed f) k (omega (arith, deg-reversed f))
+          ∙ sym (rv-out (Res-ring m) (deg f) (words m f) k (omega arith))
 
-  pub resultant-reversed : (f g : List ℕ) → resultant (suc m) (reversed f) (reversed g) ≡ signed (suc m) (deg g * deg f) (resultant (suc m) f g)
+  pub resultant-reversed : (f g : List ℕ) → resultant (suc m) (reversed f) (reversed g) ≡ signed (suc m) (deg g * deg f)
+      (resultant (suc m) f g)
   resultant-reversed f g =
       at (deg f) (deg g) (reversed f) (reversed g) _ _ (deg-reversed f) (deg-reversed g) (reversed-is f) (reversed-is g)
       ∙ ap (λ (x : Res m). x .0) (Rs-reverse (Res-ring m) (deg f) (deg g) (words m f) (words m g))
@@ -141,10 +156,12 @@ module _ (m : ℕ) where
       ∙ ap (λ (x : Res m). x .0) (Rs-const-second (Res-ring m) (deg f) (words m f) (words m g) ∙ power-is (coef g 0) (deg f))
 
   -- R3: g′ = q f + g
-  pub resultant-add : (k : ℕ) (f g g′ q : List ℕ) → deg q ≡ k → deg g ≡ k + deg f → deg g′ ≡ k + deg f → Divided (suc m) g′ f q g → resultant (suc m) f g′ ≡ resultant (suc m) f g
+  pub resultant-add : (k : ℕ) (f g g′ q : List ℕ) → deg q ≡ k → deg g ≡ k + deg f → deg g′ ≡ k + deg f → Divided (suc m) g′ f q g
+      → resultant (suc m) f g′ ≡ resultant (suc m) f g
   resultant-add k f g g′ q hq hg hg′ p =
       at (deg f) (k + deg f) f g′ (words m f) _ refl hg′ refl (divided-is m g′ f q g p)
-      ∙ ap (λ (x : Res m). x .0) (Rs-add-second (Res-ring m) (deg f) k (words m f) (words m g) (words m q) (words-out m f) (λ i l. words-out m q i (omega arith)))
+      ∙ ap (λ (x : Res m). x .0) (Rs-add-second (Res-ring m) (deg f) k (words m f) (words m g) (words m q) (words-out m f)
+      (λ i l. words-out m q i (omega arith)))
       ∙ sym (at (deg f) (k + deg f) f g (words m f) (words m g) refl hg refl refl)
 
   -- R3 and R7: g = q f + r, r of deg f words
@@ -155,7 +172,8 @@ module _ (m : ℕ) where
       ∙ ap (λ (x : Res m). x .0) (Rs-divide (Res-ring m) (deg r) k (words m f) (words m q) (words m r)
       (λ i l. words-out m f i (omega arith)) (λ i l. words-out m q i (omega arith)) (words-out m r))
       ∙ power-times (coef f (suc (deg r))) (suc k) (Rs (Res-ring m) (deg r) (suc (deg r)) (words m r) (words m f))
-      ∙ ap₂ (λ (x y : ℕ). (coef f x ^ suc k * y) % suc m) (sym hf) (sym (at (deg r) (suc (deg r)) r f (words m r) (words m f) refl hf refl refl))
+      ∙ ap₂ (λ (x y : ℕ). (coef f x ^ suc k * y) % suc m) (sym hf)
+      (sym (at (deg r) (suc (deg r)) r f (words m r) (words m f) refl hf refl refl))
 
   -- R7 without a division: g of fewer words, r the same polynomial in deg f words
   pub resultant-short : (k : ℕ) (f g r : List ℕ) → deg f ≡ suc (deg r) → k + deg g ≡ deg r → ((i : ℕ) → coef r i % suc m ≡ coef g i % suc m)
@@ -164,9 +182,11 @@ module _ (m : ℕ) where
       at (deg r) (suc (deg r)) r f (words m g) (words m f) refl hf (words-cong m r g e) refl
       ∙ ap (λ (x : Res m). x .0) (Rs-short (Res-ring m) (deg r) k (deg g) (words m f) (words m g) hg (words-out m g))
       ∙ power-times (coef f (suc (deg r))) k (Rs (Res-ring m) (suc (deg r)) (deg g) (words m f) (words m g))
-      ∙ ap₂ (λ (x y : ℕ). (coef f x ^ k * y) % suc m) (sym hf) (sym (at (suc (deg r)) (deg g) f g (words m f) (words m g) hf refl refl refl))
+      ∙ ap₂ (λ (x y : ℕ). (coef f x ^ k * y) % suc m) (sym hf)
+      (sym (at (suc (deg r)) (deg g) f g (words m f) (words m g) hf refl refl refl))
 
--- THE LAW OF PRODUCTS for the resultant: "the resultant of the product word list with h is the product of the two resultants", for all word lists
+-- THE LAW OF PRODUCTS for the resultant: "the resultant of the product word list with h is the product of the two resultants", for all word
+-- lists
 pub law-of-products : (n : ℕ) → 1 ≤ n → (f g h : List ℕ) → resultant n (product n f g) h ≡ (resultant n f h * resultant n g h) % n
 law-of-products zero l f g h = absurd (omega arith)
 law-of-products (suc m) l f g h = resultant-multiplied m (product (suc m) f g) f g h (deg-product (suc m) f g) (product-multiplied m f g)
@@ -175,7 +195,8 @@ law-of-products (suc m) l f g h = resultant-multiplied m (product (suc m) f g) f
 residue-mod : (d n : ℕ) → 1 ≤ d → 1 ≤ n → d ∣ n → (z : ℤ) → residue n z % d ≡ residue d z
 residue-mod zero n p q h z = absurd (omega arith)
 residue-mod (suc d) zero p q h z = absurd (omega arith)
-residue-mod (suc d) (suc n) p q h z = ap (λ x. x % suc d) (residue-reduce n z) ∙ ap (λ (x : Res d). x .0) (lower-reduce n d h z) ∙ sym (residue-reduce d z)
+residue-mod (suc d) (suc n) p q h z = ap (λ x. x % suc d) (residue-reduce n z) ∙ ap (λ (x : Res d). x .0) (lower-reduce n d h z)
+    ∙ sym (residue-reduce d z)
 
 pub resultant-mod : (d n : ℕ) → 1 ≤ d → 1 ≤ n → d ∣ n → (f g : List ℕ) → resultant n f g % d ≡ resultant d f g
 unfolding resultant
@@ -205,11 +226,13 @@ resultant-content c n p q f f′ g e hf hg t =
     turn x = ap (λ y. y % (c * n)) (ap (λ y. y * x) (pow-succ' c e) ∙ assoc c (c ^ e) x)
 
 -- the Chinese remainder: a n₁ + b n₂ is 1 modulo n₁ n₂
-pub joined : (n₁ n₂ a b : ℕ) → 1 ≤ n₁ → 1 ≤ n₂ → (a * n₁ + b * n₂) % (n₁ * n₂) ≡ 1 % (n₁ * n₂) → (x y : ℕ) → x % n₁ ≡ y % n₁ → x % n₂ ≡ y % n₂ → x % (n₁ * n₂) ≡ y % (n₁ * n₂)
+pub joined : (n₁ n₂ a b : ℕ) → 1 ≤ n₁ → 1 ≤ n₂ → (a * n₁ + b * n₂) % (n₁ * n₂) ≡ 1 % (n₁ * n₂) → (x y : ℕ) → x % n₁ ≡ y % n₁
+    → x % n₂ ≡ y % n₂ → x % (n₁ * n₂) ≡ y % (n₁ * n₂)
 joined n₁ n₂ a b p₁ p₂ bez x y h₁ h₂ =
     sym (whole x)
     ∙ plus-mod (n₁ * n₂) _ _ _ _ (times-mod (n₁ * n₂) a (n₁ * x) (n₁ * y) (lift-mod n₁ n₂ x y p₁ p₂ h₂))
-    (times-mod (n₁ * n₂) b (n₂ * x) (n₂ * y) (ap (λ (z : ℕ). (n₂ * x) % z) (comm n₁ n₂) ∙ lift-mod n₂ n₁ x y p₂ p₁ h₁ ∙ ap (λ (z : ℕ). (n₂ * y) % z) (comm n₂ n₁)))
+    (times-mod (n₁ * n₂) b (n₂ * x) (n₂ * y) (ap (λ (z : ℕ). (n₂ * x) % z) (comm n₁ n₂) ∙ lift-mod n₂ n₁ x y p₂ p₁ h₁
+    ∙ ap (λ (z : ℕ). (n₂ * y) % z) (comm n₂ n₁)))
     ∙ whole y
   where
     comm : (u v : ℕ) → u * v ≡ v * u
@@ -224,11 +247,13 @@ joined n₁ n₂ a b p₁ p₂ bez x y h₁ h₂ =
     whole : (z : ℕ) → (a * (n₁ * z) + b * (n₂ * z)) % (n₁ * n₂) ≡ z % (n₁ * n₂)
     whole z = ap (λ w. w % (n₁ * n₂)) (turn z) ∙ times-mod (n₁ * n₂) z (a * n₁ + b * n₂) 1 bez ∙ ap (λ w. w % (n₁ * n₂)) (one z)
 
-pub resultant-joined : (n₁ n₂ a b : ℕ) → 1 ≤ n₁ → 1 ≤ n₂ → (a * n₁ + b * n₂) % (n₁ * n₂) ≡ 1 % (n₁ * n₂) → (f g : List ℕ) (x : ℕ) → x < n₁ * n₂
+pub resultant-joined : (n₁ n₂ a b : ℕ) → 1 ≤ n₁ → 1 ≤ n₂ → (a * n₁ + b * n₂) % (n₁ * n₂) ≡ 1 % (n₁ * n₂) → (f g : List ℕ) (x : ℕ)
+    → x < n₁ * n₂
     → x % n₁ ≡ resultant n₁ f g → x % n₂ ≡ resultant n₂ f g → x ≡ resultant (n₁ * n₂) f g
 resultant-joined n₁ n₂ a b p₁ p₂ bez f g x l h₁ h₂ =
     sym (mod-eq-of-lt l)
-    ∙ joined n₁ n₂ a b p₁ p₂ bez x (resultant (n₁ * n₂) f g) (h₁ ∙ sym (resultant-mod n₁ (n₁ * n₂) p₁ (mul-pos p₁ p₂) (dvd-mul-right n₁ n₂) f g))
+    ∙ joined n₁ n₂ a b p₁ p₂ bez x (resultant (n₁ * n₂) f g)
+    (h₁ ∙ sym (resultant-mod n₁ (n₁ * n₂) p₁ (mul-pos p₁ p₂) (dvd-mul-right n₁ n₂) f g))
     (h₂ ∙ sym (resultant-mod n₂ (n₁ * n₂) p₂ (mul-pos p₁ p₂) (dvd-mul-left n₂ n₁) f g))
     ∙ resultant-mod (n₁ * n₂) (n₁ * n₂) (mul-pos p₁ p₂) (mul-pos p₁ p₂) (self (n₁ * n₂)) f g
   where

@@ -1,5 +1,5 @@
--- The proved table: the eleven starred rows of document 01, resultant and D, as one list and one theorem. One test is computed over the list with a certificate for each
--- row, and one lemma turns the test into the two statements at each row.
+-- The proved table: the eleven starred rows of document 01, resultant and D, as one list and one theorem. One test is computed over the
+-- list with a certificate for each row, and one lemma turns the test into the two statements at each row.
 --
 --   Entry, Holds        a row, and what it says
 --   Certificate         u f + v g = D modulo n; w monic of degree 1 or more, f = w a and g = w b modulo D

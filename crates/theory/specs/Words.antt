@@ -1,4 +1,5 @@
--- From words to the ring: the definitions' determinant, resultant and sums of products are those of the algebra over Z/(m + 1), so that its theorems speak of words.
+-- From words to the ring: the definitions' determinant, resultant and sums of products are those of the algebra over Z/(m + 1), so that its
+-- theorems speak of words.
 --
 --   words m f           the coefficients of f as residues modulo m + 1
 --   coef-tabulate, length-tabulate    the words of a tabulated list
@@ -64,7 +65,8 @@ entry-is d f i j = go (leb i j) refl (leb j (i +ℕ d)) refl
     go true h true g =
         let p = leb→le i j (subst T (sym h) tt) in
         let q = leb→le j (i +ℕ d) (subst T (sym g) tt) in
-        sym (shift-at ℤ-ring i (rv ℤ-ring d (whole f)) j (j -ℕ i) (omega arith) ∙ rv-at ℤ-ring d (whole f) (j -ℕ i) (i +ℕ d -ℕ j) (omega arith))
+        sym (shift-at ℤ-ring i (rv ℤ-ring d (whole f)) j (j -ℕ i) (omega arith)
+        ∙ rv-at ℤ-ring d (whole f) (j -ℕ i) (i +ℕ d -ℕ j) (omega arith))
     go true h false g =
         let p = leb→le i j (subst T (sym h) tt) in
         let q = nleb→lt j (i +ℕ d) (subst (λ t. T (not t)) (sym g) tt) in
@@ -121,7 +123,8 @@ resultant-is m f g =
     residue-reduce m (determinant (deg f +ℕ deg g) (sylvester f g))
     ∙ ap (λ (z : Res m). z .0) (ap (reduce m) (sylvester-is f g)
     ∙ res-mod m (deg g) (deg f) (rv ℤ-ring (deg f) (whole f)) (rv ℤ-ring (deg g) (whole g))
-    ∙ ap₂ (res (Res-ring m) (deg g) (deg f)) (fun-ext (rv-hom ℤ-ring (Res-ring m) (reduce m) (reduce-hom m) (deg f) (whole f))) (fun-ext (rv-hom ℤ-ring (Res-ring m) (reduce m) (reduce-hom m) (deg g) (whole g))))
+    ∙ ap₂ (res (Res-ring m) (deg g) (deg f)) (fun-ext (rv-hom ℤ-ring (Res-ring m) (reduce m) (reduce-hom m) (deg f) (whole f)))
+    (fun-ext (rv-hom ℤ-ring (Res-ring m) (reduce m) (reduce-hom m) (deg g) (whole g))))
 
 pub total-cong : (n : ℕ) (F G : ℕ → ℕ) → ((i : ℕ) → i < n → F i ≡ G i) → total n F ≡ total n G
 total-cong zero F G h = refl
@@ -150,7 +153,8 @@ convolve-is m p q (suc k) =
 pub multiplied-is : (m : ℕ) (f a b : List ℕ) → Multiplied (suc m) f a b → words m f ≡ conv (Res-ring m) (words m a) (words m b)
 multiplied-is m f a b h = fun-ext (λ k. Fin·val-path (h .at k) ∙ convolve-is m (coef a) (coef b) k)
 
-pub divided-is : (m : ℕ) (g f q r : List ℕ) → Divided (suc m) g f q r → words m g ≡ (λ k. Res-ring m .add (conv (Res-ring m) (words m q) (words m f) k) (words m r k))
+pub divided-is : (m : ℕ) (g f q r : List ℕ) → Divided (suc m) g f q r
+    → words m g ≡ (λ k. Res-ring m .add (conv (Res-ring m) (words m q) (words m f) k) (words m r k))
 divided-is m g f q r h =
     fun-ext (λ k. sym (Fin·val-path (h .at k)) ∙ reduce-hom m .h-add (pos (convolve (coef q) (coef f) k)) (pos (coef r k))
     ∙ ap (λ (x : Res m). Res-ring m .add x (words m r k)) (convolve-is m (coef q) (coef f) k))
