@@ -1,0 +1,99 @@
+use Rattle.evaluator.proofs.clear_entry.Statement.{statement}
+use Rattle.evaluator.proofs.clear_entry.Tie as tie
+use Rattle.evaluator.proofs.clear_entry.Reads as reads
+use Rattle.evaluator.proofs.clear_entry.Lts as lts
+use Rattle.evaluator.proofs.exchange.Reads as exchange-reads
+use Rattle.evaluator.proofs.lessen.Reads as lessen-reads
+
+abbrev Inv-loop : tie.InvT-loop
+Inv-loop n i j r₀ r = ?
+
+abbrev μ-loop : tie.MeasureT-loop
+μ-loop n i j r₀ r = ?
+
+-- src/lib.rt:118:5
+loop-holds : tie.Need-loop-holds Inv-loop μ-loop
+loop-holds c = ?
+
+-- src/lib.rt:118:11
+mul-if1 : tie.Need-mul-if1 Inv-loop μ-loop
+mul-if1 c = ?
+
+-- src/lib.rt:118:11
+mul-if1-2 : tie.Need-mul-if1-2 Inv-loop μ-loop
+mul-if1-2 c = ?
+
+-- src/lib.rt:118:11
+index-1-if1 : tie.Need-index-1-if1 Inv-loop μ-loop
+index-1-if1 c = ?
+
+-- src/lib.rt:118:11
+index-2-if1 : tie.Need-index-2-if1 Inv-loop μ-loop
+index-2-if1 c = ?
+
+-- src/lib.rt:119:17
+lessen-requires : tie.Need-lessen-requires Inv-loop μ-loop
+lessen-requires c κs = ?
+
+-- src/lib.rt:120:12
+mul-if2 : tie.Need-mul-if2 Inv-loop μ-loop
+mul-if2 c = ?
+
+-- src/lib.rt:120:12
+mul-if2-2 : tie.Need-mul-if2-2 Inv-loop μ-loop
+mul-if2-2 c = ?
+
+-- src/lib.rt:120:12
+index-1-if2 : tie.Need-index-1-if2 Inv-loop μ-loop
+index-1-if2 c = ?
+
+-- src/lib.rt:120:12
+index-2-if2 : tie.Need-index-2-if2 Inv-loop μ-loop
+index-2-if2 c = ?
+
+-- src/lib.rt:121:13
+exchange-requires : tie.Need-exchange-requires Inv-loop μ-loop
+exchange-requires c κs = ?
+
+-- src/lib.rt:121:13
+returns : tie.Need-returns Inv-loop μ-loop
+returns c = ?
+
+-- src/lib.rt:123:13
+lessen-requires-2 : tie.Need-lessen-requires-2 Inv-loop μ-loop
+lessen-requires-2 c κs = ?
+
+-- src/lib.rt:118:5
+loop-less : tie.Need-loop-less Inv-loop μ-loop
+loop-less c = ?
+
+-- src/lib.rt:118:5
+loop-again : tie.Need-loop-again Inv-loop μ-loop
+loop-again c = ?
+
+-- src/lib.rt:112:1
+returns-2 : tie.Need-returns-2 Inv-loop μ-loop
+returns-2 c = ?
+
+pub clear-entry-spec : {M : Type 1} → statement M
+clear-entry-spec =
+    tie.close
+    (tie.spec
+    Inv-loop
+    μ-loop
+    loop-holds
+    mul-if1
+    mul-if1-2
+    index-1-if1
+    index-2-if1
+    lessen-requires
+    mul-if2
+    mul-if2-2
+    index-1-if2
+    index-2-if2
+    exchange-requires
+    returns
+    lessen-requires-2
+    loop-less
+    loop-again
+    returns-2)

@@ -1,0 +1,96 @@
+use borrow.Author.Needs.{needs}
+use Rattle.evaluator.proofs.lessen.Statement.{statement}
+use Rattle.evaluator.proofs.lessen.Tie as tie
+use Rattle.evaluator.proofs.lessen.Reads as reads
+use Rattle.evaluator.proofs.lessen.Lts as lts
+use Rattle.evaluator.proofs.row_less.Reads as row-less-reads
+
+-- src/lib.rt:93:13
+mul-q : tie.Need-mul-q
+mul-q c = search needs
+
+-- src/lib.rt:93:13
+mul-q-2 : tie.Need-mul-q-2
+mul-q-2 c = search needs
+
+-- src/lib.rt:93:13
+index-1-q : tie.Need-index-1-q
+index-1-q c = search needs
+
+-- src/lib.rt:93:13
+index-2-q : tie.Need-index-2-q
+index-2-q c = search needs
+
+-- src/lib.rt:93:23
+mul-q-3 : tie.Need-mul-q-3
+mul-q-3 c = search needs
+
+-- src/lib.rt:93:23
+mul-q-4 : tie.Need-mul-q-4
+mul-q-4 c = search needs
+
+-- src/lib.rt:93:23
+index-1-q-2 : tie.Need-index-1-q-2
+index-1-q-2 c = search needs
+
+-- src/lib.rt:93:23
+index-2-q-2 : tie.Need-index-2-q-2
+index-2-q-2 c = search needs
+
+-- src/lib.rt:93:13
+div-q : tie.Need-div-q
+div-q c = search needs
+
+-- src/lib.rt:95:24
+mul-row-less : tie.Need-mul-row-less
+mul-row-less c = search needs
+
+-- src/lib.rt:95:24
+array-copy-out-row-less : tie.Need-array-copy-out-row-less
+array-copy-out-row-less c = search needs
+
+-- src/lib.rt:95:33
+mul-row-less-2 : tie.Need-mul-row-less-2
+mul-row-less-2 c = search needs
+
+-- src/lib.rt:95:33
+array-copy-out-row-less-2 : tie.Need-array-copy-out-row-less-2
+array-copy-out-row-less-2 c = search needs
+
+-- src/lib.rt:95:12
+row-less-requires : tie.Need-row-less-requires
+row-less-requires c κs = ?
+
+-- src/lib.rt:95:5
+mul-r : tie.Need-mul-r
+mul-r c = search needs
+
+-- src/lib.rt:95:5
+array-set-from-r : tie.Need-array-set-from-r
+array-set-from-r c = search needs
+
+-- src/lib.rt:88:1
+returns : tie.Need-returns
+returns c = ?
+
+pub lessen-spec : {M : Type 1} → statement M
+lessen-spec =
+    tie.close
+    (tie.spec
+    mul-q
+    mul-q-2
+    index-1-q
+    index-2-q
+    mul-q-3
+    mul-q-4
+    index-1-q-2
+    index-2-q-2
+    div-q
+    mul-row-less
+    array-copy-out-row-less
+    mul-row-less-2
+    array-copy-out-row-less-2
+    row-less-requires
+    mul-r
+    array-set-from-r
+    returns)
