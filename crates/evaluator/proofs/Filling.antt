@@ -29,9 +29,12 @@ written-next {A} {d} {P} {s} {k} {x} v w l p = record { size = length-set x k v 
     go i h (yes e) = subst (λ (j : ℕ). P j (getD (set x k v) j d)) (sym e) (subst (P k) (sym (getD-set-same x k v d (omega (arith, w .size)))) p)
     go i h (no e) = subst (P i) (sym (getD-set-other x k i v d e)) (w .at i (omega arith))
 
--- the sent degree, as the code takes it
-pub less-one : (l : ℕ) → l - 1 ≡ pred l
+-- the sent degree, and d + e, as the code takes them
+less-one : (l : ℕ) → l - 1 ≡ pred l
 less-one l = omega arith
+
+pub degrees : (f g : List ℕ) → length f - 1 + (length g - 1) ≡ deg f + deg g
+degrees f g = ap₂ _+_ (less-one (length f)) (less-one (length g))
 
 -- the three places of a column against row i of f
 pub entry-before : (f : List ℕ) (i j : ℕ) → j < i → pos 0 ≡ entry (deg f) f i j

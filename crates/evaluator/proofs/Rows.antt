@@ -26,16 +26,19 @@ times-none n q y h = ap (λ (w : ℕ). w % n) (omega (arith, ap (λ (w : ℕ). q
 none : (n q x y : ℕ) → x ≡ 0 → y ≡ 0 → (x + q * y) % n ≡ 0
 none n q x y h g = ap (λ (w : ℕ). w % n) (omega arith) ∙ times-none n q y g
 
+pub quotient-below : (n a b : ℕ) → a < n → 1 ≤ b → a / b ≤ n
+quotient-below n a b l one = go (a / b) b (a % b) one (div-add-mod a b)
+  where
+    go : (q b s : ℕ) → 1 ≤ b → b * q + s ≡ a → q ≤ n
+    go q zero s one e = absurd (omega arith)
+    go q (suc b) s one e = omega arith
+
 -- a + (n - q) b leaves what the division of a by b leaves
 left-over : (n a b : ℕ) → a < n → 1 ≤ b → (a + (n - a / b) * b) % n ≡ a % b
 left-over n a b l one =
-    ap (λ (w : ℕ). w % n) (split (a / b) (a % b) (n - a / b) (div-add-mod a b) (omega (arith, least (a / b) b (a % b) one (div-add-mod a b))))
+    ap (λ (w : ℕ). w % n) (split (a / b) (a % b) (n - a / b) (div-add-mod a b) (omega (arith, quotient-below n a b l one)))
     ∙ add-mul-mod-self-left (a % b) n b ∙ mod-eq-of-lt (omega (arith, div-add-mod a b))
   where
-    least : (q b s : ℕ) → 1 ≤ b → b * q + s ≡ a → q ≤ a
-    least q zero s one e = absurd (omega arith)
-    least q (suc b) s one e = omega arith
-
     split : (q s t : ℕ) → b * q + s ≡ a → n ≡ q + t → a + t * b ≡ s + n * b
     split q s t e h = omega (arith, ap (λ (w : ℕ). w * b) h)
 

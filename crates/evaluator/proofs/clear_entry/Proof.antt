@@ -1,3 +1,9 @@
+use borrow.Author.Needs.{needs}
+use mathlib.Core.Path.{_≡_}
+use Prim.Native.Nat.{ℕ, _≤_}
+use native.Mathlib.Omega.{arith}
+use Rattle.evaluator.specs.Elimination.{cell, Combined}
+use Rattle.evaluator.proofs.Rows.{combined-none, half, turn, falls, swapped}
 use Rattle.evaluator.proofs.clear_entry.Statement.{statement}
 use Rattle.evaluator.proofs.clear_entry.Tie as tie
 use Rattle.evaluator.proofs.clear_entry.Reads as reads
@@ -6,74 +12,74 @@ use Rattle.evaluator.proofs.exchange.Reads as exchange-reads
 use Rattle.evaluator.proofs.lessen.Reads as lessen-reads
 
 abbrev Inv-loop : tie.InvT-loop
-Inv-loop n i j r₀ r = ?
+Inv-loop n i j r₀ r = Combined n i j r₀ r
 
 abbrev μ-loop : tie.MeasureT-loop
-μ-loop n i j r₀ r = ?
+μ-loop n i j r₀ r = cell r i j
 
 -- src/lib.rt:118:5
 loop-holds : tie.Need-loop-holds Inv-loop μ-loop
-loop-holds c = ?
+loop-holds c = combined-none (c .pre .1)
 
 -- src/lib.rt:118:11
 mul-if1 : tie.Need-mul-if1 Inv-loop μ-loop
-mul-if1 c = ?
+mul-if1 c = search needs
 
 -- src/lib.rt:118:11
 mul-if1-2 : tie.Need-mul-if1-2 Inv-loop μ-loop
-mul-if1-2 c = ?
+mul-if1-2 c = search needs
 
 -- src/lib.rt:118:11
 index-1-if1 : tie.Need-index-1-if1 Inv-loop μ-loop
-index-1-if1 c = ?
+index-1-if1 c = search needs
 
 -- src/lib.rt:118:11
 index-2-if1 : tie.Need-index-2-if1 Inv-loop μ-loop
-index-2-if1 c = ?
+index-2-if1 c = search needs
 
 -- src/lib.rt:119:17
 lessen-requires : tie.Need-lessen-requires Inv-loop μ-loop
-lessen-requires c κs = ?
+lessen-requires c κs = ((c .before .before .before .pre .0 .0, (omega arith, (omega arith, (omega arith, omega arith)))), (c .before .before .loop .inv .residues, omega arith))
 
 -- src/lib.rt:120:12
 mul-if2 : tie.Need-mul-if2 Inv-loop μ-loop
-mul-if2 c = ?
+mul-if2 c = search needs
 
 -- src/lib.rt:120:12
 mul-if2-2 : tie.Need-mul-if2-2 Inv-loop μ-loop
-mul-if2-2 c = ?
+mul-if2-2 c = search needs
 
 -- src/lib.rt:120:12
 index-1-if2 : tie.Need-index-1-if2 Inv-loop μ-loop
-index-1-if2 c = ?
+index-1-if2 c = search needs
 
 -- src/lib.rt:120:12
 index-2-if2 : tie.Need-index-2-if2 Inv-loop μ-loop
-index-2-if2 c = ?
+index-2-if2 c = search needs
 
 -- src/lib.rt:121:13
 exchange-requires : tie.Need-exchange-requires Inv-loop μ-loop
-exchange-requires c κs = ?
+exchange-requires c κs = ((c .before .before .before .before .before .before .pre .0 .0, (omega arith, (omega arith, omega arith))), c .before .before .lessen .ensures .combined .residues)
 
 -- src/lib.rt:121:13
 returns : tie.Need-returns Inv-loop μ-loop
-returns c = ?
+returns c = swapped (c .before .before .before .before .before .before .loop .inv) (c .before .before .before .lessen .ensures) (omega arith) (c .before .if2 .taken) (c .exchange .ensures)
 
 -- src/lib.rt:123:13
 lessen-requires-2 : tie.Need-lessen-requires-2 Inv-loop μ-loop
-lessen-requires-2 c κs = ?
+lessen-requires-2 c κs = ((c .before .before .before .before .before .before .pre .0 .0, (omega arith, (omega arith, (omega arith, omega arith)))), (c .before .before .lessen .ensures .combined .residues, omega arith))
 
 -- src/lib.rt:118:5
 loop-less : tie.Need-loop-less Inv-loop μ-loop
-loop-less c = ?
+loop-less c = falls (c .before .before .before .before .before .before .loop .inv) (c .before .before .before .lessen .ensures) (c .lessen2 .ensures) (omega arith) (omega arith)
 
 -- src/lib.rt:118:5
 loop-again : tie.Need-loop-again Inv-loop μ-loop
-loop-again c = ?
+loop-again c = turn (c .before .before .before .before .before .before .loop .inv) (c .before .before .before .lessen .ensures) (c .lessen2 .ensures)
 
 -- src/lib.rt:112:1
 returns-2 : tie.Need-returns-2 Inv-loop μ-loop
-returns-2 c = ?
+returns-2 c = record { combined = c .before .before .loop .inv; zero = c .if1 .left }
 
 pub clear-entry-spec : {M : Type 1} → statement M
 clear-entry-spec =

@@ -1,4 +1,7 @@
 use borrow.Author.Needs.{needs}
+use mathlib.Core.Path.{_≡_}
+use lib.ListN.{length, getD-replicate}
+use Rattle.evaluator.proofs.Rows.{exchanged}
 use Rattle.evaluator.proofs.exchange.Statement.{statement}
 use Rattle.evaluator.proofs.exchange.Tie as tie
 use Rattle.evaluator.proofs.exchange.Reads as reads
@@ -43,7 +46,10 @@ array-set-from-r-2 c = search needs
 
 -- src/lib.rt:100:1
 returns : tie.Need-returns
-returns c = ?
+returns c = let s = c .before .before .before in
+    let p = s .pre .0 in
+    let l : length (s .args .t1) ≡ 8 = search needs in
+    exchanged _ _ _ _ _ _ (p .0) (p .1 .0) (p .1 .1 .0) (p .1 .1 .1) l (s .pre .1) (λ i h. getD-replicate 8 i 0 0 h) (c .before .row-less .ensures)
 
 pub exchange-spec : {M : Type 1} → statement M
 exchange-spec =

@@ -1,4 +1,7 @@
 use borrow.Author.Needs.{needs}
+use mathlib.Core.Path.{_≡_}
+use lib.ListN.{length}
+use Rattle.evaluator.proofs.Rows.{quotient-below, lessened}
 use Rattle.evaluator.proofs.lessen.Statement.{statement}
 use Rattle.evaluator.proofs.lessen.Tie as tie
 use Rattle.evaluator.proofs.lessen.Reads as reads
@@ -59,7 +62,8 @@ array-copy-out-row-less-2 c = search needs
 
 -- src/lib.rt:95:12
 row-less-requires : tie.Need-row-less-requires
-row-less-requires c κs = ?
+row-less-requires c κs = let s = c .before .before .before .before in
+    (s .pre .0 .0, quotient-below _ _ _ (s .pre .1 .0 .at _ _ (s .pre .0 .1 .0) (s .pre .0 .1 .1 .1 .0)) (s .pre .1 .1))
 
 -- src/lib.rt:95:5
 mul-r : tie.Need-mul-r
@@ -71,7 +75,10 @@ array-set-from-r c = search needs
 
 -- src/lib.rt:88:1
 returns : tie.Need-returns
-returns c = ?
+returns c = let s = c .before .before .before .before .before in
+    let p = s .pre .0 in
+    let l : length (s .args .t1) ≡ 8 = search needs in
+    lessened _ _ _ _ _ _ (p .0) (p .1 .0) (p .1 .1 .0) (p .1 .1 .1 .0) (p .1 .1 .1 .1) l (s .pre .1 .0) (s .pre .1 .1) (c .row-less .ensures)
 
 pub lessen-spec : {M : Type 1} → statement M
 lessen-spec =

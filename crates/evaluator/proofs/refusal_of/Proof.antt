@@ -1,4 +1,7 @@
 use borrow.Author.Needs.{needs}
+use borrow.Author.Tests.{lt-ltb, le-ltb, not-true, not-false}
+use mathlib.Core.Path.{_≡_, refl, sym, _∙_}
+use Rattle.evaluator.proofs.Statuses.{some-word, too-large-is, not-too-large}
 use Rattle.evaluator.proofs.refusal_of.Statement.{statement}
 use Rattle.evaluator.proofs.refusal_of.Tie as tie
 use Rattle.evaluator.proofs.refusal_of.Reads as reads
@@ -8,7 +11,7 @@ use Rattle.refusals.proofs.bad_length.Reads as bad-length-reads
 
 -- src/lib.rt:180:9
 returns : tie.Need-returns
-returns c = ?
+returns c = simp (lt-ltb _ _ (c .if1 .taken)) refl
 
 -- src/lib.rt:182:8
 bad-length-requires : tie.Need-bad-length-requires
@@ -16,7 +19,7 @@ bad-length-requires c κs = search needs
 
 -- src/lib.rt:183:9
 returns-2 : tie.Need-returns-2
-returns-2 c = ?
+returns-2 c = simp (le-ltb _ _ (c .before .before .if1 .left), sym (c .before .bad-length .ensures) ∙ c .if2 .taken) refl
 
 -- src/lib.rt:185:8
 bad-length-requires-2 : tie.Need-bad-length-requires-2
@@ -24,15 +27,15 @@ bad-length-requires-2 c κs = search needs
 
 -- src/lib.rt:186:9
 returns-3 : tie.Need-returns-3
-returns-3 c = ?
+returns-3 c = simp (le-ltb _ _ (c .before .before .before .before .if1 .left), sym (c .before .before .before .bad-length .ensures) ∙ c .before .before .if2 .left, sym (c .before .bad-length2 .ensures) ∙ c .if3 .taken) refl
 
 -- src/lib.rt:188:12
 sub-if4 : tie.Need-sub-if4
-sub-if4 c = ?
+sub-if4 c = some-word (c .before .before .before .before .before .before .before .args .f .now) (sym (c .before .before .before .bad-length .ensures) ∙ c .before .before .if2 .left)
 
 -- src/lib.rt:188:27
 sub-if4-2 : tie.Need-sub-if4-2
-sub-if4-2 c = ?
+sub-if4-2 c = some-word (c .before .before .before .before .before .before .before .args .g .now) (sym (c .before .bad-length2 .ensures) ∙ c .if3 .left)
 
 -- src/lib.rt:188:12
 add-if4 : tie.Need-add-if4
@@ -40,7 +43,7 @@ add-if4 c = search needs
 
 -- src/lib.rt:189:9
 returns-4 : tie.Need-returns-4
-returns-4 c = ?
+returns-4 c = simp (le-ltb _ _ (c .before .before .before .before .before .if1 .left), sym (c .before .before .before .before .bad-length .ensures) ∙ c .before .before .before .if2 .left, sym (c .before .before .bad-length2 .ensures) ∙ c .before .if3 .left, too-large-is (c .before .before .before .before .before .before .before .before .args .f .now) (c .before .before .before .before .before .before .before .before .args .g .now) (c .if4 .taken)) refl
 
 -- src/lib.rt:191:9
 all-below-requires : tie.Need-all-below-requires
@@ -48,7 +51,7 @@ all-below-requires c κs = search needs
 
 -- src/lib.rt:192:9
 returns-5 : tie.Need-returns-5
-returns-5 c = ?
+returns-5 c = simp (le-ltb _ _ (c .before .before .before .before .before .before .before .if1 .left), sym (c .before .before .before .before .before .before .bad-length .ensures) ∙ c .before .before .before .before .before .if2 .left, sym (c .before .before .before .before .bad-length2 .ensures) ∙ c .before .before .before .if3 .left, not-too-large (c .before .before .before .before .before .before .before .before .before .before .args .f .now) (c .before .before .before .before .before .before .before .before .before .before .args .g .now) (c .before .before .if4 .left), sym (c .before .all-below .ensures) ∙ not-true _ (c .if5 .taken)) refl
 
 -- src/lib.rt:194:8
 all-below-requires-2 : tie.Need-all-below-requires-2
@@ -56,11 +59,11 @@ all-below-requires-2 c κs = search needs
 
 -- src/lib.rt:195:9
 returns-6 : tie.Need-returns-6
-returns-6 c = ?
+returns-6 c = simp (le-ltb _ _ (c .before .before .before .before .before .before .before .before .before .if1 .left), sym (c .before .before .before .before .before .before .before .before .bad-length .ensures) ∙ c .before .before .before .before .before .before .before .if2 .left, sym (c .before .before .before .before .before .before .bad-length2 .ensures) ∙ c .before .before .before .before .before .if3 .left, not-too-large (c .before .before .before .before .before .before .before .before .before .before .before .before .args .f .now) (c .before .before .before .before .before .before .before .before .before .before .before .before .args .g .now) (c .before .before .before .before .if4 .left), sym (c .before .before .before .all-below .ensures) ∙ not-false _ (c .before .before .if5 .left), sym (c .before .all-below2 .ensures) ∙ c .if6 .taken) refl
 
 -- src/lib.rt:176:1
 returns-7 : tie.Need-returns-7
-returns-7 c = ?
+returns-7 c = simp (le-ltb _ _ (c .before .before .before .before .before .before .before .before .before .if1 .left), sym (c .before .before .before .before .before .before .before .before .bad-length .ensures) ∙ c .before .before .before .before .before .before .before .if2 .left, sym (c .before .before .before .before .before .before .bad-length2 .ensures) ∙ c .before .before .before .before .before .if3 .left, not-too-large (c .before .before .before .before .before .before .before .before .before .before .before .before .args .f .now) (c .before .before .before .before .before .before .before .before .before .before .before .before .args .g .now) (c .before .before .before .before .if4 .left), sym (c .before .before .before .all-below .ensures) ∙ not-false _ (c .before .before .if5 .left), sym (c .before .all-below2 .ensures) ∙ c .if6 .left) refl
 
 pub refusal-of-spec : {M : Type 1} → statement M
 refusal-of-spec =
