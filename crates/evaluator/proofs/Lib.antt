@@ -1,4 +1,2 @@
 pub mod Filling
-pub mod Rows
-pub mod Columns
 pub mod Statuses

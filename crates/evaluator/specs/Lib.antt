@@ -1,2 +1,2 @@
 pub mod Status
-pub mod Elimination
+pub mod Sylvester

@@ -1,24 +1,34 @@
-// The plain evaluator: a second way to the resultant, by elimination on Sylvester's matrix, for d + e up to 8.
-// The matrix is eight rows of eight words, handed from step to step by value. n need not be prime, and nothing is divided by:
-// Euclid's algorithm on two words of a column clears one of them, by rows less multiples of rows and by an exchange with its sign.
+// The plain evaluator: a second way to the resultant, by elimination on Sylvester's matrix, for d + e up to 8. It serves to check the
+// resultant run, and shares no code with it but the arithmetic of residues.
+//
+//   sent_degree                     the words of a polynomial less 1
+//   shifted, sylvester_word, sylvester_row, sylvester_matrix
+//   refusal_of                      the status
+//   evaluate                        the service
 ghost use mathlib.Core.Path.{_≡_};
-ghost use mathlib.Core.Logic.{_≢_};
-ghost use Prim.Native.Nat.{ℕ, _+_, _-_, _*_, _%_, _<_, _≤_};
+ghost use Prim.Native.Nat.{ℕ, _-_, _<_, _≤_};
 ghost use lib.IntN.{pos};
-ghost use lib.ListN.{length, getD};
+ghost use lib.ListN.{length};
 ghost use Rattle.definitions.specs.Polynomials.{deg};
 ghost use Rattle.definitions.specs.Resultants.{entry, sylvester, resultant};
-ghost use Rattle.matrices.specs.LeadingMinors.{leading-minor};
 ghost use Rattle.refusals.specs.Refusals.{answered};
 ghost use Rattle.evaluator.specs.Status.{refusal};
-ghost use Rattle.evaluator.specs.Elimination.{cell, ResidueCells, Filled, FilledRow, RowLess, Combined, Lessened, Exchanged, Cleared, Triangular, Kept};
+ghost use Rattle.evaluator.specs.Sylvester.{Filled, FilledRow};
+
+// Zero top words count: "the top word may be zero".
+fn sent_degree(f: &[u32]) -> usize
+    requires { ⌜ 1 ≤ length (now f) ⌝ }
+    ensures { λ d. ⌜ d ≡ length (now (f .entry)) - 1 ⌝ }
+{
+    f.len() - 1
+}
 
 // "highest coefficient first, each row one column further right": row i of f, at column j.
 fn shifted(f: &[u32], i: usize, j: usize) -> u32
     requires { ⌜ (1 ≤ length (now f)) × ((length (now f) ≤ 9) × ((i < 8) × (j < 8))) ⌝ }
     ensures { λ x. ⌜ pos x ≡ entry (deg (now (f .entry))) (now (f .entry)) i j ⌝ }
 {
-    let d = f.len() - 1;
+    let d = sent_degree(f);
     if j < i {
         return 0;
     }
@@ -34,7 +44,7 @@ fn sylvester_word(f: &[u32], g: &[u32], r: usize, c: usize) -> u32
     requires { ⌜ (1 ≤ length (now g)) × ((length (now g) ≤ 9) × ((r < 8) × (c < 8))) ⌝ }
     ensures { λ x. ⌜ pos x ≡ sylvester (now (f .entry)) (now (g .entry)) r c ⌝ }
 {
-    let e = g.len() - 1;
+    let e = sent_degree(g);
     if r < e {
         return shifted(f, r, c);
     }
@@ -55,7 +65,7 @@ fn sylvester_row(f: &[u32], g: &[u32], r: usize) -> [u32; 8]
     x
 }
 
-// Sylvester's matrix in the sent degrees. Only the first d + e rows and columns count.
+// Sylvester's matrix in the sent degrees. Its d + e rows and columns stand in the corner, and what lies beyond them does not count.
 fn sylvester_matrix(f: &[u32], g: &[u32]) -> [[u32; 8]; 8]
     requires { ⌜ (1 ≤ length (now f)) × (length (now f) ≤ 9) ⌝ }
     requires { ⌜ (1 ≤ length (now g)) × (length (now g) ≤ 9) ⌝ }
@@ -68,108 +78,6 @@ fn sylvester_matrix(f: &[u32], g: &[u32]) -> [[u32; 8]; 8]
         r += 1;
     }
     m
-}
-
-// x less q times y.
-fn row_less(n: u32, x: [u32; 8], q: u32, y: [u32; 8]) -> [u32; 8]
-    requires { ⌜ (1 ≤ n) × (q ≤ n) ⌝ }
-    ensures { λ z. ⌜ RowLess n q x y z ⌝ }
-{
-    let mut z = x;
-    let mut c: usize = 0;
-    while c < 8 {
-        z[c] = arithmetic::mul_add_mod(n, x[c], n - q, y[c]);
-        c += 1;
-    }
-    z
-}
-
-// Row i loses so many times row h that the remainder of their words is left at column j.
-fn lessen(m: [[u32; 8]; 8], n: u32, i: usize, h: usize, j: usize) -> [[u32; 8]; 8]
-    requires { ⌜ (1 ≤ n) × ((i < 8) × ((h < 8) × ((j < 8) × (i ≢ h)))) ⌝ }
-    requires { ⌜ ResidueCells n m × (1 ≤ cell m h j) ⌝ }
-    ensures { λ r. ⌜ Lessened n i h j m r ⌝ }
-{
-    let q = m[i][j] / m[h][j];
-    let mut r = m;
-    r[i] = row_less(n, m[i], q, m[h]);
-    r
-}
-
-// Rows i and j change places, and what comes to i changes its sign, so the determinant does not.
-fn exchange(m: [[u32; 8]; 8], n: u32, i: usize, j: usize) -> [[u32; 8]; 8]
-    requires { ⌜ (1 ≤ n) × ((i < 8) × ((j < 8) × (i ≢ j))) ⌝ }
-    requires { ⌜ ResidueCells n m ⌝ }
-    ensures { λ r. ⌜ Exchanged n i j m r ⌝ }
-{
-    let mut r = m;
-    r[i] = row_less(n, [0; 8], 1, m[j]);
-    r[j] = m[i];
-    r
-}
-
-// Euclid's algorithm on the words of rows i and j at column j, until row i has 0 there.
-fn clear_entry(m: [[u32; 8]; 8], n: u32, i: usize, j: usize) -> [[u32; 8]; 8]
-    requires { ⌜ (1 ≤ n) × ((j < i) × (i < 8)) ⌝ }
-    requires { ⌜ ResidueCells n m ⌝ }
-    ensures { λ r. ⌜ Cleared n i j m r ⌝ }
-{
-    let mut r = m;
-    while r[i][j] != 0 {
-        let s = lessen(r, n, j, i, j);
-        if s[j][j] == 0 {
-            return exchange(s, n, i, j);
-        }
-        let t = lessen(s, n, i, j, j);
-        r = t;
-    }
-    r
-}
-
-// Column j below the diagonal.
-fn clear_column(m: [[u32; 8]; 8], n: u32, size: usize, j: usize) -> [[u32; 8]; 8]
-    requires { ⌜ (1 ≤ n) × ((j < size) × (size ≤ 8)) ⌝ }
-    requires { ⌜ ResidueCells n m × Triangular size j m ⌝ }
-    ensures { λ r. ⌜ Kept n size m r × Triangular size (j + 1) r ⌝ }
-{
-    let mut r = m;
-    let mut i = j + 1;
-    while i < size {
-        let s = clear_entry(r, n, i, j);
-        r = s;
-        i += 1;
-    }
-    r
-}
-
-fn triangulate(m: [[u32; 8]; 8], n: u32, size: usize) -> [[u32; 8]; 8]
-    requires { ⌜ (1 ≤ n) × (size ≤ 8) ⌝ }
-    requires { ⌜ ResidueCells n m ⌝ }
-    ensures { λ r. ⌜ Kept n size m r × Triangular size size r ⌝ }
-{
-    let mut r = m;
-    let mut j: usize = 0;
-    while j < size {
-        let s = clear_column(r, n, size, j);
-        r = s;
-        j += 1;
-    }
-    r
-}
-
-// The product of the diagonal.
-fn diagonal(m: [[u32; 8]; 8], n: u32, size: usize) -> u32
-    requires { ⌜ (1 ≤ n) × (size ≤ 8) ⌝ }
-    requires { ⌜ Triangular size size m ⌝ }
-    ensures { λ x. ⌜ x ≡ leading-minor n size (cell m) ⌝ }
-{
-    let mut x = arithmetic::reduce(n, 1);
-    let mut k: usize = 0;
-    while k < size {
-        x = arithmetic::mul_mod(n, x, m[k][k]);
-        k += 1;
-    }
-    x
 }
 
 // The first of the refusals 1, 2 and 3 that applies, or 0.
@@ -197,7 +105,7 @@ fn refusal_of(n: u32, f: &[u32], g: &[u32]) -> u32
     3
 }
 
-// The determinant of Sylvester's matrix of f and g modulo n, for d + e up to 8.
+// The determinant of Sylvester's matrix of f and g modulo n. "With d = e = 0 the determinant is 1."
 pub fn evaluate(n: u32, f: &[u32], g: &[u32]) -> refusals::Answer
     ensures { λ r. ⌜ r .status ≡ refusal n (now (f .entry)) (now (g .entry)) ⌝ }
     ensures { λ r. ⌜ r .value ≡ answered (refusal n (now (f .entry)) (now (g .entry))) (resultant n (now (f .entry)) (now (g .entry))) ⌝ }
@@ -207,6 +115,6 @@ pub fn evaluate(n: u32, f: &[u32], g: &[u32]) -> refusals::Answer
         return refusals::Answer { value: 0, status };
     }
     let size = f.len() - 1 + (g.len() - 1);
-    let m = triangulate(sylvester_matrix(f, g), n, size);
-    refusals::Answer { value: diagonal(m, n, size), status: 0 }
+    let m = sylvester_matrix(f, g);
+    refusals::Answer { value: matrices::determinant(m, n, size), status: 0 }
 }

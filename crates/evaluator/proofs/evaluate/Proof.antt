@@ -1,63 +1,56 @@
 use borrow.Author.Needs.{needs}
 use mathlib.Core.Path.{sym, ap, _∙_}
-use native.Mathlib.Omega.{arith}
-use Rattle.evaluator.proofs.Columns.{evaluated}
-use Rattle.evaluator.proofs.Filling.{filled-residues}
-use Rattle.evaluator.proofs.Statuses.{served, refused}
 use Prim.Native.Nat.{ℕ}
+use native.Mathlib.Omega.{arith}
 use Rattle.definitions.specs.Resultants.{resultant}
 use Rattle.refusals.specs.Refusals.{answered}
+use Rattle.evaluator.proofs.Filling.{filled-residues, evaluated}
+use Rattle.evaluator.proofs.Statuses.{served, refused}
 use Rattle.evaluator.proofs.evaluate.Statement.{statement}
 use Rattle.evaluator.proofs.evaluate.Tie as tie
 use Rattle.evaluator.proofs.evaluate.Reads as reads
 use Rattle.evaluator.proofs.evaluate.Lts as lts
-use Rattle.evaluator.proofs.diagonal.Reads as diagonal-reads
 use Rattle.evaluator.proofs.refusal_of.Reads as refusal-of-reads
 use Rattle.evaluator.proofs.sylvester_matrix.Reads as sylvester-matrix-reads
-use Rattle.evaluator.proofs.triangulate.Reads as triangulate-reads
+use Rattle.matrices.proofs.determinant.Reads as determinant-reads
 
--- src/lib.rt:205:9
+-- src/lib.rt:113:9
 refusal-of-requires : tie.Need-refusal-of-requires
 refusal-of-requires c κs = search needs
 
--- src/lib.rt:207:9
+-- src/lib.rt:115:9
 returns : tie.Need-returns
 returns c = (c .before .refusal-of .ensures, refused _ _ (λ e. c .if1 .taken (c .before .refusal-of .ensures ∙ e)))
 
--- src/lib.rt:209:16
+-- src/lib.rt:117:16
 sub-size : tie.Need-sub-size
 sub-size c = (served (c .before .before .before .before .args .n) (c .before .before .before .before .args .f .now) (c .before .before .before .before .args .g .now) (sym (c .before .refusal-of .ensures) ∙ c .if1 .left)) .first .some
 
--- src/lib.rt:209:31
+-- src/lib.rt:117:31
 sub-size-2 : tie.Need-sub-size-2
 sub-size-2 c = (served (c .before .before .before .before .args .n) (c .before .before .before .before .args .f .now) (c .before .before .before .before .args .g .now) (sym (c .before .refusal-of .ensures) ∙ c .if1 .left)) .second .some
 
--- src/lib.rt:209:16
+-- src/lib.rt:117:16
 add-size : tie.Need-add-size
 add-size c = search needs
 
--- src/lib.rt:210:25
+-- src/lib.rt:118:9
 sylvester-matrix-requires : tie.Need-sylvester-matrix-requires
 sylvester-matrix-requires c κs = let s = served (c .before .before .before .before .args .n) (c .before .before .before .before .args .f .now) (c .before .before .before .before .args .g .now) (sym (c .before .refusal-of .ensures) ∙ c .if1 .left) in
     ((s .first .some, omega (arith, s .small)), (s .second .some, omega (arith, s .small)))
 
--- src/lib.rt:210:9
-triangulate-requires : tie.Need-triangulate-requires
-triangulate-requires c κs = let s = served (c .before .before .before .before .before .args .n) (c .before .before .before .before .before .args .f .now) (c .before .before .before .before .before .args .g .now) (sym (c .before .before .refusal-of .ensures) ∙ c .before .if1 .left) in
-    ((omega (arith, s .first .modulus), s .small), filled-residues _ _ _ _ (omega (arith, s .first .modulus)) (s .first .residues) (s .second .residues) (c .sylvester-matrix .ensures))
+-- src/lib.rt:119:31
+determinant-requires : tie.Need-determinant-requires
+determinant-requires c κs = let s = served (c .before .before .before .before .before .args .n) (c .before .before .before .before .before .args .f .now) (c .before .before .before .before .before .args .g .now) (sym (c .before .before .refusal-of .ensures) ∙ c .before .if1 .left) in
+    ((s .first .modulus, s .small), filled-residues _ _ _ _ (omega (arith, s .first .modulus)) (s .first .residues) (s .second .residues) (c .sylvester-matrix .ensures))
 
--- src/lib.rt:211:31
-diagonal-requires : tie.Need-diagonal-requires
-diagonal-requires c κs = let s = served (c .before .before .before .before .before .before .args .n) (c .before .before .before .before .before .before .args .f .now) (c .before .before .before .before .before .before .args .g .now) (sym (c .before .before .before .refusal-of .ensures) ∙ c .before .before .if1 .left) in
-    ((omega (arith, s .first .modulus), s .small), c .triangulate .ensures .1)
-
--- src/lib.rt:201:1
+-- src/lib.rt:109:1
 returns-2 : tie.Need-returns-2
-returns-2 c = let z = sym (c .before .before .before .before .refusal-of .ensures) ∙ c .before .before .before .if1 .left in
-    let a = c .before .before .before .before .before .before .before .args in
+returns-2 c = let z = sym (c .before .before .before .refusal-of .ensures) ∙ c .before .before .if1 .left in
+    let a = c .before .before .before .before .before .before .args in
     let s = served (a .n) (a .f .now) (a .g .now) z in
     (sym z,
-    c .diagonal .ensures ∙ evaluated (a .n) (a .f .now) (a .g .now) _ _ (s .small) (c .before .before .sylvester-matrix .ensures) (c .before .triangulate .ensures .0)
+    c .determinant .ensures ∙ evaluated (a .n) (a .f .now) (a .g .now) _ (s .small) (c .before .sylvester-matrix .ensures)
     ∙ ap (λ (k : ℕ). answered k (resultant (a .n) (a .f .now) (a .g .now))) (sym z))
 
 pub evaluate-spec : {M : Type 1} → statement M
@@ -70,6 +63,5 @@ evaluate-spec =
     sub-size-2
     add-size
     sylvester-matrix-requires
-    triangulate-requires
-    diagonal-requires
+    determinant-requires
     returns-2)

@@ -3,11 +3,11 @@ use mathlib.Core.Path.{_≡_}
 use Prim.Native.Nat.{ℕ, _+_, _*_, _-_, _%_, _≤_}
 use native.Mathlib.Omega.{arith}
 use lib.ListN.{getD}
-use Rattle.evaluator.proofs.Filling.{Written, written-none, written-next}
-use Rattle.evaluator.proofs.row_less.Statement.{statement}
-use Rattle.evaluator.proofs.row_less.Tie as tie
-use Rattle.evaluator.proofs.row_less.Reads as reads
-use Rattle.evaluator.proofs.row_less.Lts as lts
+use Rattle.matrices.proofs.Arrays.{Written, written-none, written-next}
+use Rattle.matrices.proofs.subtract_multiple.Statement.{statement}
+use Rattle.matrices.proofs.subtract_multiple.Tie as tie
+use Rattle.matrices.proofs.subtract_multiple.Reads as reads
+use Rattle.matrices.proofs.subtract_multiple.Lts as lts
 use Rattle.arithmetic.proofs.mul_add_mod.Reads as mul-add-mod-reads
 
 abbrev Inv-loop : tie.InvT-loop
@@ -68,8 +68,8 @@ loop-again c = (omega arith, written-next _ (c .before .before .loop .inv .1) (o
 returns : tie.Need-returns Inv-loop μ-loop
 returns c = record { at = λ i l. c .before .loop .inv .1 .at i (omega arith) }
 
-pub row-less-spec : {M : Type 1} → statement M
-row-less-spec =
+pub subtract-multiple-spec : {M : Type 1} → statement M
+subtract-multiple-spec =
     tie.close
     (tie.spec
     Inv-loop

@@ -1,12 +1,12 @@
 use borrow.Author.Needs.{needs}
 use mathlib.Core.Path.{_≡_}
 use lib.ListN.{length}
-use Rattle.evaluator.proofs.Rows.{quotient-below, lessened}
-use Rattle.evaluator.proofs.lessen.Statement.{statement}
-use Rattle.evaluator.proofs.lessen.Tie as tie
-use Rattle.evaluator.proofs.lessen.Reads as reads
-use Rattle.evaluator.proofs.lessen.Lts as lts
-use Rattle.evaluator.proofs.row_less.Reads as row-less-reads
+use Rattle.matrices.proofs.Rows.{quotient-below, row-reduced}
+use Rattle.matrices.proofs.reduce_row.Statement.{statement}
+use Rattle.matrices.proofs.reduce_row.Tie as tie
+use Rattle.matrices.proofs.reduce_row.Reads as reads
+use Rattle.matrices.proofs.reduce_row.Lts as lts
+use Rattle.matrices.proofs.subtract_multiple.Reads as subtract-multiple-reads
 
 -- src/lib.rt:93:13
 mul-q : tie.Need-mul-q
@@ -45,24 +45,24 @@ div-q : tie.Need-div-q
 div-q c = search needs
 
 -- src/lib.rt:95:24
-mul-row-less : tie.Need-mul-row-less
-mul-row-less c = search needs
+mul-subtract-multiple : tie.Need-mul-subtract-multiple
+mul-subtract-multiple c = search needs
 
 -- src/lib.rt:95:24
-array-copy-out-row-less : tie.Need-array-copy-out-row-less
-array-copy-out-row-less c = search needs
+array-copy-out-subtract-multiple : tie.Need-array-copy-out-subtract-multiple
+array-copy-out-subtract-multiple c = search needs
 
 -- src/lib.rt:95:33
-mul-row-less-2 : tie.Need-mul-row-less-2
-mul-row-less-2 c = search needs
+mul-subtract-multiple-2 : tie.Need-mul-subtract-multiple-2
+mul-subtract-multiple-2 c = search needs
 
 -- src/lib.rt:95:33
-array-copy-out-row-less-2 : tie.Need-array-copy-out-row-less-2
-array-copy-out-row-less-2 c = search needs
+array-copy-out-subtract-multiple-2 : tie.Need-array-copy-out-subtract-multiple-2
+array-copy-out-subtract-multiple-2 c = search needs
 
 -- src/lib.rt:95:12
-row-less-requires : tie.Need-row-less-requires
-row-less-requires c κs = let s = c .before .before .before .before in
+subtract-multiple-requires : tie.Need-subtract-multiple-requires
+subtract-multiple-requires c κs = let s = c .before .before .before .before in
     (s .pre .0 .0, quotient-below _ _ _ (s .pre .1 .0 .at _ _ (s .pre .0 .1 .0) (s .pre .0 .1 .1 .1 .0)) (s .pre .1 .1))
 
 -- src/lib.rt:95:5
@@ -78,10 +78,10 @@ returns : tie.Need-returns
 returns c = let s = c .before .before .before .before .before in
     let p = s .pre .0 in
     let l : length (s .args .t1) ≡ 8 = search needs in
-    lessened _ _ _ _ _ _ (p .0) (p .1 .0) (p .1 .1 .0) (p .1 .1 .1 .0) (p .1 .1 .1 .1) l (s .pre .1 .0) (s .pre .1 .1) (c .row-less .ensures)
+    row-reduced _ _ _ _ _ _ (p .0) (p .1 .0) (p .1 .1 .0) (p .1 .1 .1 .0) (p .1 .1 .1 .1) l (s .pre .1 .0) (s .pre .1 .1) (c .subtract-multiple .ensures)
 
-pub lessen-spec : {M : Type 1} → statement M
-lessen-spec =
+pub reduce-row-spec : {M : Type 1} → statement M
+reduce-row-spec =
     tie.close
     (tie.spec
     mul-q
@@ -93,11 +93,11 @@ lessen-spec =
     index-1-q-2
     index-2-q-2
     div-q
-    mul-row-less
-    array-copy-out-row-less
-    mul-row-less-2
-    array-copy-out-row-less-2
-    row-less-requires
+    mul-subtract-multiple
+    array-copy-out-subtract-multiple
+    mul-subtract-multiple-2
+    array-copy-out-subtract-multiple-2
+    subtract-multiple-requires
     mul-r
     array-set-from-r
     returns)

@@ -1,12 +1,12 @@
 use borrow.Author.Needs.{needs}
 use Prim.Native.Nat.{ℕ, _-_, _<_, _≤_}
 use native.Mathlib.Omega.{arith}
-use Rattle.evaluator.proofs.Columns.{Clearing, clearing-start, clearing-next, clearing-end}
-use Rattle.evaluator.proofs.clear_column.Statement.{statement}
-use Rattle.evaluator.proofs.clear_column.Tie as tie
-use Rattle.evaluator.proofs.clear_column.Reads as reads
-use Rattle.evaluator.proofs.clear_column.Lts as lts
-use Rattle.evaluator.proofs.clear_entry.Reads as clear-entry-reads
+use Rattle.matrices.proofs.Columns.{Clearing, clearing-start, clearing-next, clearing-end}
+use Rattle.matrices.proofs.clear_column.Statement.{statement}
+use Rattle.matrices.proofs.clear_column.Tie as tie
+use Rattle.matrices.proofs.clear_column.Reads as reads
+use Rattle.matrices.proofs.clear_column.Lts as lts
+use Rattle.matrices.proofs.clear_entry.Reads as clear-entry-reads
 
 abbrev Inv-loop : tie.InvT-loop
 Inv-loop n size j r₀ i₀ r i = (j < i) × ((i ≤ size) × Clearing n size j i r₀ r)

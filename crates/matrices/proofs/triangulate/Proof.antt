@@ -2,13 +2,13 @@ use borrow.Author.Needs.{needs}
 use mathlib.Core.Path.{_≡_}
 use Prim.Native.Nat.{ℕ, _-_, _≤_}
 use native.Mathlib.Omega.{arith}
-use Rattle.evaluator.specs.Elimination.{Triangular, Kept}
-use Rattle.evaluator.proofs.Columns.{triangulating-start, kept-both}
-use Rattle.evaluator.proofs.triangulate.Statement.{statement}
-use Rattle.evaluator.proofs.triangulate.Tie as tie
-use Rattle.evaluator.proofs.triangulate.Reads as reads
-use Rattle.evaluator.proofs.triangulate.Lts as lts
-use Rattle.evaluator.proofs.clear_column.Reads as clear-column-reads
+use Rattle.matrices.specs.Elimination.{Triangular, Kept}
+use Rattle.matrices.proofs.Columns.{triangulating-start, kept-both}
+use Rattle.matrices.proofs.triangulate.Statement.{statement}
+use Rattle.matrices.proofs.triangulate.Tie as tie
+use Rattle.matrices.proofs.triangulate.Reads as reads
+use Rattle.matrices.proofs.triangulate.Lts as lts
+use Rattle.matrices.proofs.clear_column.Reads as clear-column-reads
 
 abbrev Inv-loop : tie.InvT-loop
 Inv-loop n size r₀ j₀ r j = (j ≤ size) × (Kept n size r₀ r × Triangular size j r)

@@ -2,17 +2,12 @@
 use mathlib.Core.Path.{_≡_, refl, sym, _∙_, ap, subst}
 use mathlib.Core.Logic.{_≢_}
 use mathlib.Core.List.{List}
-use Prim.Native.Nat.{ℕ, zero, suc, pred, _+_, _*_, _-_, _%_, _<_, _≤_}
+use Prim.Native.Nat.{ℕ, zero, suc, _+_, _*_, _-_, _%_, _<_, _≤_}
 use native.Mathlib.Decide.{ℕ-discrete}
-use native.Mathlib.Nat.{lt-of-lt-of-le}
 use native.Mathlib.Numerals.{add-one}
 use native.Mathlib.Omega.{arith}
-use lib.ListN.{length}
-use Rattle.definitions.specs.Polynomials.{deg}
-use Rattle.definitions.specs.Resultants.{resultant}
-use Rattle.matrices.specs.LeadingMinors.{leading-minor, minor-upper, minor-sylvester}
-use Rattle.evaluator.specs.Elimination.{cell, ResidueCells, Filled, Combined, Cleared, Triangular, Kept}
-use Rattle.evaluator.proofs.Filling.{degrees}
+use Rattle.matrices.specs.LeadingMinors.{leading-minor, minor-upper}
+use Rattle.matrices.specs.Elimination.{cell, ResidueCells, Combined, Cleared, Triangular, Kept}
 
 -- column j has zeros below the diagonal, above row i
 pub record Column (j i : ℕ) (m : List (List ℕ)) : Type 0 where
@@ -69,13 +64,3 @@ pub diagonal-next : (n k l : ℕ) (m : List (List ℕ)) (x y : ℕ) → 1 ≤ n 
 diagonal-next n k l m x y one p t hx hy =
     hy ∙ ap (λ (u : ℕ). (u * cell m l l) % n) hx ∙ sym (minor-upper n l one (cell m) (λ r c u v. t .at r c (omega arith) (omega arith) v))
     ∙ ap (λ (u : ℕ). leading-minor n u (cell m)) (sym (add-one l))
-
--- the whole elimination: from Sylvester's matrix to the resultant
-pub evaluated : (n : ℕ) (f g : List ℕ) (m r : List (List ℕ)) → length f - 1 + (length g - 1) ≤ 8 → Filled f g m → Kept n (length f - 1 + (length g - 1)) m r
-    → leading-minor n (length f - 1 + (length g - 1)) (cell r) ≡ resultant n f g
-evaluated n f g m r l h t =
-    t .minor ∙ ap (λ (k : ℕ). leading-minor n k (cell m)) (degrees f g)
-    ∙ minor-sylvester n f g (cell m) (λ x c u v. h .at x c (inside x u) (inside c v))
-  where
-    inside : (x : ℕ) → x < deg f + deg g → x < 8
-    inside x u = lt-of-lt-of-le u (subst (λ (k : ℕ). k ≤ 8) (degrees f g) l)

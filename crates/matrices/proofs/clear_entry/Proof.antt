@@ -2,14 +2,14 @@ use borrow.Author.Needs.{needs}
 use mathlib.Core.Path.{_≡_}
 use Prim.Native.Nat.{ℕ, _≤_}
 use native.Mathlib.Omega.{arith}
-use Rattle.evaluator.specs.Elimination.{cell, Combined}
-use Rattle.evaluator.proofs.Rows.{combined-none, half, turn, falls, swapped}
-use Rattle.evaluator.proofs.clear_entry.Statement.{statement}
-use Rattle.evaluator.proofs.clear_entry.Tie as tie
-use Rattle.evaluator.proofs.clear_entry.Reads as reads
-use Rattle.evaluator.proofs.clear_entry.Lts as lts
-use Rattle.evaluator.proofs.exchange.Reads as exchange-reads
-use Rattle.evaluator.proofs.lessen.Reads as lessen-reads
+use Rattle.matrices.specs.Elimination.{cell, Combined}
+use Rattle.matrices.proofs.Rows.{combined-none, half, turn, falls, swapped}
+use Rattle.matrices.proofs.clear_entry.Statement.{statement}
+use Rattle.matrices.proofs.clear_entry.Tie as tie
+use Rattle.matrices.proofs.clear_entry.Reads as reads
+use Rattle.matrices.proofs.clear_entry.Lts as lts
+use Rattle.matrices.proofs.exchange.Reads as exchange-reads
+use Rattle.matrices.proofs.reduce_row.Reads as reduce-row-reads
 
 abbrev Inv-loop : tie.InvT-loop
 Inv-loop n i j r₀ r = Combined n i j r₀ r
@@ -38,8 +38,8 @@ index-2-if1 : tie.Need-index-2-if1 Inv-loop μ-loop
 index-2-if1 c = search needs
 
 -- src/lib.rt:119:17
-lessen-requires : tie.Need-lessen-requires Inv-loop μ-loop
-lessen-requires c κs = ((c .before .before .before .pre .0 .0, (omega arith, (omega arith, (omega arith, omega arith)))), (c .before .before .loop .inv .residues, omega arith))
+reduce-row-requires : tie.Need-reduce-row-requires Inv-loop μ-loop
+reduce-row-requires c κs = ((c .before .before .before .pre .0 .0, (omega arith, (omega arith, (omega arith, omega arith)))), (c .before .before .loop .inv .residues, omega arith))
 
 -- src/lib.rt:120:12
 mul-if2 : tie.Need-mul-if2 Inv-loop μ-loop
@@ -59,23 +59,23 @@ index-2-if2 c = search needs
 
 -- src/lib.rt:121:13
 exchange-requires : tie.Need-exchange-requires Inv-loop μ-loop
-exchange-requires c κs = ((c .before .before .before .before .before .before .pre .0 .0, (omega arith, (omega arith, omega arith))), c .before .before .lessen .ensures .combined .residues)
+exchange-requires c κs = ((c .before .before .before .before .before .before .pre .0 .0, (omega arith, (omega arith, omega arith))), c .before .before .reduce-row .ensures .combined .residues)
 
 -- src/lib.rt:121:13
 returns : tie.Need-returns Inv-loop μ-loop
-returns c = swapped (c .before .before .before .before .before .before .loop .inv) (c .before .before .before .lessen .ensures) (omega arith) (c .before .if2 .taken) (c .exchange .ensures)
+returns c = swapped (c .before .before .before .before .before .before .loop .inv) (c .before .before .before .reduce-row .ensures) (omega arith) (c .before .if2 .taken) (c .exchange .ensures)
 
 -- src/lib.rt:123:13
-lessen-requires-2 : tie.Need-lessen-requires-2 Inv-loop μ-loop
-lessen-requires-2 c κs = ((c .before .before .before .before .before .before .pre .0 .0, (omega arith, (omega arith, (omega arith, omega arith)))), (c .before .before .lessen .ensures .combined .residues, omega arith))
+reduce-row-requires-2 : tie.Need-reduce-row-requires-2 Inv-loop μ-loop
+reduce-row-requires-2 c κs = ((c .before .before .before .before .before .before .pre .0 .0, (omega arith, (omega arith, (omega arith, omega arith)))), (c .before .before .reduce-row .ensures .combined .residues, omega arith))
 
 -- src/lib.rt:118:5
 loop-less : tie.Need-loop-less Inv-loop μ-loop
-loop-less c = falls (c .before .before .before .before .before .before .loop .inv) (c .before .before .before .lessen .ensures) (c .lessen2 .ensures) (omega arith) (omega arith)
+loop-less c = falls (c .before .before .before .before .before .before .loop .inv) (c .before .before .before .reduce-row .ensures) (c .reduce-row2 .ensures) (omega arith) (omega arith)
 
 -- src/lib.rt:118:5
 loop-again : tie.Need-loop-again Inv-loop μ-loop
-loop-again c = turn (c .before .before .before .before .before .before .loop .inv) (c .before .before .before .lessen .ensures) (c .lessen2 .ensures)
+loop-again c = turn (c .before .before .before .before .before .before .loop .inv) (c .before .before .before .reduce-row .ensures) (c .reduce-row2 .ensures)
 
 -- src/lib.rt:112:1
 returns-2 : tie.Need-returns-2 Inv-loop μ-loop
@@ -92,14 +92,14 @@ clear-entry-spec =
     mul-if1-2
     index-1-if1
     index-2-if1
-    lessen-requires
+    reduce-row-requires
     mul-if2
     mul-if2-2
     index-1-if2
     index-2-if2
     exchange-requires
     returns
-    lessen-requires-2
+    reduce-row-requires-2
     loop-less
     loop-again
     returns-2)

@@ -9,8 +9,8 @@ use native.Mathlib.Omega.{arith}
 use lib.ListN.{length, getD, set, length-set}
 use lib.Seq.{getD-set-same, getD-set-other}
 use Rattle.numbers.specs.Congruence.{Cong, c-eq, c-mod, c-trans, c-add, c-refl}
 use Rattle.matrices.specs.LeadingMinors.{leading-minor, minor-add-row, minor-exchange}
-use Rattle.evaluator.specs.Elimination.{cell, ResidueCells, RowLess, Combined, Lessened, Exchanged, Cleared}
+use Rattle.matrices.specs.Elimination.{cell, ResidueCells, LessMultiple, Combined, RowReduced, Exchanged, Cleared}
 
 -- a row z put in at i
 module _ (m : List (List ℕ)) (i : ℕ) (z : List ℕ) where
@@ -42,19 +42,19 @@ left-over n a b l one =
     split : (q s t : ℕ) → b * q + s ≡ a → n ≡ q + t → a + t * b ≡ s + n * b
     split q s t e h = omega (arith, ap (λ (w : ℕ). w * b) h)
 
-module _ (n i h j : ℕ) (m : List (List ℕ)) (z : List ℕ) (one : 1 ≤ n) (li : i < 8) (lh : h < 8) (lj : j < 8) (apart : i ≢ h) (size : length m ≡ 8)
-    (cells : ResidueCells n m) (divisor : 1 ≤ cell m h j) (less : RowLess n (cell m i j / cell m h j) (getD m i []) (getD m h []) z) where
+module _ (n i h j : ℕ) (m : List (List ℕ)) (z : List ℕ) (two : 2 ≤ n) (li : i < 8) (lh : h < 8) (lj : j < 8) (apart : i ≢ h) (size : length m ≡ 8)
+    (cells : ResidueCells n m) (divisor : 1 ≤ cell m h j) (less : LessMultiple n (cell m i j / cell m h j) (getD m i []) (getD m h []) z) where
   less-at : (c : ℕ) → c < 8 → cell (set m i z) i c ≡ (cell m i c + (n - cell m i j / cell m h j) * cell m h c) % n
   less-at c l = cell-same m i z c (omega arith) ∙ less .at c l
 
-  pub lessened : Lessened n i h j m (set m i z)
-  lessened =
+  pub row-reduced : RowReduced n i h j m (set m i z)
+  row-reduced =
       record {
         combined = record {
           others = λ r c p q e d. cell-other m i z r c e;
           zeros = λ c l p q. (less-at c l ∙ none n _ _ _ p q, cell-other m i z h c (λ e. apart (sym e)) ∙ q);
           residues = record { at = λ r c p q. below r c p q (ℕ-discrete r i) };
-          minor = λ k l p q. minor-add-row n k h i (n - cell m i j / cell m h j) one q p (λ e. apart (sym e)) (cell m) (cell (set m i z))
+          minor = λ k l p q. minor-add-row n k h i (n - cell m i j / cell m h j) (omega arith) q p (λ e. apart (sym e)) (cell m) (cell (set m i z))
               (λ c u. record { same = ap (λ (x : ℕ). x % n) (less-at c (omega arith)) ∙ mod-mod _ n })
               (λ r c u v w. cell-other m i z r c w)
         };
@@ -63,11 +63,11 @@ module _ (n i h j : ℕ) (m : List (List ℕ)) (z : List ℕ) (one : 1 ≤ n) (l
       }
     where
       below : (r c : ℕ) → r < 8 → c < 8 → Dec (r ≡ i) → cell (set m i z) r c < n
-      below r c p q (yes e) = subst (λ (k : ℕ). cell (set m i z) k c < n) (sym e) (subst (λ (x : ℕ). x < n) (sym (less-at c q)) (mod-lt _ one))
+      below r c p q (yes e) = subst (λ (k : ℕ). cell (set m i z) k c < n) (sym e) (subst (λ (x : ℕ). x < n) (sym (less-at c q)) (mod-lt _ (omega arith)))
       below r c p q (no e) = subst (λ (x : ℕ). x < n) (sym (cell-other m i z r c e)) (cells .at r c p q)
 
-module _ (n i j : ℕ) (m : List (List ℕ)) (y z : List ℕ) (one : 1 ≤ n) (li : i < 8) (lj : j < 8) (apart : i ≢ j) (size : length m ≡ 8)
-    (cells : ResidueCells n m) (empty : (c : ℕ) → c < 8 → getD y c 0 ≡ 0) (less : RowLess n 1 y (getD m j []) z) where
+module _ (n i j : ℕ) (m : List (List ℕ)) (z : List ℕ) (two : 2 ≤ n) (li : i < 8) (lj : j < 8) (apart : i ≢ j) (size : length m ≡ 8)
+    (cells : ResidueCells n m) (less : LessMultiple n 2 (getD m j []) (getD m j []) z) where
   m′ : List (List ℕ)
   m′ = set (set m i z) j (getD m i [])
 
@@ -75,7 +75,10 @@ module _ (n i j : ℕ) (m : List (List ℕ)) (y z : List ℕ) (one : 1 ≤ n) (l
   unfolding m′
   at-first c l =
       cell-other (set m i z) j (getD m i []) i c apart ∙ cell-same m i z c (omega arith) ∙ less .at c l
-      ∙ ap (λ (x : ℕ). (x + (n - 1) * cell m j c) % n) (empty c l) ∙ ap (λ (x : ℕ). x % n) (omega arith)
+      ∙ ap (λ (x : ℕ). x % n) (minus (cell m j c) (n - 2) (n - 1) (omega arith))
+    where
+      minus : (w t u : ℕ) → u ≡ 1 + t → w + t * w ≡ u * w
+      minus w t u h = omega (arith, ap (λ (x : ℕ). x * w) h)
 
   at-second : (c : ℕ) → cell m′ j c ≡ cell m i c
   unfolding m′
@@ -102,7 +105,7 @@ module _ (n i j : ℕ) (m : List (List ℕ)) (y z : List ℕ) (one : 1 ≤ n) (l
           others = λ r c p q e d. elsewhere r c e d;
           zeros = λ c l p q. (at-first c l ∙ times-none n (n - 1) (cell m j c) q, at-second c ∙ p);
           residues = record { at = λ r c p q. below r c p q (ℕ-discrete r i) (ℕ-discrete r j) };
-          minor = λ k l p q. minor-exchange n k i j one p q apart (cell m) (cell m′) (λ c u. at-second c) (λ c u. opposite (cell m j c) (cell m′ i c) (at-first c (omega arith)))
+          minor = λ k l p q. minor-exchange n k i j (omega arith) p q apart (cell m) (cell m′) (λ c u. at-second c) (λ c u. opposite (cell m j c) (cell m′ i c) (at-first c (omega arith)))
               (λ r c u v w x. elsewhere r c w x)
         };
         first = at-first;
@@ -110,7 +113,7 @@ module _ (n i j : ℕ) (m : List (List ℕ)) (y z : List ℕ) (one : 1 ≤ n) (l
       }
     where
       below : (r c : ℕ) → r < 8 → c < 8 → Dec (r ≡ i) → Dec (r ≡ j) → cell m′ r c < n
-      below r c p q (yes e) d = subst (λ (k : ℕ). cell m′ k c < n) (sym e) (subst (λ (x : ℕ). x < n) (sym (at-first c q)) (mod-lt _ one))
+      below r c p q (yes e) d = subst (λ (k : ℕ). cell m′ k c < n) (sym e) (subst (λ (x : ℕ). x < n) (sym (at-first c q)) (mod-lt _ (omega arith)))
       below r c p q (no e) (yes d) = subst (λ (k : ℕ). cell m′ k c < n) (sym d) (subst (λ (x : ℕ). x < n) (sym (at-second c)) (cells .at i c li q))
       below r c p q (no e) (no d) = subst (λ (x : ℕ). x < n) (sym (elsewhere r c e d)) (cells .at r c p q)
 
@@ -137,14 +140,14 @@ combined-both h g =
     }
 
 -- a turn of Euclid's algorithm: row j by row i, then row i by row j
-module _ {n i j : ℕ} {m r s : List (List ℕ)} (before : Combined n i j m r) (first : Lessened n j i j r s) where
+module _ {n i j : ℕ} {m r s : List (List ℕ)} (before : Combined n i j m r) (first : RowReduced n j i j r s) where
   pub half : Combined n i j m s
   half = combined-both before (combined-flip (first .combined))
 
-  pub turn : {t : List (List ℕ)} → Lessened n i j j s t → Combined n i j m t
+  pub turn : {t : List (List ℕ)} → RowReduced n i j j s t → Combined n i j m t
   turn second = combined-both half (second .combined)
 
-  pub falls : {t : List (List ℕ)} → Lessened n i j j s t → 1 ≤ cell r i j → 1 ≤ cell s j j → cell t i j < cell r i j
+  pub falls : {t : List (List ℕ)} → RowReduced n i j j s t → 1 ≤ cell r i j → 1 ≤ cell s j j → cell t i j < cell r i j
   falls {t} second p q =
       omega (arith, second .remainder, first .remainder, mod-lt (cell s i j) {m = cell s j j} q, mod-lt (cell r j j) {m = cell r i j} p)
 

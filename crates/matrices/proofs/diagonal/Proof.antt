@@ -2,13 +2,13 @@ use borrow.Author.Needs.{needs}
 use mathlib.Core.Path.{_≡_, sym, ap, _∙_}
 use Prim.Native.Nat.{ℕ, _-_, _≤_}
 use native.Mathlib.Omega.{arith}
 use Rattle.matrices.specs.LeadingMinors.{leading-minor, minor-zero}
-use Rattle.evaluator.specs.Elimination.{cell}
-use Rattle.evaluator.proofs.Columns.{diagonal-next}
-use Rattle.evaluator.proofs.diagonal.Statement.{statement}
-use Rattle.evaluator.proofs.diagonal.Tie as tie
-use Rattle.evaluator.proofs.diagonal.Reads as reads
-use Rattle.evaluator.proofs.diagonal.Lts as lts
+use Rattle.matrices.specs.Elimination.{cell}
+use Rattle.matrices.proofs.Columns.{diagonal-next}
+use Rattle.matrices.proofs.diagonal.Statement.{statement}
+use Rattle.matrices.proofs.diagonal.Tie as tie
+use Rattle.matrices.proofs.diagonal.Reads as reads
+use Rattle.matrices.proofs.diagonal.Lts as lts
 use Rattle.arithmetic.proofs.mul_mod.Reads as mul-mod-reads
 use Rattle.arithmetic.proofs.reduce.Reads as reduce-reads
 
@@ -57,7 +57,7 @@ loop-less c = search needs
 -- src/lib.rt:168:5
 loop-again : tie.Need-loop-again Inv-loop μ-loop
 loop-again c = let s = c .before .before .before .before .before in let l = c .before .before .before .loop in
-    (omega arith, diagonal-next (s .args .n) (s .args .size) (l .k) (s .args .t1) (l .x) (c .mul-mod .result) (s .pre .0 .0) (omega arith) (s .pre .1) (l .inv .1) (c .mul-mod .ensures))
+    (omega arith, diagonal-next (s .args .n) (s .args .size) (l .k) (s .args .t1) (l .x) (c .mul-mod .result) (omega arith) (omega arith) (s .pre .1) (l .inv .1) (c .mul-mod .ensures))
 
 -- src/lib.rt:161:1
 returns : tie.Need-returns Inv-loop μ-loop
