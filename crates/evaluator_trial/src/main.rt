@@ -4,9 +4,7 @@
 // For each n from 2 to 6 a line: n, and checksums of the answers to all pairs of sent degrees d and e from 0 to 2. For eight moduli a
 // line: n, and for each d + e from 0 to 8 a checksum of the answers to 180 drawn pairs, many with zero words and zero tops.
 // Then full lines: n, the words of f and of g, value and status, for the pairs of document 01 and for refusals.
-ghost use mathlib.Core.Path.{_≡_};
-ghost use Prim.Native.Nat.{ℕ, _+_, _*_, _<_, _≤_};
-ghost use lib.ListN.{length};
+ghost use Prim.Native.Nat.{ℕ, _≤_};
 
 // x joins the checksum h.
 fn mix(h: u32, x: u32) -> u32 {
@@ -41,22 +39,32 @@ fn counted(n: u32, t: u32) -> [u32; 9]
     [t % n, t / n % n, t / n / n % n, 0, 0, 0, 0, 0, 0]
 }
 
-// All pairs of a polynomials of sent degree d and b polynomials of sent degree e.
+// f of sent degree d with each of the b polynomials of sent degree e.
+fn pairs_with(h: u32, n: u32, f: [u32; 9], d: usize, e: usize, b: u32) -> u32
+    requires { ⌜ (2 ≤ n) × ((d ≤ 2) × (e ≤ 2)) ⌝ }
+{
+    let mut s = h;
+    for j in 0..b {
+        s = mix_pair(s, n, f, d, counted(n, j), e);
+    }
+    s
+}
+
+// All pairs of the a polynomials of sent degree d and the b polynomials of sent degree e.
 fn all_pairs(n: u32, d: usize, a: u32, e: usize, b: u32) -> u32
-    requires { ⌜ (2 ≤ n) × ((d ≤ 2) × ((e ≤ 2) × ((a ≤ 216) × ((1 ≤ b) × (b ≤ 216))))) ⌝ }
+    requires { ⌜ (2 ≤ n) × ((d ≤ 2) × (e ≤ 2)) ⌝ }
 {
     let mut h: u32 = 0;
-    for i in 0..a * b {
-        h = mix_pair(h, n, counted(n, i / b), d, counted(n, i % b), e);
+    for i in 0..a {
+        h = pairs_with(h, n, counted(n, i), d, e, b);
     }
     h
 }
 
-fn pairs_line(n: u32)
-    requires { ⌜ (2 ≤ n) × (n ≤ 6) ⌝ }
+// There are n, s and c polynomials of sent degree 0, 1 and 2.
+fn pairs_line(n: u32, s: u32, c: u32)
+    requires { ⌜ 2 ≤ n ⌝ }
 {
-    let s = n * n;
-    let c = s * n;
     number(n as u64);
     next_number(all_pairs(n, 0, n, 0, n));
     next_number(all_pairs(n, 0, n, 1, s));
@@ -97,6 +105,16 @@ fn drawn(n: u32, t: u32) -> [u32; 9]
     ]
 }
 
+// Round the degrees from 0 to s.
+fn next_degree(d: usize, s: usize) -> usize
+    ensures { λ r. ⌜ r ≤ s ⌝ }
+{
+    if d < s {
+        return d + 1;
+    }
+    0
+}
+
 // 180 pairs with d + e = s.
 fn drawn_pairs(n: u32, s: usize) -> u32
     requires { ⌜ (2 ≤ n) × (s ≤ 8) ⌝ }
@@ -105,11 +123,7 @@ fn drawn_pairs(n: u32, s: usize) -> u32
     let mut d: usize = 0;
     for i in 0..180 {
         h = mix_pair(h, n, drawn(n, i * 2), d, drawn(n, i * 2 + 1), s - d);
-        if d == s {
-            d = 0;
-        } else {
-            d += 1;
-        }
+        d = next_degree(d, s);
     }
     h
 }
@@ -184,11 +198,11 @@ fn refused_words() {
 }
 
 fn main() {
-    pairs_line(2);
-    pairs_line(3);
-    pairs_line(4);
-    pairs_line(5);
-    pairs_line(6);
+    pairs_line(2, 4, 8);
+    pairs_line(3, 9, 27);
+    pairs_line(4, 16, 64);
+    pairs_line(5, 25, 125);
+    pairs_line(6, 36, 216);
     drawn_line(2);
     drawn_line(4);
     drawn_line(12);
