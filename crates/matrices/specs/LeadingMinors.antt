@@ -16,13 +16,14 @@ use lib.IntN.{ℤ, pos}
 use Rattle.definitions.specs.Polynomials.{deg}
 use Rattle.definitions.specs.Resultants.{sylvester, determinant, residue, resultant}
 use Rattle.theory.specs.Words.{residue-reduce, determinant-is}
-use Rattle.algebra.specs.Det.{det, det-cong, det-upper, prod}
-use Rattle.algebra.specs.Domain.{reduce, reduce-hom, det-mod}
+use Rattle.algebra.specs.Determinant.{det, det-cong, det-upper, prod}
+use Rattle.algebra.specs.Reduction.{reduce, reduce-hom, det-mod}
 use Rattle.algebra.specs.Form.{Form, det-form}
+use Rattle.algebra.specs.Index.{skip}
 use Rattle.algebra.specs.Integers.{ℤ-ring}
-use Rattle.algebra.specs.Plain.{put, put-same, put-other, add-row}
+use Rattle.algebra.specs.Rows.{put, put-same, put-other, add-row, exchange, lin-scale}
 use Rattle.algebra.specs.Residues.{Res, toRes, Res-ring, mul-mod-r}
-use Rattle.algebra.specs.Ring.{CRing, add-cancel, add-neg, neg-add-cancel, add-neg-cancel, neg-mul, neg-of-add}
+use Rattle.algebra.specs.Ring.{CRing, add-cancel, add-neg, neg-mul, neg-neg}
 use Rattle.numbers.specs.Congruence.{Cong}
 
 unfoldable pub leading-minor : ℕ → ℕ → (ℕ → ℕ → ℕ) → ℕ
@@ -38,51 +39,31 @@ module _ {R : Type 0} (𝓡 : CRing R) where
   prod-last zero f = mul-comm (f 0) 𝟙
   prod-last (suc n) f = ap (λ x. f 0 * x) (prod-last n (λ i. f (suc i))) ∙ sym (mul-assoc (f 0) (prod 𝓡 n (λ i. f (suc i))) (f (suc n)))
 
-  -- the row i comes to j, and the row j, its sign changed, to i; by three additions of rows
+  -- the row i comes to j, and the row j, its sign changed, to i
   exchange-signed : {m n : ℕ} {D : (ℕ → ℕ → R) → R} → Form 𝓡 m n D → (i j : ℕ) → i < m → j < m → i ≢ j → (a b : ℕ → ℕ → R)
       → ((c : ℕ) → c < n → b j c ≡ a i c) → ((c : ℕ) → c < n → b i c ≡ - a j c)
       → ((r c : ℕ) → r < m → c < n → r ≢ i → r ≢ j → b r c ≡ a r c) → D b ≡ D a
   exchange-signed {m} {n} {D} F i j p q z a b hj hi h =
-      add-row 𝓡 F i j p q z 𝟙 a₂ b (λ c l. hj c l ∙ last c) rest
-      ∙ add-row 𝓡 F j i q p (λ e. z (sym e)) (- 𝟙) a₁ a₂ (λ c l. ap (λ (v : ℕ → R). v c) (put-same 𝓡 i second a₁)) (λ r c u v w. ap (λ (v : ℕ → R). v c) (put-other 𝓡 i second a₁ r w))
-      ∙ add-row 𝓡 F i j p q z 𝟙 a a₁ (λ c l. ap (λ (v : ℕ → R). v c) (put-same 𝓡 j first a)) (λ r c u v w. ap (λ (v : ℕ → R). v c) (put-other 𝓡 j first a r w))
+      F .cong b w (λ r c u v. go r c u v (ℕ-discrete r i) (ℕ-discrete r j))
+      ∙ lin-scale 𝓡 F i p (- 𝟙) (a j) (λ r. put 𝓡 j (a i) a (skip i r))
+      ∙ ap (λ x. (- 𝟙) * x) (exchange 𝓡 F i j p q z a) ∙ simp (neg-mul 𝓡, one-mul, neg-neg 𝓡)
     where
-      first : ℕ → R
-      first c = 𝟙 * a i c + a j c
+      minus : ℕ → R
+      minus c = (- 𝟙) * a j c
 
-      a₁ : ℕ → ℕ → R
-      a₁ = put 𝓡 j first a
+      w : ℕ → ℕ → R
+      w = put 𝓡 i minus (put 𝓡 j (a i) a)
 
-      second : ℕ → R
-      second c = (- 𝟙) * a₁ j c + a₁ i c
-
-      a₂ : ℕ → ℕ → R
-      a₂ = put 𝓡 i second a₁
-
-      at-i : (c : ℕ) → a₂ i c ≡ - a j c
-      at-i c =
-          ap (λ (v : ℕ → R). v c) (put-same 𝓡 i second a₁)
-          ∙ ap₂ (λ (v w : ℕ → R). (- 𝟙) * v c + w c) (put-same 𝓡 j first a) (put-other 𝓡 j first a i z)
-          ∙ plain (a i c) (a j c)
-        where
-          plain : (x y : R) → (- 𝟙) * (𝟙 * x + y) + x ≡ - y
-          plain x y = simp (neg-mul 𝓡, one-mul, neg-of-add 𝓡, add-comm, add-neg-cancel 𝓡)
-
-      at-j : (c : ℕ) → a₂ j c ≡ 𝟙 * a i c + a j c
-      at-j c = ap (λ (v : ℕ → R). v c) (put-other 𝓡 i second a₁ j (λ e. z (sym e)) ∙ put-same 𝓡 j first a)
-
-      last : (c : ℕ) → a i c ≡ 𝟙 * a₂ i c + a₂ j c
-      last c = sym (ap₂ (λ x y. 𝟙 * x + y) (at-i c) (at-j c) ∙ plain (a i c) (a j c))
-        where
-          plain : (x y : R) → 𝟙 * (- y) + (𝟙 * x + y) ≡ x
-          plain x y = ap₂ _+_ (one-mul (- y)) (ap (λ u. u + y) (one-mul x) ∙ add-comm x y) ∙ neg-add-cancel 𝓡 y x
-
-      rest : (r c : ℕ) → r < m → c < n → r ≢ j → b r c ≡ a₂ r c
-      rest r c u v w = go (ℕ-discrete r i)
-        where
-          go : Dec (r ≡ i) → b r c ≡ a₂ r c
-          go (yes e) = ap (λ (k : ℕ). b k c) e ∙ hi c v ∙ sym (at-i c) ∙ ap (λ (k : ℕ). a₂ k c) (sym e)
-          go (no e) = h r c u v e w ∙ sym (ap (λ (v : ℕ → R). v c) (put-other 𝓡 i second a₁ r e ∙ put-other 𝓡 j first a r w))
+      go : (r c : ℕ) → r < m → c < n → Dec (r ≡ i) → Dec (r ≡ j) → b r c ≡ w r c
+      go r c u v (yes e) d =
+          ap (λ (k : ℕ). b k c) e ∙ hi c v ∙ sym (neg-mul 𝓡 𝟙 (a j c) ∙ ap (λ x. - x) (one-mul (a j c)))
+          ∙ sym (ap (λ (v : ℕ → R). v c) (put-same 𝓡 i minus (put 𝓡 j (a i) a))) ∙ ap (λ (k : ℕ). w k c) (sym e)
+      go r c u v (no e) (yes d) =
+          ap (λ (k : ℕ). b k c) d ∙ hj c v
+          ∙ sym (ap (λ (v : ℕ → R). v c) (put-other 𝓡 i minus (put 𝓡 j (a i) a) j (λ y. z (sym y)) ∙ put-same 𝓡 j (a i) a))
+          ∙ ap (λ (k : ℕ). w k c) (sym d)
+      go r c u v (no e) (no d) =
+          h r c u v e d ∙ sym (ap (λ (v : ℕ → R). v c) (put-other 𝓡 i minus (put 𝓡 j (a i) a) r e ∙ put-other 𝓡 j (a i) a r d))
 
 -- modulo m + 1 a leading minor is a determinant over the ring of residues
 abbrev residues : (m : ℕ) → (ℕ → ℕ → ℕ) → ℕ → ℕ → Res m
