@@ -7,10 +7,10 @@ use native.Mathlib.Omega.{arith}
 use borrow.Author.Tests.{lt-ltb, le-ltb, ltb-false}
 use lib.Dec.{T, ltb, eqb}
 use lib.ListN.{length}
-use Rattle.definitions.specs.Polynomials.{deg, Residues}
-use Rattle.refusals.specs.Refusals.{bad-modulus, bad-length, all-below, refusal-two, answered}
+use Rattle.definitions.specs.Polynomials.{deg}
+use Rattle.refusals.specs.Refusals.{bad-modulus, bad-length, first-of, answered}
 use Rattle.refusals.proofs.Accepted.{Accepted, accepted-two}
-use Rattle.evaluator.specs.Status.{too-large, refusal}
+use Rattle.evaluator.specs.Status.{too-large, length-refusal, word-refusal, refusal}
 use Rattle.evaluator.proofs.Filling.{degrees}
 
 -- a polynomial that passes the test of its length has a word
@@ -34,16 +34,31 @@ pub record Served (n : ℕ) (f g : List ℕ) : Type 0 where
 
 pub served : (n : ℕ) (f g : List ℕ) → refusal n f g ≡ 0 → Served n f g
 served n f g h =
-    let s = split (bad-modulus n) (bad-length f) (bad-length g) (too-large f g) (cond (all-below n f) (cond (all-below n g) 0 3) 3) h in
-    let a = accepted-two n f g (s .1) in
-    record { first = a .0; second = a .1; small = subst (λ (k : ℕ). k ≤ 8) (sym (degrees f g)) (ltb-false 8 (deg f + deg g) (s .0)) }
+    let a = past 0 (first-of (length-refusal f g) (word-refusal n f g)) (bad-modulus n) h in
+    let b = both (length-refusal f g) (word-refusal n f g) (a .1) in
+    let c = past 1 (cond (bad-length g) 2 (cond (too-large f g) 2 0)) (bad-length f) (b .0) in
+    let d = past 1 (cond (too-large f g) 2 0) (bad-length g) (c .1) in
+    let e = past 1 0 (too-large f g) (d .1) in
+    let k = accepted-two n f g (again (bad-modulus n) (bad-length f) (bad-length g) (word-refusal n f g) (a .0) (c .0) (d .0) (b .1)) in
+    record { first = k .0; second = k .1; small = subst (λ (k : ℕ). k ≤ 8) (sym (degrees f g)) (ltb-false 8 (deg f + deg g) (e .0)) }
   where
-    split : (a b c d : Bool) (x : ℕ) → cond a 1 (cond b 2 (cond c 2 (cond d 2 x))) ≡ 0 → (d ≡ false) × (cond a 1 (cond b 2 (cond c 2 x)) ≡ 0)
-    split true b c d x h = absurd (omega arith)
-    split false true c d x h = absurd (omega arith)
-    split false false true d x h = absurd (omega arith)
-    split false false false true x h = absurd (omega arith)
-    split false false false false x h = (refl, h)
+    -- a test that must have failed
+    past : (x y : ℕ) (t : Bool) → cond t (suc x) y ≡ 0 → (t ≡ false) × (y ≡ 0)
+    past x y true h = absurd (omega arith)
+    past x y false h = (refl, h)
+
+    both : (x y : ℕ) → first-of x y ≡ 0 → (x ≡ 0) × (y ≡ 0)
+    both zero y h = (refl, h)
+    both (suc x) y h = absurd (omega arith)
+
+    again : (a b c : Bool) (x : ℕ) → a ≡ false → b ≡ false → c ≡ false → x ≡ 0 → cond a 1 (cond b 2 (cond c 2 x)) ≡ 0
+    again a b c x p q r h =
+        ap (λ (t : Bool). cond t 1 (cond b 2 (cond c 2 x))) p ∙ ap (λ (t : Bool). cond t 2 (cond c 2 x)) q ∙ ap (λ (t : Bool). cond t 2 x) r ∙ h
+
+-- the first of two numbers, where it is not 0
+pub first-taken : (a b : ℕ) → (a ≡ 0 → ⊥) → a ≡ first-of a b
+first-taken zero b h = absurd (h refl)
+first-taken (suc a) b h = refl
 
 -- the value that goes with a status
 pub refused : (s x : ℕ) → (s ≡ 0 → ⊥) → 0 ≡ answered s x

@@ -3,7 +3,7 @@
 //
 //   sent_degree                     the words of a polynomial less 1
 //   shifted, sylvester_word, sylvester_row, sylvester_matrix
-//   refusal_of                      the status
+//   length_refusal, word_refusal, first_of, refusal_of
 //   evaluate                        the service
 ghost use mathlib.Core.Path.{_≡_};
 ghost use Prim.Native.Nat.{ℕ, _-_, _<_, _≤_};
@@ -11,8 +11,8 @@ ghost use lib.IntN.{pos};
 ghost use lib.ListN.{length};
 ghost use Rattle.definitions.specs.Polynomials.{deg};
 ghost use Rattle.definitions.specs.Resultants.{entry, sylvester, resultant};
-ghost use Rattle.refusals.specs.Refusals.{answered};
-ghost use Rattle.evaluator.specs.Status.{refusal};
+ghost use Rattle.refusals.specs.Refusals.{first-of, answered};
+ghost use Rattle.evaluator.specs.Status.{length-refusal, word-refusal, refusal};
 ghost use Rattle.evaluator.specs.Sylvester.{Filled, FilledRow};
 
 // Zero top words count: "the top word may be zero".
@@ -80,13 +80,9 @@ fn sylvester_matrix(f: &[u32], g: &[u32]) -> [[u32; 8]; 8]
     m
 }
 
-// The first of the refusals 1, 2 and 3 that applies, or 0.
-fn refusal_of(n: u32, f: &[u32], g: &[u32]) -> u32
-    ensures { λ s. ⌜ s ≡ refusal n (now (f .entry)) (now (g .entry)) ⌝ }
+fn length_refusal(f: &[u32], g: &[u32]) -> u32
+    ensures { λ s. ⌜ s ≡ length-refusal (now (f .entry)) (now (g .entry)) ⌝ }
 {
-    if n < 2 {
-        return 1;
-    }
     if refusals::bad_length(f) {
         return 2;
     }
@@ -96,6 +92,12 @@ fn refusal_of(n: u32, f: &[u32], g: &[u32]) -> u32
     if 8 < f.len() - 1 + (g.len() - 1) {
         return 2;
     }
+    0
+}
+
+fn word_refusal(n: u32, f: &[u32], g: &[u32]) -> u32
+    ensures { λ s. ⌜ s ≡ word-refusal n (now (f .entry)) (now (g .entry)) ⌝ }
+{
     if !refusals::all_below(n, f) {
         return 3;
     }
@@ -103,6 +105,27 @@ fn refusal_of(n: u32, f: &[u32], g: &[u32]) -> u32
         return 0;
     }
     3
+}
+
+fn first_of(a: u32, b: u32) -> u32
+    ensures { λ s. ⌜ s ≡ first-of a b ⌝ }
+{
+    if a != 0 {
+        return a;
+    }
+    b
+}
+
+// The first of the refusals 1, 2 and 3 that applies, or 0.
+fn refusal_of(n: u32, f: &[u32], g: &[u32]) -> u32
+    ensures { λ s. ⌜ s ≡ refusal n (now (f .entry)) (now (g .entry)) ⌝ }
+{
+    if n < 2 {
+        return 1;
+    }
+    let length = length_refusal(f, g);
+    let word = word_refusal(n, f, g);
+    first_of(length, word)
 }
 
 // The determinant of Sylvester's matrix of f and g modulo n. "With d = e = 0 the determinant is 1."

@@ -1,85 +1,37 @@
 use borrow.Author.Needs.{needs}
-use borrow.Author.Tests.{lt-ltb, le-ltb, not-true, not-false}
-use mathlib.Core.Path.{_≡_, refl, sym, _∙_}
-use Rattle.evaluator.proofs.Statuses.{some-word, too-large-is, not-too-large}
+use borrow.Author.Tests.{lt-ltb, le-ltb}
+use mathlib.Core.Path.{_≡_, refl, ap₂, _∙_}
+use Rattle.refusals.specs.Refusals.{first-of}
 use Rattle.evaluator.proofs.refusal_of.Statement.{statement}
 use Rattle.evaluator.proofs.refusal_of.Tie as tie
 use Rattle.evaluator.proofs.refusal_of.Reads as reads
 use Rattle.evaluator.proofs.refusal_of.Lts as lts
-use Rattle.refusals.proofs.all_below.Reads as all-below-reads
-use Rattle.refusals.proofs.bad_length.Reads as bad-length-reads
+use Rattle.evaluator.proofs.first_of.Reads as first-of-reads
+use Rattle.evaluator.proofs.length_refusal.Reads as length-refusal-reads
+use Rattle.evaluator.proofs.word_refusal.Reads as word-refusal-reads
 
--- src/lib.rt:180:9
+-- src/lib.rt:124:9
 returns : tie.Need-returns
 returns c = simp (lt-ltb _ _ (c .if1 .taken)) refl
 
--- src/lib.rt:182:8
-bad-length-requires : tie.Need-bad-length-requires
-bad-length-requires c κs = search needs
+-- src/lib.rt:126:9
+length-refusal-requires : tie.Need-length-refusal-requires
+length-refusal-requires c κs = search needs
 
--- src/lib.rt:183:9
+-- src/lib.rt:127:9
+word-refusal-requires : tie.Need-word-refusal-requires
+word-refusal-requires c κs = search needs
+
+-- src/lib.rt:128:5
+first-of-requires : tie.Need-first-of-requires
+first-of-requires c κs = search needs
+
+-- src/lib.rt:120:1
 returns-2 : tie.Need-returns-2
-returns-2 c = simp (le-ltb _ _ (c .before .before .if1 .left), sym (c .before .bad-length .ensures) ∙ c .if2 .taken) refl
-
--- src/lib.rt:185:8
-bad-length-requires-2 : tie.Need-bad-length-requires-2
-bad-length-requires-2 c κs = search needs
-
--- src/lib.rt:186:9
-returns-3 : tie.Need-returns-3
-returns-3 c = simp (le-ltb _ _ (c .before .before .before .before .if1 .left), sym (c .before .before .before .bad-length .ensures) ∙ c .before .before .if2 .left, sym (c .before .bad-length2 .ensures) ∙ c .if3 .taken) refl
-
--- src/lib.rt:188:12
-sub-if4 : tie.Need-sub-if4
-sub-if4 c = some-word (c .before .before .before .before .before .before .before .args .f .now) (sym (c .before .before .before .bad-length .ensures) ∙ c .before .before .if2 .left)
-
--- src/lib.rt:188:27
-sub-if4-2 : tie.Need-sub-if4-2
-sub-if4-2 c = some-word (c .before .before .before .before .before .before .before .args .g .now) (sym (c .before .bad-length2 .ensures) ∙ c .if3 .left)
-
--- src/lib.rt:188:12
-add-if4 : tie.Need-add-if4
-add-if4 c = search needs
-
--- src/lib.rt:189:9
-returns-4 : tie.Need-returns-4
-returns-4 c = simp (le-ltb _ _ (c .before .before .before .before .before .if1 .left), sym (c .before .before .before .before .bad-length .ensures) ∙ c .before .before .before .if2 .left, sym (c .before .before .bad-length2 .ensures) ∙ c .before .if3 .left, too-large-is (c .before .before .before .before .before .before .before .before .args .f .now) (c .before .before .before .before .before .before .before .before .args .g .now) (c .if4 .taken)) refl
-
--- src/lib.rt:191:9
-all-below-requires : tie.Need-all-below-requires
-all-below-requires c κs = search needs
-
--- src/lib.rt:192:9
-returns-5 : tie.Need-returns-5
-returns-5 c = simp (le-ltb _ _ (c .before .before .before .before .before .before .before .if1 .left), sym (c .before .before .before .before .before .before .bad-length .ensures) ∙ c .before .before .before .before .before .if2 .left, sym (c .before .before .before .before .bad-length2 .ensures) ∙ c .before .before .before .if3 .left, not-too-large (c .before .before .before .before .before .before .before .before .before .before .args .f .now) (c .before .before .before .before .before .before .before .before .before .before .args .g .now) (c .before .before .if4 .left), sym (c .before .all-below .ensures) ∙ not-true _ (c .if5 .taken)) refl
-
--- src/lib.rt:194:8
-all-below-requires-2 : tie.Need-all-below-requires-2
-all-below-requires-2 c κs = search needs
-
--- src/lib.rt:195:9
-returns-6 : tie.Need-returns-6
-returns-6 c = simp (le-ltb _ _ (c .before .before .before .before .before .before .before .before .before .if1 .left), sym (c .before .before .before .before .before .before .before .before .bad-length .ensures) ∙ c .before .before .before .before .before .before .before .if2 .left, sym (c .before .before .before .before .before .before .bad-length2 .ensures) ∙ c .before .before .before .before .before .if3 .left, not-too-large (c .before .before .before .before .before .before .before .before .before .before .before .before .args .f .now) (c .before .before .before .before .before .before .before .before .before .before .before .before .args .g .now) (c .before .before .before .before .if4 .left), sym (c .before .before .before .all-below .ensures) ∙ not-false _ (c .before .before .if5 .left), sym (c .before .all-below2 .ensures) ∙ c .if6 .taken) refl
-
--- src/lib.rt:176:1
-returns-7 : tie.Need-returns-7
-returns-7 c = simp (le-ltb _ _ (c .before .before .before .before .before .before .before .before .before .if1 .left), sym (c .before .before .before .before .before .before .before .before .bad-length .ensures) ∙ c .before .before .before .before .before .before .before .if2 .left, sym (c .before .before .before .before .before .before .bad-length2 .ensures) ∙ c .before .before .before .before .before .if3 .left, not-too-large (c .before .before .before .before .before .before .before .before .before .before .before .before .args .f .now) (c .before .before .before .before .before .before .before .before .before .before .before .before .args .g .now) (c .before .before .before .before .if4 .left), sym (c .before .before .before .all-below .ensures) ∙ not-false _ (c .before .before .if5 .left), sym (c .before .all-below2 .ensures) ∙ c .if6 .left) refl
+returns-2 c = simp (le-ltb _ _ (c .before .before .before .if1 .left))
+    (c .first-of .ensures ∙ ap₂ first-of (c .before .before .length-refusal .ensures) (c .before .word-refusal .ensures))
 
 pub refusal-of-spec : {M : Type 1} → statement M
 refusal-of-spec =
     tie.close
-    (tie.spec
-    returns
-    bad-length-requires
-    returns-2
-    bad-length-requires-2
-    returns-3
-    sub-if4
-    sub-if4-2
-    add-if4
-    returns-4
-    all-below-requires
-    returns-5
-    all-below-requires-2
-    returns-6
-    returns-7)
+    (tie.spec returns length-refusal-requires word-refusal-requires first-of-requires returns-2)
