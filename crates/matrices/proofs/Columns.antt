@@ -30,7 +30,7 @@ clearing-next {n} {k} {j} {i} {m} {r} {s} l p q h g =
     record {
       kept = record { residues = g .combined .residues; minor = g .combined .minor k q p (omega arith) ∙ h .kept .minor };
       triangular = record { at = λ x c u v w. below x c u v w (ℕ-discrete x i) (ℕ-discrete x j) };
-      column = record { at = λ x u v. under x u v (ℕ-discrete x i) }
+      column = record { at = λ x u v. under x u v (ℕ-discrete x i) };
     }
   where
     below : (x c : ℕ) → x < k → c < j → c < x → Dec (x ≡ i) → Dec (x ≡ j) → cell s x c ≡ 0

@@ -56,10 +56,10 @@ module _ (n i h j : ℕ) (m : List (List ℕ)) (z : List ℕ) (two : 2 ≤ n) (l
           residues = record { at = λ r c p q. below r c p q (ℕ-discrete r i) };
           minor = λ k l p q. minor-add-row n k h i (n - cell m i j / cell m h j) (omega arith) q p (λ e. apart (sym e)) (cell m) (cell (set m i z))
               (λ c u. record { same = ap (λ (x : ℕ). x % n) (less-at c (omega arith)) ∙ mod-mod _ n })
-              (λ r c u v w. cell-other m i z r c w)
+              (λ r c u v w. cell-other m i z r c w);
         };
         remainder = less-at j lj ∙ left-over n (cell m i j) (cell m h j) (cells .at i j li lj) divisor;
-        divisor = cell-other m i z h j (λ e. apart (sym e))
+        divisor = cell-other m i z h j (λ e. apart (sym e));
       }
     where
       below : (r c : ℕ) → r < 8 → c < 8 → Dec (r ≡ i) → cell (set m i z) r c < n
@@ -106,10 +106,10 @@ module _ (n i j : ℕ) (m : List (List ℕ)) (z : List ℕ) (two : 2 ≤ n) (li 
           zeros = λ c l p q. (at-first c l ∙ times-none n (n - 1) (cell m j c) q, at-second c ∙ p);
           residues = record { at = λ r c p q. below r c p q (ℕ-discrete r i) (ℕ-discrete r j) };
           minor = λ k l p q. minor-exchange n k i j (omega arith) p q apart (cell m) (cell m′) (λ c u. at-second c) (λ c u. opposite (cell m j c) (cell m′ i c) (at-first c (omega arith)))
-              (λ r c u v w x. elsewhere r c w x)
+              (λ r c u v w x. elsewhere r c w x);
         };
         first = at-first;
-        second = λ c l. at-second c
+        second = λ c l. at-second c;
       }
     where
       below : (r c : ℕ) → r < 8 → c < 8 → Dec (r ≡ i) → Dec (r ≡ j) → cell m′ r c < n
@@ -127,7 +127,7 @@ combined-flip h =
       others = λ r c p q e d. h .others r c p q d e;
       zeros = λ c l p q. (h .zeros c l q p .1, h .zeros c l q p .0);
       residues = h .residues;
-      minor = λ k l p q. h .minor k l q p
+      minor = λ k l p q. h .minor k l q p;
     }
 
 combined-both : {n i j : ℕ} {m m′ m″ : List (List ℕ)} → Combined n i j m m′ → Combined n i j m′ m″ → Combined n i j m m″
@@ -136,7 +136,7 @@ combined-both h g =
       others = λ r c p q e d. g .others r c p q e d ∙ h .others r c p q e d;
       zeros = λ c l p q. let o = h .zeros c l p q in g .zeros c l (o .0) (o .1);
       residues = g .residues;
-      minor = λ k l p q. g .minor k l p q ∙ h .minor k l p q
+      minor = λ k l p q. g .minor k l p q ∙ h .minor k l p q;
     }
 
 -- a turn of Euclid's algorithm: row j by row i, then row i by row j

@@ -48,10 +48,11 @@ determinant-requires c κs = let s = served (c .before .before .before .before .
 returns-2 : tie.Need-returns-2
 returns-2 c = let z = sym (c .before .before .before .refusal-of .ensures) ∙ c .before .before .if1 .left in
     let a = c .before .before .before .before .before .before .args in
-    let s = served (a .n) (a .f .now) (a .g .now) z in
-    (sym z,
-    c .determinant .ensures ∙ evaluated (a .n) (a .f .now) (a .g .now) _ (s .small) (c .before .sylvester-matrix .ensures)
-    ∙ ap (λ (k : ℕ). answered k (resultant (a .n) (a .f .now) (a .g .now))) (sym z))
+    let s = served (a .n) (a .f .now) (a .g .now) z in (
+      sym z,
+      c .determinant .ensures ∙ evaluated (a .n) (a .f .now) (a .g .now) _ (s .small) (c .before .sylvester-matrix .ensures)
+          ∙ ap (λ (k : ℕ). answered k (resultant (a .n) (a .f .now) (a .g .now))) (sym z),
+    )
 
 pub evaluate-spec : {M : Type 1} → statement M
 evaluate-spec =
