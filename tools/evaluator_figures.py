@@ -1,5 +1,6 @@
 #!/usr/bin/env python3
-"""The output that crates/evaluator_trial must write, made outside the engine: python3 tools/evaluator_figures.py > crates/evaluator_trial/stdout
+"""The output that crates/evaluator_trial must write, made outside the engine:
+python3 tools/evaluator_figures.py > crates/evaluator_trial/stdout
 
 Each value is the determinant of Sylvester's matrix over the integers, by Bareiss's elimination, reduced modulo n at the very end."""
 from itertools import product

@@ -1,14 +1,14 @@
 -- The words of Sylvester's matrix, and the resultant as its determinant.
-use mathlib.Core.Path.{_≡_, refl, sym, _∙_, ap, ap₂, subst}
+use mathlib.Core.Path.{_≡_, sym, _∙_, ap, ap₂, subst}
 use mathlib.Core.Bool.{Bool, true, false, cond}
 use mathlib.Core.List.{List}
-use Prim.Native.Nat.{ℕ, zero, suc, pred, _+_, _-_, _<_, _≤_}
+use Prim.Native.Nat.{ℕ, pred, _+_, _-_, _<_, _≤_}
 use native.Mathlib.Decide.{decLt}
 use native.Mathlib.Nat.{lt-of-lt-of-le}
 use native.Mathlib.Omega.{arith}
 use borrow.Author.Tests.{lt-ltb, le-ltb, le-leb, lt-leb}
 use lib.Dec.{ltb, leb}
-use lib.IntN.{ℤ, pos, natAbs}
+use lib.IntN.{pos, natAbs}
 use lib.ListN.{length, List·getD-eq-default}
 use Rattle.definitions.specs.Polynomials.{coef, deg, Residues}
 use Rattle.definitions.specs.Resultants.{entry, sylvester, resultant}
@@ -25,7 +25,8 @@ degrees f g = ap₂ _+_ (less-one (length f)) (less-one (length g))
 
 -- the three places of a column against row i of f, of sent degree d
 pub entry-before : (f : List ℕ) (i j : ℕ) → j < i → pos 0 ≡ entry (deg f) f i j
-entry-before f i j l = sym (ap (λ (t : Bool). cond t (cond (leb j (i + deg f)) (pos (coef f (i + deg f - j))) (pos 0)) (pos 0)) (lt-leb i j l))
+entry-before f i j l =
+    sym (ap (λ (t : Bool). cond t (cond (leb j (i + deg f)) (pos (coef f (i + deg f - j))) (pos 0)) (pos 0)) (lt-leb i j l))
 
 pub entry-after : (f : List ℕ) (d i j : ℕ) → d ≡ length f - 1 → i ≤ j → i + d < j → pos 0 ≡ entry (deg f) f i j
 entry-after f d i j e l h =
@@ -41,7 +42,8 @@ entry-within f d i j e l h =
 -- the two blocks of rows, e the sent degree of g
 pub sylvester-first : (f g : List ℕ) (e r c : ℕ) → e ≡ length g - 1 → r < e → entry (deg f) f r c ≡ sylvester f g r c
 sylvester-first f g e r c h l =
-    sym (ap (λ (t : Bool). cond t (entry (deg f) f r c) (entry (deg g) g (r - deg g) c)) (lt-ltb r (deg g) (subst (λ (x : ℕ). r < x) (h ∙ less-one (length g)) l)))
+    sym (ap (λ (t : Bool). cond t (entry (deg f) f r c) (entry (deg g) g (r - deg g) c))
+    (lt-ltb r (deg g) (subst (λ (x : ℕ). r < x) (h ∙ less-one (length g)) l)))
 
 pub sylvester-second : (f g : List ℕ) (e r c : ℕ) → e ≡ length g - 1 → e ≤ r → entry (deg g) g (r - e) c ≡ sylvester f g r c
 sylvester-second f g e r c h l =
@@ -68,7 +70,8 @@ filled-residues n f g m one hf hg h = record { at = λ r c p q. either (ltb r (d
     either : (t : Bool) (r c : ℕ) → pos (cell m r c) ≡ cond t (entry (deg f) f r c) (entry (deg g) g (r - deg g) c) → cell m r c < n
     either true r c e = row (leb r c) (leb c (r + deg f)) (coef f (r + deg f - c)) (cell m r c) (below f hf (r + deg f - c)) e
     either false r c e =
-        row (leb (r - deg g) c) (leb c (r - deg g + deg g)) (coef g (r - deg g + deg g - c)) (cell m r c) (below g hg (r - deg g + deg g - c)) e
+        row (leb (r - deg g) c) (leb c (r - deg g + deg g)) (coef g (r - deg g + deg g - c)) (cell m r c)
+        (below g hg (r - deg g + deg g - c)) e
 
 -- the determinant of the matrix is the resultant
 pub evaluated : (n : ℕ) (f g : List ℕ) (m : List (List ℕ)) → length f - 1 + (length g - 1) ≤ 8 → Filled f g m

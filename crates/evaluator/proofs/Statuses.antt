@@ -1,8 +1,8 @@
 -- The evaluator's tests, and what is known of f and g where none of them refuses.
-use mathlib.Core.Path.{_≡_, refl, sym, _∙_, ap, ap₂, subst}
+use mathlib.Core.Path.{_≡_, refl, sym, _∙_, ap, subst}
 use mathlib.Core.Bool.{Bool, true, false, cond}
 use mathlib.Core.List.{List}
-use Prim.Native.Nat.{ℕ, zero, suc, pred, _+_, _-_, _<_, _≤_}
+use Prim.Native.Nat.{ℕ, zero, suc, _+_, _-_, _<_, _≤_}
 use native.Mathlib.Omega.{arith}
 use borrow.Author.Tests.{lt-ltb, le-ltb, ltb-false}
 use lib.Dec.{T, ltb, eqb}
@@ -53,7 +53,8 @@ served n f g h =
 
     again : (a b c : Bool) (x : ℕ) → a ≡ false → b ≡ false → c ≡ false → x ≡ 0 → cond a 1 (cond b 2 (cond c 2 x)) ≡ 0
     again a b c x p q r h =
-        ap (λ (t : Bool). cond t 1 (cond b 2 (cond c 2 x))) p ∙ ap (λ (t : Bool). cond t 2 (cond c 2 x)) q ∙ ap (λ (t : Bool). cond t 2 x) r ∙ h
+        ap (λ (t : Bool). cond t 1 (cond b 2 (cond c 2 x))) p ∙ ap (λ (t : Bool). cond t 2 (cond c 2 x)) q
+        ∙ ap (λ (t : Bool). cond t 2 x) r ∙ h
 
 -- the first of two numbers, where it is not 0
 pub first-taken : (a b : ℕ) → (a ≡ 0 → ⊥) → a ≡ first-of a b

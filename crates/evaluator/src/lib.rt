@@ -6,7 +6,7 @@
 //   length_refusal, word_refusal, first_of, refusal_of
 //   evaluate                        the service
 ghost use mathlib.Core.Path.{_≡_};
-ghost use Prim.Native.Nat.{ℕ, _-_, _<_, _≤_};
+ghost use Prim.Native.Nat.{_-_, _<_, _≤_};
 ghost use lib.IntN.{pos};
 ghost use lib.ListN.{length};
 ghost use Rattle.definitions.specs.Polynomials.{deg};

@@ -4,7 +4,7 @@
 // For each n from 2 to 6 a line: n, and checksums of the answers to all pairs of sent degrees d and e from 0 to 2. For eight moduli a
 // line: n, and for each d + e from 0 to 8 a checksum of the answers to 180 drawn pairs, many with zero words and zero tops.
 // Then full lines: n, the words of f and of g, value and status, for the pairs of document 01 and for refusals.
-ghost use Prim.Native.Nat.{ℕ, _≤_};
+ghost use Prim.Native.Nat.{_≤_};
 
 // x joins the checksum h.
 fn mix(h: u32, x: u32) -> u32 {

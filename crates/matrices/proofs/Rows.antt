@@ -1,5 +1,5 @@
 -- The steps of the elimination on two rows, between the matrix before and the one after.
-use mathlib.Core.Path.{_≡_, refl, sym, _∙_, ap, ap₂, subst}
+use mathlib.Core.Path.{_≡_, refl, sym, _∙_, ap, subst}
 use mathlib.Core.Logic.{_≢_}
 use mathlib.Core.List.{List, []}
 use Prim.Native.Nat.{ℕ, zero, suc, _+_, _*_, _-_, _/_, _%_, _<_, _≤_}
@@ -9,7 +9,7 @@ use native.Mathlib.Omega.{arith}
 use lib.ListN.{length, getD, set, length-set}
 use lib.Seq.{getD-set-same, getD-set-other}
 use Rattle.numbers.specs.Congruence.{Cong, c-eq, c-mod, c-trans, c-add, c-refl}
-use Rattle.matrices.specs.LeadingMinors.{leading-minor, minor-add-row, minor-exchange}
+use Rattle.matrices.specs.LeadingMinors.{minor-add-row, minor-exchange}
 use Rattle.matrices.specs.Elimination.{cell, ResidueCells, LessMultiple, Combined, RowReduced, Exchanged, Cleared}
 
 -- a row z put in at i
@@ -42,8 +42,9 @@ left-over n a b l one =
     split : (q s t : ℕ) → b * q + s ≡ a → n ≡ q + t → a + t * b ≡ s + n * b
     split q s t e h = omega (arith, ap (λ (w : ℕ). w * b) h)
 
-module _ (n i h j : ℕ) (m : List (List ℕ)) (z : List ℕ) (two : 2 ≤ n) (li : i < 8) (lh : h < 8) (lj : j < 8) (apart : i ≢ h) (size : length m ≡ 8)
-    (cells : ResidueCells n m) (divisor : 1 ≤ cell m h j) (less : LessMultiple n (cell m i j / cell m h j) (getD m i []) (getD m h []) z) where
+module _ (n i h j : ℕ) (m : List (List ℕ)) (z : List ℕ) (two : 2 ≤ n) (li : i < 8) (lh : h < 8) (lj : j < 8) (apart : i ≢ h)
+    (size : length m ≡ 8) (cells : ResidueCells n m) (divisor : 1 ≤ cell m h j)
+    (less : LessMultiple n (cell m i j / cell m h j) (getD m i []) (getD m h []) z) where
   less-at : (c : ℕ) → c < 8 → cell (set m i z) i c ≡ (cell m i c + (n - cell m i j / cell m h j) * cell m h c) % n
   less-at c l = cell-same m i z c (omega arith) ∙ less .at c l
 
@@ -54,7 +55,8 @@ module _ (n i h j : ℕ) (m : List (List ℕ)) (z : List ℕ) (two : 2 ≤ n) (l
           others = λ r c p q e d. cell-other m i z r c e;
           zeros = λ c l p q. (less-at c l ∙ none n _ _ _ p q, cell-other m i z h c (λ e. apart (sym e)) ∙ q);
           residues = record { at = λ r c p q. below r c p q (ℕ-discrete r i) };
-          minor = λ k l p q. minor-add-row n k h i (n - cell m i j / cell m h j) (omega arith) q p (λ e. apart (sym e)) (cell m) (cell (set m i z))
+          minor = λ k l p q. minor-add-row n k h i (n - cell m i j / cell m h j) (omega arith) q p (λ e. apart (sym e))
+              (cell m) (cell (set m i z))
               (λ c u. record { same = ap (λ (x : ℕ). x % n) (less-at c (omega arith)) ∙ mod-mod _ n })
               (λ r c u v w. cell-other m i z r c w);
         };
@@ -63,7 +65,8 @@ module _ (n i h j : ℕ) (m : List (List ℕ)) (z : List ℕ) (two : 2 ≤ n) (l
       }
     where
       below : (r c : ℕ) → r < 8 → c < 8 → Dec (r ≡ i) → cell (set m i z) r c < n
-      below r c p q (yes e) = subst (λ (k : ℕ). cell (set m i z) k c < n) (sym e) (subst (λ (x : ℕ). x < n) (sym (less-at c q)) (mod-lt _ (omega arith)))
+      below r c p q (yes e) =
+          subst (λ (k : ℕ). cell (set m i z) k c < n) (sym e) (subst (λ (x : ℕ). x < n) (sym (less-at c q)) (mod-lt _ (omega arith)))
       below r c p q (no e) = subst (λ (x : ℕ). x < n) (sym (cell-other m i z r c e)) (cells .at r c p q)
 
 module _ (n i j : ℕ) (m : List (List ℕ)) (z : List ℕ) (two : 2 ≤ n) (li : i < 8) (lj : j < 8) (apart : i ≢ j) (size : length m ≡ 8)
@@ -105,7 +108,8 @@ module _ (n i j : ℕ) (m : List (List ℕ)) (z : List ℕ) (two : 2 ≤ n) (li 
           others = λ r c p q e d. elsewhere r c e d;
           zeros = λ c l p q. (at-first c l ∙ times-none n (n - 1) (cell m j c) q, at-second c ∙ p);
           residues = record { at = λ r c p q. below r c p q (ℕ-discrete r i) (ℕ-discrete r j) };
-          minor = λ k l p q. minor-exchange n k i j (omega arith) p q apart (cell m) (cell m′) (λ c u. at-second c) (λ c u. opposite (cell m j c) (cell m′ i c) (at-first c (omega arith)))
+          minor = λ k l p q. minor-exchange n k i j (omega arith) p q apart (cell m) (cell m′) (λ c u. at-second c)
+              (λ c u. opposite (cell m j c) (cell m′ i c) (at-first c (omega arith)))
               (λ r c u v w x. elsewhere r c w x);
         };
         first = at-first;
@@ -113,8 +117,10 @@ module _ (n i j : ℕ) (m : List (List ℕ)) (z : List ℕ) (two : 2 ≤ n) (li 
       }
     where
       below : (r c : ℕ) → r < 8 → c < 8 → Dec (r ≡ i) → Dec (r ≡ j) → cell m′ r c < n
-      below r c p q (yes e) d = subst (λ (k : ℕ). cell m′ k c < n) (sym e) (subst (λ (x : ℕ). x < n) (sym (at-first c q)) (mod-lt _ (omega arith)))
-      below r c p q (no e) (yes d) = subst (λ (k : ℕ). cell m′ k c < n) (sym d) (subst (λ (x : ℕ). x < n) (sym (at-second c)) (cells .at i c li q))
+      below r c p q (yes e) d =
+          subst (λ (k : ℕ). cell m′ k c < n) (sym e) (subst (λ (x : ℕ). x < n) (sym (at-first c q)) (mod-lt _ (omega arith)))
+      below r c p q (no e) (yes d) =
+          subst (λ (k : ℕ). cell m′ k c < n) (sym d) (subst (λ (x : ℕ). x < n) (sym (at-second c)) (cells .at i c li q))
       below r c p q (no e) (no d) = subst (λ (x : ℕ). x < n) (sym (elsewhere r c e d)) (cells .at r c p q)
 
 -- one step after another
@@ -141,7 +147,7 @@ combined-both h g =
 
 -- a turn of Euclid's algorithm: row j by row i, then row i by row j
 module _ {n i j : ℕ} {m r s : List (List ℕ)} (before : Combined n i j m r) (first : RowReduced n j i j r s) where
-  pub half : Combined n i j m s
+  half : Combined n i j m s
   half = combined-both before (combined-flip (first .combined))
 
   pub turn : {t : List (List ℕ)} → RowReduced n i j j s t → Combined n i j m t

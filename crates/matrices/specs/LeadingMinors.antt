@@ -6,13 +6,13 @@
 --   minor-exchange          two rows change places, and one of them its sign: the minor stays
 --   minor-upper             zeros below the diagonal: the next minor is this one times the next word of the diagonal
 --   minor-sylvester         the minor of Sylvester's matrix is the resultant
-use mathlib.Core.Path.{_≡_, refl, sym, _∙_, ap, ap₂}
+use mathlib.Core.Path.{_≡_, refl, sym, _∙_, ap}
 use mathlib.Core.Logic.{_≢_}
 use mathlib.Core.List.{List}
 use Prim.Native.Nat.{ℕ, zero, suc, _<_, _≤_, _%_, _+_ as _+ℕ_, _*_ as _*ℕ_}
 use native.Mathlib.Decide.{Fin·val-path, ℕ-discrete}
 use native.Mathlib.Omega.{arith}
-use lib.IntN.{ℤ, pos}
+use lib.IntN.{pos}
 use Rattle.definitions.specs.Polynomials.{deg}
 use Rattle.definitions.specs.Resultants.{sylvester, determinant, residue, resultant}
 use Rattle.theory.specs.Words.{residue-reduce, determinant-is}
@@ -30,7 +30,7 @@ unfoldable pub leading-minor : ℕ → ℕ → (ℕ → ℕ → ℕ) → ℕ
 leading-minor n k a = residue n (determinant k (λ r c. pos (a r c)))
 
 module _ {R : Type 0} (𝓡 : CRing R) where
-  open CRing 𝓡 using (add as _+_, mul as _*_, neg as -_, nil as 𝟘, unit as 𝟙, add-assoc, add-comm, zero-add, neg-add, mul-assoc, mul-comm, one-mul, mul-add)
+  open CRing 𝓡 using (add as _+_, mul as _*_, neg as -_, unit as 𝟙, mul-assoc, mul-comm, one-mul)
 
   infixl 65 _+_
   infixl 70 _*_
@@ -114,13 +114,17 @@ pub minor-upper : (n k : ℕ) → 1 ≤ n → (a : ℕ → ℕ → ℕ) → ((r 
 minor-upper zero k one a h = absurd (omega arith)
 minor-upper (suc m) k one a h =
     minor-is m (suc k) a
-    ∙ ap (λ (y : Res m). y .0) (det-upper (Res-ring m) (suc k) (residues m a) (λ r c p q. ap (toRes m) (h r c p q)) ∙ prod-last (Res-ring m) k (λ i. residues m a i i)
-    ∙ ap (λ (y : Res m). Res-ring m .mul y (toRes m (a k k))) (sym (det-upper (Res-ring m) k (residues m a) (λ r c p q. ap (toRes m) (h r c (omega arith) q)))))
+    ∙ ap (λ (y : Res m). y .0) (det-upper (Res-ring m) (suc k) (residues m a) (λ r c p q. ap (toRes m) (h r c p q))
+    ∙ prod-last (Res-ring m) k (λ i. residues m a i i)
+    ∙ ap (λ (y : Res m). Res-ring m .mul y (toRes m (a k k)))
+    (sym (det-upper (Res-ring m) k (residues m a) (λ r c p q. ap (toRes m) (h r c (omega arith) q)))))
     ∙ ap (λ y. (y *ℕ (a k k % suc m)) % suc m) (sym (minor-is m k a)) ∙ mul-mod-r (leading-minor (suc m) k a) (a k k) (suc m)
 
 pub minor-sylvester : (n : ℕ) (f g : List ℕ) (a : ℕ → ℕ → ℕ)
-    → ((r c : ℕ) → r < deg f +ℕ deg g → c < deg f +ℕ deg g → pos (a r c) ≡ sylvester f g r c) → leading-minor n (deg f +ℕ deg g) a ≡ resultant n f g
+    → ((r c : ℕ) → r < deg f +ℕ deg g → c < deg f +ℕ deg g → pos (a r c) ≡ sylvester f g r c)
+    → leading-minor n (deg f +ℕ deg g) a ≡ resultant n f g
 unfolding leading-minor resultant
 minor-sylvester n f g a h =
-    ap (residue n) (determinant-is (deg f +ℕ deg g) (λ r c. pos (a r c)) ∙ det-cong ℤ-ring (deg f +ℕ deg g) (λ r c. pos (a r c)) (sylvester f g) h
+    ap (residue n) (determinant-is (deg f +ℕ deg g) (λ r c. pos (a r c))
+    ∙ det-cong ℤ-ring (deg f +ℕ deg g) (λ r c. pos (a r c)) (sylvester f g) h
     ∙ sym (determinant-is (deg f +ℕ deg g) (sylvester f g)))

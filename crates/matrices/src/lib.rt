@@ -9,7 +9,7 @@
 //   determinant             all of it
 ghost use mathlib.Core.Path.{_≡_};
 ghost use mathlib.Core.Logic.{_≢_};
-ghost use Prim.Native.Nat.{ℕ, _+_, _<_, _≤_};
+ghost use Prim.Native.Nat.{_+_, _<_, _≤_};
 ghost use Rattle.matrices.specs.LeadingMinors.{leading-minor};
 ghost use Rattle.matrices.specs.Elimination.{cell, ResidueCells, LessMultiple, RowReduced, Exchanged, Cleared, Triangular, Kept};
 

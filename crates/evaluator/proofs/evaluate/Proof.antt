@@ -1,6 +1,6 @@
 use borrow.Author.Needs.{needs}
 use mathlib.Core.Path.{sym, ap, _∙_}
-use Prim.Native.Nat.{ℕ}
+use Prim.Native.Nat.{ℕ, _≤_}
 use native.Mathlib.Omega.{arith}
 use Rattle.definitions.specs.Resultants.{resultant}
 use Rattle.refusals.specs.Refusals.{answered}
@@ -24,11 +24,13 @@ returns c = (c .before .refusal-of .ensures, refused _ _ (λ e. c .if1 .taken (c
 
 -- src/lib.rt:117:16
 sub-size : tie.Need-sub-size
-sub-size c = (served (c .before .before .before .before .args .n) (c .before .before .before .before .args .f .now) (c .before .before .before .before .args .g .now) (sym (c .before .refusal-of .ensures) ∙ c .if1 .left)) .first .some
+sub-size c = let a = c .before .before .before .before .args in
+    (served (a .n) (a .f .now) (a .g .now) (sym (c .before .refusal-of .ensures) ∙ c .if1 .left)) .first .some
 
 -- src/lib.rt:117:31
 sub-size-2 : tie.Need-sub-size-2
-sub-size-2 c = (served (c .before .before .before .before .args .n) (c .before .before .before .before .args .f .now) (c .before .before .before .before .args .g .now) (sym (c .before .refusal-of .ensures) ∙ c .if1 .left)) .second .some
+sub-size-2 c = let a = c .before .before .before .before .args in
+    (served (a .n) (a .f .now) (a .g .now) (sym (c .before .refusal-of .ensures) ∙ c .if1 .left)) .second .some
 
 -- src/lib.rt:117:16
 add-size : tie.Need-add-size
@@ -36,13 +38,16 @@ add-size c = search needs
 
 -- src/lib.rt:118:9
 sylvester-matrix-requires : tie.Need-sylvester-matrix-requires
-sylvester-matrix-requires c κs = let s = served (c .before .before .before .before .args .n) (c .before .before .before .before .args .f .now) (c .before .before .before .before .args .g .now) (sym (c .before .refusal-of .ensures) ∙ c .if1 .left) in
+sylvester-matrix-requires c κs = let a = c .before .before .before .before .args in
+    let s = served (a .n) (a .f .now) (a .g .now) (sym (c .before .refusal-of .ensures) ∙ c .if1 .left) in
     ((s .first .some, omega (arith, s .small)), (s .second .some, omega (arith, s .small)))
 
 -- src/lib.rt:119:31
 determinant-requires : tie.Need-determinant-requires
-determinant-requires c κs = let s = served (c .before .before .before .before .before .args .n) (c .before .before .before .before .before .args .f .now) (c .before .before .before .before .before .args .g .now) (sym (c .before .before .refusal-of .ensures) ∙ c .before .if1 .left) in
-    ((s .first .modulus, s .small), filled-residues _ _ _ _ (omega (arith, s .first .modulus)) (s .first .residues) (s .second .residues) (c .sylvester-matrix .ensures))
+determinant-requires c κs = let a = c .before .before .before .before .before .args in
+    let s = served (a .n) (a .f .now) (a .g .now) (sym (c .before .before .refusal-of .ensures) ∙ c .before .if1 .left) in
+    let one : 1 ≤ a .n = omega (arith, s .first .modulus) in
+    ((s .first .modulus, s .small), filled-residues _ _ _ _ one (s .first .residues) (s .second .residues) (c .sylvester-matrix .ensures))
 
 -- src/lib.rt:109:1
 returns-2 : tie.Need-returns-2

@@ -1,6 +1,6 @@
 use borrow.Author.Needs.{needs}
 use borrow.Author.Tests.{lt-ltb, le-ltb}
-use mathlib.Core.Path.{_≡_, refl, ap₂, _∙_}
+use mathlib.Core.Path.{refl, ap₂, _∙_}
 use Rattle.refusals.specs.Refusals.{first-of}
 use Rattle.evaluator.proofs.refusal_of.Statement.{statement}
 use Rattle.evaluator.proofs.refusal_of.Tie as tie

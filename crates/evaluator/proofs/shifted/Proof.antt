@@ -20,7 +20,9 @@ add-if2 c = search needs
 
 -- src/lib.rt:36:9
 returns-2 : tie.Need-returns-2
-returns-2 c = entry-after (c .before .before .before .before .args .f .now) _ _ _ (c .before .before .sent-degree .ensures) (c .before .if1 .left) (c .if2 .taken)
+returns-2 c =
+    let s = c .before in
+    entry-after (s .before .before .before .args .f .now) _ _ _ (s .before .sent-degree .ensures) (s .if1 .left) (c .if2 .taken)
 
 -- src/lib.rt:38:7
 add-result : tie.Need-add-result
@@ -40,7 +42,8 @@ shared-slice-read-result c = search needs
 
 -- src/lib.rt:27:1
 returns-3 : tie.Need-returns-3
-returns-3 c = entry-within (c .before .before .before .before .before .args .f .now) _ _ _ (c .before .before .before .sent-degree .ensures) (c .before .before .if1 .left) (c .before .if2 .left)
+returns-3 c = let s = c .before .before in
+    entry-within (s .before .before .before .args .f .now) _ _ _ (s .before .sent-degree .ensures) (s .if1 .left) (c .before .if2 .left)
 
 pub shifted-spec : {M : Type 1} → statement M
 shifted-spec =

@@ -1,6 +1,6 @@
 use borrow.Author.Needs.{needs}
 use borrow.Author.Tests.{not-true, not-false}
-use mathlib.Core.Path.{_≡_, refl, sym, _∙_}
+use mathlib.Core.Path.{refl, sym, _∙_}
 use Rattle.evaluator.proofs.word_refusal.Statement.{statement}
 use Rattle.evaluator.proofs.word_refusal.Tie as tie
 use Rattle.evaluator.proofs.word_refusal.Reads as reads
@@ -21,11 +21,15 @@ all-below-requires-2 c κs = search needs
 
 -- src/lib.rt:105:9
 returns-2 : tie.Need-returns-2
-returns-2 c = simp (sym (c .before .before .before .all-below .ensures) ∙ not-false _ (c .before .before .if1 .left), sym (c .before .all-below2 .ensures) ∙ c .if2 .taken) refl
+returns-2 c =
+    let p = sym (c .before .before .before .all-below .ensures) ∙ not-false _ (c .before .before .if1 .left) in
+    simp (p, sym (c .before .all-below2 .ensures) ∙ c .if2 .taken) refl
 
 -- src/lib.rt:98:1
 returns-3 : tie.Need-returns-3
-returns-3 c = simp (sym (c .before .before .before .all-below .ensures) ∙ not-false _ (c .before .before .if1 .left), sym (c .before .all-below2 .ensures) ∙ c .if2 .left) refl
+returns-3 c =
+    let p = sym (c .before .before .before .all-below .ensures) ∙ not-false _ (c .before .before .if1 .left) in
+    simp (p, sym (c .before .all-below2 .ensures) ∙ c .if2 .left) refl
 
 pub word-refusal-spec : {M : Type 1} → statement M
 word-refusal-spec =

@@ -1,5 +1,5 @@
 use borrow.Author.Needs.{needs}
-use Prim.Native.Nat.{ℕ, _-_, _<_, _≤_}
+use Prim.Native.Nat.{_-_, _<_, _≤_}
 use native.Mathlib.Omega.{arith}
 use Rattle.matrices.proofs.Columns.{Clearing, clearing-start, clearing-next, clearing-end}
 use Rattle.matrices.proofs.clear_column.Statement.{statement}
@@ -24,7 +24,8 @@ loop-holds c = (omega arith, (omega arith, clearing-start (c .pre .1 .0) (c .pre
 
 -- src/lib.rt:138:13
 clear-entry-requires : tie.Need-clear-entry-requires Inv-loop μ-loop
-clear-entry-requires c κs = ((c .before .before .pre .0 .0, (c .before .loop .inv .0, omega arith)), c .before .loop .inv .1 .1 .kept .residues)
+clear-entry-requires c κs = let i = c .before .loop .inv in
+    ((c .before .before .pre .0 .0, (i .0, omega arith)), i .1 .1 .kept .residues)
 
 -- src/lib.rt:140:9
 add-i-2 : tie.Need-add-i-2 Inv-loop μ-loop
@@ -37,7 +38,8 @@ loop-less c = search needs
 -- src/lib.rt:137:5
 loop-again : tie.Need-loop-again Inv-loop μ-loop
 loop-again c = let i = c .before .before .loop .inv in
-    (omega arith, (omega arith, clearing-next (i .0) (omega arith) (c .before .before .before .pre .0 .1 .1) (i .1 .1) (c .clear-entry .ensures)))
+    let l = c .before .before .before .pre .0 .1 .1 in
+    (omega arith, (omega arith, clearing-next (i .0) (omega arith) l (i .1 .1) (c .clear-entry .ensures)))
 
 -- src/lib.rt:130:1
 returns : tie.Need-returns Inv-loop μ-loop

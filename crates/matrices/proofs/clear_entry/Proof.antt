@@ -1,9 +1,7 @@
 use borrow.Author.Needs.{needs}
-use mathlib.Core.Path.{_≡_}
-use Prim.Native.Nat.{ℕ, _≤_}
 use native.Mathlib.Omega.{arith}
 use Rattle.matrices.specs.Elimination.{cell, Combined}
-use Rattle.matrices.proofs.Rows.{combined-none, half, turn, falls, swapped}
+use Rattle.matrices.proofs.Rows.{combined-none, turn, falls, swapped}
 use Rattle.matrices.proofs.clear_entry.Statement.{statement}
 use Rattle.matrices.proofs.clear_entry.Tie as tie
 use Rattle.matrices.proofs.clear_entry.Reads as reads
@@ -39,7 +37,9 @@ index-2-if1 c = search needs
 
 -- src/lib.rt:119:17
 reduce-row-requires : tie.Need-reduce-row-requires Inv-loop μ-loop
-reduce-row-requires c κs = ((c .before .before .before .pre .0 .0, (omega arith, (omega arith, (omega arith, omega arith)))), (c .before .before .loop .inv .residues, omega arith))
+reduce-row-requires c κs =
+    ((c .before .before .before .pre .0 .0, (omega arith, (omega arith, (omega arith, omega arith)))),
+    (c .before .before .loop .inv .residues, omega arith))
 
 -- src/lib.rt:120:12
 mul-if2 : tie.Need-mul-if2 Inv-loop μ-loop
@@ -59,23 +59,30 @@ index-2-if2 c = search needs
 
 -- src/lib.rt:121:13
 exchange-requires : tie.Need-exchange-requires Inv-loop μ-loop
-exchange-requires c κs = ((c .before .before .before .before .before .before .pre .0 .0, (omega arith, (omega arith, omega arith))), c .before .before .reduce-row .ensures .combined .residues)
+exchange-requires c κs =
+    ((c .before .before .before .before .before .before .pre .0 .0, (omega arith, (omega arith, omega arith))),
+    c .before .before .reduce-row .ensures .combined .residues)
 
 -- src/lib.rt:121:13
 returns : tie.Need-returns Inv-loop μ-loop
-returns c = swapped (c .before .before .before .before .before .before .loop .inv) (c .before .before .before .reduce-row .ensures) (omega arith) (c .before .if2 .taken) (c .exchange .ensures)
+returns c = let s = c .before .before .before in
+    swapped (s .before .before .before .loop .inv) (s .reduce-row .ensures) (omega arith) (c .before .if2 .taken) (c .exchange .ensures)
 
 -- src/lib.rt:123:13
 reduce-row-requires-2 : tie.Need-reduce-row-requires-2 Inv-loop μ-loop
-reduce-row-requires-2 c κs = ((c .before .before .before .before .before .before .pre .0 .0, (omega arith, (omega arith, (omega arith, omega arith)))), (c .before .before .reduce-row .ensures .combined .residues, omega arith))
+reduce-row-requires-2 c κs =
+    ((c .before .before .before .before .before .before .pre .0 .0, (omega arith, (omega arith, (omega arith, omega arith)))),
+    (c .before .before .reduce-row .ensures .combined .residues, omega arith))
 
 -- src/lib.rt:118:5
 loop-less : tie.Need-loop-less Inv-loop μ-loop
-loop-less c = falls (c .before .before .before .before .before .before .loop .inv) (c .before .before .before .reduce-row .ensures) (c .reduce-row2 .ensures) (omega arith) (omega arith)
+loop-less c = let s = c .before .before .before in
+    falls (s .before .before .before .loop .inv) (s .reduce-row .ensures) (c .reduce-row2 .ensures) (omega arith) (omega arith)
 
 -- src/lib.rt:118:5
 loop-again : tie.Need-loop-again Inv-loop μ-loop
-loop-again c = turn (c .before .before .before .before .before .before .loop .inv) (c .before .before .before .reduce-row .ensures) (c .reduce-row2 .ensures)
+loop-again c = let s = c .before .before .before in
+    turn (s .before .before .before .loop .inv) (s .reduce-row .ensures) (c .reduce-row2 .ensures)
 
 -- src/lib.rt:112:1
 returns-2 : tie.Need-returns-2 Inv-loop μ-loop

@@ -78,7 +78,8 @@ returns : tie.Need-returns
 returns c = let s = c .before .before .before .before .before in
     let p = s .pre .0 in
     let l : length (s .args .t1) ≡ 8 = search needs in
-    row-reduced _ _ _ _ _ _ (p .0) (p .1 .0) (p .1 .1 .0) (p .1 .1 .1 .0) (p .1 .1 .1 .1) l (s .pre .1 .0) (s .pre .1 .1) (c .subtract-multiple .ensures)
+    row-reduced _ _ _ _ _ _ (p .0) (p .1 .0) (p .1 .1 .0) (p .1 .1 .1 .0) (p .1 .1 .1 .1) l (s .pre .1 .0) (s .pre .1 .1)
+    (c .subtract-multiple .ensures)
 
 pub reduce-row-spec : {M : Type 1} → statement M
 reduce-row-spec =
