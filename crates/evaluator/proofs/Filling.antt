@@ -1,4 +1,10 @@
 -- The words of Sylvester's matrix, and the resultant as its determinant.
+--
+--   degrees                                     d + e, as the code takes it
+--   entry-before, entry-after, entry-within     a row of f: before its words, after them, and within them
+--   sylvester-first, sylvester-second           the rows of f and the rows of g
+--   filled-residues                             the words are residues where those of f and g are
+--   evaluated                                   the determinant of the matrix is the resultant
 use mathlib.Core.Path.{_≡_, sym, _∙_, ap, ap₂, subst}
 use mathlib.Core.Bool.{Bool, true, false, cond}
 use mathlib.Core.List.{List}
@@ -51,7 +57,6 @@ sylvester-second f g e r c h l =
     ∙ sym (ap (λ (t : Bool). cond t (entry (deg f) f r c) (entry (deg g) g (r - deg g) c))
     (le-ltb r (deg g) (subst (λ (x : ℕ). x ≤ r) (h ∙ less-one (length g)) l)))
 
--- the words are residues where those of f and g are
 pub filled-residues : (n : ℕ) (f g : List ℕ) (m : List (List ℕ)) → 1 ≤ n → Residues n f → Residues n g → Filled f g m → ResidueCells n m
 filled-residues n f g m one hf hg h = record { at = λ r c p q. either (ltb r (deg g)) r c (h .at r c p q) }
   where
@@ -73,7 +78,6 @@ filled-residues n f g m one hf hg h = record { at = λ r c p q. either (ltb r (d
         row (leb (r - deg g) c) (leb c (r - deg g + deg g)) (coef g (r - deg g + deg g - c)) (cell m r c)
         (below g hg (r - deg g + deg g - c)) e
 
--- the determinant of the matrix is the resultant
 pub evaluated : (n : ℕ) (f g : List ℕ) (m : List (List ℕ)) → length f - 1 + (length g - 1) ≤ 8 → Filled f g m
     → leading-minor n (length f - 1 + (length g - 1)) (cell m) ≡ resultant n f g
 evaluated n f g m l h =

@@ -1,4 +1,9 @@
 -- The evaluator's tests, and what is known of f and g where none of them refuses.
+--
+--   some-word                      a polynomial that passes the test of its length has a word
+--   too-large-is, not-too-large    the test of d + e, as the code makes it
+--   Served, served                 what is known where the status is 0
+--   first-taken, refused           the first of two numbers, where it is not 0; the value where the status is not 0
 use mathlib.Core.Path.{_≡_, refl, sym, _∙_, ap, subst}
 use mathlib.Core.Bool.{Bool, true, false, cond}
 use mathlib.Core.List.{List}
@@ -13,7 +18,6 @@ use Rattle.refusals.proofs.Accepted.{Accepted, accepted-two}
 use Rattle.evaluator.specs.Status.{too-large, length-refusal, word-refusal, refusal}
 use Rattle.evaluator.proofs.Filling.{degrees}
 
--- a polynomial that passes the test of its length has a word
 pub some-word : (f : List ℕ) → bad-length f ≡ false → 1 ≤ length f
 some-word f h = go (length f) h
   where
@@ -56,12 +60,10 @@ served n f g h =
         ap (λ (t : Bool). cond t 1 (cond b 2 (cond c 2 x))) p ∙ ap (λ (t : Bool). cond t 2 (cond c 2 x)) q
         ∙ ap (λ (t : Bool). cond t 2 x) r ∙ h
 
--- the first of two numbers, where it is not 0
 pub first-taken : (a b : ℕ) → (a ≡ 0 → ⊥) → a ≡ first-of a b
 first-taken zero b h = absurd (h refl)
 first-taken (suc a) b h = refl
 
--- the value that goes with a status
 pub refused : (s x : ℕ) → (s ≡ 0 → ⊥) → 0 ≡ answered s x
 refused zero x h = absurd (h refl)
 refused (suc s) x h = refl

@@ -1,4 +1,8 @@
 -- An array written from the front, element by element.
+--
+--   Written d P s k x    x has s elements, and the first k have the property P of their places; d stands beyond the end
+--   written-none         before the first
+--   written-next         one element more
 use mathlib.Core.Path.{_≡_, sym, _∙_, subst}
 use mathlib.Core.List.{List}
 use Prim.Native.Nat.{ℕ, _+_, _<_}
@@ -7,7 +11,6 @@ use native.Mathlib.Omega.{arith}
 use lib.ListN.{length, getD, set, length-set}
 use lib.Seq.{getD-set-same, getD-set-other}
 
--- s elements, the first k of which have the property of their places
 pub record Written {A : Type 0} (d : A) (P : ℕ → A → Type 0) (s k : ℕ) (x : List A) : Type 0 where
   pub size : length x ≡ s
   pub at : (i : ℕ) → i < k → P i (getD x i d)

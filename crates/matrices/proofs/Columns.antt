@@ -1,4 +1,9 @@
 -- The elimination column by column, and the determinant of the triangular matrix it ends in.
+--
+--   Column, Clearing                                   what holds while column j is cleared, once the rows above i are done
+--   clearing-start, clearing-next, clearing-end        the loop over the rows
+--   triangulating-start, kept-both                     the loop over the columns
+--   diagonal-next                                      the loop over the diagonal
 use mathlib.Core.Path.{_≡_, refl, sym, _∙_, ap}
 use mathlib.Core.List.{List}
 use Prim.Native.Nat.{ℕ, zero, _+_, _*_, _%_, _<_, _≤_}
@@ -12,7 +17,6 @@ use Rattle.matrices.specs.Elimination.{cell, ResidueCells, Cleared, Tria
 pub record Column (j i : ℕ) (m : List (List ℕ)) : Type 0 where
   pub at : (r : ℕ) → j < r → r < i → cell m r j ≡ 0
 
--- what clearing column j keeps, once the rows above i are done
 pub record Clearing (n k j i : ℕ) (m r : List (List ℕ)) : Type 0 where
   pub kept : Kept n k m r
   pub triangular : Triangular k j r

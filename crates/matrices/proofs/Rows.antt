@@ -1,4 +1,9 @@
 -- The steps of the elimination on two rows, between the matrix before and the one after.
+--
+--   quotient-below               a quotient of residues is no larger than n
+--   row-reduced, exchanged       the two row operations, as the code writes them, keep the leading minors
+--   combined-none                nothing is done
+--   turn, falls, swapped         a turn of Euclid's algorithm; the word that falls; the exchange that ends it
 use mathlib.Core.Path.{_≡_, refl, sym, _∙_, ap, subst}
 use mathlib.Core.Logic.{_≢_}
 use mathlib.Core.List.{List, []}
@@ -42,6 +47,7 @@ left-over n a b l one =
     split : (q s t : ℕ) → b * q + s ≡ a → n ≡ q + t → a + t * b ≡ s + n * b
     split q s t e h = omega (arith, ap (λ (w : ℕ). w * b) h)
 
+-- z, the row i less so many times the row h, is put in at i
 module _ (n i h j : ℕ) (m : List (List ℕ)) (z : List ℕ) (two : 2 ≤ n) (li : i < 8) (lh : h < 8) (lj : j < 8) (apart : i ≢ h)
     (size : length m ≡ 8) (cells : ResidueCells n m) (divisor : 1 ≤ cell m h j)
     (less : LessMultiple n (cell m i j / cell m h j) (getD m i []) (getD m h []) z) where
@@ -69,6 +75,7 @@ module _ (n i h j : ℕ) (m : List (List ℕ)) (z : List ℕ) (two : 2 ≤ n) (l
           subst (λ (k : ℕ). cell (set m i z) k c < n) (sym e) (subst (λ (x : ℕ). x < n) (sym (less-at c q)) (mod-lt _ (omega arith)))
       below r c p q (no e) = subst (λ (x : ℕ). x < n) (sym (cell-other m i z r c e)) (cells .at r c p q)
 
+-- the row j less twice itself is put in at i, and the row i at j
 module _ (n i j : ℕ) (m : List (List ℕ)) (z : List ℕ) (two : 2 ≤ n) (li : i < 8) (lj : j < 8) (apart : i ≢ j) (size : length m ≡ 8)
     (cells : ResidueCells n m) (less : LessMultiple n 2 (getD m j []) (getD m j []) z) where
   m′ : List (List ℕ)

@@ -2,6 +2,7 @@
 -- n is the modulus, k the size of the minor, a and b are matrices, r and c a row and a column.
 --
 --   leading-minor n k a     the determinant of the first k rows and columns, from 0 to n - 1
+--   minor-zero              of no rows: 1
 --   minor-add-row           a multiple of a row is added to another: the minor stays
 --   minor-exchange          two rows change places, and one of them its sign: the minor stays
 --   minor-upper             zeros below the diagonal: the next minor is this one times the next word of the diagonal
@@ -30,9 +31,8 @@ unfoldable pub leading-minor : ℕ → ℕ → (ℕ → ℕ → ℕ) → ℕ
 leading-minor n k a = residue n (determinant k (λ r c. pos (a r c)))
 
 module _ {R : Type 0} (𝓡 : CRing R) where
-  open CRing 𝓡 using (add as _+_, mul as _*_, neg as -_, unit as 𝟙, mul-assoc, mul-comm, one-mul)
+  open CRing 𝓡 using (mul as _*_, neg as -_, unit as 𝟙, mul-assoc, mul-comm, one-mul)
 
-  infixl 65 _+_
   infixl 70 _*_
   infix 75 -_
   prod-last : (n : ℕ) (f : ℕ → R) → prod 𝓡 (suc n) f ≡ prod 𝓡 n f * f n

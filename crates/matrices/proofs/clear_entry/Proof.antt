@@ -37,9 +37,10 @@ index-2-if1 c = search needs
 
 -- src/lib.rt:119:17
 reduce-row-requires : tie.Need-reduce-row-requires Inv-loop μ-loop
-reduce-row-requires c κs =
-    ((c .before .before .before .pre .0 .0, (omega arith, (omega arith, (omega arith, omega arith)))),
-    (c .before .before .loop .inv .residues, omega arith))
+reduce-row-requires c κs = (
+  (c .before .before .before .pre .0 .0, (omega arith, (omega arith, (omega arith, omega arith)))),
+  (c .before .before .loop .inv .residues, omega arith),
+)
 
 -- src/lib.rt:120:12
 mul-if2 : tie.Need-mul-if2 Inv-loop μ-loop
@@ -59,9 +60,10 @@ index-2-if2 c = search needs
 
 -- src/lib.rt:121:13
 exchange-requires : tie.Need-exchange-requires Inv-loop μ-loop
-exchange-requires c κs =
-    ((c .before .before .before .before .before .before .pre .0 .0, (omega arith, (omega arith, omega arith))),
-    c .before .before .reduce-row .ensures .combined .residues)
+exchange-requires c κs = (
+  (c .before .before .before .before .before .before .pre .0 .0, (omega arith, (omega arith, omega arith))),
+  c .before .before .reduce-row .ensures .combined .residues,
+)
 
 -- src/lib.rt:121:13
 returns : tie.Need-returns Inv-loop μ-loop
@@ -70,9 +72,10 @@ returns c = let s = c .before .before .before in
 
 -- src/lib.rt:123:13
 reduce-row-requires-2 : tie.Need-reduce-row-requires-2 Inv-loop μ-loop
-reduce-row-requires-2 c κs =
-    ((c .before .before .before .before .before .before .pre .0 .0, (omega arith, (omega arith, (omega arith, omega arith)))),
-    (c .before .before .reduce-row .ensures .combined .residues, omega arith))
+reduce-row-requires-2 c κs = (
+  (c .before .before .before .before .before .before .pre .0 .0, (omega arith, (omega arith, (omega arith, omega arith)))),
+  (c .before .before .reduce-row .ensures .combined .residues, omega arith),
+)
 
 -- src/lib.rt:118:5
 loop-less : tie.Need-loop-less Inv-loop μ-loop

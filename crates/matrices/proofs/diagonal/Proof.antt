@@ -56,10 +56,11 @@ loop-less c = search needs
 
 -- src/lib.rt:168:5
 loop-again : tie.Need-loop-again Inv-loop μ-loop
-loop-again c = let s = c .before .before .before .before .before in let l = c .before .before .before .loop in
-    (omega arith,
-    diagonal-next (s .args .n) (s .args .size) (l .k) (s .args .t1) (l .x) (c .mul-mod .result) (omega arith) (omega arith)
-    (s .pre .1) (l .inv .1) (c .mul-mod .ensures))
+loop-again c = let s = c .before .before .before .before .before in let l = c .before .before .before .loop in (
+  omega arith,
+  diagonal-next (s .args .n) (s .args .size) (l .k) (s .args .t1) (l .x) (c .mul-mod .result) (omega arith) (omega arith)
+      (s .pre .1) (l .inv .1) (c .mul-mod .ensures),
+)
 
 -- src/lib.rt:161:1
 returns : tie.Need-returns Inv-loop μ-loop
