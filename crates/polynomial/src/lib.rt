@@ -6,12 +6,13 @@
 //   true_degree     the place of the highest nonzero word
 //   leading         the words up to that place, the caller's own
 ghost use mathlib.Core.Path.{_≡_};
-ghost use Prim.Native.Nat.{ℕ, suc, _+_, _-_, _*_, _%_, _<_, _≤_};
-ghost use lib.ListN.{length, getD, drop};
+ghost use Prim.Native.Nat.{ℕ, _+_, _-_, _*_, _%_, _<_, _≤_};
+ghost use lib.ListN.{length};
 ghost use lib.Dec.{eqb};
 ghost use mathlib.Core.Bool.{cond};
 ghost use Rattle.definitions.specs.Polynomials.{coef, deg, convolve, tabulate, product as product-of, extent, true-degree, Residues, Division, quotient-length};
 ghost use Rattle.refusals.specs.Refusals.{refusal-one, short-result, first-of, answered};
+ghost use Rattle.polynomial.specs.Stages.{QuotientWords, difference};
 ghost use Rattle.polynomial.specs.Services.{Outcome, replaced, refusal-product, product-status, division-status, DivisionPlaced, leading-part};
 
 use refusals::Answer;
@@ -70,6 +71,110 @@ pub fn product(n: u32, f: &[u32], g: &[u32], out: &mut [u32]) -> Answer
         return Answer { value: 0, status: 6 };
     }
     product_words(n, f, g, &mut out[0..m]);
+    Answer { value: 0, status: 0 }
+}
+
+// ---- division
+
+// a - b, or 0 where b is more.
+pub fn excess(a: usize, b: usize) -> usize
+    ensures { λ r. ⌜ r ≡ a - b ⌝ }
+{
+    if a < b {
+        return 0;
+    }
+    a - b
+}
+
+// Coefficient k of f.
+pub fn coefficient(f: &[u32], k: usize) -> u32
+    ensures { λ r. ⌜ r ≡ coef (now (f .entry)) k ⌝ }
+{
+    if k < f.len() {
+        return f[k];
+    }
+    0
+}
+
+// The quotient of f by g, from its top word down: word s is i (f_{e+s} - q_{s+1} g_{e-1} - q_{s+2} g_{e-2} - ..), where i is the
+// inverse of the top word of g. While word s is made, 0 stands in its place.
+pub fn quotient_words(n: u32, i: u32, f: &[u32], g: &[u32], q: &mut [u32])
+    requires { ⌜ (1 ≤ n) × ((1 ≤ length (now f)) × ((1 ≤ length (now g)) × (length (now q) ≡ quotient-length (deg (now f)) (deg (now g))))) ⌝ }
+    requires { ⌜ (Residues n (now g)) × ((i * coef (now g) (deg (now g))) % n ≡ 1 % n) ⌝ }
+    ensures { λ _. ⌜ QuotientWords n (now (f .entry)) (now (g .entry)) (now (q .exit)) ⌝ }
+{
+    windows::wipe(q);
+    let e = g.len() - 1;
+    let m = q.len();
+    let mut s = excess(f.len(), e);
+    while 0 < s {
+        s -= 1;
+        let x = convolution::product_word(n, &q[s..m], g, e);
+        q[s] = arithmetic::mul_mod(n, i, arithmetic::sub_mod(n, f[e + s], x));
+    }
+}
+
+// The words of f - q g, as many as there are in r.
+pub fn remainder_words(n: u32, f: &[u32], g: &[u32], q: &[u32], r: &mut [u32])
+    requires { ⌜ (1 ≤ n) × Residues n (now g) ⌝ }
+    ensures { λ _. ⌜ now (r .exit) ≡ tabulate (length (now (r .entry)))
+      (λ (k : ℕ). difference n (coef (now (f .entry)) k) (convolve (coef (now (q .entry))) (coef (now (g .entry))) k)) ⌝ }
+{
+    let mut k: usize = 0;
+    while k < r.len() {
+        let x = convolution::product_word(n, q, g, k);
+        r[k] = arithmetic::sub_mod(n, coefficient(f, k), x);
+        k += 1;
+    }
+}
+
+// f = q g + r, the inverse of the top word of g being i; q and r have as many words as the result.
+pub fn divide(n: u32, i: u32, f: &[u32], g: &[u32], q: &mut [u32], r: &mut [u32])
+    requires { ⌜ (1 ≤ n) × ((1 ≤ length (now f)) × ((1 ≤ length (now g)) × (length (now q) ≡ quotient-length (deg (now f)) (deg (now g))))) ⌝ }
+    requires { ⌜ (length (now r) ≡ deg (now g)) × ((Residues n (now g)) × ((i * coef (now g) (deg (now g))) % n ≡ 1 % n)) ⌝ }
+    ensures { λ _. ⌜ Division n (now (f .entry)) (now (g .entry)) (now (q .exit)) (now (r .exit)) ⌝ }
+{
+    quotient_words(n, i, f, g, q);
+    remainder_words(n, f, g, q, r);
+}
+
+// The refusals 4 and 6 of a division: u is what the divisor's top word has in common with n; the buffers have k and l words, and
+// need m and e.
+pub fn refusal_quotient(u: u32, k: usize, m: usize, l: usize, e: usize) -> u32
+    ensures { λ r. ⌜ r ≡ first-of (cond (eqb u 1) 0 4) (first-of (short-result k m) (short-result l e)) ⌝ }
+{
+    if u != 1 {
+        return 4;
+    }
+    if k < m {
+        return 6;
+    }
+    if l < e {
+        return 6;
+    }
+    0
+}
+
+// "Division by a polynomial whose top word is a unit: f = qg + r, r of e words (none for e = 0), q of d - e + 1 words, or one zero
+// word if d < e."
+pub fn division(n: u32, f: &[u32], g: &[u32], q: &mut [u32], r: &mut [u32]) -> Answer
+    ensures { λ a. ⌜ (a .value ≡ 0) × (a .status ≡ division-status n (now (f .entry)) (now (g .entry)) (length (now (q .entry))) (length (now (r .entry)))) ⌝ }
+    ensures { λ _. ⌜ Outcome (division-status n (now (f .entry)) (now (g .entry)) (length (now (q .entry))) (length (now (r .entry))))
+      (DivisionPlaced n (now (f .entry)) (now (g .entry)) (now (q .entry)) (now (q .exit)) (now (r .entry)) (now (r .exit)))
+      ((now (q .exit) ≡ now (q .entry)) × (now (r .exit) ≡ now (r .entry))) ⌝ }
+{
+    let s = refusals::refusal_two(n, f, g);
+    if s != 0 {
+        return Answer { value: 0, status: s };
+    }
+    let e = g.len() - 1;
+    let m = excess(f.len() - 1, e) + 1;
+    let u = bezout::cofactor(n, g[e]);
+    let t = refusal_quotient(u.g, q.len(), m, r.len(), e);
+    if t != 0 {
+        return Answer { value: 0, status: t };
+    }
+    divide(n, u.s, f, g, &mut q[0..m], &mut r[0..e]);
     Answer { value: 0, status: 0 }
 }
 
