@@ -4,7 +4,6 @@
 // A line for each n from 0 to 64: n, K, and a checksum of the answers of sum, difference, product, power, gcd with cofactors and
 // kind at all a and b from 0 to 64, refusals included. Then the residues modulo 12 in full, joining, and full lines at the ends of the range.
 ghost use Prim.Native.Nat.{ℕ, _≤_};
-
 use refusals::Answer;
 use residue::Kind;
 use residue_services::KindAnswer;
@@ -45,13 +44,18 @@ fn apply(service: u32, n: u32, a: u32, b: u32) -> Answer {
     residue_services::power(n, a, b as usize)
 }
 
+// s a + t b, as the services answer it.
+fn combine(n: u32, a: u32, b: u32, s: u32, t: u32) -> Answer {
+    let x = residue_services::product(n, s, a);
+    let y = residue_services::product(n, t, b);
+    residue_services::sum(n, x.value, y.value)
+}
+
 // g, the status, and what the cofactors combine to.
 fn mix_gcd(n: u32, a: u32, b: u32, h: u32) -> u32 {
     let c = residue_services::gcd_with_cofactors(n, a, b);
     let s = mix(mix(h, c.g), c.status);
-    let x = residue_services::product(n, c.s, a);
-    let y = residue_services::product(n, c.t, b);
-    mix_answer(s, residue_services::sum(n, x.value, y.value))
+    mix_answer(s, combine(n, a, b, c.s, c.t))
 }
 
 fn mix_kind(n: u32, a: u32, h: u32) -> u32 {
@@ -84,15 +88,19 @@ fn table(service: u32, n: u32) -> u32 {
     h
 }
 
+fn next_table(service: u32, n: u32) {
+    next_number(table(service, n));
+}
+
 fn modulus_line(n: u32) {
     number(n);
     next_number(residue::modulus_of(n).k);
-    next_number(table(0, n));
-    next_number(table(1, n));
-    next_number(table(2, n));
-    next_number(table(3, n));
-    next_number(table(4, n));
-    next_number(table(5, n));
+    next_table(0, n);
+    next_table(1, n);
+    next_table(2, n);
+    next_table(3, n);
+    next_table(4, n);
+    next_table(5, n);
     end_line();
 }
 
@@ -189,21 +197,27 @@ fn answer(r: Answer) {
     next_number(r.status);
 }
 
+fn next_gcd(n: u32, a: u32, b: u32) {
+    let c = residue_services::gcd_with_cofactors(n, a, b);
+    next_number(c.g);
+    next_number(c.status);
+    answer(combine(n, a, b, c.s, c.t));
+}
+
+fn next_service(service: u32, n: u32, a: u32, b: u32) {
+    answer(apply(service, n, a, b));
+}
+
 // n, a, b, and each service in full; of the cofactors, what they combine to.
 fn end_line_of(n: u32, a: u32, b: u32) {
     number(n);
     next_number(a);
     next_number(b);
-    answer(residue_services::sum(n, a, b));
-    answer(residue_services::difference(n, a, b));
-    answer(residue_services::product(n, a, b));
-    answer(residue_services::power(n, a, b as usize));
-    let c = residue_services::gcd_with_cofactors(n, a, b);
-    next_number(c.g);
-    next_number(c.status);
-    let x = residue_services::product(n, c.s, a);
-    let y = residue_services::product(n, c.t, b);
-    answer(residue_services::sum(n, x.value, y.value));
+    next_service(0, n, a, b);
+    next_service(1, n, a, b);
+    next_service(2, n, a, b);
+    next_service(3, n, a, b);
+    next_gcd(n, a, b);
     end_line();
 }
 
