@@ -164,3 +164,8 @@ module _ (n a d b e s i c t m : ℕ) (w₀ w w' : List ℕ) (pos : 0 < n) (one :
             ∙ ap (λ (x : ℕ). convolve (dv .q) F k + x) (convolve-add (spot (suc s) c) (spot s m) F k ∙ ap₂ (λ (x y : ℕ). x + y) (convolve-spot (suc s) c F k) (convolve-spot s m F k))) ∙ add-assoc _ _ _))
           (c-trans (c-add c-refl (turn k)) (dv .at k))
       }
+
+  -- the two quotient words that were found
+  pub double-quotient : (j : ℕ) → double-step .q j ≡ dv .q j + (spot (suc s) c j + spot s m j)
+  unfolding double-step F Goal
+  double-quotient j = refl
