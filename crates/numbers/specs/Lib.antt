@@ -7,3 +7,4 @@ pub mod Logarithm
 pub mod Primes
 pub mod Nilpotents
 pub mod Kinds
+pub mod Cofactors

@@ -6,6 +6,7 @@
 --   K-half        K n is one more than K (n / 2): what a loop of halvings counts
 --   K-sum         K n₁ + K n₂ ≤ K (n₁ n₂)
 --   K-monotone, K-positive, K-below
+--   Halved n m k  m is n halved k times
 use mathlib.Core.Path.{_≡_, refl, sym, ap, subst, _∙_}
 use mathlib.Core.Bool.{Bool, true, false}
 use Prim.Native.Nat.{ℕ, zero, suc, _+_, _-_, _*_, _/_, _%_, _^_, _<_, _≤_}
@@ -107,3 +108,24 @@ K-below n w l h = pick (decLe w (K n))
     pick : Dec (w ≤ K n) → K n < w
     pick (yes z) = let b = K-bounds n l .low in let c : 2 ^ w ≤ 2 ^ K n = pow-mono z in absurd (omega arith)
     pick (no z) = omega arith
+
+-- ---- counting halvings: m is n halved k times
+
+pub record Halved (n m k : ℕ) : Type 0 where
+  pub few : k + m ≤ n
+  pub is : K n ≡ k + K m
+
+pub halved-start : (n : ℕ) → Halved n n 0
+halved-start n = record { few = omega arith; is = omega arith }
+
+pub halved-step : {n m k : ℕ} → 2 ≤ m → Halved n m k → Halved n (m / 2) (k + 1)
+halved-step {n} {m} {k} l h = let a = h .few in let b = h .is in let c = K-half m l in record { few = omega arith; is = omega arith }
+
+K-small : (m : ℕ) → m < 2 → K m ≡ 0
+unfolding K halvings
+K-small zero l = refl
+K-small (suc zero) l = K-one
+K-small (suc (suc m)) l = absurd (omega arith)
+
+pub halved-end : {n m k : ℕ} → m < 2 → Halved n m k → k ≡ K n
+halved-end {n} {m} {k} l h = let b = h .is in let c = K-small m l in omega arith
