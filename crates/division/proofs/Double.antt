@@ -14,7 +14,7 @@ use Rattle.division.proofs.Turns.{Dividing, convolve-add, convolve-spot
 use Rattle.windows.specs.Window.{Paired, behind}
 
 -- c y + m z taken away and put back
-back-two : (n x c y m z : ℕ) → c < n → m < n → Cong n (c * y + m * z + (x + (n - c) * y + (n - m) * z) % n) x
+pub back-two : (n x c y m z : ℕ) → c < n → m < n → Cong n (c * y + m * z + (x + (n - c) * y + (n - m) * z) % n) x
 back-two n x c y m z hc hm =
     c-trans (c-add c-refl (c-mod (x + (n - c) * y + (n - m) * z)))
     (c-trans (c-eq (sums (n - c) (n - m) (omega arith) (omega arith)))

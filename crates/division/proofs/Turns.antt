@@ -83,7 +83,7 @@ convolve-spot (suc s) m F (suc k) =
     convolve-suc (spot (suc s) m) F k ∙ ap₂ (λ (x y : ℕ). x + y) (zero-mul (F (suc k))) (convolve-spot s m F k) ∙ zero-add (m * risen s F k)
 
 -- x + (n - c) y, with c y more, is x
-back : (n x c y : ℕ) → c < n → Cong n (c * y + (x + (n - c) * y) % n) x
+pub back : (n x c y : ℕ) → c < n → Cong n (c * y + (x + (n - c) * y) % n) x
 back n x c y h =
     c-trans (c-add c-refl (c-mod (x + (n - c) * y)))
     (c-trans (c-eq (sums (n - c) (omega arith)))
