@@ -2,7 +2,7 @@
 ghost use mathlib.Core.Path.{_≡_};
 ghost use Prim.Native.Nat.{ℕ, _+_, _-_, _*_, _%_, _<_, _≤_};
 ghost use lib.ListN.{length, getD};
-ghost use Rattle.stages.specs.Products.{Factors, Subtracted};
+ghost use Rattle.stages.specs.Products.{Factors, Subtracted, MonicAt, TakenFrom};
 
 // The lp + lq - 1 words at dst lose the product of the lp words at p and the lq words at q. Two words of the first share one reduction.
 pub fn sub_product(w: &mut [u32], n: u32, p: usize, lp: usize, q: usize, lq: usize, dst: usize)
@@ -24,4 +24,20 @@ pub fn sub_product(w: &mut [u32], n: u32, p: usize, lp: usize, q: usize, lq: usi
     }
     let m = w[p + j];
     windows::add_scaled(w, n, n - m, q, dst + j, lq);
+}
+
+// As `sub_product`, modulo the monic polynomial of degree t at 0 where t words do not hold what is left. Answers the number of words left.
+fn take_product(w: &mut [u32], n: u32, t: usize, p: usize, lp: usize, q: usize, lq: usize, dst: usize) -> usize
+    requires { ⌜ (1 ≤ n) × ((1 ≤ lp) × ((1 ≤ lq) × ((p + lp ≤ length (now w)) × ((q + lq ≤ length (now w)) × (dst + (lp + lq - 1) ≤ length (now w)))))) ⌝ }
+    requires { ⌜ (Factors n p lp q lq dst (now w)) × ((1 ≤ t) × ((t + 1 ≤ dst) × MonicAt n t (now w))) ⌝ }
+    ensures { λ r. ⌜ TakenFrom n t p lp q lq dst r (now (w .entry)) (now (w .exit)) ⌝ }
+{
+    sub_product(w, n, p, lp, q, lq, dst);
+    let l = lp + lq - 1;
+    if l <= t {
+        return l;
+    }
+    division::divide(w, n, 0, t, dst, l - 1, 1);
+    windows::clear(w, dst + t, l - t);
+    t
 }
