@@ -1,2 +1,4 @@
 pub mod Subtraction
 pub mod Taking
+pub mod Regions
+pub mod Steps

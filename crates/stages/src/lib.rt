@@ -4,6 +4,12 @@ ghost use Prim.Native.Nat.{ℕ, _+_, _-_, _*_, _%_, _<_, _≤_};
 ghost use lib.ListN.{length, getD};
 ghost use Rattle.stages.specs.Products.{Factors, Subtracted, MonicAt, TakenFrom};
 
+// What a stage or an attempt comes to: a reduced resultant, or two coprime divisors of the modulus.
+pub enum Outcome {
+    Value(u32),
+    Splits(u32, u32),
+}
+
 // The lp + lq - 1 words at dst lose the product of the lp words at p and the lq words at q. Two words of the first share one reduction.
 pub fn sub_product(w: &mut [u32], n: u32, p: usize, lp: usize, q: usize, lq: usize, dst: usize)
     requires { ⌜ (1 ≤ n) × ((1 ≤ lp) × ((1 ≤ lq) × ((p + lp ≤ length (now w)) × ((q + lq ≤ length (now w)) × (dst + (lp + lq - 1) ≤ length (now w)))))) ⌝ }
