@@ -374,3 +374,29 @@ completed (suc n) l = step-last n
 pub inverse-of-negated : (n : ℕ) → 1 ≤ n → (u j : List ℕ) → NegatedInverse n u j → (i : List ℕ) × InversePolynomial n u i
 inverse-of-negated zero l = absurd (omega arith)
 inverse-of-negated (suc n) l = step-inverse n
+
+-- what leads to 1 completes to m
+pub leads-completes : (n m ν : ℕ) → 1 ≤ m → 1 ≤ ν → n ≡ m *ℕ ν → (h g b x : List ℕ) → ((k : ℕ) → coef x k % ν ≡ constant 1 k % ν) → Leads n m h g b x → Completes n h g b m
+leads-completes n m ν p q e h g b x one l = record {
+  w = l .w;
+  combination = record { sum = λ k. l .at k ∙ lifted n m ν (coef x k) (constant 1 k) p q e (one k) ∙ ap (λ (y : ℕ). y % n) (go k) };
+}
+  where
+    go : (k : ℕ) → m *ℕ constant 1 k ≡ constant m k
+    go zero = omega arith
+    go (suc k) = omega arith
+
+-- y over a unit is 1
+pub leads-unity : (n m ν i : ℕ) → 1 ≤ m → 1 ≤ ν → n ≡ m *ℕ ν → (h g b b′ y : List ℕ) → ((k : ℕ) → coef b′ k % n ≡ (i *ℕ coef b k) % n) → ((k : ℕ) → (i *ℕ coef y k) % ν ≡ constant 1 k % ν)
+    → Leads n m h g b y → Completes n h g b′ m
+leads-unity n m ν i p q e h g b b′ y eb one l =
+    leads-completes n m ν p q e h g b′ (1 ∷ []) (λ k. ap (λ (x : ℕ). x % ν) (unity k))
+    (leads-scaled n i m m (subst (λ (x : ℕ). 1 ≤ x) (sym e) (mul-pos p q)) h g b b′ y (1 ∷ []) eb
+    (λ k. ap (λ (x : ℕ). (m *ℕ x) % n) (unity k) ∙ sym (ap (λ (x : ℕ). x % n) (turn m i (coef y k)) ∙ lifted n m ν (i *ℕ coef y k) (constant 1 k) p q e (one k))) l)
+  where
+    unity : (k : ℕ) → coef (1 ∷ []) k ≡ constant 1 k
+    unity zero = refl
+    unity (suc k) = refl
+
+    turn : (m i y : ℕ) → i *ℕ (m *ℕ y) ≡ m *ℕ (i *ℕ y)
+    turn m i y = omega arith

@@ -104,6 +104,24 @@ reduced-unity n l f g e = record {
         nought : (x : ℕ) → 0 * x ≡ 0
         nought x = omega arith
 
+-- the second is a unit of the ring
+pub reduced-unit-constant : (n i : ℕ) → 1 ≤ n → (f g : List ℕ) → ((k : ℕ) → 0 < k → coef g k ≡ 0) → (i * coef g 0) % n ≡ 1 % n → Reduced n f g 1
+reduced-unit-constant n i l f g z u =
+    reduced-flip n l g f 1
+    (reduced-scaled n (coef g 0) i l g (1 ∷ []) f 1 u (λ k. ap (λ (x : ℕ). x % n) (is k))
+    (reduced-flip n l f (1 ∷ []) 1 (reduced-unity n l f (1 ∷ []) (λ k. ap (λ (x : ℕ). x % n) (unity k)))))
+  where
+    unity : (k : ℕ) → coef (1 ∷ []) k ≡ constant 1 k
+    unity zero = refl
+    unity (suc k) = refl
+
+    is : (k : ℕ) → coef g k ≡ coef g 0 * coef (1 ∷ []) k
+    is zero = sym (mul-one (coef g 0))
+    is (suc k) = z (suc k) (omega arith) ∙ sym (nought (coef g 0))
+      where
+        nought : (x : ℕ) → x * 0 ≡ 0
+        nought x = omega arith
+
 -- D4 with a leading unit: r is c r′
 module _ (c n t : ℕ) (c-pos : 1 ≤ c) (n-pos : 1 ≤ n) (t-pos : 1 ≤ t) (f : List ℕ) (lead : UnitLead (c * n) t f) where
   i : ℕ

@@ -16,7 +16,9 @@ use Rattle.division.specs.Remainders.{Pair, Quotient}
 use Rattle.multipliers.specs.Leads.{Leads, Completes, Taken, leads-taken}
 use Rattle.multipliers.specs.Reductions.{reduced-step}
 use Rattle.stages.specs.Products.{Factors, MonicAt, TakenFrom}
-use Rattle.stages.specs.States.{Places, Multiplier, Stage, Solved, Kept}
+use Rattle.stages.specs.States.{Places, Multiplier, Stage, Solved, Kept, Answers}
+use Rattle.stages.specs.declared.Outcome.{Outcome}
+use Rattle.stages.specs.declared.Outcome.the-variants.{Value, Splits}
 use Rattle.stages.proofs.Regions.{apart-sub, apart-low, apart-swap, below-apart, piece-apart, multiplier-apart, multiplier-more, monic-apart, kept-around, kept-trans, kept-piece, places-swap, multiplier-short}
 
 module _ (n ν t pa a pb b al be l : ℕ) (w : List ℕ) (low : b < a) (one : 1 ≤ b) (st : Stage n ν t pa a pb (b + 1) al be l w) where
@@ -176,3 +178,7 @@ module _ (n ν t pa a pb b al be l : ℕ) (w : List ℕ) (low : b < a) (one : 1 
                 (leads-taken n m ν p (omega (arith, st .above)) e (piece w 0 (t + 1)) g (piece w al (2 * (t + 1))) (piece w be (2 * (t + 1))) (piece w₂ al (2 * (t + 1))) q
                   (piece w pa (a + 1)) (piece w pb (b + 1)) (piece w₁ pa b) wide (dv .divided) x y))))
           }
+
+      pub step-answers : (w' : List ℕ) (r : Outcome) → Answers n ν t pb b pa b be al w₂ w' r → Answers n ν t pa a pb (b + 1) al be w w' r
+      step-answers w' (Value D) s = step-solved D w' s
+      step-answers w' (Splits p q) s = s

@@ -11,9 +11,10 @@
 --
 --   Places, Multiplier, Stage     what a stage asks
 --   Solved, Splitter, Answers     what it promises
+--   Cleared, Clears               what the clearing of contents and unit factors promises
 use mathlib.Core.Path.{_≡_}
 use mathlib.Core.List.{List}
-use Prim.Native.Nat.{ℕ, _+_, _-_, _*_, _%_, _<_, _≤_, _∣_}
+use Prim.Native.Nat.{ℕ, _+_, _-_, _*_, _/_, _%_, _<_, _≤_, _∣_}
 use lib.ListN.{length, getD}
 use Rattle.definitions.specs.Residues.{K, IsUnit, Coprime}
 use Rattle.definitions.specs.Resultants.{Reduced}
@@ -22,6 +23,8 @@ use Rattle.multipliers.specs.Leads.{Leads, Completes}
 use Rattle.stages.specs.Products.{MonicAt}
 use Rattle.stages.specs.declared.Outcome.{Outcome}
 use Rattle.stages.specs.declared.Outcome.the-variants.{Value, Splits}
+use Rattle.stages.specs.declared.Clearing.{Clearing}
+use Rattle.stages.specs.declared.Clearing.the-variants.{Done, Parts, Next}
 
 pub record Places (t pa pb al be : ℕ) : Type 0 where
   pub a-low : 2 * (t + 1) ≤ pa
@@ -85,3 +88,22 @@ Answers n ν t pa a pb c al be w w' (Splits p q) = Splitter ν p q
 pub record Kept (t : ℕ) (w w' : List ℕ) : Type 0 where
   pub same : length w' ≡ length w
   pub low : (k : ℕ) → k < t + 1 → getD w' k 0 ≡ getD w k 0
+
+-- The content c of B is taken out of it and of the modulus, a unit factor is taken out of B, which is monic of degree s now, and the
+-- multipliers follow.
+pub record Cleared (n ν t pa a pb al be c s l : ℕ) (w w' : List ℕ) : Type 0 where
+  pub divides : c ∣ ν
+  pub degree : 1 ≤ s
+  pub shorter : s < a
+  pub stage : Stage n (ν / c) t pa a pb (s + 1) al be l w'
+  pub monic : getD w' (pb + s) 0 ≡ 1
+  pub reduced : (D : ℕ) → Reduced (ν / c) (piece w' pa (a + 1)) (piece w' pb (s + 1)) D → Reduced ν (piece w pa (a + 1)) (piece w pb a) (c * D)
+  pub first : (g : List ℕ) (m : ℕ) → 1 ≤ m → n ≡ m * ν → Leads n m (piece w 0 (t + 1)) g (piece w al (2 * (t + 1))) (piece w pa (a + 1))
+    → Leads n (m * c) (piece w 0 (t + 1)) g (piece w' al (2 * (t + 1))) (piece w' pa (a + 1))
+  pub second : (g : List ℕ) (m : ℕ) → 1 ≤ m → n ≡ m * ν → Leads n m (piece w 0 (t + 1)) g (piece w be (2 * (t + 1))) (piece w pb a)
+    → Leads n (m * c) (piece w 0 (t + 1)) g (piece w' be (2 * (t + 1))) (piece w' pb (s + 1))
+
+abbrev pub Clears : ℕ → ℕ → ℕ → ℕ → ℕ → ℕ → ℕ → ℕ → List ℕ → List ℕ → Clearing → Type 0
+Clears n ν t pa a pb al be w w' (Done D) = Solved n ν t pa a pb a al be D w w'
+Clears n ν t pa a pb al be w w' (Parts p q) = Splitter ν p q
+Clears n ν t pa a pb al be w w' (Next c s l) = Cleared n ν t pa a pb al be c s l w w'
