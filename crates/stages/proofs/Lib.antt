@@ -1,5 +1,2 @@
-pub mod Subtraction
-pub mod Taking
-pub mod Regions
 pub mod Steps
-pub mod Outcomes
+pub mod Endings

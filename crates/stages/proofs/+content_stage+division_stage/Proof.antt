@@ -1,10 +1,10 @@
 use Rattle.stages.proofs.Steps.{step-answers}
-use Rattle.stages.proofs.Outcomes.{unit-kept, unit-solved, leading-inverse, leading-unit, stage-words, content-positive, quotient-small, cleared-splitter, product-most, cleared-solved}
+use Rattle.stages.proofs.Endings.{unit-kept, unit-solved, leading-inverse, leading-unit, stage-words, content-positive, quotient-small, cleared-splitter, product-most, cleared-solved}
 use Rattle.stages.proofs.Steps.{step-pair, step-monic, step-factors, step-stage, step-kept, step-solved}
-use Rattle.stages.proofs.Regions.{kept-trans}
-use Rattle.stages.specs.States.{Stage, Answers, Clears, Kept}
+use Rattle.clearing.proofs.Regions.{kept-trans}
+use Rattle.clearing.specs.States.{Stage, Clears, Kept}
+use Rattle.stages.specs.Outcomes.{Answers}
 use Rattle.stages.specs.declared.Outcome.{Outcome}
-use Rattle.stages.specs.declared.Clearing.{Clearing}
 use lib.ListN.{length, getD}
 use native.Mathlib.Nat.{one-mul}
 use mathlib.Core.List.{List}
@@ -23,8 +23,8 @@ use Rattle.stages.proofs.division_stage.Kinds as division-stage-kinds
 use Rattle.stages.proofs.+content_stage+division_stage.Lts-division_stage as division-stage-lts
 use Rattle.bezout.proofs.cofactor.Reads as cofactor-reads
 use Rattle.division.proofs.divide_keeping.Reads as divide-keeping-reads
-use Rattle.stages.proofs.clear_contents.Reads as clear-contents-reads
-use Rattle.stages.proofs.take_product.Reads as take-product-reads
+use Rattle.clearing.proofs.clear_contents.Reads as clear-contents-reads
+use Rattle.products.proofs.take_product.Reads as take-product-reads
 use Rattle.windows.proofs.scale.Reads as scale-reads
 use Rattle.stages.proofs.+content_stage+division_stage.{statement}
 use Rattle.stages.proofs.+content_stage+division_stage.Tie.{close}

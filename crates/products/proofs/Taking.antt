@@ -14,7 +14,7 @@ use Rattle.windows.proofs.Leaf.{lt-or-le, piece-at, piece-over, piece-same}
 use Rattle.division.specs.Remainders.{Pair, Remainder}
 use Rattle.division.proofs.Turns.{convolve-none}
 use Rattle.multipliers.specs.Leads.{Taken}
-use Rattle.stages.specs.Products.{Factors, Subtracted, MonicAt, TakenFrom}
+use Rattle.products.specs.Products.{Factors, Subtracted, MonicAt, TakenFrom}
 
 convolve-empty : (F : ℕ → ℕ) (k : ℕ) → convolve (coef []) F k ≡ 0
 convolve-empty F k = ap (λ (a : ℕ → ℕ). convolve a F k) (fun-ext (λ i. coef-beyond [] i (omega arith))) ∙ convolve-none F k

@@ -10,8 +10,8 @@
 -- and B of c words at pb. The multipliers of A and B, at al and be, have l words and zeros above.
 --
 --   Places, Multiplier, Stage     what a stage asks
---   Solved, Splitter, Answers     what it promises
---   Cleared, Clears               what the clearing of contents and unit factors promises
+--   Solved, Splitter              what it promises
+--   Change, Cleared, Clears       what the clearing of contents and unit factors promises
 use mathlib.Core.Path.{_≡_}
 use mathlib.Core.List.{List}
 use Prim.Native.Nat.{ℕ, _+_, _-_, _*_, _/_, _%_, _<_, _≤_, _∣_}
@@ -20,11 +20,9 @@ use Rattle.definitions.specs.Residues.{K, IsUnit, Coprime}
 use Rattle.definitions.specs.Resultants.{Reduced}
 use Rattle.windows.specs.Window.{piece, Below, Apart}
 use Rattle.multipliers.specs.Leads.{Leads, Completes}
-use Rattle.stages.specs.Products.{MonicAt}
-use Rattle.stages.specs.declared.Outcome.{Outcome}
-use Rattle.stages.specs.declared.Outcome.the-variants.{Value, Splits}
-use Rattle.stages.specs.declared.Clearing.{Clearing}
-use Rattle.stages.specs.declared.Clearing.the-variants.{Done, Parts, Next}
+use Rattle.products.specs.Products.{MonicAt}
+use Rattle.clearing.specs.declared.Clearing.{Clearing}
+use Rattle.clearing.specs.declared.Clearing.the-variants.{Done, Parts, Next}
 
 pub record Places (t pa pb al be : ℕ) : Type 0 where
   pub a-low : 2 * (t + 1) ≤ pa
@@ -80,28 +78,29 @@ pub record Solved (n ν t pa a pb c al be D : ℕ) (w w' : List ℕ) : Type 0 wh
     → Leads n m (piece w 0 (t + 1)) g (piece w al (2 * (t + 1))) (piece w pa (a + 1)) → Leads n m (piece w 0 (t + 1)) g (piece w be (2 * (t + 1))) (piece w pb c)
     → Completes n (piece w 0 (t + 1)) g (piece w' (t + 1) t) (m * D)
 
-abbrev pub Answers : ℕ → ℕ → ℕ → ℕ → ℕ → ℕ → ℕ → ℕ → ℕ → List ℕ → List ℕ → Outcome → Type 0
-Answers n ν t pa a pb c al be w w' (Value D) = Solved n ν t pa a pb c al be D w w'
-Answers n ν t pa a pb c al be w w' (Splits p q) = Splitter ν p q
-
 -- H is what it was
 pub record Kept (t : ℕ) (w w' : List ℕ) : Type 0 where
   pub same : length w' ≡ length w
   pub low : (k : ℕ) → k < t + 1 → getD w' k 0 ≡ getD w k 0
 
--- The content c of B is taken out of it and of the modulus, a unit factor is taken out of B, which is monic of degree s now, and the
--- multipliers follow.
-pub record Cleared (n ν t pa a pb al be c s l : ℕ) (w w' : List ℕ) : Type 0 where
-  pub divides : c ∣ ν
-  pub degree : 1 ≤ s
-  pub shorter : s < a
-  pub stage : Stage n (ν / c) t pa a pb (s + 1) al be l w'
-  pub monic : getD w' (pb + s) 0 ≡ 1
-  pub reduced : (D : ℕ) → Reduced (ν / c) (piece w' pa (a + 1)) (piece w' pb (s + 1)) D → Reduced ν (piece w pa (a + 1)) (piece w pb a) (c * D)
+-- B, of x words, and the modulus ν = c r have changed: B has y words now and the modulus is r. The reduced resultant is c times what it is now,
+-- and the multipliers lead to c times as much.
+pub record Change (n ν r c t pa a pb x y al be : ℕ) (w w' : List ℕ) : Type 0 where
+  pub whole : ν ≡ c * r
+  pub reduced : (D : ℕ) → Reduced r (piece w' pa (a + 1)) (piece w' pb y) D → Reduced ν (piece w pa (a + 1)) (piece w pb x) (c * D)
   pub first : (g : List ℕ) (m : ℕ) → 1 ≤ m → n ≡ m * ν → Leads n m (piece w 0 (t + 1)) g (piece w al (2 * (t + 1))) (piece w pa (a + 1))
     → Leads n (m * c) (piece w 0 (t + 1)) g (piece w' al (2 * (t + 1))) (piece w' pa (a + 1))
-  pub second : (g : List ℕ) (m : ℕ) → 1 ≤ m → n ≡ m * ν → Leads n m (piece w 0 (t + 1)) g (piece w be (2 * (t + 1))) (piece w pb a)
-    → Leads n (m * c) (piece w 0 (t + 1)) g (piece w' be (2 * (t + 1))) (piece w' pb (s + 1))
+  pub second : (g : List ℕ) (m : ℕ) → 1 ≤ m → n ≡ m * ν → Leads n m (piece w 0 (t + 1)) g (piece w be (2 * (t + 1))) (piece w pb x)
+    → Leads n (m * c) (piece w 0 (t + 1)) g (piece w' be (2 * (t + 1))) (piece w' pb y)
+
+-- the content c of B is taken out of it and of the modulus, and a unit factor out of B, which is monic of degree s now
+pub record Cleared (n ν t pa a pb al be c s l : ℕ) (w w' : List ℕ) : Type 0 where
+  pub positive : 1 ≤ c
+  pub degree : 1 ≤ s
+  pub shorter : s < a
+  pub monic : getD w' (pb + s) 0 ≡ 1
+  pub stage : Stage n (ν / c) t pa a pb (s + 1) al be l w'
+  pub change : Change n ν (ν / c) c t pa a pb a (s + 1) al be w w'
 
 abbrev pub Clears : ℕ → ℕ → ℕ → ℕ → ℕ → ℕ → ℕ → ℕ → List ℕ → List ℕ → Clearing → Type 0
 Clears n ν t pa a pb al be w w' (Done D) = Solved n ν t pa a pb a al be D w w'

@@ -10,8 +10,8 @@ use Rattle.definitions.specs.Polynomials.{coef}
 use Rattle.windows.specs.Window.{piece, Below, Around, Apart}
 use Rattle.windows.proofs.Leaf.{lt-or-le, piece-at, piece-over, piece-same, apart-at}
 use Rattle.multipliers.specs.Leads.{Leads}
-use Rattle.stages.specs.Products.{MonicAt}
-use Rattle.stages.specs.States.{Places, Multiplier, Kept}
+use Rattle.products.specs.Products.{MonicAt}
+use Rattle.clearing.specs.States.{Places, Multiplier, Kept}
 
 -- ---- windows that lie apart
 

@@ -1,15 +1,15 @@
-use Rattle.stages.proofs.Subtraction.{first-small, turn-below, turn-apart}
+use Rattle.products.proofs.Subtraction.{first-small, turn-below, turn-apart}
 use borrow.Author.Needs.{needs}
 use lib.ListN.{getD, length-set}
-use Rattle.stages.proofs.Subtraction.{Subtracting, subtracting-start, subtracting-one, subtracting-two, subtracting-end}
+use Rattle.products.proofs.Subtraction.{Subtracting, subtracting-start, subtracting-one, subtracting-two, subtracting-end}
 use native.Mathlib.Omega.{arith}
 use mathlib.Core.Path.{_≡_, refl, sym, ap, subst, _∙_}
 use Prim.Native.Nat.{ℕ, _+_, _*_, _-_, _%_, _≤_, _<_}
 use native.Mathlib.Nat.{le-of-lt, mod-lt}
-use Rattle.stages.proofs.sub_product.Statement.{statement}
-use Rattle.stages.proofs.sub_product.Tie as tie
-use Rattle.stages.proofs.sub_product.Reads as reads
-use Rattle.stages.proofs.sub_product.Lts as lts
+use Rattle.products.proofs.sub_product.Statement.{statement}
+use Rattle.products.proofs.sub_product.Tie as tie
+use Rattle.products.proofs.sub_product.Reads as reads
+use Rattle.products.proofs.sub_product.Lts as lts
 use Rattle.arithmetic.proofs.mul_add_mod.Reads as mul-add-mod-reads
 use Rattle.windows.proofs.add_pair.Reads as add-pair-reads
 use Rattle.windows.proofs.add_scaled.Reads as add-scaled-reads

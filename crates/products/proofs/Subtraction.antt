@@ -14,7 +14,7 @@ use Rattle.windows.specs.Window.{piece, Moved, addMul, Below, Around, Apart, Pa
 use Rattle.windows.proofs.Leaf.{lt-or-le, piece-at, piece-over, apart-at}
 use Rattle.division.proofs.Turns.{convolve-none, convolve-add, convolve-spot, spot, spot-off, spot-low, spot-at, risen, risen-at, risen-low, back}
 use Rattle.division.proofs.Double.{back-two}
-use Rattle.stages.specs.Products.{Factors, Subtracted}
+use Rattle.products.specs.Products.{Factors, Subtracted}
 
 -- the first j words of the first factor have been taken; l words stand at dst
 pub record Subtracting (n p lp q lq dst l j : ℕ) (w₀ w : List ℕ) : Type 0 where

@@ -1,14 +1,14 @@
-use Rattle.stages.proofs.Taking.{taken-short, taken-long, pair-at, unit-at}
+use Rattle.products.proofs.Taking.{taken-short, taken-long, pair-at, unit-at}
 use native.Mathlib.Omega.{arith}
 use mathlib.Core.Path.{_≡_, refl, sym, ap, subst, _∙_}
 use Prim.Native.Nat.{ℕ, _+_, _*_, _-_, _%_, _≤_, _<_}
 use borrow.Author.Needs.{needs}
-use Rattle.stages.proofs.take_product.Statement.{statement}
-use Rattle.stages.proofs.take_product.Tie as tie
-use Rattle.stages.proofs.take_product.Reads as reads
-use Rattle.stages.proofs.take_product.Lts as lts
+use Rattle.products.proofs.take_product.Statement.{statement}
+use Rattle.products.proofs.take_product.Tie as tie
+use Rattle.products.proofs.take_product.Reads as reads
+use Rattle.products.proofs.take_product.Lts as lts
 use Rattle.division.proofs.divide.Reads as divide-reads
-use Rattle.stages.proofs.sub_product.Reads as sub-product-reads
+use Rattle.products.proofs.sub_product.Reads as sub-product-reads
 use Rattle.windows.proofs.clear.Reads as clear-reads
 
 -- src/lib.rt:35:5
