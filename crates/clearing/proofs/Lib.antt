@@ -3,3 +3,4 @@ pub mod Overs
 pub mod Splitting
 pub mod Inverses
 pub mod UnitFactor
+pub mod ContentSteps

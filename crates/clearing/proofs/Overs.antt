@@ -93,14 +93,14 @@ module _ (n t x len be l y : ℕ) (w w₁ : List ℕ) (pos : 1 ≤ n) (one : 1 �
         (λ b. piece-over w₁ y (len + l - 1) k b)
         (lt-or-le k (len + l - 1)) ∙ sym (coef-beyond [] k (omega arith))
 
-    pub over-done : OverUnit n t x len be y r w w₃
+    pub over-done : OverUnit n t x len be l y r w w₃
     unfolding P
     over-done = record {
           outside = record {
             same = cp .same ∙ tk .around .same ∙ cl .same;
             at = λ k p q. around-at (moved-around cp) k p ∙ around-at (tk .around) k (λ j h e. q j (omega arith) e) ∙ around-at cleared k q
           };
-          some = tk .some;
+          longer = ⊎-elim (λ h. omega (arith, tk .full h)) (λ h. omega arith) (lt-or-le r t);
           most = tk .within;
           multiplier = record {
             below = record { at = λ k h. ⊎-elim (λ b. subst (λ (z : ℕ). z < n) (sym (placed k b)) (P-small k)) (λ b. subst (λ (z : ℕ). z < n) (sym (above k b h)) pos) (lt-or-le k t) };

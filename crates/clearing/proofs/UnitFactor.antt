@@ -92,7 +92,7 @@ module _ (n ν t pb a be l s : ℕ) (w w₁ : List ℕ) (pos : 1 ≤ n) (two : 2
     pub over-multiplier : Multiplier n t be l w₂
     over-multiplier = multiplier-apart (apart-low be (2 * (t + 1)) (unit-place t a s + (a - 1 - s + 1)) len (omega arith)) (ng .around) mu₁
 
-    module _ (r : ℕ) (w₃ : List ℕ) (ov : OverUnit n t (unit-place t a s + (a - 1 - s + 1)) len be (unit-place t a s + (a - 1 - s + 1) + len) r w₂ w₃) where
+    module _ (r : ℕ) (w₃ : List ℕ) (ov : OverUnit n t (unit-place t a s + (a - 1 - s + 1)) len be l (unit-place t a s + (a - 1 - s + 1) + len) r w₂ w₃) where
       -- a word below the room, but for the multiplier
       later : (k : ℕ) → k < 8 * (t + 1) → ((i : ℕ) → i < t → k ≡ be + i → ⊥) → getD w₃ k 0 ≡ getD w₁ k 0
       later k h p = ov .outside .at k p (λ j q e. omega arith) ∙ around-at (ng .around) k (λ j q e. omega arith)
@@ -109,7 +109,7 @@ module _ (n ν t pb a be l s : ℕ) (w w₁ : List ℕ) (pos : 1 ≤ n) (two : 2
       same-be₂ : piece w₂ be (2 * (t + 1)) ≡ piece w be (2 * (t + 1))
       same-be₂ = piece-apart (apart-low be (2 * (t + 1)) (unit-place t a s + (a - 1 - s + 1)) len (omega arith)) (ng .around) (omega (arith, sp .outside .same)) ∙ same-be₁
 
-      pub unit-taken : UnitTaken n ν t pb a be s r w w₃
+      pub unit-taken : UnitTaken n ν t pb a be s l r w w₃
       unit-taken = record {
             same = ov .outside .same ∙ ng .around .same ∙ sp .outside .same;
             at = λ k h p q. later k h q ∙ word k h p;
@@ -119,7 +119,7 @@ module _ (n ν t pb a be l s : ℕ) (w w₁ : List ℕ) (pos : 1 ≤ n) (two : 2
             inverse = subst (λ (x : ℕ). NegatedInverse ν (piece w₁ (unit-place t a s) x) (piece w₂ (unit-place t a s + (a - 1 - s + 1)) len)) degree (ng .inverse);
             monic = pb-word s (omega arith) ∙ sp .monic;
             below = record { at = λ k h. subst (λ (x : ℕ). x < ν) (sym (pb-word k h)) (sp .below .at k h) };
-            some = ov .some;
+            longer = ov .longer;
             most = ov .most;
             multiplier = ov .multiplier;
             taken = subst (λ (f : List ℕ). Taken n f (piece w be (2 * (t + 1))) (piece w₂ (unit-place t a s + (a - 1 - s + 1)) len) [] (piece w₃ be (2 * (t + 1)))) same-h₂

@@ -40,15 +40,15 @@ pub record Negated (ν x k len : ℕ) (w w' : List ℕ) : Type 0 where
   pub below : Below ν (x + (k + 1)) len w'
   pub inverse : NegatedInverse ν (piece w x (k + 1)) (piece w' (x + (k + 1)) len)
 
--- the multiplier at be loses nothing but its product with the len words at x, taken from 0; l words of it are left
-pub record OverUnit (n t x len be y l : ℕ) (w w' : List ℕ) : Type 0 where
+-- the multiplier at be loses nothing but its product with the len words at x, taken from 0; it had l words, and has r
+pub record OverUnit (n t x len be l y r : ℕ) (w w' : List ℕ) : Type 0 where
   pub outside : Outside be t y (len + t) w w'
-  pub some : 1 ≤ l
-  pub most : l ≤ t
-  pub multiplier : Multiplier n t be l w'
+  pub longer : l ≤ r
+  pub most : r ≤ t
+  pub multiplier : Multiplier n t be r w'
   pub taken : Taken n (piece w 0 (t + 1)) (piece w be (2 * (t + 1))) (piece w x len) [] (piece w' be (2 * (t + 1)))
 
-pub record UnitTaken (n ν t pb a be s l : ℕ) (w w' : List ℕ) : Type 0 where
+pub record UnitTaken (n ν t pb a be s l r : ℕ) (w w' : List ℕ) : Type 0 where
   pub same : length w' ≡ length w
   pub at : (k : ℕ) → k < 8 * (t + 1) → ((i : ℕ) → i < s + 1 → k ≡ pb + i → ⊥) → ((i : ℕ) → i < t → k ≡ be + i → ⊥) → getD w' k 0 ≡ getD w k 0
   pub u : List ℕ
@@ -57,7 +57,7 @@ pub record UnitTaken (n ν t pb a be s l : ℕ) (w w' : List ℕ) : Type 0 where
   pub inverse : NegatedInverse ν u j
   pub monic : getD w' (pb + s) 0 ≡ 1
   pub below : Below ν pb (s + 1) w'
-  pub some : 1 ≤ l
-  pub most : l ≤ t
-  pub multiplier : Multiplier n t be l w'
+  pub longer : l ≤ r
+  pub most : r ≤ t
+  pub multiplier : Multiplier n t be r w'
   pub taken : Taken n (piece w 0 (t + 1)) (piece w be (2 * (t + 1))) j [] (piece w' be (2 * (t + 1)))

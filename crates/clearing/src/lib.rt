@@ -55,7 +55,7 @@ pub fn negate_inverse(w: &mut [u32], v: u32, x: usize, k: usize) -> usize
 fn over_unit(w: &mut [u32], n: u32, t: usize, x: usize, len: usize, be: usize, l: usize, y: usize) -> usize
     requires { ⌜ (1 ≤ n) × ((1 ≤ t) × ((1 ≤ len) × ((1 ≤ l) × ((l ≤ t) × ((t + 1 ≤ be) × ((be + 2 * (t + 1) ≤ x) × ((x + len ≤ y) × (y + (len + t) ≤ length (now w))))))))) ⌝ }
     requires { ⌜ (MonicAt n t (now w)) × ((Below n x len (now w)) × (Multiplier n t be l (now w))) ⌝ }
-    ensures { λ r. ⌜ OverUnit n t x len be y r (now (w .entry)) (now (w .exit)) ⌝ }
+    ensures { λ r. ⌜ OverUnit n t x len be l y r (now (w .entry)) (now (w .exit)) ⌝ }
 {
     windows::clear(w, y, len + t);
     let r = products::take_product(w, n, t, x, len, be, l, y);
@@ -68,7 +68,7 @@ fn take_unit(w: &mut [u32], n: u32, v: u32, t: usize, pb: usize, a: usize, be: u
     requires { ⌜ (1 ≤ n) × ((2 ≤ v) × ((v ≤ n) × ((s < a) × ((a ≤ t) × ((1 ≤ l) × ((l ≤ t) × (stage-room n t ≤ length (now w)))))))) ⌝ }
     requires { ⌜ (t + 1 ≤ pb) × ((pb + (t + 1) ≤ be) × (be + 2 * (t + 1) ≤ 8 * (t + 1))) ⌝ }
     requires { ⌜ (MonicAt n t (now w)) × ((Below v pb a (now w)) × ((LeadingUnit v s i (piece (now w) pb a)) × (Multiplier n t be l (now w)))) ⌝ }
-    ensures { λ r. ⌜ UnitTaken n v t pb a be s r (now (w .entry)) (now (w .exit)) ⌝ }
+    ensures { λ r. ⌜ UnitTaken n v t pb a be s l r (now (w .entry)) (now (w .exit)) ⌝ }
 {
     split_unit(w, v, t, pb, a, s, i);
     let x = 8 * (t + 1) + (a + (s + 1) + s);

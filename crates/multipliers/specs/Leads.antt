@@ -336,6 +336,17 @@ module _ (p : ℕ) where
       last : (- 𝟘) + 𝟙 ≡ 𝟙
       last = by-ring (series (Res-ring p)) [] (search quote depth 20) (search quote depth 20) refl
 
+  step-none : (c : ℕ) → c % suc p ≡ 0 → (h g b : List ℕ) → ((k : ℕ) → coef b k ≡ 0) → Completes (suc p) h g b c
+  step-none c z h g b none = done h g b c (record { w = 𝟘; fin-w = record { size = 0; short = record { out = λ k _. refl } }; eq = refl }) (zero-constant ∙ sym nothing)
+    where
+      zero-constant : const (Res-ring p) (toRes p c) ≡ 𝟘
+      zero-constant = fun-ext (elim [ zero ↦ Fin·val-path (z ∙ sym (mod-eq-of-lt (zero-lt-suc p))) | suc k ↦ refl ])
+
+      nothing : 𝟘 * words p h + words p b * words p g ≡ 𝟘
+      nothing =
+          ap (λ (v : ℕ → Res p). 𝟘 * words p h + v * words p g) (fun-ext (λ k. ap (toRes p) (none k)))
+          ∙ ap₂ _+_ (zero-mul (series (Res-ring p)) (words p h)) (zero-mul (series (Res-ring p)) (words p g)) ∙ add-zero (series (Res-ring p)) 𝟘
+
 -- ---- modulo any n
 
 -- x = q y + r modulo ν, and q b is taken from a: a′ leads to r
@@ -400,3 +411,15 @@ leads-unity n m ν i p q e h g b b′ y eb one l =
 
     turn : (m i y : ℕ) → i *ℕ (m *ℕ y) ≡ m *ℕ (i *ℕ y)
     turn m i y = omega arith
+
+-- 0 completes to 0
+pub completes-none : (n c : ℕ) → 1 ≤ n → c % n ≡ 0 → (h g b : List ℕ) → ((k : ℕ) → coef b k ≡ 0) → Completes n h g b c
+completes-none zero c l = absurd (omega arith)
+completes-none (suc n) c l = step-none n c
+
+-- a multiplier is its coefficients
+pub completes-same : (n c : ℕ) (h g b b′ : List ℕ) → ((k : ℕ) → coef b k ≡ coef b′ k) → Completes n h g b c → Completes n h g b′ c
+completes-same n c h g b b′ e x = record {
+  w = x .w;
+  combination = record { sum = λ k. ap (λ (F : ℕ → ℕ). (convolve (coef (x .w)) (coef h) k +ℕ convolve F (coef g) k) % n) (sym (fun-ext e)) ∙ x .combination .sum k };
+}
