@@ -81,9 +81,6 @@ module _ (n ν t pa a pb al be l c : ℕ) (w : List ℕ) (st : Stage n ν t pa a
   -- ---- the words
 
   module _ (ne : c ≡ ν → ⊥) (w' : List ℕ) (tk : ContentTaken n ν c t pa a pb al w w') where
-    r : ℕ
-    r = ν / c
-
     two : 2 ≤ ν / c
     two = content-above ne
 

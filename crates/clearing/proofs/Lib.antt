@@ -4,3 +4,4 @@ pub mod Splitting
 pub mod Inverses
 pub mod UnitFactor
 pub mod ContentSteps
+pub mod UnitSteps
