@@ -7,7 +7,7 @@ use native.Mathlib.Omega.{arith}
 use Rattle.definitions.specs.Polynomials.{coef, convolve, constant}
 use Rattle.definitions.specs.Resultants.{Combination}
 use Rattle.algebra.specs.Residues.{mul-mod-l}
-use Rattle.theory.specs.PointThree.{joined}
+use Rattle.theory.specs.ResultantLaws.{joined}
 use Rattle.theory.specs.ReachedSteps.{plus-mod, times-mod, lift-mod, convolve-mod, convolve-scale, convolve-scale-left, convolve-add-left, Times}
 
 pub combination-flip : {n : ℕ} {f g u v : List ℕ} {c : ℕ} → Combination n f g u v c → Combination n g f v u c

@@ -8,10 +8,10 @@ use mathlib.Core.Path.{_≡_, refl, sym, _∙_, ap, ap₂, fun-ext}
 use mathlib.Core.List.{List, [], _∷_}
 use Prim.Native.Nat.{ℕ, zero, suc, _<_, _≤_, _+_ as _+ℕ_}
 use native.Mathlib.Omega.{arith}
-use Rattle.algebra.specs.Auto.{by-ring, quote}
-use Rattle.algebra.specs.Ideal.{Finite, fin-add, fin-mul, fin-neg}
+use Rattle.algebra.specs.Normaliser.{by-ring, quote}
+use Rattle.algebra.specs.Series.{Finite, fin-add, fin-mul, fin-neg, series, Short, const}
 use Rattle.algebra.specs.Ring.{CRing, add-neg, add-zero}
-use Rattle.algebra.specs.Series.{series, Short, const, monic-zero, monic-rest}
+use Rattle.algebra.specs.Division.{monic-zero, monic-rest}
 
 module _ {R : Type 0} (𝓡 : CRing R) where
   open CRing (series 𝓡) using (add as _+_, mul as _*_, neg as -_, nil as 𝟘, unit as 𝟙)

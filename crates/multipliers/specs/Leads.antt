@@ -15,14 +15,11 @@ use lib.ListN.{length, getD, List·getD-eq-default}
 use lib.IntN.{pos}
 use Rattle.definitions.specs.Polynomials.{coef, convolve, constant, tabulate, Multiplied, Divided, Monic}
 use Rattle.definitions.specs.Resultants.{Combination}
-use Rattle.algebra.specs.Auto.{by-ring, quote}
-use Rattle.algebra.specs.Domain.{reduce-hom}
-use Rattle.algebra.specs.Ideal.{Finite, fin-neg, fin-mul}
+use Rattle.algebra.specs.Normaliser.{by-ring, quote}
+use Rattle.algebra.specs.Reduction.{reduce-hom}
+use Rattle.algebra.specs.Series.{Finite, fin-neg, fin-mul, conv, series, Short, const, conv-const}
 use Rattle.algebra.specs.Residues.{Res, toRes, Res-ring}
-use Rattle.algebra.specs.Resultant.{conv}
-use Rattle.algebra.specs.Ring.{CRing, add-zero, mul-zero}
-use Rattle.algebra.specs.Series.{series, Short, const, conv-const}
-use Rattle.algebra.specs.Sum.{zero-mul}
+use Rattle.algebra.specs.Ring.{CRing, add-zero, mul-zero, zero-mul}
 use Rattle.theory.specs.ReachedLaws.{words-short, words-finite, spell, words-spell}
 use Rattle.theory.specs.ReachedSteps.{lift-mod, times-mod, plus-mod}
 use Rattle.theory.specs.ReducedLaws.{InversePolynomial}
