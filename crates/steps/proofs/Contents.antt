@@ -9,7 +9,7 @@ use mathlib.Core.List.{List}
 use mathlib.Core.Logic.{⊎-elim}
 use Prim.Native.Nat.{ℕ, zero, suc, _+_, _-_, _*_, _/_, _%_, _^_, _≤_, _<_, _∣_}
 use native.Mathlib.Omega.{arith}
-use native.Mathlib.Nat.{mod-lt, mod-mod, mul-div-cancel', pos-of-dvd-of-pos, pow-suc, mul-one, mul-zero, zero-add, zero-mod, mul-le-mul-left, mul-dvd-mul-left, dvd-of-mul-dvd-mul-left, dvd-one, mod-eq-zero-of-dvd}
+use native.Mathlib.Nat.{mod-lt, mod-mod, mul-div-cancel', pos-of-dvd-of-pos, pow-suc, mul-one, mul-zero, zero-add, zero-mod, mul-le-mul-left, mul-dvd-mul-left, dvd-mul-left, dvd-of-mul-dvd-mul-left, dvd-one, mod-eq-zero-of-dvd}
 use lib.ListN.{length, getD}
 use Rattle.definitions.specs.Polynomials.{coef, deg}
 use Rattle.definitions.specs.Resultants.{resultant}
@@ -17,10 +17,11 @@ use Rattle.numbers.specs.Congruence.{Cong, c-refl, c-mul, c-mod}
 use Rattle.theory.specs.PointThree.{resultant-content}
 use Rattle.theory.specs.ReachedSteps.{Times, coef-beyond}
 use Rattle.theory.specs.ResultantLaws.{resultant-cong, resultant-scale-first}
-use Rattle.windows.specs.Window.{piece, Below, Content}
+use borrow.Rule.Slice.PartMut.{midOf}
+use Rattle.windows.specs.Window.{piece, Moved, quotient-by, reduced-by, Below, Content}
 use Rattle.windows.proofs.Leaf.{lt-or-le, piece-at, piece-length}
-use Rattle.resultant.specs.Attempts.{Primitive, Cleared}
-use Rattle.resultant.proofs.Remaining.{deg-of}
+use Rattle.steps.specs.Layouts.{Primitive, Cleared}
+use Rattle.steps.proofs.Degrees.{deg-of}
 
 -- ---- numbers
 
@@ -90,6 +91,22 @@ none-law (suc n) d e f g l le lf lg h =
     back = omega arith
 
 -- ---- words: g of degree e at 0, f of degree d above it
+
+pub content-positive : {n c : ℕ} {f : List ℕ} → 1 ≤ n → Content n f c → 1 ≤ c
+content-positive l h = pos-of-dvd-of-pos (h .divides-n) l
+
+pub content-left : {n c : ℕ} {f : List ℕ} → 1 ≤ n → Content n f c → 1 ≤ n / c
+content-left {n} {c} l h = pos-of-dvd-of-pos (subst (λ (x : ℕ). n / c ∣ x) (factors n c (h .divides-n)) (dvd-mul-left (n / c) c)) l
+
+pub cleared : (n c d e m : ℕ) (w w₁ w₂ : List ℕ) → m ≡ d + 1 → e + 1 + (d + 1) ≤ length w → Content n (midOf (e + 1) m w) c
+    → Moved (quotient-by c) (e + 1) (e + 1) (d + 1) w w₁ → Moved (reduced-by (n / c)) 0 0 (e + 1) w₁ w₂ → Cleared n d e c w w₂
+unfolding piece
+cleared n c d e m w w₁ w₂ h fits ct x y = record {
+      content = subst (λ (k : ℕ). Content n (midOf (e + 1) k w) c) h ct;
+      same = y .same ∙ x .same;
+      first = λ k l. y .high (e + 1 + k) (omega arith) ∙ x .mid k l;
+      second = λ k l. ap (λ (i : ℕ). getD w₂ i 0) (sym (zero-add k)) ∙ y .mid k l ∙ ap (λ (i : ℕ). i % (n / c)) (ap (λ (i : ℕ). getD w₁ i 0) (zero-add k) ∙ x .low k (omega arith))
+    }
 
 module _ (n c d e : ℕ) (w w' : List ℕ) (two : 2 ≤ n) (one : 1 ≤ d) (near : d ≤ e) (fits : e + 1 + (d + 1) ≤ length w)
     (below : Below n 0 (e + 1 + (d + 1)) w) (cl : Cleared n d e c w w') where

@@ -10,7 +10,7 @@ abbrev pub room : ℕ → ℕ → ℕ
 room d e = 2 * e + 3 * (d * d) + 9 * d
 
 abbrev pub place : ℕ → ℕ → ℕ → ℕ
-place d e t = e + 1 + (d + 1 + (t + 1 + (d + 1)))
+place d e t = e + 1 + (d + 1) + (t + 1) + (d + 1)
 
 -- both polynomials copied
 pub room-copies : (d e : ℕ) → 1 ≤ d → d ≤ e → e + 1 + (d + 1) ≤ room d e
