@@ -3,3 +3,8 @@ pub mod Divisors
 pub mod Units
 pub mod Coprimality
 pub mod Chinese
+pub mod Logarithm
+pub mod Primes
+pub mod Nilpotents
+pub mod Kinds
+pub mod Cofactors

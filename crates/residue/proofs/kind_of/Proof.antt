@@ -2,7 +2,7 @@ use borrow.Author.Needs.{needs}
 use native.Mathlib.Omega.{arith}
 use native.Mathlib.Nat.{div-lt-self, pos-of-dvd-of-pos}
 use Rattle.numbers.specs.Units.{cofactor-inverse}
-use Rattle.residue.proofs.Parts.{Parts, parts-start, parts-step, parts-nilpotent, parts-splitting}
+use Rattle.numbers.specs.Kinds.{Parts, parts-start, parts-step, parts-nilpotent, parts-splitting}
 use Rattle.residue.proofs.kind_of.Statement.{statement}
 use Rattle.residue.proofs.kind_of.Tie as tie
 use Rattle.residue.proofs.kind_of.Reads as reads
