@@ -95,6 +95,11 @@ divisor-asked n a d b e s g i w pl nz c h = record {
       inverse = c .bezout ∙ ap (λ (x : ℕ). x % n) h
     }
 
+-- what the division asks
+pub divide-asked : (n a d b e s i : ℕ) (w : List ℕ) → Divisor n a d b e s i w
+    → ((1 ≤ n) × ((1 ≤ d) × ((d ≤ e + 1) × ((a + d < length w) × (b + e < length w))))) × ((Pair n a d b e w) × ((i * getD w (a + d) 0) % n ≡ 1 % n))
+divide-asked n a d b e s i w dv = ((omega (arith, dv .two), (dv .one, (omega (arith, dv .near), (omega arith, omega arith)))), (dv .pair, dv .inverse))
+
 module _ (n a d b e s i : ℕ) (w w₁ : List ℕ) (dv : Divisor n a d b e s i w) (rem : Remainder n a d b e w w₁) where
   ia : a + d < length w
   ia = omega arith

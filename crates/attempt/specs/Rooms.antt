@@ -3,7 +3,7 @@
 --   room d e     enough for a copy of both, for the unit and the monic factor of f, and for the attempts at those
 --   place d e t  where such an attempt begins: above g, f, the monic factor of degree t and the unit factor
 use mathlib.Core.Path.{_≡_, sym, subst}
-use Prim.Native.Nat.{ℕ, _+_, _-_, _*_, _≤_, _<_}
+use Prim.Native.Nat.{ℕ, zero, suc, _+_, _-_, _*_, _≤_, _<_}
 use native.Mathlib.Omega.{arith}
 
 abbrev pub room : ℕ → ℕ → ℕ
@@ -57,3 +57,11 @@ room-place d e t one l lt = omega (arith, room-factor d e t d lt one (le-self d)
   where
     le-self : (x : ℕ) → x ≤ x
     le-self x = omega arith
+
+-- a factor of degree below d, and perhaps 0
+pub room-monic : (d e t : ℕ) → 1 ≤ d → t ≤ d → place d e t + (t + 1 + (e + 1) + room (t - 1) t) ≤ room d e
+room-monic d e zero one l = omega (arith, room-factor d e 0 d l one (le-self d))
+  where
+    le-self : (x : ℕ) → x ≤ x
+    le-self x = omega arith
+room-monic d e (suc t) one l = room-factor d e (suc t) (suc t) l (omega arith) l

@@ -2,28 +2,19 @@
 --
 --   signed-even, signed-odd   the two cases
 --   signed-twice              the same sign twice
---   sign-of                   the sign of a product of degrees
+--   sign-first, sign-second, sign-both   the sign of a product of degrees
 use mathlib.Core.Path.{_≡_, refl, sym, ap, ap₂, subst, _∙_}
 use Prim.Native.Nat.{ℕ, zero, suc, _+_, _-_, _*_, _%_, _≤_, _<_}
 use native.Mathlib.Omega.{arith}
-use native.Mathlib.Nat.{mod-eq-of-lt, mod-lt, mod-self}
+use native.Mathlib.Nat.{mod-eq-of-lt, mod-lt}
 use Rattle.algebra.specs.Modular.{mul-mod}
+use Rattle.arithmetic.proofs.Negatives.{negative-none, negative-some}
 use Rattle.theory.specs.ResultantLaws.{signed}
 
--- n - x modulo n, for a residue x
-pub negative : (n x : ℕ) → x < n → 0 < x → (n - x) % n ≡ n - x
-negative n x l p = mod-eq-of-lt (omega arith)
-
-pub negative-zero : (n x : ℕ) → x ≡ 0 → (n - x) % n ≡ 0
-negative-zero n x e = ap (λ (y : ℕ). y % n) all ∙ mod-self n
-  where
-    all : n - x ≡ n
-    all = omega arith
-
 negative-twice : (n x : ℕ) → x < n → (n - (n - x) % n) % n ≡ x
-negative-twice n zero l = negative-zero n ((n - 0) % n) (negative-zero n 0 refl)
+negative-twice n zero l = sym (negative-none n ((n - 0) % n) (sym (negative-none n 0 refl)))
 negative-twice n (suc x) l =
-    ap (λ (y : ℕ). (n - y) % n) (negative n (suc x) l (omega arith)) ∙ ap (λ (y : ℕ). y % n) back ∙ mod-eq-of-lt l
+    ap (λ (y : ℕ). (n - y) % n) (sym (negative-some n (suc x) (omega arith) (λ h. omega arith))) ∙ ap (λ (y : ℕ). y % n) back ∙ mod-eq-of-lt l
   where
     back : n - (n - suc x) ≡ suc x
     back = omega arith

@@ -27,10 +27,7 @@ pub fn with_sign(n: u32, d: usize, e: usize, x: u32) -> u32
     if e % 2 == 0 {
         return x;
     }
-    if x == 0 {
-        return 0;
-    }
-    n - x
+    arithmetic::negate(n, x)
 }
 
 // The l words at a and the m words at b, copied side by side to s.

@@ -1,7 +1,21 @@
+use Rattle.definitions.specs.Resultants.{resultant}
+use Rattle.windows.specs.Window.{piece}
+use borrow.Rule.Slice.PartMut.{midOf, putMid}
+use Rattle.steps.proofs.Contents.{content-positive, content-whole, content-value}
+use Rattle.attempt.specs.Attempts.{AnswerOf}
+use Rattle.attempt.specs.Factors.{HighestOf, LeadingUnit, Nilpotents}
+use Rattle.attempt.specs.declared.Attempt.{Attempt}
+use Rattle.attempt.specs.declared.Highest.{Highest}
+use Rattle.attempt.proofs.Remaining.{at-constant, divisor-asked, divide-asked, next-asked, value-next}
+use Rattle.attempt.proofs.Copies.{copies-fit, stacked-asked, stacked-answer, part-fits, monic-constant, monic-asked, monic-answer, monic-kept, kept-none, unit-asked, unit-answer}
+use Rattle.attempt.proofs.Leads.{stacked-fits, cleared-asked, cleared-split, not-all-nilpotent, lent, lead-asked, lead-below, given-in}
+use Rattle.attempt.proofs.Products.{monic-part, monic-lead, unit-part, unit-constant, product-value}
+use lib.ListN.{length}
+use mathlib.Core.List.{List}
 use borrow.Author.Needs.{needs}
 use native.Mathlib.Omega.{arith}
 use mathlib.Core.Path.{_≡_, refl, sym, ap, subst, _∙_}
-use Prim.Native.Nat.{ℕ, _+_, _-_, _*_, _%_, _≤_, _<_}
+use Prim.Native.Nat.{ℕ, _+_, _-_, _*_, _/_, _%_, _≤_, _<_}
 use borrow.Fn.Kinds.{In}
 use borrow.Fn.PlainCycle.{Measures, is, falls, and}
 use Rattle.attempt.proofs.cold.Reads as cold
@@ -123,7 +137,9 @@ cold-clear-content-requires : (t : ℕ) → cold-lts.Need-clear-content-requires
   lift-split-reads.Asked,
   lift-split-reads.Learnt,
 ) (cold-at t) cold.Post
-cold-clear-content-requires t c κs = ?
+cold-clear-content-requires t c κs = let s = c .before .before .args in
+    let st = c .before .before .pre .1 in
+    (omega (arith, st .two), stacked-fits (s .n) (s .d) (s .e) (s .w .now) st)
 
 -- src/lib.rt:78:9
 cold-same-length : (t : ℕ) → cold-lts.Need-same-length (
@@ -153,7 +169,9 @@ cold-returns : (t : ℕ) → cold-lts.Need-returns (
   lift-split-reads.Asked,
   lift-split-reads.Learnt,
 ) (cold-at t) cold.Post
-cold-returns t c = ?
+cold-returns t c = let s = c .before .before .before .before .before .before .args in
+    let st = c .before .before .before .before .before .before .pre .1 in
+    content-whole (s .n) (c .before .before .before .clear-content .result) (s .d) (s .e) (s .w .now) (c .before .before .before .clear-content .last .0) (st .two) (st .one) (st .near) (stacked-fits (s .n) (s .d) (s .e) (s .w .now) st) (st .below) (c .before .before .before .clear-content .ensures) (c .if1 .taken)
 
 -- src/lib.rt:80:24
 cold-div-primitive : (t : ℕ) → cold-lts.Need-div-primitive (
@@ -168,7 +186,7 @@ cold-div-primitive : (t : ℕ) → cold-lts.Need-div-primitive (
   lift-split-reads.Asked,
   lift-split-reads.Learnt,
 ) (cold-at t) cold.Post
-cold-div-primitive t c = ?
+cold-div-primitive t c = content-positive (omega (arith, c .before .before .before .before .before .before .before .pre .1 .two)) (c .before .before .before .before .clear-content .ensures .content)
 
 -- src/lib.rt:80:11
 cold-primitive-requires : (t : ℕ) → cold-lts.Need-primitive-requires (
@@ -183,7 +201,8 @@ cold-primitive-requires : (t : ℕ) → cold-lts.Need-primitive-requires (
   lift-split-reads.Asked,
   lift-split-reads.Learnt,
 ) (cold-at t) cold.Post
-cold-primitive-requires t c κs = ?
+cold-primitive-requires t c κs = let s = c .before .before .before .before .before .before .before .args in
+    (omega (arith, c .before .before .before .before .before .before .before .pre .0), cleared-asked (s .n) (c .before .before .before .before .clear-content .result) (s .d) (s .e) (s .w .now) (c .before .before .before .before .clear-content .last .0) (c .before .before .before .before .before .before .before .pre .1) (c .before .before .before .before .clear-content .ensures) (c .before .if1 .left))
 
 -- src/lib.rt:81:24
 cold-enum-known-v : (t : ℕ) → cold-lts.Need-enum-known-v (
@@ -258,7 +277,13 @@ cold-lift-split-requires : (t : ℕ) → cold-lts.Need-lift-split-requires (
   lift-split-reads.Asked,
   lift-split-reads.Learnt,
 ) (cold-at t) cold.Post
-cold-lift-split-requires t c κs = ?
+cold-lift-split-requires t c κs = let s = c .before .before .before .before .before .before .before .before .before .before .before .before .before .args in
+    let w1 = c .before .before .before .before .before .before .before .before .before .before .clear-content .last .0 in
+    let g = c .before .before .before .before .before .before .before .before .before .before .clear-content .result in
+    let m = s .n / g in
+    let p = c .before .p .given in
+    (c .before .before .before .before .before .before .before .before .before .before .before .before .before .pre .1 .two, cleared-split (s .n) g (s .d) (s .e) (p .0 .0) (p .0 .1 .0) (s .w .now) w1 (c .before .before .before .before .before .before .before .before .before .before .clear-content .ensures)
+      (subst (λ (y : Attempt). AnswerOf m (resultant m (piece w1 (s .e + 1) (s .d + 1)) (piece w1 0 (s .e + 1))) y) (p .1) (c .before .before .before .before .before .primitive .ensures)))
 
 -- src/lib.rt:72:1
 cold-same-length-2 : (t : ℕ) → cold-lts.Need-same-length-2 (
@@ -288,7 +313,15 @@ cold-returns-2 : (t : ℕ) → cold-lts.Need-returns-2 (
   lift-split-reads.Asked,
   lift-split-reads.Learnt,
 ) (cold-at t) cold.Post
-cold-returns-2 t c = ?
+cold-returns-2 t c = let s = c .before .before .before .before .before .before .before .before .before .before .before .before .before .before .before .args in
+    let st = c .before .before .before .before .before .before .before .before .before .before .before .before .before .before .before .pre .1 in
+    let w1 = c .before .before .before .before .before .before .before .before .before .before .before .before .clear-content .last .0 in
+    let g = c .before .before .before .before .before .before .before .before .before .before .before .before .clear-content .result in
+    let m = s .n / g in
+    let v = c .before .before .before .v .given in
+    let k = subst (λ (y : Attempt). AnswerOf m (resultant m (piece w1 (s .e + 1) (s .d + 1)) (piece w1 0 (s .e + 1))) y) (v .1) (c .before .before .before .before .before .before .before .primitive .ensures) in
+    content-value (s .n) g (s .d) (s .e) (s .w .now) w1 (st .two) (st .one) (st .near) (stacked-fits (s .n) (s .d) (s .e) (s .w .now) st) (st .below) (c .before .before .before .before .before .before .before .before .before .before .before .before .clear-content .ensures) (c .before .before .before .before .before .before .before .before .before .if1 .left)
+    (v .0 .0) (c .before .power .result) (c .mul-mod .result) (k .0) (c .before .power .ensures) (c .mul-mod .ensures)
 
 -- src/lib.rt:72:1
 cold-same-length-3 : (t : ℕ) → cold-lts.Need-same-length-3 (
@@ -318,7 +351,7 @@ cold-returns-3 : (t : ℕ) → cold-lts.Need-returns-3 (
   lift-split-reads.Asked,
   lift-split-reads.Learnt,
 ) (cold-at t) cold.Post
-cold-returns-3 t c = ?
+cold-returns-3 t c = c .lift-split .ensures
 
 -- src/lib.rt:46:18
 euclid-add-lead : (t : ℕ) → euclid-lts.Need-add-lead (
@@ -393,7 +426,8 @@ euclid-returns : (t : ℕ) → euclid-lts.Need-returns (
   cold-below t,
   cold.Post,
 ) (euclid-at t) euclid.Post
-euclid-returns t c = ?
+euclid-returns t c = let s = c .before .before .before .before .args in
+    (at-constant (s .n) (s .a) (s .d) (s .b) (s .e) (s .s) (c .power .result) (s .w .now) (c .before .before .before .before .pre .1) (c .before .if1 .taken) (c .power .ensures), refl)
 
 -- src/lib.rt:50:9
 euclid-cofactor-requires : (t : ℕ) → euclid-lts.Need-cofactor-requires (
@@ -423,7 +457,8 @@ euclid-step-requires : (t : ℕ) → euclid-lts.Need-step-requires (
   cold-below t,
   cold.Post,
 ) (euclid-at t) euclid.Post
-euclid-step-requires t c κs = ?
+euclid-step-requires t c κs = let s = c .before .before .before .before .before .before .before .args in
+    (omega (arith, c .before .before .before .before .before .before .before .pre .0), divisor-asked (s .n) (s .a) (s .d) (s .b) (s .e) (s .s) (c .before .before .before .cofactor .result .g) (c .before .before .before .cofactor .result .s) (s .w .now) (c .before .before .before .before .before .before .before .pre .1) (c .before .before .before .before .if1 .left) (c .before .before .before .cofactor .ensures) (c .before .if2 .taken))
 
 -- src/lib.rt:52:9
 euclid-same-length : (t : ℕ) → euclid-lts.Need-same-length (
@@ -453,7 +488,7 @@ euclid-returns-2 : (t : ℕ) → euclid-lts.Need-returns-2 (
   cold-below t,
   cold.Post,
 ) (euclid-at t) euclid.Post
-euclid-returns-2 t c = ?
+euclid-returns-2 t c = (c .before .before .step .ensures, search needs)
 
 -- src/lib.rt:54:28
 euclid-add-copy-pair : (t : ℕ) → euclid-lts.Need-add-copy-pair (
@@ -498,7 +533,8 @@ euclid-copy-pair-requires : (t : ℕ) → euclid-lts.Need-copy-pair-requires (
   cold-below t,
   cold.Post,
 ) (euclid-at t) euclid.Post
-euclid-copy-pair-requires t c κs = ?
+euclid-copy-pair-requires t c κs = let s = c .before .before .before .before .before .before .before .args in
+    copies-fit (s .n) (s .a) (s .d) (s .b) (s .e) (s .s) (s .w .now) (c .before .before .before .before .before .before .before .pre .1) (c .before .before .before .before .if1 .left)
 
 -- src/lib.rt:55:10
 euclid-mul-cold : (t : ℕ) → euclid-lts.Need-mul-cold (
@@ -573,7 +609,8 @@ euclid-cold-requires : (t : ℕ) → euclid-lts.Need-cold-requires (
   cold-below t,
   cold.Post,
 ) (euclid-at t) euclid.Post
-euclid-cold-requires t c κs = ?
+euclid-cold-requires t c κs = let s = c .before .before .before .before .before .before .before .before .before .before .before .args in
+    (omega (arith, c .before .before .before .before .before .before .before .before .before .before .before .pre .0), stacked-asked (s .n) (s .a) (s .d) (s .b) (s .e) (s .s) (s .w .now) (c .before .before .before .copy-pair .last .0) (c .before .before .before .before .before .before .before .before .before .before .before .pre .1) (c .before .before .before .before .before .before .before .before .if1 .left) (c .before .before .before .copy-pair .ensures))
 
 -- src/lib.rt:41:1
 euclid-same-length-2 : (t : ℕ) → euclid-lts.Need-same-length-2 (
@@ -603,7 +640,8 @@ euclid-returns-3 : (t : ℕ) → euclid-lts.Need-returns-3 (
   cold-below t,
   cold.Post,
 ) (euclid-at t) euclid.Post
-euclid-returns-3 t c = ?
+euclid-returns-3 t c = let s = c .before .before .before .before .before .before .before .before .before .before .before .before .before .before .args in
+    (stacked-answer (s .n) (s .a) (s .d) (s .b) (s .e) (s .s) (s .w .now) (c .before .before .before .before .before .before .copy-pair .last .0) (c .before .before .before .before .before .before .before .before .before .before .before .before .before .before .pre .1) (c .before .before .before .before .before .before .before .before .before .before .before .if1 .left) (c .before .before .before .before .before .before .copy-pair .ensures) (c .before .before .cold .result) (c .before .before .cold .ensures), search needs)
 
 -- src/lib.rt:114:29
 factors-add-unit-times-monic : (t : ℕ) → factors-lts.Need-add-unit-times-monic (
@@ -681,7 +719,9 @@ factors-unit-times-monic-requires : (t : ℕ) → factors-lts.Need-unit-times-mo
   mul-mod-reads.Asked,
   mul-mod-reads.Learnt,
 ) (factors-at t) factors.Post
-factors-unit-times-monic-requires t c κs = ?
+factors-unit-times-monic-requires t c κs = let s = c .before .before .args in
+    let p = c .before .before .pre .1 in
+    given-in (s .n) (s .d) (s .e) (s .t) (s .i) (s .w .now) (p .0 .0) (p .0 .1) (p .1)
 
 -- src/lib.rt:115:13
 factors-add-h : (t : ℕ) → factors-lts.Need-add-h (
@@ -824,7 +864,11 @@ factors-monic-part-requires : (t : ℕ) → factors-lts.Need-monic-part-requires
   mul-mod-reads.Asked,
   mul-mod-reads.Learnt,
 ) (factors-at t) factors.Post
-factors-monic-part-requires t c κs = ?
+factors-monic-part-requires t c κs = let s = c .before .before .before .before .before .before .args in
+    let p = c .before .before .before .before .before .before .pre .1 .0 in
+    let u = c .before .before .before .unit-times-monic in
+    (omega (arith, c .before .before .before .before .before .before .pre .0, p .1), (monic-part (s .n) (s .d) (s .e) (s .t) (s .w .now) (u .last .0) (p .0) (p .1) (u .kept .0) (u .ensures),
+    monic-lead (s .n) (s .d) (s .e) (s .t) (s .w .now) (u .last .0) (p .0) (p .1) (u .kept .0) (u .ensures)))
 
 -- src/lib.rt:119:24
 factors-enum-known-y : (t : ℕ) → factors-lts.Need-enum-known-y (
@@ -863,7 +907,12 @@ factors-unit-part-requires : (t : ℕ) → factors-lts.Need-unit-part-requires (
   mul-mod-reads.Asked,
   mul-mod-reads.Learnt,
 ) (factors-at t) factors.Post
-factors-unit-part-requires t c κs = ?
+factors-unit-part-requires t c κs = let s = c .before .before .before .before .before .before .before .before .before .before .before .before .before .args in
+    let p = c .before .before .before .before .before .before .before .before .before .before .before .before .before .pre .1 .0 in
+    let u = c .before .before .before .before .before .before .before .before .before .before .unit-times-monic in
+    let h = c .before .before .before .before .before .before .monic-part in
+    (omega (arith, c .before .before .before .before .before .before .before .before .before .before .before .before .before .pre .0, p .1), (unit-part (s .n) (s .d) (s .e) (s .t) (s .w .now) (u .last .0) (p .0) (p .1) (u .kept .0) (u .ensures) (h .last .0) (h .ensures .1),
+    (omega (arith, p .1), unit-constant (s .n) (s .d) (s .e) (s .t) (s .w .now) (u .last .0) (p .0) (p .1) (u .kept .0) (u .ensures) (h .last .0) (h .ensures .1))))
 
 -- src/lib.rt:120:28
 factors-enum-known-z : (t : ℕ) → factors-lts.Need-enum-known-z (
@@ -941,7 +990,18 @@ factors-returns : (t : ℕ) → factors-lts.Need-returns (
   mul-mod-reads.Asked,
   mul-mod-reads.Learnt,
 ) (factors-at t) factors.Post
-factors-returns t c = ?
+factors-returns t c = let s = c .before .before .before .before .before .before .before .before .before .before .before .before .before .before .before .before .before .before .before .before .args in
+    let p = c .before .before .before .before .before .before .before .before .before .before .before .before .before .before .before .before .before .before .before .before .pre .1 .0 in
+    let u = c .before .before .before .before .before .before .before .before .before .before .before .before .before .before .before .before .before .unit-times-monic in
+    let h = c .before .before .before .before .before .before .before .before .before .before .before .before .before .monic-part in
+    let w1 : List ℕ = putMid (s .e + 1) (length (s .w .now) - (s .e + 1)) (s .w .now) (u .last .0) in
+    let w2 = h .last .0 in
+    let y = c .before .before .before .before .before .before .before .before .before .y .given in
+    let z = c .before .before .z .given in
+    let at : ℕ = s .e + 1 + (s .d + 1) in
+    let hy = subst (λ (r : Attempt). AnswerOf (s .n) (resultant (s .n) (piece w1 at (s .t + 1)) (piece w1 0 (s .e + 1))) r) (y .1) (h .ensures .0) in
+    let hz = subst (λ (r : Attempt). AnswerOf (s .n) (resultant (s .n) (piece w2 (at + (s .t + 1) + s .t) (s .d - s .t + 1)) (piece w2 0 (s .e + 1))) r) (z .1) (c .before .before .before .before .before .before .unit-part .ensures) in
+    product-value (s .n) (s .d) (s .e) (s .t) (s .w .now) (u .last .0) (p .0) (p .1) (u .kept .0) (u .ensures) w2 (h .ensures .1) (y .0 .0) (z .0 .0) (c .mul-mod .result) (hy .0) (hz .0) (c .mul-mod .ensures)
 
 -- src/lib.rt:109:1
 factors-same-length-2 : (t : ℕ) → factors-lts.Need-same-length-2 (
@@ -967,7 +1027,10 @@ factors-returns-2 : (t : ℕ) → factors-lts.Need-returns-2 (
   mul-mod-reads.Asked,
   mul-mod-reads.Learnt,
 ) (factors-at t) factors.Post
-factors-returns-2 t c = ?
+factors-returns-2 t c = let s = c .before .before .before .before .before .before .before .before .before .before .before .before .before .before .before .before .before .before .before .args in
+    let w2 = c .before .before .before .before .before .before .before .before .before .before .before .before .monic-part .last .0 in
+    let at : ℕ = s .e + 1 + (s .d + 1) in
+    subst (λ (r : Attempt). AnswerOf (s .n) (resultant (s .n) (piece w2 (at + (s .t + 1) + s .t) (s .d - s .t + 1)) (piece w2 0 (s .e + 1))) r) (c .before .p .given .1) (c .before .before .before .before .before .unit-part .ensures)
 
 -- src/lib.rt:109:1
 factors-same-length-3 : (t : ℕ) → factors-lts.Need-same-length-3 (
@@ -993,7 +1056,9 @@ factors-returns-3 : (t : ℕ) → factors-lts.Need-returns-3 (
   mul-mod-reads.Asked,
   mul-mod-reads.Learnt,
 ) (factors-at t) factors.Post
-factors-returns-3 t c = ?
+factors-returns-3 t c = let s = c .before .before .before .before .before .before .before .before .before .before .before .before .args in
+    let w1 : List ℕ = putMid (s .e + 1) (length (s .w .now) - (s .e + 1)) (s .w .now) (c .before .before .before .before .before .before .before .before .before .unit-times-monic .last .0) in
+    subst (λ (r : Attempt). AnswerOf (s .n) (resultant (s .n) (piece w1 (s .e + 1 + (s .d + 1)) (s .t + 1)) (piece w1 0 (s .e + 1))) r) (c .before .p2 .given .1) (c .before .before .before .before .before .monic-part .ensures .0)
 
 -- src/lib.rt:134:9
 monic-part-returns : (t : ℕ) → monic-part-lts.Need-returns (
@@ -1002,7 +1067,8 @@ monic-part-returns : (t : ℕ) → monic-part-lts.Need-returns (
   step-below t,
   step.Post,
 ) (monic-part-at t) monic-part.Post
-monic-part-returns t c = ?
+monic-part-returns t c = let s = c .before .before .args in
+    (monic-constant (s .n) (s .a) (s .t) (s .e) (s .x) (s .w .now) (c .before .before .pre .1 .0) (c .before .before .pre .1 .1) (c .if1 .taken), kept-none (s .x) (s .w .now))
 
 -- src/lib.rt:136:28
 monic-part-add-copy-pair : (t : ℕ) → monic-part-lts.Need-add-copy-pair (
@@ -1029,7 +1095,8 @@ monic-part-copy-pair-requires : (t : ℕ) → monic-part-lts.Need-copy-pair-requ
   step-below t,
   step.Post,
 ) (monic-part-at t) monic-part.Post
-monic-part-copy-pair-requires t c κs = ?
+monic-part-copy-pair-requires t c κs = let s = c .before .before .before .args in
+    part-fits (s .n) (s .a) (s .t) (s .e) (s .x) (s .w .now) (c .before .before .before .pre .1 .0)
 
 -- src/lib.rt:137:10
 monic-part-mul-step : (t : ℕ) → monic-part-lts.Need-mul-step (
@@ -1110,7 +1177,8 @@ monic-part-step-requires : (t : ℕ) → monic-part-lts.Need-step-requires (
   step-below t,
   step.Post,
 ) (monic-part-at t) monic-part.Post
-monic-part-step-requires t c κs = ?
+monic-part-step-requires t c κs = let s = c .before .before .before .before .before .before .before .args in
+    (omega (arith, c .before .before .before .before .before .before .before .pre .0), monic-asked (s .n) (s .a) (s .t) (s .e) (s .x) (s .w .now) (c .before .before .before .copy-pair .last .0) (c .before .before .before .before .before .before .before .pre .1 .0) (c .before .before .before .copy-pair .ensures) (c .before .before .before .before .before .before .before .pre .1 .1) (c .before .before .before .before .before .if1 .left))
 
 -- src/lib.rt:128:1
 monic-part-same-length : (t : ℕ) → monic-part-lts.Need-same-length (
@@ -1128,7 +1196,10 @@ monic-part-returns-2 : (t : ℕ) → monic-part-lts.Need-returns-2 (
   step-below t,
   step.Post,
 ) (monic-part-at t) monic-part.Post
-monic-part-returns-2 t c = ?
+monic-part-returns-2 t c = let s = c .before .before .before .before .before .before .before .before .before .before .args in
+    let w1 = c .before .before .before .before .before .before .copy-pair .last .0 in
+    (monic-answer (s .n) (s .a) (s .t) (s .e) (s .x) (s .w .now) w1 (c .before .before .before .before .before .before .before .before .before .before .pre .1 .0) (c .before .before .before .before .before .before .copy-pair .ensures) (c .before .before .step .result) (c .before .before .step .ensures),
+    monic-kept (s .n) (s .a) (s .t) (s .e) (s .x) (s .w .now) w1 (c .before .before .before .before .before .before .before .before .before .before .pre .1 .0) (c .before .before .before .before .before .before .copy-pair .ensures) (c .before .before .step .last .0) (c .before .before .step .kept .0))
 
 -- src/lib.rt:95:25
 primitive-add-highest-of : (t : ℕ) → primitive-lts.Need-add-highest-of (
@@ -1293,7 +1364,11 @@ primitive-step-requires : (t : ℕ) → primitive-lts.Need-step-requires (
   factors-below t,
   factors.Post,
 ) (primitive-at t) primitive.Post
-primitive-step-requires t c κs = ?
+primitive-step-requires t c κs = let s = c .before .before .before .before .before .before .before .before .before .args in
+    let g = c .before .before .before .t .given in
+    let m : ℕ = s .e + 1 + (s .d + 1) - (s .e + 1) in
+    let u = lent (LeadingUnit (s .n) (g .0 .0) (g .0 .1 .0)) (s .e + 1) (s .d + 1) m (s .w .now) (omega arith) (subst (HighestOf (s .n) (midOf (s .e + 1) m (s .w .now))) (g .1) (c .before .before .before .before .before .highest-of .ensures)) in
+    (omega (arith, c .before .before .before .before .before .before .before .before .before .pre .0), lead-asked (s .n) (s .d) (s .e) (g .0 .0) (g .0 .1 .0) (s .w .now) (c .before .before .before .before .before .before .before .before .before .pre .1 .0) u (c .before .if1 .taken))
 
 -- src/lib.rt:98:17
 primitive-same-length : (t : ℕ) → primitive-lts.Need-same-length (
@@ -1315,7 +1390,7 @@ primitive-returns : (t : ℕ) → primitive-lts.Need-returns (
   factors-below t,
   factors.Post,
 ) (primitive-at t) primitive.Post
-primitive-returns t c = ?
+primitive-returns t c = c .before .before .step .ensures
 
 -- src/lib.rt:100:13
 primitive-factors-requires : (t : ℕ) → primitive-lts.Need-factors-requires (
@@ -1326,7 +1401,11 @@ primitive-factors-requires : (t : ℕ) → primitive-lts.Need-factors-requires (
   factors-below t,
   factors.Post,
 ) (primitive-at t) primitive.Post
-primitive-factors-requires t c κs = ?
+primitive-factors-requires t c κs = let s = c .before .before .before .before .before .before .before .before .before .args in
+    let g = c .before .before .before .t .given in
+    let m : ℕ = s .e + 1 + (s .d + 1) - (s .e + 1) in
+    let u = lent (LeadingUnit (s .n) (g .0 .0) (g .0 .1 .0)) (s .e + 1) (s .d + 1) m (s .w .now) (omega arith) (subst (HighestOf (s .n) (midOf (s .e + 1) m (s .w .now))) (g .1) (c .before .before .before .before .before .highest-of .ensures)) in
+    (omega (arith, c .before .before .before .before .before .before .before .before .before .pre .0), ((c .before .before .before .before .before .before .before .before .before .pre .1 .0, lead-below (s .n) (s .d) (s .e) (g .0 .0) (g .0 .1 .0) (s .w .now) (c .before .before .before .before .before .before .before .before .before .pre .1 .0) u (c .before .if1 .left)), u))
 
 -- src/lib.rt:102:25
 primitive-enum-known-p : (t : ℕ) → primitive-lts.Need-enum-known-p (
@@ -1370,7 +1449,7 @@ primitive-returns-2 : (t : ℕ) → primitive-lts.Need-returns-2 (
   factors-below t,
   factors.Post,
 ) (primitive-at t) primitive.Post
-primitive-returns-2 t c = ?
+primitive-returns-2 t c = c .before .before .factors .ensures
 
 -- src/lib.rt:90:1
 primitive-same-length-3 : (t : ℕ) → primitive-lts.Need-same-length-3 (
@@ -1392,7 +1471,9 @@ primitive-returns-3 : (t : ℕ) → primitive-lts.Need-returns-3 (
   factors-below t,
   factors.Post,
 ) (primitive-at t) primitive.Post
-primitive-returns-3 t c = ?
+primitive-returns-3 t c = let s = c .before .before .before .before .before .before .before .args in
+    let m : ℕ = s .e + 1 + (s .d + 1) - (s .e + 1) in
+    subst (HighestOf (s .n) (midOf (s .e + 1) m (s .w .now))) (c .before .p .given .1) (c .before .before .before .highest-of .ensures)
 
 -- src/lib.rt:90:1
 primitive-same-length-4 : (t : ℕ) → primitive-lts.Need-same-length-4 (
@@ -1414,7 +1495,10 @@ primitive-returns-4 : (t : ℕ) → primitive-lts.Need-returns-4 (
   factors-below t,
   factors.Post,
 ) (primitive-at t) primitive.Post
-primitive-returns-4 t c = ?
+primitive-returns-4 t c = let s = c .before .before .before .before .before .before .args in
+    let m : ℕ = s .e + 1 + (s .d + 1) - (s .e + 1) in
+    absurd (not-all-nilpotent (s .n) (piece (s .w .now) (s .e + 1) (s .d + 1)) (c .before .before .before .before .before .before .pre .1 .0 .two) (c .before .before .before .before .before .before .pre .1 .1)
+    (lent (Nilpotents (s .n)) (s .e + 1) (s .d + 1) m (s .w .now) (omega arith) (subst (HighestOf (s .n) (midOf (s .e + 1) m (s .w .now))) (c .enum-told .given .1) (c .before .before .highest-of .ensures))))
 
 -- src/lib.rt:63:18
 step-add-lead : (t : ℕ) → step-lts.Need-add-lead (
@@ -1466,7 +1550,8 @@ step-divide-requires : (t : ℕ) → step-lts.Need-divide-requires (
   mul-mod-reads.Asked,
   mul-mod-reads.Learnt,
 ) (step-at t) step.Post
-step-divide-requires t c κs = ?
+step-divide-requires t c κs = let s = c .before .before .before .args in
+    divide-asked (s .n) (s .a) (s .d) (s .b) (s .e) (s .s) (s .i) (s .w .now) (c .before .before .before .pre .1)
 
 -- src/lib.rt:65:27
 step-sub-euclid : (t : ℕ) → step-lts.Need-sub-euclid (
@@ -1492,7 +1577,9 @@ step-euclid-requires : (t : ℕ) → step-lts.Need-euclid-requires (
   mul-mod-reads.Asked,
   mul-mod-reads.Learnt,
 ) (step-at t) step.Post
-step-euclid-requires t c κs = ?
+step-euclid-requires t c κs = let s = c .before .before .before .before .before .before .before .args in
+    let dv = c .before .before .before .before .before .before .before .pre .1 in
+    (omega (arith, c .before .before .before .before .before .before .before .pre .0, dv .one), next-asked (s .n) (s .a) (s .d) (s .b) (s .e) (s .s) (s .i) (s .w .now) (c .before .before .before .divide .last .0) dv (c .before .before .before .divide .ensures))
 
 -- src/lib.rt:66:24
 step-enum-known-v : (t : ℕ) → step-lts.Need-enum-known-v (
@@ -1596,7 +1683,11 @@ step-returns : (t : ℕ) → step-lts.Need-returns (
   mul-mod-reads.Asked,
   mul-mod-reads.Learnt,
 ) (step-at t) step.Post
-step-returns t c = ?
+step-returns t c = let s = c .before .before .before .before .before .before .before .before .before .before .before .before .before .before .before .args in
+    let w1 = c .before .before .before .before .before .before .before .before .before .before .before .divide .last .0 in
+    let v = c .before .before .before .v .given in
+    let k = subst (λ (y : Attempt). AnswerOf (s .n) (resultant (s .n) (piece w1 (s .b) (s .d - 1 + 1)) (piece w1 (s .a) (s .d + 1))) y) (v .1) (c .before .before .before .before .before .before .before .euclid .ensures .0) in
+    value-next (s .n) (s .a) (s .d) (s .b) (s .e) (s .s) (s .i) (s .w .now) w1 (c .before .before .before .before .before .before .before .before .before .before .before .before .before .before .before .pre .1) (c .before .before .before .before .before .before .before .before .before .before .before .divide .ensures) (v .0 .0) (c .before .power .result) (c .mul-mod .result) (k .0) (c .before .power .ensures) (c .mul-mod .ensures)
 
 -- src/lib.rt:59:1
 step-same-length-2 : (t : ℕ) → step-lts.Need-same-length-2 (
@@ -1622,7 +1713,9 @@ step-returns-2 : (t : ℕ) → step-lts.Need-returns-2 (
   mul-mod-reads.Asked,
   mul-mod-reads.Learnt,
 ) (step-at t) step.Post
-step-returns-2 t c = ?
+step-returns-2 t c = let s = c .before .before .before .before .before .before .before .before .before .before .before .before .before .args in
+    let w1 = c .before .before .before .before .before .before .before .before .before .divide .last .0 in
+    subst (λ (y : Attempt). AnswerOf (s .n) (resultant (s .n) (piece w1 (s .b) (s .d - 1 + 1)) (piece w1 (s .a) (s .d + 1))) y) (c .before .p .given .1) (c .before .before .before .before .before .euclid .ensures .0)
 
 -- src/lib.rt:145:33
 unit-part-mul-cofactor : (t : ℕ) → unit-part-lts.Need-mul-cofactor (
@@ -1700,7 +1793,8 @@ unit-part-copy-pair-reversed-requires : (t : ℕ) → unit-part-lts.Need-copy-pa
   with-sign-reads.Asked,
   with-sign-reads.Learnt,
 ) (unit-part-at t) unit-part.Post
-unit-part-copy-pair-reversed-requires t c κs = ?
+unit-part-copy-pair-reversed-requires t c κs = let s = c .before .before .before .before .args in
+    part-fits (s .n) (s .a) (s .k) (s .e) (s .x) (s .w .now) (c .before .before .before .before .pre .1 .0)
 
 -- src/lib.rt:147:16
 unit-part-mul-step : (t : ℕ) → unit-part-lts.Need-mul-step (
@@ -1817,7 +1911,9 @@ unit-part-step-requires : (t : ℕ) → unit-part-lts.Need-step-requires (
   with-sign-reads.Asked,
   with-sign-reads.Learnt,
 ) (unit-part-at t) unit-part.Post
-unit-part-step-requires t c κs = ?
+unit-part-step-requires t c κs = let s = c .before .before .before .before .before .before .before .before .args in
+    let p = c .before .before .before .before .before .before .before .before .pre .1 in
+    (omega (arith, c .before .before .before .before .before .before .before .before .pre .0), unit-asked (s .n) (s .a) (s .k) (s .e) (s .x) (s .w .now) (c .before .before .before .copy-pair-reversed .last .0) (p .0) (c .before .before .before .copy-pair-reversed .ensures) (c .before .before .before .before .before .cofactor .result .g) (c .before .before .before .before .before .cofactor .result .s) (p .1 .0) (p .1 .1) (c .before .before .before .before .before .cofactor .ensures))
 
 -- src/lib.rt:148:24
 unit-part-enum-known-v : (t : ℕ) → unit-part-lts.Need-enum-known-v (
@@ -1843,7 +1939,11 @@ unit-part-with-sign-requires : (t : ℕ) → unit-part-lts.Need-with-sign-requir
   with-sign-reads.Asked,
   with-sign-reads.Learnt,
 ) (unit-part-at t) unit-part.Post
-unit-part-with-sign-requires t c κs = ?
+unit-part-with-sign-requires t c κs = let s = c .before .before .before .before .before .before .before .before .before .before .before .before .before .before .args in
+    let w1 = c .before .before .before .before .before .before .before .before .before .copy-pair-reversed .last .0 in
+    let u : List ℕ = midOf (s .x) (length w1 - s .x) w1 in
+    let v = c .before .v .given in
+    subst (λ (y : Attempt). AnswerOf (s .n) (resultant (s .n) (piece u 0 (s .k + 1)) (piece u (s .k + 1) (s .e + 1))) y) (v .1) (c .before .before .before .before .before .step .ensures) .1
 
 -- src/lib.rt:149:25
 unit-part-enum-known-p : (t : ℕ) → unit-part-lts.Need-enum-known-p (
@@ -1882,7 +1982,12 @@ unit-part-returns : (t : ℕ) → unit-part-lts.Need-returns (
   with-sign-reads.Asked,
   with-sign-reads.Learnt,
 ) (unit-part-at t) unit-part.Post
-unit-part-returns t c = ?
+unit-part-returns t c = let s = c .before .before .before .before .before .before .before .before .before .before .before .before .before .before .before .args in
+    let w1 = c .before .before .before .before .before .before .before .before .before .before .copy-pair-reversed .last .0 in
+    let u : List ℕ = midOf (s .x) (length w1 - s .x) w1 in
+    let v = c .before .before .v .given in
+    unit-answer (s .n) (s .a) (s .k) (s .e) (s .x) (s .w .now) w1 (c .before .before .before .before .before .before .before .before .before .before .before .before .before .before .before .pre .1 .0) (c .before .before .before .before .before .before .before .before .before .before .copy-pair-reversed .ensures) (v .0 .0) (c .with-sign .result)
+    (subst (λ (y : Attempt). AnswerOf (s .n) (resultant (s .n) (piece u 0 (s .k + 1)) (piece u (s .k + 1) (s .e + 1))) y) (v .1) (c .before .before .before .before .before .before .step .ensures)) (c .with-sign .ensures)
 
 -- src/lib.rt:141:1
 unit-part-same-length-2 : (t : ℕ) → unit-part-lts.Need-same-length-2 (
@@ -1908,7 +2013,10 @@ unit-part-returns-2 : (t : ℕ) → unit-part-lts.Need-returns-2 (
   with-sign-reads.Asked,
   with-sign-reads.Learnt,
 ) (unit-part-at t) unit-part.Post
-unit-part-returns-2 t c = ?
+unit-part-returns-2 t c = let s = c .before .before .before .before .before .before .before .before .before .before .before .before .before .before .args in
+    let w1 = c .before .before .before .before .before .before .before .before .before .copy-pair-reversed .last .0 in
+    let u : List ℕ = midOf (s .x) (length w1 - s .x) w1 in
+    subst (λ (y : Attempt). AnswerOf (s .n) (resultant (s .n) (piece u 0 (s .k + 1)) (piece u (s .k + 1) (s .e + 1))) y) (c .before .p .given .1) (c .before .before .before .before .before .step .ensures)
 
 pub +cold+euclid+factors+monic-part+primitive+step+unit-part-spec : {M : Type 1} → statement M
 +cold+euclid+factors+monic-part+primitive+step+unit-part-spec =
