@@ -20,11 +20,11 @@ use Rattle.theory.specs.ReachedSteps.{coef-beyond}
 use Rattle.windows.specs.Window.{piece, Below, Content}
 use Rattle.windows.proofs.Leaf.{lt-or-le, piece-at, piece-length}
 use Rattle.windows.proofs.Lift.{mid-length, piece-mid, mid-below}
-use Rattle.steps.specs.Layouts.{SplitOf, Primitive, Cleared}
+use Rattle.steps.specs.Layouts.{Primitive, Cleared}
 use Rattle.steps.proofs.Contents.{factors, content-two, content-below, content-primitive}
 use Rattle.steps.proofs.SideBySide.{pair-above}
 use Rattle.steps.proofs.Splitting.{split-own}
-use Rattle.attempt.specs.Factors.{LeadingUnit, Nilpotents, Given}
+use Rattle.factor.specs.Factors.{SplitOf, LeadingUnit, Nilpotents, Given}
 use Rattle.attempt.specs.Rooms.{room, room-copies, room-copied, room-place}
 use Rattle.attempt.specs.Attempts.{Stacked, Divisor}
 

@@ -19,7 +19,7 @@ use Rattle.windows.specs.Window.{piece, Below, Around}
 use Rattle.windows.proofs.Leaf.{piece-at, piece-length, piece-same}
 use Rattle.windows.proofs.Lift.{mid-length, piece-mid, piece-put, window, lift-below, piece-low, below-is, is-now}
 use Rattle.steps.proofs.Degrees.{deg-of}
-use Rattle.attempt.specs.Factors.{Factored}
+use Rattle.factor.specs.Factors.{Factored}
 use Rattle.attempt.specs.Rooms.{room, place, room-factor, room-place, room-monic}
 use Rattle.attempt.specs.Attempts.{Stacked, Part, Kept}
 use Rattle.attempt.proofs.Leads.{stacked-fits}

@@ -13,7 +13,7 @@ use Prim.Native.Nat.{ℕ, _+_, _-_, _*_, _%_, _<_, _≤_}
 use lib.ListN.{length, getD}
 use Rattle.windows.specs.Window.{Below}
 use Rattle.division.specs.Remainders.{Pair}
-use Rattle.steps.specs.Layouts.{SplitOf}
+use Rattle.factor.specs.Factors.{SplitOf}
 use Rattle.attempt.specs.Rooms.{room}
 use Rattle.attempt.specs.declared.Attempt.{Attempt}
 use Rattle.attempt.specs.declared.Attempt.the-variants.{Value, Splits}

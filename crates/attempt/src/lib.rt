@@ -6,7 +6,7 @@ ghost use Rattle.definitions.specs.Residues.{IsUnit};
 ghost use Rattle.definitions.specs.Resultants.{resultant};
 ghost use Rattle.windows.specs.Window.{piece};
 ghost use Rattle.steps.specs.Layouts.{Primitive};
-ghost use Rattle.attempt.specs.Factors.{LeadingUnit, HighestOf, Given, Factored};
+ghost use Rattle.factor.specs.Factors.{LeadingUnit};
 ghost use Rattle.attempt.specs.Rooms.{room, place};
 ghost use Rattle.attempt.specs.Attempts.{AnswerOf, Placed, Divisor, Stacked, Part, Kept};
 
@@ -14,27 +14,6 @@ ghost use Rattle.attempt.specs.Attempts.{AnswerOf, Placed, Divisor, Stac
 pub enum Attempt {
     Value(u32),
     Splits(u32, u32),
-}
-
-// A unit with its place and its inverse; a coefficient that splits n into two factors; or neither.
-pub enum Highest {
-    UnitAt(usize, u32),
-    Splits(u32, u32),
-    AllNilpotent,
-}
-
-fn highest_of(s: &[u32], n: u32) -> Highest
-    requires { ⌜ 2 ≤ n ⌝ }
-    ensures { λ r. ⌜ HighestOf n (now (s .entry)) r ⌝ }
-{
-    Highest::AllNilpotent
-}
-
-fn unit_times_monic(w: &mut [u32], n: u32, d: usize, t: usize, i: u32)
-    requires { ⌜ (2 ≤ n) × ((t ≤ d) × (d + 1 + (t + 1 + (d + 1)) ≤ length (now w))) ⌝ }
-    requires { ⌜ Given n d t i (now w) ⌝ }
-    ensures { λ _. ⌜ Factored n d t (now (w .entry)) (now (w .exit)) ⌝ }
-{
 }
 
 // The resultant of f of degree d at a and g of degree e at b. Both are lost, and so are the words from s on.
@@ -92,15 +71,15 @@ fn primitive(w: &mut [u32], n: u32, d: usize, e: usize) -> Attempt
     requires { ⌜ Primitive n (piece (now w) (e + 1) (d + 1)) ⌝ }
     ensures { λ r. ⌜ AnswerOf n (resultant n (piece (now (w .entry)) (e + 1) (d + 1)) (piece (now (w .entry)) 0 (e + 1))) r ⌝ }
 {
-    match highest_of(&w[e + 1..e + 1 + (d + 1)], n) {
-        Highest::UnitAt(t, i) => {
+    match factor::highest_of(&w[e + 1..e + 1 + (d + 1)], n) {
+        factor::Highest::UnitAt(t, i) => {
             if t == d {
                 return step(w, n, e + 1, d, 0, e, e + 1 + (d + 1), i);
             }
             factors(w, n, d, e, t, i)
         }
-        Highest::Splits(p, q) => Attempt::Splits(p, q),
-        Highest::AllNilpotent => Attempt::Value(0),
+        factor::Highest::Splits(p, q) => Attempt::Splits(p, q),
+        factor::Highest::AllNilpotent => Attempt::Value(0),
     }
 }
 
@@ -111,7 +90,7 @@ fn factors(w: &mut [u32], n: u32, d: usize, e: usize, t: usize, i: u32) -> Attem
     requires { ⌜ LeadingUnit n t i (piece (now w) (e + 1) (d + 1)) ⌝ }
     ensures { λ r. ⌜ AnswerOf n (resultant n (piece (now (w .entry)) (e + 1) (d + 1)) (piece (now (w .entry)) 0 (e + 1))) r ⌝ }
 {
-    unit_times_monic(&mut w[e + 1..], n, d, t, i);
+    factor::unit_times_monic(&mut w[e + 1..], n, d, t, i);
     let h = e + 1 + (d + 1);
     let u = h + (t + 1) + t;
     let x = h + (t + 1) + (d + 1);

@@ -15,7 +15,7 @@ use Rattle.numbers.specs.Units.{coprime-of-unit}
 use Rattle.numbers.specs.Coprimality.{coprime-sym, coprime-power}
 use Rattle.numbers.specs.Chinese.{Joined, joined-unique}
 use Rattle.theory.specs.ResultantLaws.{resultant-mod}
-use Rattle.steps.specs.Layouts.{SplitOf}
+use Rattle.factor.specs.Factors.{SplitOf}
 use Rattle.steps.proofs.Degrees.{resultant-lt}
 
 pub split-own : {n m p q : ℕ} → SplitOf m p q → m ∣ n → SplitOf (p * q) p q × (p * q ∣ n)

@@ -1,24 +1,15 @@
 -- What the steps of an attempt at a resultant leave in its buffer, f of degree d and g of degree e.
 --
---   SplitOf n p q         n = p q, both above 1 and coprime
 --   Primitive n f         nothing but 1 divides n and every coefficient of f
 --   Cleared n d e c       the content c of f is taken out, and g is reduced to what is left of the modulus
 --   Beside F G l m s      l words F and m words G now stand side by side at s
 --   words-at, words-back  the words from a place on, and l of them with the last first
 use mathlib.Core.Path.{_≡_}
 use mathlib.Core.List.{List}
-use Prim.Native.Nat.{ℕ, _+_, _-_, _*_, _/_, _%_, _<_, _≤_, _∣_}
+use Prim.Native.Nat.{ℕ, _+_, _-_, _/_, _%_, _<_, _∣_}
 use lib.ListN.{length, getD}
-use Rattle.definitions.specs.Residues.{Coprime}
 use Rattle.definitions.specs.Polynomials.{coef}
 use Rattle.windows.specs.Window.{piece, Around, Content}
-
--- "n = n1 times n2, both above 1 and coprime"
-pub record SplitOf (n p q : ℕ) : Type 0 where
-  pub product : p * q ≡ n
-  pub above₁ : 1 < p
-  pub above₂ : 1 < q
-  pub coprime : Coprime p q
 
 pub record Primitive (n : ℕ) (f : List ℕ) : Type 0 where
   pub only : (x : ℕ) → x ∣ n → ((k : ℕ) → k < length f → x ∣ coef f k) → x ≡ 1

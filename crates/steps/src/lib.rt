@@ -8,7 +8,8 @@ ghost use mathlib.Core.Path.{_≡_};
 ghost use Prim.Native.Nat.{ℕ, _+_, _-_, _*_, _/_, _%_, _<_, _≤_, _∣_};
 ghost use lib.ListN.{length};
 ghost use Rattle.theory.specs.ResultantLaws.{signed};
-ghost use Rattle.steps.specs.Layouts.{SplitOf, Cleared, Beside, words-at, words-back};
+ghost use Rattle.factor.specs.Factors.{SplitOf};
+ghost use Rattle.steps.specs.Layouts.{Cleared, Beside, words-at, words-back};
 
 // Two coprime factors.
 pub struct Split {

@@ -3,9 +3,9 @@ use Rattle.windows.specs.Window.{piece}
 use borrow.Rule.Slice.PartMut.{midOf, putMid}
 use Rattle.steps.proofs.Contents.{content-positive, content-whole, content-value}
 use Rattle.attempt.specs.Attempts.{AnswerOf}
-use Rattle.attempt.specs.Factors.{HighestOf, LeadingUnit, Nilpotents}
+use Rattle.factor.specs.Factors.{HighestOf, LeadingUnit, Nilpotents}
 use Rattle.attempt.specs.declared.Attempt.{Attempt}
-use Rattle.attempt.specs.declared.Highest.{Highest}
+use Rattle.factor.specs.declared.Highest.{Highest}
 use Rattle.attempt.proofs.Remaining.{at-constant, divisor-asked, divide-asked, next-asked, value-next}
 use Rattle.attempt.proofs.Copies.{copies-fit, stacked-asked, stacked-answer, part-fits, monic-constant, monic-asked, monic-answer, monic-kept, kept-none, unit-asked, unit-answer}
 use Rattle.attempt.proofs.Leads.{stacked-fits, cleared-asked, cleared-split, not-all-nilpotent, lent, lead-asked, lead-below, given-in}
@@ -41,8 +41,8 @@ use Rattle.attempt.proofs.unit_part.Kinds as unit-part-kinds
 use Rattle.attempt.proofs.+cold+euclid+factors+monic_part+primitive+step+unit_part.Lts-unit_part as unit-part-lts
 use Rattle.arithmetic.proofs.mul_mod.Reads as mul-mod-reads
 use Rattle.arithmetic.proofs.power.Reads as power-reads
-use Rattle.attempt.proofs.highest_of.Reads as highest-of-reads
-use Rattle.attempt.proofs.unit_times_monic.Reads as unit-times-monic-reads
+use Rattle.factor.proofs.highest_of.Reads as highest-of-reads
+use Rattle.factor.proofs.unit_times_monic.Reads as unit-times-monic-reads
 use Rattle.bezout.proofs.cofactor.Reads as cofactor-reads
 use Rattle.division.proofs.divide.Reads as divide-reads
 use Rattle.steps.proofs.clear_content.Reads as clear-content-reads
