@@ -1,0 +1,7 @@
+pub mod Approaches
+pub mod Leads
+pub mod Quotients
+pub mod Rounds
+pub mod SeriesLaws
+pub mod SeriesTurns
+pub mod Uniqueness
