@@ -7,7 +7,7 @@ use mathlib.Core.Path.{_≡_, refl, sym, ap, ap₂, subst, _∙_}
 use Prim.Native.Nat.{ℕ, zero, suc, _+_, _-_, _*_, _%_, _≤_, _<_}
 use native.Mathlib.Omega.{arith}
 use native.Mathlib.Nat.{mod-eq-of-lt, mod-lt}
-use Rattle.algebra.specs.Modular.{mul-mod}
+use Rattle.algebra.specs.Residues.{mul-mod}
 use Rattle.arithmetic.proofs.Negatives.{negative-none, negative-some}
 use Rattle.theory.specs.ResultantLaws.{signed}
 
