@@ -1,10 +1,9 @@
 -- Powers by squaring.
-use mathlib.Core.Path.{_≡_, refl, sym, ap, ap₂, _∙_}
-use Prim.Native.Nat.{ℕ, zero, suc, _+_, _-_, _*_, _/_, _%_, _^_, _≤_, _<_}
+use mathlib.Core.Path.{_≡_, sym, ap, _∙_}
+use Prim.Native.Nat.{ℕ, zero, suc, _+_, _*_, _/_, _%_, _^_, _≤_, _<_}
 use native.Mathlib.Omega.{arith}
 use native.Mathlib.Nat.{pow-zero, pow-suc, mul-one, one-mul, mul-assoc, mod-eq-of-lt, mod-lt}
-use lib.Pow.{pow-add}
-use Rattle.numbers.specs.Congruence.{c-pow, Cong, c-refl, c-sym, c-trans, c-eq, c-mul, c-mod, ring}
+use Rattle.numbers.specs.Congruence.{c-pow, Cong, c-refl, c-trans, c-eq, c-mul, c-mod}
 
 square : (y k : ℕ) → (y * y) ^ k ≡ y ^ (k + k)
 square y zero = pow-zero (y * y) ∙ sym (pow-zero y)
@@ -20,9 +19,9 @@ pub record Powering (n x k r y j : ℕ) : Type 0 where
 
 pub powering-start : (n x k r : ℕ) → 1 ≤ n → r ≡ 1 % n → Powering n x k r x k
 powering-start n x k r l e = record {
-      small = rw e (mod-lt 1 l);
-      is = c-trans (c-mul (c-trans (c-eq e) (c-mod 1)) c-refl) (c-eq (one-mul (x ^ k)))
-    }
+  small = rw e (mod-lt 1 l);
+  is = c-trans (c-mul (c-trans (c-eq e) (c-mod 1)) c-refl) (c-eq (one-mul (x ^ k)));
+}
 
 pub powering-odd : {n x k r y j : ℕ} (r' y' : ℕ) → 1 ≤ n → j % 2 ≡ 1 → r' ≡ (r * y) % n → y' ≡ (y * y) % n → Powering n x k r y j → Powering n x k r' y' (j / 2)
 powering-odd {n} {x} {k} {r} {y} {j} r' y' l o er ey p =
@@ -31,7 +30,7 @@ powering-odd {n} {x} {k} {r} {y} {j} r' y' l o er ey p =
     record {
       small = rw er (mod-lt (r * y) l);
       is = c-trans (c-mul (c-trans (c-eq er) (c-mod (r * y))) (c-trans (c-pow (c-trans (c-eq ey) (c-mod (y * y))) h) (c-eq (square y h))))
-        (c-trans (c-eq (mul-assoc r y (y ^ (h + h)) ∙ ap (λ (u : ℕ). r * u) (mul-comm' y (y ^ (h + h)) ∙ sym (pow-suc y (h + h)) ∙ ap (λ (u : ℕ). y ^ u) (sym z)))) (p .is))
+          (c-trans (c-eq (mul-assoc r y (y ^ (h + h)) ∙ ap (λ (u : ℕ). r * u) (mul-comm' y (y ^ (h + h)) ∙ sym (pow-suc y (h + h)) ∙ ap (λ (u : ℕ). y ^ u) (sym z)))) (p .is));
     }
   where
     mul-comm' : (a b : ℕ) → a * b ≡ b * a
@@ -43,7 +42,7 @@ powering-even {n} {x} {k} {r} {y} {j} y' o ey p =
     let z : h + h ≡ j = omega arith in
     record {
       small = p .small;
-      is = c-trans (c-mul c-refl (c-trans (c-pow (c-trans (c-eq ey) (c-mod (y * y))) h) (c-eq (square y h ∙ ap (λ (u : ℕ). y ^ u) z)))) (p .is)
+      is = c-trans (c-mul c-refl (c-trans (c-pow (c-trans (c-eq ey) (c-mod (y * y))) h) (c-eq (square y h ∙ ap (λ (u : ℕ). y ^ u) z)))) (p .is);
     }
 
 pub powering-end : {n x k r y j : ℕ} → j ≡ 0 → Powering n x k r y j → r ≡ (x ^ k) % n
