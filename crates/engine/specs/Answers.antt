@@ -7,7 +7,7 @@
 --   resultant-served, reduced-served, product-served       where the words are served and the buffers are long enough, a call answers
 use mathlib.Core.Path.{_≡_, refl, sym, _∙_, ap, ap₂, subst}
 use mathlib.Core.Bool.{Bool, true, false, cond}
-use mathlib.Core.List.{List, _++_}
+use mathlib.Core.List.{List, [], _∷_, _++_}
 use Prim.Native.Nat.{ℕ, zero, suc, _+_, _*_, _%_, _≤_, _<_}
 use native.Mathlib.Omega.{arith}
 use lib.ListN.{length, take, drop}
@@ -45,7 +45,8 @@ pub record AnsweredReduced (n : ℕ) (f g : List ℕ) (D : ℕ) : Type 0 where
   pub call : ReducedAnswer n f g u u' v v' work work' D 0
 
 take-front : (x y : List ℕ) → take (length x) (x ++ y) ≡ x
-take-front x y = take-append-length x y
+take-front [] y = refl
+take-front (a ∷ x) y = ap (λ (z : List ℕ). a ∷ z) (take-front x y)
 
 -- POINT 3: whatever the product, the resultant and the reduced resultant answer for f, g and h modulo one n obeys the law of products
 pub law-of-the-answers : (n : ℕ) → 1 ≤ n → (f g h p : List ℕ) (r rf rg D Df Dg : ℕ) → AnsweredProduct n f g p
