@@ -1,0 +1,5 @@
+pub mod Contents
+pub mod Degrees
+pub mod SideBySide
+pub mod Signs
+pub mod Splitting
