@@ -60,10 +60,12 @@ fn primitive(w: &mut [u32], n: u32, d: usize, e: usize) -> Attempt
     requires { ⌜ Primitive n (piece (now w) (e + 1) (d + 1)) ⌝ }
     ensures { λ r. ⌜ AnswerOf n (resultant n (piece (now (w .entry)) (e + 1) (d + 1)) (piece (now (w .entry)) 0 (e + 1))) r ⌝ }
 {
-    match factor::highest_of(&w[e + 1..e + 1 + (d + 1)], n) {
+    let a = e + 1;
+    let s = a + (d + 1);
+    match factor::highest_of(&w[a..s], n) {
         factor::Highest::UnitAt(t, i) => {
             if t == d {
-                return step(w, n, e + 1, d, 0, e, e + 1 + (d + 1), i);
+                return step(w, n, a, d, 0, e, s, i);
             }
             factors(w, n, d, e, t, i)
         }
@@ -79,10 +81,13 @@ fn factors(w: &mut [u32], n: u32, d: usize, e: usize, t: usize, i: u32) -> Attem
     requires { ⌜ LeadingUnit n t i (piece (now w) (e + 1) (d + 1)) ⌝ }
     ensures { λ r. ⌜ AnswerOf n (resultant n (piece (now (w .entry)) (e + 1) (d + 1)) (piece (now (w .entry)) 0 (e + 1))) r ⌝ }
 {
-    factor::unit_times_monic(&mut w[e + 1..], n, d, t, i);
-    let h = e + 1 + (d + 1);
-    let u = h + (t + 1) + t;
-    let x = h + (t + 1) + (d + 1);
+    let a = e + 1;
+    let l = d + 1;
+    let h = a + l;
+    let v = h + (t + 1);
+    let u = v + t;
+    let x = v + l;
+    factor::unit_times_monic(&mut w[a..], n, d, t, i);
     match monic_part(w, n, h, t, e, x) {
         Attempt::Value(y) => steps::times(n, y, unit_part(w, n, u, d - t, e, x)),
         Attempt::Splits(p, q) => Attempt::Splits(p, q),
@@ -98,8 +103,10 @@ fn monic_part(w: &mut [u32], n: u32, a: usize, t: usize, e: usize, x: usize) -> 
     if t == 0 {
         return Attempt::Value(1);
     }
-    steps::copy_pair(w, a, t + 1, 0, e + 1, x);
-    step(&mut w[x..], n, 0, t, t + 1, e, t + 1 + (e + 1), 1)
+    let l = t + 1;
+    let m = e + 1;
+    steps::copy_pair(w, a, l, 0, m, x);
+    step(&mut w[x..], n, 0, t, l, e, l + m, 1)
 }
 
 // The same for a polynomial of degree k whose constant is a unit: both are reversed, which brings the unit to the lead.
@@ -108,7 +115,9 @@ fn unit_part(w: &mut [u32], n: u32, a: usize, k: usize, e: usize, x: usize) -> A
     ensures { λ r. ⌜ AnswerOf n (resultant n (piece (now (w .entry)) a (k + 1)) (piece (now (w .entry)) 0 (e + 1))) r ⌝ }
 {
     let i = bezout::cofactor(n, w[a]);
-    steps::copy_pair_reversed(w, a, k + 1, 0, e + 1, x);
-    let r = step(&mut w[x..], n, 0, k, k + 1, e, k + 1 + (e + 1), i.s);
+    let l = k + 1;
+    let m = e + 1;
+    steps::copy_pair_reversed(w, a, l, 0, m, x);
+    let r = step(&mut w[x..], n, 0, k, l, e, l + m, i.s);
     steps::times_sign(n, k, e, r)
 }

@@ -579,8 +579,8 @@ euclid-returns-3 : (t : ℕ) → euclid-lts.Need-returns-3 (
 euclid-returns-3 t c = let s = c .before .before .before .before .before .before .before .before .before .before .before .before .before .before .args in
     (stacked-answer (s .n) (s .a) (s .d) (s .b) (s .e) (s .s) (s .w .now) (c .before .before .before .before .before .before .copy-pair .last .0) (c .before .before .before .before .before .before .before .before .before .before .before .before .before .before .pre .1) (c .before .before .before .before .before .before .before .before .before .before .before .if1 .left) (c .before .before .before .before .before .before .copy-pair .ensures) (c .before .before .by-content .result) (c .before .before .by-content .ensures), search needs)
 
--- src/lib.rt:82:37
-factors-add-unit-times-monic : (t : ℕ) → factors-lts.Need-add-unit-times-monic (
+-- src/lib.rt:84:13
+factors-add-a : (t : ℕ) → factors-lts.Need-add-a (
   unit-times-monic-reads.Asked,
   unit-times-monic-reads.Learnt,
   monic-part-below t,
@@ -590,9 +590,87 @@ factors-add-unit-times-monic : (t : ℕ) → factors-lts.Need-add-unit-times-mon
   times-reads.Asked,
   times-reads.Learnt,
 ) (factors-at t) factors.Post
-factors-add-unit-times-monic t c = search needs
+factors-add-a t c = search needs
 
--- src/lib.rt:82:30
+-- src/lib.rt:85:13
+factors-add-l : (t : ℕ) → factors-lts.Need-add-l (
+  unit-times-monic-reads.Asked,
+  unit-times-monic-reads.Learnt,
+  monic-part-below t,
+  monic-part.Post,
+  unit-part-below t,
+  unit-part.Post,
+  times-reads.Asked,
+  times-reads.Learnt,
+) (factors-at t) factors.Post
+factors-add-l t c = search needs
+
+-- src/lib.rt:86:13
+factors-add-h : (t : ℕ) → factors-lts.Need-add-h (
+  unit-times-monic-reads.Asked,
+  unit-times-monic-reads.Learnt,
+  monic-part-below t,
+  monic-part.Post,
+  unit-part-below t,
+  unit-part.Post,
+  times-reads.Asked,
+  times-reads.Learnt,
+) (factors-at t) factors.Post
+factors-add-h t c = search needs
+
+-- src/lib.rt:87:18
+factors-add-v : (t : ℕ) → factors-lts.Need-add-v (
+  unit-times-monic-reads.Asked,
+  unit-times-monic-reads.Learnt,
+  monic-part-below t,
+  monic-part.Post,
+  unit-part-below t,
+  unit-part.Post,
+  times-reads.Asked,
+  times-reads.Learnt,
+) (factors-at t) factors.Post
+factors-add-v t c = search needs
+
+-- src/lib.rt:87:13
+factors-add-v-2 : (t : ℕ) → factors-lts.Need-add-v-2 (
+  unit-times-monic-reads.Asked,
+  unit-times-monic-reads.Learnt,
+  monic-part-below t,
+  monic-part.Post,
+  unit-part-below t,
+  unit-part.Post,
+  times-reads.Asked,
+  times-reads.Learnt,
+) (factors-at t) factors.Post
+factors-add-v-2 t c = search needs
+
+-- src/lib.rt:88:13
+factors-add-u : (t : ℕ) → factors-lts.Need-add-u (
+  unit-times-monic-reads.Asked,
+  unit-times-monic-reads.Learnt,
+  monic-part-below t,
+  monic-part.Post,
+  unit-part-below t,
+  unit-part.Post,
+  times-reads.Asked,
+  times-reads.Learnt,
+) (factors-at t) factors.Post
+factors-add-u t c = search needs
+
+-- src/lib.rt:89:13
+factors-add-x : (t : ℕ) → factors-lts.Need-add-x (
+  unit-times-monic-reads.Asked,
+  unit-times-monic-reads.Learnt,
+  monic-part-below t,
+  monic-part.Post,
+  unit-part-below t,
+  unit-part.Post,
+  times-reads.Asked,
+  times-reads.Learnt,
+) (factors-at t) factors.Post
+factors-add-x t c = search needs
+
+-- src/lib.rt:90:30
 factors-mul-unit-times-monic : (t : ℕ) → factors-lts.Need-mul-unit-times-monic (
   unit-times-monic-reads.Asked,
   unit-times-monic-reads.Learnt,
@@ -605,7 +683,7 @@ factors-mul-unit-times-monic : (t : ℕ) → factors-lts.Need-mul-unit-times-mon
 ) (factors-at t) factors.Post
 factors-mul-unit-times-monic t c = search needs
 
--- src/lib.rt:82:30
+-- src/lib.rt:90:30
 factors-sub-unit-times-monic : (t : ℕ) → factors-lts.Need-sub-unit-times-monic (
   unit-times-monic-reads.Asked,
   unit-times-monic-reads.Learnt,
@@ -618,7 +696,7 @@ factors-sub-unit-times-monic : (t : ℕ) → factors-lts.Need-sub-unit-times-mon
 ) (factors-at t) factors.Post
 factors-sub-unit-times-monic t c = search needs
 
--- src/lib.rt:82:30
+-- src/lib.rt:90:30
 factors-part-unit-times-monic-start : (t : ℕ) → factors-lts.Need-part-unit-times-monic-start (
   unit-times-monic-reads.Asked,
   unit-times-monic-reads.Learnt,
@@ -631,7 +709,7 @@ factors-part-unit-times-monic-start : (t : ℕ) → factors-lts.Need-part-unit-t
 ) (factors-at t) factors.Post
 factors-part-unit-times-monic-start t c = search needs
 
--- src/lib.rt:82:30
+-- src/lib.rt:90:30
 factors-part-unit-times-monic-end : (t : ℕ) → factors-lts.Need-part-unit-times-monic-end (
   unit-times-monic-reads.Asked,
   unit-times-monic-reads.Learnt,
@@ -644,7 +722,7 @@ factors-part-unit-times-monic-end : (t : ℕ) → factors-lts.Need-part-unit-tim
 ) (factors-at t) factors.Post
 factors-part-unit-times-monic-end t c = search needs
 
--- src/lib.rt:82:5
+-- src/lib.rt:90:5
 factors-unit-times-monic-requires : (t : ℕ) → factors-lts.Need-unit-times-monic-requires (
   unit-times-monic-reads.Asked,
   unit-times-monic-reads.Learnt,
@@ -659,137 +737,7 @@ factors-unit-times-monic-requires t c κs = let s = c .before .before .args in
     let p = c .before .before .pre .1 in
     given-in (s .n) (s .d) (s .e) (s .t) (s .i) (s .w .now) (p .0 .0) (p .0 .1) (p .1)
 
--- src/lib.rt:83:13
-factors-add-h : (t : ℕ) → factors-lts.Need-add-h (
-  unit-times-monic-reads.Asked,
-  unit-times-monic-reads.Learnt,
-  monic-part-below t,
-  monic-part.Post,
-  unit-part-below t,
-  unit-part.Post,
-  times-reads.Asked,
-  times-reads.Learnt,
-) (factors-at t) factors.Post
-factors-add-h t c = search needs
-
--- src/lib.rt:83:22
-factors-add-h-2 : (t : ℕ) → factors-lts.Need-add-h-2 (
-  unit-times-monic-reads.Asked,
-  unit-times-monic-reads.Learnt,
-  monic-part-below t,
-  monic-part.Post,
-  unit-part-below t,
-  unit-part.Post,
-  times-reads.Asked,
-  times-reads.Learnt,
-) (factors-at t) factors.Post
-factors-add-h-2 t c = search needs
-
--- src/lib.rt:83:13
-factors-add-h-3 : (t : ℕ) → factors-lts.Need-add-h-3 (
-  unit-times-monic-reads.Asked,
-  unit-times-monic-reads.Learnt,
-  monic-part-below t,
-  monic-part.Post,
-  unit-part-below t,
-  unit-part.Post,
-  times-reads.Asked,
-  times-reads.Learnt,
-) (factors-at t) factors.Post
-factors-add-h-3 t c = search needs
-
--- src/lib.rt:84:18
-factors-add-u : (t : ℕ) → factors-lts.Need-add-u (
-  unit-times-monic-reads.Asked,
-  unit-times-monic-reads.Learnt,
-  monic-part-below t,
-  monic-part.Post,
-  unit-part-below t,
-  unit-part.Post,
-  times-reads.Asked,
-  times-reads.Learnt,
-) (factors-at t) factors.Post
-factors-add-u t c = search needs
-
--- src/lib.rt:84:13
-factors-add-u-2 : (t : ℕ) → factors-lts.Need-add-u-2 (
-  unit-times-monic-reads.Asked,
-  unit-times-monic-reads.Learnt,
-  monic-part-below t,
-  monic-part.Post,
-  unit-part-below t,
-  unit-part.Post,
-  times-reads.Asked,
-  times-reads.Learnt,
-) (factors-at t) factors.Post
-factors-add-u-2 t c = search needs
-
--- src/lib.rt:84:13
-factors-add-u-3 : (t : ℕ) → factors-lts.Need-add-u-3 (
-  unit-times-monic-reads.Asked,
-  unit-times-monic-reads.Learnt,
-  monic-part-below t,
-  monic-part.Post,
-  unit-part-below t,
-  unit-part.Post,
-  times-reads.Asked,
-  times-reads.Learnt,
-) (factors-at t) factors.Post
-factors-add-u-3 t c = search needs
-
--- src/lib.rt:85:18
-factors-add-x : (t : ℕ) → factors-lts.Need-add-x (
-  unit-times-monic-reads.Asked,
-  unit-times-monic-reads.Learnt,
-  monic-part-below t,
-  monic-part.Post,
-  unit-part-below t,
-  unit-part.Post,
-  times-reads.Asked,
-  times-reads.Learnt,
-) (factors-at t) factors.Post
-factors-add-x t c = search needs
-
--- src/lib.rt:85:13
-factors-add-x-2 : (t : ℕ) → factors-lts.Need-add-x-2 (
-  unit-times-monic-reads.Asked,
-  unit-times-monic-reads.Learnt,
-  monic-part-below t,
-  monic-part.Post,
-  unit-part-below t,
-  unit-part.Post,
-  times-reads.Asked,
-  times-reads.Learnt,
-) (factors-at t) factors.Post
-factors-add-x-2 t c = search needs
-
--- src/lib.rt:85:28
-factors-add-x-3 : (t : ℕ) → factors-lts.Need-add-x-3 (
-  unit-times-monic-reads.Asked,
-  unit-times-monic-reads.Learnt,
-  monic-part-below t,
-  monic-part.Post,
-  unit-part-below t,
-  unit-part.Post,
-  times-reads.Asked,
-  times-reads.Learnt,
-) (factors-at t) factors.Post
-factors-add-x-3 t c = search needs
-
--- src/lib.rt:85:13
-factors-add-x-4 : (t : ℕ) → factors-lts.Need-add-x-4 (
-  unit-times-monic-reads.Asked,
-  unit-times-monic-reads.Learnt,
-  monic-part-below t,
-  monic-part.Post,
-  unit-part-below t,
-  unit-part.Post,
-  times-reads.Asked,
-  times-reads.Learnt,
-) (factors-at t) factors.Post
-factors-add-x-4 t c = search needs
-
--- src/lib.rt:86:11
+-- src/lib.rt:91:11
 factors-monic-part-requires : (t : ℕ) → factors-lts.Need-monic-part-requires (
   unit-times-monic-reads.Asked,
   unit-times-monic-reads.Learnt,
@@ -806,7 +754,7 @@ factors-monic-part-requires t c κs = let s = c .before .before .before .before 
     (omega (arith, c .before .before .before .before .before .before .pre .0, p .1), (monic-part (s .n) (s .d) (s .e) (s .t) (s .w .now) (u .last .0) (p .0) (p .1) (u .kept .0) (u .ensures),
     monic-lead (s .n) (s .d) (s .e) (s .t) (s .w .now) (u .last .0) (p .0) (p .1) (u .kept .0) (u .ensures)))
 
--- src/lib.rt:87:24
+-- src/lib.rt:92:24
 factors-enum-known-y : (t : ℕ) → factors-lts.Need-enum-known-y (
   unit-times-monic-reads.Asked,
   unit-times-monic-reads.Learnt,
@@ -819,7 +767,7 @@ factors-enum-known-y : (t : ℕ) → factors-lts.Need-enum-known-y (
 ) (factors-at t) factors.Post
 factors-enum-known-y t c = search needs
 
--- src/lib.rt:87:68
+-- src/lib.rt:92:68
 factors-sub-unit-part : (t : ℕ) → factors-lts.Need-sub-unit-part (
   unit-times-monic-reads.Asked,
   unit-times-monic-reads.Learnt,
@@ -832,7 +780,7 @@ factors-sub-unit-part : (t : ℕ) → factors-lts.Need-sub-unit-part (
 ) (factors-at t) factors.Post
 factors-sub-unit-part t c = search needs
 
--- src/lib.rt:87:49
+-- src/lib.rt:92:49
 factors-unit-part-requires : (t : ℕ) → factors-lts.Need-unit-part-requires (
   unit-times-monic-reads.Asked,
   unit-times-monic-reads.Learnt,
@@ -850,7 +798,7 @@ factors-unit-part-requires t c κs = let s = c .before .before .before .before .
     (omega (arith, c .before .before .before .before .before .before .before .before .before .before .before .before .before .pre .0, p .1), (unit-part (s .n) (s .d) (s .e) (s .t) (s .w .now) (u .last .0) (p .0) (p .1) (u .kept .0) (u .ensures) (h .last .0) (h .ensures .1),
     (omega (arith, p .1), unit-constant (s .n) (s .d) (s .e) (s .t) (s .w .now) (u .last .0) (p .0) (p .1) (u .kept .0) (u .ensures) (h .last .0) (h .ensures .1))))
 
--- src/lib.rt:87:30
+-- src/lib.rt:92:30
 factors-times-requires : (t : ℕ) → factors-lts.Need-times-requires (
   unit-times-monic-reads.Asked,
   unit-times-monic-reads.Learnt,
@@ -863,7 +811,7 @@ factors-times-requires : (t : ℕ) → factors-lts.Need-times-requires (
 ) (factors-at t) factors.Post
 factors-times-requires t c κs = search needs
 
--- src/lib.rt:88:25
+-- src/lib.rt:93:25
 factors-enum-known-p : (t : ℕ) → factors-lts.Need-enum-known-p (
   unit-times-monic-reads.Asked,
   unit-times-monic-reads.Learnt,
@@ -876,7 +824,7 @@ factors-enum-known-p : (t : ℕ) → factors-lts.Need-enum-known-p (
 ) (factors-at t) factors.Post
 factors-enum-known-p t c = search needs
 
--- src/lib.rt:77:1
+-- src/lib.rt:79:1
 factors-same-length : (t : ℕ) → factors-lts.Need-same-length (
   unit-times-monic-reads.Asked,
   unit-times-monic-reads.Learnt,
@@ -889,7 +837,7 @@ factors-same-length : (t : ℕ) → factors-lts.Need-same-length (
 ) (factors-at t) factors.Post
 factors-same-length t c = search needs
 
--- src/lib.rt:77:1
+-- src/lib.rt:79:1
 factors-returns : (t : ℕ) → factors-lts.Need-returns (
   unit-times-monic-reads.Asked,
   unit-times-monic-reads.Learnt,
@@ -909,7 +857,7 @@ factors-returns t c = let s = c .before .before .before .before .before .before 
     let hy = subst (λ (r : Attempt). AnswerOf (s .n) (resultant (s .n) (piece w1 (s .e + 1 + (s .d + 1)) (s .t + 1)) (piece w1 0 (s .e + 1))) r) (y .1) (h .ensures .0) in
     followed (c .times .ensures) (c .before .before .before .unit-part .ensures) (product-times (s .n) (s .d) (s .e) (s .t) (s .w .now) (u .last .0) (p .0) (p .1) (u .kept .0) (u .ensures) (h .last .0) (h .ensures .1) (y .0 .0) (hy .0))
 
--- src/lib.rt:77:1
+-- src/lib.rt:79:1
 factors-same-length-2 : (t : ℕ) → factors-lts.Need-same-length-2 (
   unit-times-monic-reads.Asked,
   unit-times-monic-reads.Learnt,
@@ -922,7 +870,7 @@ factors-same-length-2 : (t : ℕ) → factors-lts.Need-same-length-2 (
 ) (factors-at t) factors.Post
 factors-same-length-2 t c = search needs
 
--- src/lib.rt:77:1
+-- src/lib.rt:79:1
 factors-returns-2 : (t : ℕ) → factors-lts.Need-returns-2 (
   unit-times-monic-reads.Asked,
   unit-times-monic-reads.Learnt,
@@ -937,7 +885,7 @@ factors-returns-2 t c = let s = c .before .before .before .before .before .befor
     let w1 : List ℕ = putMid (s .e + 1) (length (s .w .now) - (s .e + 1)) (s .w .now) (c .before .before .before .before .before .before .before .before .before .unit-times-monic .last .0) in
     subst (λ (r : Attempt). AnswerOf (s .n) (resultant (s .n) (piece w1 (s .e + 1 + (s .d + 1)) (s .t + 1)) (piece w1 0 (s .e + 1))) r) (c .before .p .given .1) (c .before .before .before .before .before .monic-part .ensures .0)
 
--- src/lib.rt:99:9
+-- src/lib.rt:104:9
 monic-part-returns : (t : ℕ) → monic-part-lts.Need-returns (
   copy-pair-reads.Asked,
   copy-pair-reads.Learnt,
@@ -947,25 +895,25 @@ monic-part-returns : (t : ℕ) → monic-part-lts.Need-returns (
 monic-part-returns t c = let s = c .before .before .args in
     (monic-constant (s .n) (s .a) (s .t) (s .e) (s .x) (s .w .now) (c .before .before .pre .1 .0) (c .before .before .pre .1 .1) (c .if1 .taken), kept-none (s .x) (s .w .now))
 
--- src/lib.rt:101:28
-monic-part-add-copy-pair : (t : ℕ) → monic-part-lts.Need-add-copy-pair (
+-- src/lib.rt:106:13
+monic-part-add-l : (t : ℕ) → monic-part-lts.Need-add-l (
   copy-pair-reads.Asked,
   copy-pair-reads.Learnt,
   step-below t,
   step.Post,
 ) (monic-part-at t) monic-part.Post
-monic-part-add-copy-pair t c = search needs
+monic-part-add-l t c = search needs
 
--- src/lib.rt:101:38
-monic-part-add-copy-pair-2 : (t : ℕ) → monic-part-lts.Need-add-copy-pair-2 (
+-- src/lib.rt:107:13
+monic-part-add-m : (t : ℕ) → monic-part-lts.Need-add-m (
   copy-pair-reads.Asked,
   copy-pair-reads.Learnt,
   step-below t,
   step.Post,
 ) (monic-part-at t) monic-part.Post
-monic-part-add-copy-pair-2 t c = search needs
+monic-part-add-m t c = search needs
 
--- src/lib.rt:101:5
+-- src/lib.rt:108:5
 monic-part-copy-pair-requires : (t : ℕ) → monic-part-lts.Need-copy-pair-requires (
   copy-pair-reads.Asked,
   copy-pair-reads.Learnt,
@@ -975,7 +923,7 @@ monic-part-copy-pair-requires : (t : ℕ) → monic-part-lts.Need-copy-pair-requ
 monic-part-copy-pair-requires t c κs = let s = c .before .before .before .args in
     part-fits (s .n) (s .a) (s .t) (s .e) (s .x) (s .w .now) (c .before .before .before .pre .1 .0)
 
--- src/lib.rt:102:10
+-- src/lib.rt:109:10
 monic-part-mul-step : (t : ℕ) → monic-part-lts.Need-mul-step (
   copy-pair-reads.Asked,
   copy-pair-reads.Learnt,
@@ -984,7 +932,7 @@ monic-part-mul-step : (t : ℕ) → monic-part-lts.Need-mul-step (
 ) (monic-part-at t) monic-part.Post
 monic-part-mul-step t c = search needs
 
--- src/lib.rt:102:10
+-- src/lib.rt:109:10
 monic-part-sub-step : (t : ℕ) → monic-part-lts.Need-sub-step (
   copy-pair-reads.Asked,
   copy-pair-reads.Learnt,
@@ -993,7 +941,7 @@ monic-part-sub-step : (t : ℕ) → monic-part-lts.Need-sub-step (
 ) (monic-part-at t) monic-part.Post
 monic-part-sub-step t c = search needs
 
--- src/lib.rt:102:10
+-- src/lib.rt:109:10
 monic-part-part-step-start : (t : ℕ) → monic-part-lts.Need-part-step-start (
   copy-pair-reads.Asked,
   copy-pair-reads.Learnt,
@@ -1002,7 +950,7 @@ monic-part-part-step-start : (t : ℕ) → monic-part-lts.Need-part-step-start (
 ) (monic-part-at t) monic-part.Post
 monic-part-part-step-start t c = search needs
 
--- src/lib.rt:102:10
+-- src/lib.rt:109:10
 monic-part-part-step-end : (t : ℕ) → monic-part-lts.Need-part-step-end (
   copy-pair-reads.Asked,
   copy-pair-reads.Learnt,
@@ -1011,7 +959,7 @@ monic-part-part-step-end : (t : ℕ) → monic-part-lts.Need-part-step-end (
 ) (monic-part-at t) monic-part.Post
 monic-part-part-step-end t c = search needs
 
--- src/lib.rt:102:32
+-- src/lib.rt:109:38
 monic-part-add-step : (t : ℕ) → monic-part-lts.Need-add-step (
   copy-pair-reads.Asked,
   copy-pair-reads.Learnt,
@@ -1020,34 +968,7 @@ monic-part-add-step : (t : ℕ) → monic-part-lts.Need-add-step (
 ) (monic-part-at t) monic-part.Post
 monic-part-add-step t c = search needs
 
--- src/lib.rt:102:42
-monic-part-add-step-2 : (t : ℕ) → monic-part-lts.Need-add-step-2 (
-  copy-pair-reads.Asked,
-  copy-pair-reads.Learnt,
-  step-below t,
-  step.Post,
-) (monic-part-at t) monic-part.Post
-monic-part-add-step-2 t c = search needs
-
--- src/lib.rt:102:51
-monic-part-add-step-3 : (t : ℕ) → monic-part-lts.Need-add-step-3 (
-  copy-pair-reads.Asked,
-  copy-pair-reads.Learnt,
-  step-below t,
-  step.Post,
-) (monic-part-at t) monic-part.Post
-monic-part-add-step-3 t c = search needs
-
--- src/lib.rt:102:42
-monic-part-add-step-4 : (t : ℕ) → monic-part-lts.Need-add-step-4 (
-  copy-pair-reads.Asked,
-  copy-pair-reads.Learnt,
-  step-below t,
-  step.Post,
-) (monic-part-at t) monic-part.Post
-monic-part-add-step-4 t c = search needs
-
--- src/lib.rt:102:5
+-- src/lib.rt:109:5
 monic-part-step-requires : (t : ℕ) → monic-part-lts.Need-step-requires (
   copy-pair-reads.Asked,
   copy-pair-reads.Learnt,
@@ -1057,7 +978,7 @@ monic-part-step-requires : (t : ℕ) → monic-part-lts.Need-step-requires (
 monic-part-step-requires t c κs = let s = c .before .before .before .before .before .before .before .args in
     (omega (arith, c .before .before .before .before .before .before .before .pre .0), monic-asked (s .n) (s .a) (s .t) (s .e) (s .x) (s .w .now) (c .before .before .before .copy-pair .last .0) (c .before .before .before .before .before .before .before .pre .1 .0) (c .before .before .before .copy-pair .ensures) (c .before .before .before .before .before .before .before .pre .1 .1) (c .before .before .before .before .before .if1 .left))
 
--- src/lib.rt:93:1
+-- src/lib.rt:98:1
 monic-part-same-length : (t : ℕ) → monic-part-lts.Need-same-length (
   copy-pair-reads.Asked,
   copy-pair-reads.Learnt,
@@ -1066,7 +987,7 @@ monic-part-same-length : (t : ℕ) → monic-part-lts.Need-same-length (
 ) (monic-part-at t) monic-part.Post
 monic-part-same-length t c = search needs
 
--- src/lib.rt:93:1
+-- src/lib.rt:98:1
 monic-part-returns-2 : (t : ℕ) → monic-part-lts.Need-returns-2 (
   copy-pair-reads.Asked,
   copy-pair-reads.Learnt,
@@ -1078,8 +999,8 @@ monic-part-returns-2 t c = let s = c .before .before .before .before .before .be
     (monic-answer (s .n) (s .a) (s .t) (s .e) (s .x) (s .w .now) w1 (c .before .before .before .before .before .before .before .before .before .before .pre .1 .0) (c .before .before .before .before .before .before .copy-pair .ensures) (c .before .before .step .result) (c .before .before .step .ensures),
     monic-kept (s .n) (s .a) (s .t) (s .e) (s .x) (s .w .now) w1 (c .before .before .before .before .before .before .before .before .before .before .pre .1 .0) (c .before .before .before .before .before .before .copy-pair .ensures) (c .before .before .step .last .0) (c .before .before .step .kept .0))
 
--- src/lib.rt:63:33
-primitive-add-highest-of : (t : ℕ) → primitive-lts.Need-add-highest-of (
+-- src/lib.rt:63:13
+primitive-add-a : (t : ℕ) → primitive-lts.Need-add-a (
   highest-of-reads.Asked,
   highest-of-reads.Learnt,
   step-below t,
@@ -1087,10 +1008,10 @@ primitive-add-highest-of : (t : ℕ) → primitive-lts.Need-add-highest-of (
   factors-below t,
   factors.Post,
 ) (primitive-at t) primitive.Post
-primitive-add-highest-of t c = search needs
+primitive-add-a t c = search needs
 
--- src/lib.rt:63:40
-primitive-add-highest-of-2 : (t : ℕ) → primitive-lts.Need-add-highest-of-2 (
+-- src/lib.rt:64:18
+primitive-add-s : (t : ℕ) → primitive-lts.Need-add-s (
   highest-of-reads.Asked,
   highest-of-reads.Learnt,
   step-below t,
@@ -1098,10 +1019,10 @@ primitive-add-highest-of-2 : (t : ℕ) → primitive-lts.Need-add-highest-of-2 (
   factors-below t,
   factors.Post,
 ) (primitive-at t) primitive.Post
-primitive-add-highest-of-2 t c = search needs
+primitive-add-s t c = search needs
 
--- src/lib.rt:63:49
-primitive-add-highest-of-3 : (t : ℕ) → primitive-lts.Need-add-highest-of-3 (
+-- src/lib.rt:64:13
+primitive-add-s-2 : (t : ℕ) → primitive-lts.Need-add-s-2 (
   highest-of-reads.Asked,
   highest-of-reads.Learnt,
   step-below t,
@@ -1109,20 +1030,9 @@ primitive-add-highest-of-3 : (t : ℕ) → primitive-lts.Need-add-highest-of-3 (
   factors-below t,
   factors.Post,
 ) (primitive-at t) primitive.Post
-primitive-add-highest-of-3 t c = search needs
+primitive-add-s-2 t c = search needs
 
--- src/lib.rt:63:40
-primitive-add-highest-of-4 : (t : ℕ) → primitive-lts.Need-add-highest-of-4 (
-  highest-of-reads.Asked,
-  highest-of-reads.Learnt,
-  step-below t,
-  step.Post,
-  factors-below t,
-  factors.Post,
-) (primitive-at t) primitive.Post
-primitive-add-highest-of-4 t c = search needs
-
--- src/lib.rt:63:30
+-- src/lib.rt:65:30
 primitive-mul-highest-of : (t : ℕ) → primitive-lts.Need-mul-highest-of (
   highest-of-reads.Asked,
   highest-of-reads.Learnt,
@@ -1133,7 +1043,7 @@ primitive-mul-highest-of : (t : ℕ) → primitive-lts.Need-mul-highest-of (
 ) (primitive-at t) primitive.Post
 primitive-mul-highest-of t c = search needs
 
--- src/lib.rt:63:30
+-- src/lib.rt:65:30
 primitive-sub-highest-of : (t : ℕ) → primitive-lts.Need-sub-highest-of (
   highest-of-reads.Asked,
   highest-of-reads.Learnt,
@@ -1144,7 +1054,7 @@ primitive-sub-highest-of : (t : ℕ) → primitive-lts.Need-sub-highest-of (
 ) (primitive-at t) primitive.Post
 primitive-sub-highest-of t c = search needs
 
--- src/lib.rt:63:30
+-- src/lib.rt:65:30
 primitive-part-highest-of-start : (t : ℕ) → primitive-lts.Need-part-highest-of-start (
   highest-of-reads.Asked,
   highest-of-reads.Learnt,
@@ -1155,7 +1065,7 @@ primitive-part-highest-of-start : (t : ℕ) → primitive-lts.Need-part-highest-
 ) (primitive-at t) primitive.Post
 primitive-part-highest-of-start t c = search needs
 
--- src/lib.rt:63:30
+-- src/lib.rt:65:30
 primitive-part-highest-of-end : (t : ℕ) → primitive-lts.Need-part-highest-of-end (
   highest-of-reads.Asked,
   highest-of-reads.Learnt,
@@ -1166,7 +1076,7 @@ primitive-part-highest-of-end : (t : ℕ) → primitive-lts.Need-part-highest-of
 ) (primitive-at t) primitive.Post
 primitive-part-highest-of-end t c = search needs
 
--- src/lib.rt:63:11
+-- src/lib.rt:65:11
 primitive-highest-of-requires : (t : ℕ) → primitive-lts.Need-highest-of-requires (
   highest-of-reads.Asked,
   highest-of-reads.Learnt,
@@ -1177,7 +1087,7 @@ primitive-highest-of-requires : (t : ℕ) → primitive-lts.Need-highest-of-requ
 ) (primitive-at t) primitive.Post
 primitive-highest-of-requires t c κs = search needs
 
--- src/lib.rt:64:33
+-- src/lib.rt:66:33
 primitive-enum-known-t : (t : ℕ) → primitive-lts.Need-enum-known-t (
   highest-of-reads.Asked,
   highest-of-reads.Learnt,
@@ -1188,51 +1098,7 @@ primitive-enum-known-t : (t : ℕ) → primitive-lts.Need-enum-known-t (
 ) (primitive-at t) primitive.Post
 primitive-enum-known-t t c = search needs
 
--- src/lib.rt:66:35
-primitive-add-step : (t : ℕ) → primitive-lts.Need-add-step (
-  highest-of-reads.Asked,
-  highest-of-reads.Learnt,
-  step-below t,
-  step.Post,
-  factors-below t,
-  factors.Post,
-) (primitive-at t) primitive.Post
-primitive-add-step t c = search needs
-
--- src/lib.rt:66:51
-primitive-add-step-2 : (t : ℕ) → primitive-lts.Need-add-step-2 (
-  highest-of-reads.Asked,
-  highest-of-reads.Learnt,
-  step-below t,
-  step.Post,
-  factors-below t,
-  factors.Post,
-) (primitive-at t) primitive.Post
-primitive-add-step-2 t c = search needs
-
--- src/lib.rt:66:60
-primitive-add-step-3 : (t : ℕ) → primitive-lts.Need-add-step-3 (
-  highest-of-reads.Asked,
-  highest-of-reads.Learnt,
-  step-below t,
-  step.Post,
-  factors-below t,
-  factors.Post,
-) (primitive-at t) primitive.Post
-primitive-add-step-3 t c = search needs
-
--- src/lib.rt:66:51
-primitive-add-step-4 : (t : ℕ) → primitive-lts.Need-add-step-4 (
-  highest-of-reads.Asked,
-  highest-of-reads.Learnt,
-  step-below t,
-  step.Post,
-  factors-below t,
-  factors.Post,
-) (primitive-at t) primitive.Post
-primitive-add-step-4 t c = search needs
-
--- src/lib.rt:66:17
+-- src/lib.rt:68:17
 primitive-step-requires : (t : ℕ) → primitive-lts.Need-step-requires (
   highest-of-reads.Asked,
   highest-of-reads.Learnt,
@@ -1247,7 +1113,7 @@ primitive-step-requires t c κs = let s = c .before .before .before .before .bef
     let u = lent (LeadingUnit (s .n) (g .0 .0) (g .0 .1 .0)) (s .e + 1) (s .d + 1) m (s .w .now) (omega arith) (subst (HighestOf (s .n) (midOf (s .e + 1) m (s .w .now))) (g .1) (c .before .before .before .before .before .highest-of .ensures)) in
     (omega (arith, c .before .before .before .before .before .before .before .before .before .pre .0), lead-asked (s .n) (s .d) (s .e) (g .0 .0) (g .0 .1 .0) (s .w .now) (c .before .before .before .before .before .before .before .before .before .pre .1 .0) u (c .before .if1 .taken))
 
--- src/lib.rt:66:17
+-- src/lib.rt:68:17
 primitive-same-length : (t : ℕ) → primitive-lts.Need-same-length (
   highest-of-reads.Asked,
   highest-of-reads.Learnt,
@@ -1258,7 +1124,7 @@ primitive-same-length : (t : ℕ) → primitive-lts.Need-same-length (
 ) (primitive-at t) primitive.Post
 primitive-same-length t c = search needs
 
--- src/lib.rt:66:17
+-- src/lib.rt:68:17
 primitive-returns : (t : ℕ) → primitive-lts.Need-returns (
   highest-of-reads.Asked,
   highest-of-reads.Learnt,
@@ -1269,7 +1135,7 @@ primitive-returns : (t : ℕ) → primitive-lts.Need-returns (
 ) (primitive-at t) primitive.Post
 primitive-returns t c = c .before .before .step .ensures
 
--- src/lib.rt:68:13
+-- src/lib.rt:70:13
 primitive-factors-requires : (t : ℕ) → primitive-lts.Need-factors-requires (
   highest-of-reads.Asked,
   highest-of-reads.Learnt,
@@ -1284,7 +1150,7 @@ primitive-factors-requires t c κs = let s = c .before .before .before .before .
     let u = lent (LeadingUnit (s .n) (g .0 .0) (g .0 .1 .0)) (s .e + 1) (s .d + 1) m (s .w .now) (omega arith) (subst (HighestOf (s .n) (midOf (s .e + 1) m (s .w .now))) (g .1) (c .before .before .before .before .before .highest-of .ensures)) in
     (omega (arith, c .before .before .before .before .before .before .before .before .before .pre .0), ((c .before .before .before .before .before .before .before .before .before .pre .1 .0, lead-below (s .n) (s .d) (s .e) (g .0 .0) (g .0 .1 .0) (s .w .now) (c .before .before .before .before .before .before .before .before .before .pre .1 .0) u (c .before .if1 .left)), u))
 
--- src/lib.rt:70:33
+-- src/lib.rt:72:33
 primitive-enum-known-p : (t : ℕ) → primitive-lts.Need-enum-known-p (
   highest-of-reads.Asked,
   highest-of-reads.Learnt,
@@ -1295,7 +1161,7 @@ primitive-enum-known-p : (t : ℕ) → primitive-lts.Need-enum-known-p (
 ) (primitive-at t) primitive.Post
 primitive-enum-known-p t c = search needs
 
--- src/lib.rt:71:42
+-- src/lib.rt:73:42
 primitive-enum-told : (t : ℕ) → primitive-lts.Need-enum-told (
   highest-of-reads.Asked,
   highest-of-reads.Learnt,
@@ -1538,7 +1404,7 @@ step-returns t c = let s = c .before .before .before .before .before .before .be
     followed (c .times .ensures) (c .before .before .before .before .euclid .ensures .0)
     (times-next (s .n) (s .a) (s .d) (s .b) (s .e) (s .s) (s .i) (s .w .now) (c .before .before .before .before .before .before .before .before .divide .last .0) (c .before .before .before .before .before .before .before .before .before .before .before .before .pre .1) (c .before .before .before .before .before .before .before .before .divide .ensures) (c .before .power .result) (c .before .power .ensures))
 
--- src/lib.rt:110:33
+-- src/lib.rt:117:33
 unit-part-mul-cofactor : (t : ℕ) → unit-part-lts.Need-mul-cofactor (
   cofactor-reads.Asked,
   cofactor-reads.Learnt,
@@ -1551,7 +1417,7 @@ unit-part-mul-cofactor : (t : ℕ) → unit-part-lts.Need-mul-cofactor (
 ) (unit-part-at t) unit-part.Post
 unit-part-mul-cofactor t c = search needs
 
--- src/lib.rt:110:33
+-- src/lib.rt:117:33
 unit-part-slice-read-cofactor : (t : ℕ) → unit-part-lts.Need-slice-read-cofactor (
   cofactor-reads.Asked,
   cofactor-reads.Learnt,
@@ -1564,7 +1430,7 @@ unit-part-slice-read-cofactor : (t : ℕ) → unit-part-lts.Need-slice-read-cofa
 ) (unit-part-at t) unit-part.Post
 unit-part-slice-read-cofactor t c = search needs
 
--- src/lib.rt:110:9
+-- src/lib.rt:117:9
 unit-part-cofactor-requires : (t : ℕ) → unit-part-lts.Need-cofactor-requires (
   cofactor-reads.Asked,
   cofactor-reads.Learnt,
@@ -1577,8 +1443,8 @@ unit-part-cofactor-requires : (t : ℕ) → unit-part-lts.Need-cofactor-requires
 ) (unit-part-at t) unit-part.Post
 unit-part-cofactor-requires t c κs = search needs
 
--- src/lib.rt:111:37
-unit-part-add-copy-pair-reversed : (t : ℕ) → unit-part-lts.Need-add-copy-pair-reversed (
+-- src/lib.rt:118:13
+unit-part-add-l : (t : ℕ) → unit-part-lts.Need-add-l (
   cofactor-reads.Asked,
   cofactor-reads.Learnt,
   copy-pair-reversed-reads.Asked,
@@ -1588,10 +1454,10 @@ unit-part-add-copy-pair-reversed : (t : ℕ) → unit-part-lts.Need-add-copy-pai
   times-sign-reads.Asked,
   times-sign-reads.Learnt,
 ) (unit-part-at t) unit-part.Post
-unit-part-add-copy-pair-reversed t c = search needs
+unit-part-add-l t c = search needs
 
--- src/lib.rt:111:47
-unit-part-add-copy-pair-reversed-2 : (t : ℕ) → unit-part-lts.Need-add-copy-pair-reversed-2 (
+-- src/lib.rt:119:13
+unit-part-add-m : (t : ℕ) → unit-part-lts.Need-add-m (
   cofactor-reads.Asked,
   cofactor-reads.Learnt,
   copy-pair-reversed-reads.Asked,
@@ -1601,9 +1467,9 @@ unit-part-add-copy-pair-reversed-2 : (t : ℕ) → unit-part-lts.Need-add-copy-p
   times-sign-reads.Asked,
   times-sign-reads.Learnt,
 ) (unit-part-at t) unit-part.Post
-unit-part-add-copy-pair-reversed-2 t c = search needs
+unit-part-add-m t c = search needs
 
--- src/lib.rt:111:5
+-- src/lib.rt:120:5
 unit-part-copy-pair-reversed-requires : (t : ℕ) → unit-part-lts.Need-copy-pair-reversed-requires (
   cofactor-reads.Asked,
   cofactor-reads.Learnt,
@@ -1617,7 +1483,7 @@ unit-part-copy-pair-reversed-requires : (t : ℕ) → unit-part-lts.Need-copy-pa
 unit-part-copy-pair-reversed-requires t c κs = let s = c .before .before .before .before .args in
     part-fits (s .n) (s .a) (s .k) (s .e) (s .x) (s .w .now) (c .before .before .before .before .pre .1 .0)
 
--- src/lib.rt:112:18
+-- src/lib.rt:121:18
 unit-part-mul-step : (t : ℕ) → unit-part-lts.Need-mul-step (
   cofactor-reads.Asked,
   cofactor-reads.Learnt,
@@ -1630,7 +1496,7 @@ unit-part-mul-step : (t : ℕ) → unit-part-lts.Need-mul-step (
 ) (unit-part-at t) unit-part.Post
 unit-part-mul-step t c = search needs
 
--- src/lib.rt:112:18
+-- src/lib.rt:121:18
 unit-part-sub-step : (t : ℕ) → unit-part-lts.Need-sub-step (
   cofactor-reads.Asked,
   cofactor-reads.Learnt,
@@ -1643,7 +1509,7 @@ unit-part-sub-step : (t : ℕ) → unit-part-lts.Need-sub-step (
 ) (unit-part-at t) unit-part.Post
 unit-part-sub-step t c = search needs
 
--- src/lib.rt:112:18
+-- src/lib.rt:121:18
 unit-part-part-step-start : (t : ℕ) → unit-part-lts.Need-part-step-start (
   cofactor-reads.Asked,
   cofactor-reads.Learnt,
@@ -1656,7 +1522,7 @@ unit-part-part-step-start : (t : ℕ) → unit-part-lts.Need-part-step-start (
 ) (unit-part-at t) unit-part.Post
 unit-part-part-step-start t c = search needs
 
--- src/lib.rt:112:18
+-- src/lib.rt:121:18
 unit-part-part-step-end : (t : ℕ) → unit-part-lts.Need-part-step-end (
   cofactor-reads.Asked,
   cofactor-reads.Learnt,
@@ -1669,7 +1535,7 @@ unit-part-part-step-end : (t : ℕ) → unit-part-lts.Need-part-step-end (
 ) (unit-part-at t) unit-part.Post
 unit-part-part-step-end t c = search needs
 
--- src/lib.rt:112:40
+-- src/lib.rt:121:46
 unit-part-add-step : (t : ℕ) → unit-part-lts.Need-add-step (
   cofactor-reads.Asked,
   cofactor-reads.Learnt,
@@ -1682,46 +1548,7 @@ unit-part-add-step : (t : ℕ) → unit-part-lts.Need-add-step (
 ) (unit-part-at t) unit-part.Post
 unit-part-add-step t c = search needs
 
--- src/lib.rt:112:50
-unit-part-add-step-2 : (t : ℕ) → unit-part-lts.Need-add-step-2 (
-  cofactor-reads.Asked,
-  cofactor-reads.Learnt,
-  copy-pair-reversed-reads.Asked,
-  copy-pair-reversed-reads.Learnt,
-  step-below t,
-  step.Post,
-  times-sign-reads.Asked,
-  times-sign-reads.Learnt,
-) (unit-part-at t) unit-part.Post
-unit-part-add-step-2 t c = search needs
-
--- src/lib.rt:112:59
-unit-part-add-step-3 : (t : ℕ) → unit-part-lts.Need-add-step-3 (
-  cofactor-reads.Asked,
-  cofactor-reads.Learnt,
-  copy-pair-reversed-reads.Asked,
-  copy-pair-reversed-reads.Learnt,
-  step-below t,
-  step.Post,
-  times-sign-reads.Asked,
-  times-sign-reads.Learnt,
-) (unit-part-at t) unit-part.Post
-unit-part-add-step-3 t c = search needs
-
--- src/lib.rt:112:50
-unit-part-add-step-4 : (t : ℕ) → unit-part-lts.Need-add-step-4 (
-  cofactor-reads.Asked,
-  cofactor-reads.Learnt,
-  copy-pair-reversed-reads.Asked,
-  copy-pair-reversed-reads.Learnt,
-  step-below t,
-  step.Post,
-  times-sign-reads.Asked,
-  times-sign-reads.Learnt,
-) (unit-part-at t) unit-part.Post
-unit-part-add-step-4 t c = search needs
-
--- src/lib.rt:112:9
+-- src/lib.rt:121:9
 unit-part-step-requires : (t : ℕ) → unit-part-lts.Need-step-requires (
   cofactor-reads.Asked,
   cofactor-reads.Learnt,
@@ -1736,7 +1563,7 @@ unit-part-step-requires t c κs = let s = c .before .before .before .before .bef
     let p = c .before .before .before .before .before .before .before .before .pre .1 in
     (omega (arith, c .before .before .before .before .before .before .before .before .pre .0), unit-asked (s .n) (s .a) (s .k) (s .e) (s .x) (s .w .now) (c .before .before .before .copy-pair-reversed .last .0) (p .0) (c .before .before .before .copy-pair-reversed .ensures) (c .before .before .before .before .before .cofactor .result .g) (c .before .before .before .before .before .cofactor .result .s) (p .1 .0) (p .1 .1) (c .before .before .before .before .before .cofactor .ensures))
 
--- src/lib.rt:113:5
+-- src/lib.rt:122:5
 unit-part-times-sign-requires : (t : ℕ) → unit-part-lts.Need-times-sign-requires (
   cofactor-reads.Asked,
   cofactor-reads.Learnt,
@@ -1752,7 +1579,7 @@ unit-part-times-sign-requires t c κs = let s = c .before .before .before .befor
     let u : List ℕ = midOf (s .x) (length w1 - s .x) w1 in
     record { x = resultant (s .n) (piece u 0 (s .k + 1)) (piece u (s .k + 1) (s .e + 1)); is = c .before .before .step .ensures }
 
--- src/lib.rt:106:1
+-- src/lib.rt:113:1
 unit-part-same-length : (t : ℕ) → unit-part-lts.Need-same-length (
   cofactor-reads.Asked,
   cofactor-reads.Learnt,
@@ -1765,7 +1592,7 @@ unit-part-same-length : (t : ℕ) → unit-part-lts.Need-same-length (
 ) (unit-part-at t) unit-part.Post
 unit-part-same-length t c = search needs
 
--- src/lib.rt:106:1
+-- src/lib.rt:113:1
 unit-part-returns : (t : ℕ) → unit-part-lts.Need-returns (
   cofactor-reads.Asked,
   cofactor-reads.Learnt,
@@ -1860,22 +1687,18 @@ pub +by-content+euclid+factors+monic-part+primitive+step+unit-part-spec :
     )
     (factors-at t)
     factors.Post
-    (factors-add-unit-times-monic t)
+    (factors-add-a t)
+    (factors-add-l t)
+    (factors-add-h t)
+    (factors-add-v t)
+    (factors-add-v-2 t)
+    (factors-add-u t)
+    (factors-add-x t)
     (factors-mul-unit-times-monic t)
     (factors-sub-unit-times-monic t)
     (factors-part-unit-times-monic-start t)
     (factors-part-unit-times-monic-end t)
     (factors-unit-times-monic-requires t)
-    (factors-add-h t)
-    (factors-add-h-2 t)
-    (factors-add-h-3 t)
-    (factors-add-u t)
-    (factors-add-u-2 t)
-    (factors-add-u-3 t)
-    (factors-add-x t)
-    (factors-add-x-2 t)
-    (factors-add-x-3 t)
-    (factors-add-x-4 t)
     (factors-monic-part-requires t)
     (factors-enum-known-y t)
     (factors-sub-unit-part t)
@@ -1895,17 +1718,14 @@ pub +by-content+euclid+factors+monic-part+primitive+step+unit-part-spec :
     (monic-part-at t)
     monic-part.Post
     (monic-part-returns t)
-    (monic-part-add-copy-pair t)
-    (monic-part-add-copy-pair-2 t)
+    (monic-part-add-l t)
+    (monic-part-add-m t)
     (monic-part-copy-pair-requires t)
     (monic-part-mul-step t)
     (monic-part-sub-step t)
     (monic-part-part-step-start t)
     (monic-part-part-step-end t)
     (monic-part-add-step t)
-    (monic-part-add-step-2 t)
-    (monic-part-add-step-3 t)
-    (monic-part-add-step-4 t)
     (monic-part-step-requires t)
     (monic-part-same-length t)
     (monic-part-returns-2 t))
@@ -1919,20 +1739,15 @@ pub +by-content+euclid+factors+monic-part+primitive+step+unit-part-spec :
     )
     (primitive-at t)
     primitive.Post
-    (primitive-add-highest-of t)
-    (primitive-add-highest-of-2 t)
-    (primitive-add-highest-of-3 t)
-    (primitive-add-highest-of-4 t)
+    (primitive-add-a t)
+    (primitive-add-s t)
+    (primitive-add-s-2 t)
     (primitive-mul-highest-of t)
     (primitive-sub-highest-of t)
     (primitive-part-highest-of-start t)
     (primitive-part-highest-of-end t)
     (primitive-highest-of-requires t)
     (primitive-enum-known-t t)
-    (primitive-add-step t)
-    (primitive-add-step-2 t)
-    (primitive-add-step-3 t)
-    (primitive-add-step-4 t)
     (primitive-step-requires t)
     (primitive-same-length t)
     (primitive-returns t)
@@ -1984,17 +1799,14 @@ pub +by-content+euclid+factors+monic-part+primitive+step+unit-part-spec :
     (unit-part-mul-cofactor t)
     (unit-part-slice-read-cofactor t)
     (unit-part-cofactor-requires t)
-    (unit-part-add-copy-pair-reversed t)
-    (unit-part-add-copy-pair-reversed-2 t)
+    (unit-part-add-l t)
+    (unit-part-add-m t)
     (unit-part-copy-pair-reversed-requires t)
     (unit-part-mul-step t)
     (unit-part-sub-step t)
     (unit-part-part-step-start t)
     (unit-part-part-step-end t)
     (unit-part-add-step t)
-    (unit-part-add-step-2 t)
-    (unit-part-add-step-3 t)
-    (unit-part-add-step-4 t)
     (unit-part-step-requires t)
     (unit-part-times-sign-requires t)
     (unit-part-same-length t)
