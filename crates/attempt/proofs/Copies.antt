@@ -2,7 +2,7 @@
 --
 --   stacked-asked, stacked-answer   f and g copied to s on, g first
 --   monic-asked, monic-answer       a monic factor of f and g copied to x on
---   unit-asked, unit-answer         a unit polynomial and g, each reversed: the sign is (-1)^(k e)
+--   unit-asked, unit-sign           a unit polynomial and g, each reversed: the sign is (-1)^(k e)
 use mathlib.Core.Path.{_≡_, refl, sym, ap, ap₂, subst, _∙_}
 use mathlib.Core.List.{List}
 use Prim.Native.Nat.{ℕ, zero, suc, _+_, _-_, _*_, _%_, _^_, _≤_, _<_}
@@ -20,13 +20,14 @@ use Rattle.theory.specs.ResultantLaws.{signed, reversed, resultant-reversed, re
 use Rattle.windows.specs.Window.{piece, Below}
 use Rattle.windows.proofs.Leaf.{piece-at, piece-length}
 use Rattle.windows.proofs.Lift.{mid-length, window}
+use Rattle.steps.specs.Answers.{AnswerOf}
+use Rattle.steps.specs.declared.Attempt.{Attempt}
 use Rattle.steps.specs.Layouts.{Beside, words-at, words-back}
 use Rattle.steps.proofs.Degrees.{deg-of, resultant-lt}
 use Rattle.steps.proofs.SideBySide.{beside-below, beside-first, beside-second, beside-lead, pair-of}
-use Rattle.steps.proofs.Signs.{signed-lt, signed-twice}
+use Rattle.steps.proofs.Signs.{signed-twice}
 use Rattle.attempt.specs.Rooms.{room, room-copies}
-use Rattle.attempt.specs.Attempts.{AnswerOf, Placed, Divisor, Stacked, Part, Kept}
-use Rattle.attempt.specs.declared.Attempt.{Attempt}
+use Rattle.attempt.specs.Stages.{Placed, Divisor, Stacked, Part, Kept}
 
 -- ---- f and g
 
@@ -168,14 +169,13 @@ module _ (n a k e x : ℕ) (w w₁ : List ℕ) (pt : Part n a k e x w) (bs : Bes
       last : a + (k + 1 - 1 - k) ≡ a
       last = omega arith
 
-  pub unit-answer : (v r : ℕ) → (v ≡ resultant n (piece (midOf x (length w₁ - x) w₁) 0 (k + 1)) (piece (midOf x (length w₁ - x) w₁) (k + 1) (e + 1))) × (v < n) → r ≡ signed n (k * e) v
-      → (r ≡ resultant n (piece w a (k + 1)) (piece w 0 (e + 1))) × (r < n)
-  unit-answer v r h hr =
+  pub unit-sign : signed n (k * e) (resultant n (piece (midOf x (length w₁ - x) w₁) 0 (k + 1)) (piece (midOf x (length w₁ - x) w₁) (k + 1) (e + 1)))
+      ≡ resultant n (piece w a (k + 1)) (piece w 0 (e + 1))
+  unit-sign =
       let f : List ℕ = piece w a (k + 1) in
       let g : List ℕ = piece w 0 (e + 1) in
       let ia : a + (k + 1) ≤ length w = omega (arith, pt .first, pt .fits) in
       let ib : 0 + (e + 1) ≤ length w = omega (arith, pt .second, pt .fits) in
-      let v-is = h .0 ∙ part-answer (words-back w a (k + 1)) (words-back w 0 (e + 1)) n a k e x w w₁ pt bs (reversed f) (reversed g)
-          (reversed-length w a k ia) (reversed-length w 0 e ib) (reversed-at w a k ia) (reversed-at w 0 e ib) in
-      (hr ∙ ap (signed n (k * e)) v-is ∙ reversed-law n k e f g (omega (arith, pt .two)) (deg-of f k (piece-length w a (k + 1) ia)) (deg-of g e (piece-length w 0 (e + 1) ib)),
-      subst (λ (y : ℕ). y < n) (sym hr) (signed-lt n (k * e) v (h .1)))
+      ap (signed n (k * e)) (part-answer (words-back w a (k + 1)) (words-back w 0 (e + 1)) n a k e x w w₁ pt bs (reversed f) (reversed g)
+          (reversed-length w a k ia) (reversed-length w 0 e ib) (reversed-at w a k ia) (reversed-at w 0 e ib))
+      ∙ reversed-law n k e f g (omega (arith, pt .two)) (deg-of f k (piece-length w a (k + 1) ia)) (deg-of g e (piece-length w 0 (e + 1) ib))

@@ -23,10 +23,9 @@ use Rattle.windows.proofs.Lift.{mid-length, piece-mid, mid-below}
 use Rattle.steps.specs.Layouts.{Primitive, Cleared}
 use Rattle.steps.proofs.Contents.{factors, content-two, content-below, content-primitive}
 use Rattle.steps.proofs.SideBySide.{pair-above}
-use Rattle.steps.proofs.Splitting.{split-own}
-use Rattle.factor.specs.Factors.{SplitOf, LeadingUnit, Nilpotents, Given}
+use Rattle.factor.specs.Factors.{LeadingUnit, Nilpotents, Given}
 use Rattle.attempt.specs.Rooms.{room, room-copies, room-copied, room-place}
-use Rattle.attempt.specs.Attempts.{Stacked, Divisor}
+use Rattle.attempt.specs.Stages.{Stacked, Divisor}
 
 -- ---- the content taken out
 
@@ -46,9 +45,9 @@ cleared-asked n c d e w w' st cl ne =
       content-primitive n c d e w w' (st .two) (st .one) (st .near) f (st .below) cl ne,
     )
 
--- a split of n / c, as lifting wants it
-pub cleared-split : (n c d e p q : ℕ) (w w' : List ℕ) → Cleared n d e c w w' → SplitOf (n / c) p q → SplitOf (p * q) p q × (p * q ∣ n)
-cleared-split n c d e p q w w' cl s = split-own s (subst (λ (x : ℕ). n / c ∣ x) (factors n c (cl .content .divides-n)) (dvd-mul-left (n / c) c))
+-- an answer modulo n / c, as lifting wants it
+pub cleared-divides : (n c d e : ℕ) (w w' : List ℕ) → Cleared n d e c w w' → n / c ∣ n
+cleared-divides n c d e w w' cl = subst (λ (x : ℕ). n / c ∣ x) (factors n c (cl .content .divides-n)) (dvd-mul-left (n / c) c)
 
 -- ---- the highest coefficient that is not nilpotent
 

@@ -3,12 +3,12 @@
 --
 --   monic-part   what the attempt at H asks
 --   unit-part    what the attempt at U asks
---   product-value
+--   product-times   the value, from those of both
 use mathlib.Core.Path.{_≡_, refl, sym, ap, ap₂, subst, _∙_}
 use mathlib.Core.List.{List}
 use Prim.Native.Nat.{ℕ, zero, suc, _+_, _-_, _*_, _%_, _≤_, _<_}
 use native.Mathlib.Omega.{arith}
-use native.Mathlib.Nat.{mod-lt, mul-comm}
+use native.Mathlib.Nat.{mul-comm}
 use lib.ListN.{length, getD}
 use borrow.Rule.Slice.PartMut.{putMid, midOf}
 use Rattle.definitions.specs.Residues.{IsUnit}
@@ -21,7 +21,7 @@ use Rattle.windows.proofs.Lift.{mid-length, piece-mid, piece-put, window, lift-
 use Rattle.steps.proofs.Degrees.{deg-of}
 use Rattle.factor.specs.Factors.{Factored}
 use Rattle.attempt.specs.Rooms.{room, place, room-factor, room-place, room-monic}
-use Rattle.attempt.specs.Attempts.{Stacked, Part, Kept}
+use Rattle.attempt.specs.Stages.{Stacked, Part, Kept}
 use Rattle.attempt.proofs.Leads.{stacked-fits}
 
 -- over lists
@@ -123,16 +123,14 @@ module _ (n d e t : ℕ) (w ys : List ℕ) (st : Stacked n d e w) (lt : t < d) (
         none : e + 1 + (d + 1) + (t + 1) + t ≡ e + 1 + (d + 1) + (t + 1) + t + 0
         none = omega arith
 
-    pub product-value : (y z r : ℕ) → y ≡ resultant n (piece w₁ (e + 1 + (d + 1)) (t + 1)) (piece w₁ 0 (e + 1))
-        → z ≡ resultant n (piece w₂ (e + 1 + (d + 1) + (t + 1) + t) (d - t + 1)) (piece w₂ 0 (e + 1)) → r ≡ (y * z) % n
-        → (r ≡ resultant n (piece w (e + 1) (d + 1)) (piece w 0 (e + 1))) × (r < n)
-    product-value y z r hy hz hr =
-        (hr ∙ ap₂ (λ (a b : ℕ). (a * b) % n) (hy ∙ ap₂ (resultant n) h-is g-is) (hz ∙ ap₂ (resultant n) (u-kept ∙ u-is) (g-kept ∙ g-is))
+    pub product-times : (y : ℕ) → y ≡ resultant n (piece w₁ (e + 1 + (d + 1)) (t + 1)) (piece w₁ 0 (e + 1))
+        → (y * resultant n (piece w₂ (e + 1 + (d + 1) + (t + 1) + t) (d - t + 1)) (piece w₂ 0 (e + 1))) % n ≡ resultant n (piece w (e + 1) (d + 1)) (piece w 0 (e + 1))
+    product-times y hy =
+        ap₂ (λ (a b : ℕ). (a * b) % n) (hy ∙ ap₂ (resultant n) h-is g-is) (ap₂ (resultant n) (u-kept ∙ u-is) (g-kept ∙ g-is))
         ∙ sym (product-law n d t (omega (arith, st .two)) less (piece w (e + 1) (d + 1)) (piece ys (d + 1 + (t + 1) + t) (d + 1 - t)) (piece ys (d + 1) (t + 1)) (piece w 0 (e + 1))
           (piece-length w (e + 1) (d + 1) (stacked-fits n d e w st)) (piece-length ys (d + 1 + (t + 1) + t) (d + 1 - t) (omega (arith, ly, mid-length (e + 1) (length w - (e + 1)) w fit, long)) ∙ size)
           (piece-length ys (d + 1) (t + 1) (omega (arith, ly, mid-length (e + 1) (length w - (e + 1)) w fit, long)))
-          (subst (λ (f : List ℕ). Multiplied n f (piece ys (d + 1 + (t + 1) + t) (d + 1 - t)) (piece ys (d + 1) (t + 1))) f-is (fc .equation))),
-        subst (λ (x : ℕ). x < n) (sym hr) (mod-lt (y * z) (omega (arith, st .two))))
+          (subst (λ (f : List ℕ). Multiplied n f (piece ys (d + 1 + (t + 1) + t) (d + 1 - t)) (piece ys (d + 1) (t + 1))) f-is (fc .equation)))
       where
         size : d + 1 - t ≡ d - t + 1
         size = omega arith

@@ -4,7 +4,7 @@
 --   at-constant    f of degree 0
 --   divisor-asked  f with a unit for its leading word
 --   next-asked     what the next attempt, at r and f, asks
---   value-next     the value, from that of the next attempt
+--   times-next     the value, from that of the next attempt
 use mathlib.Core.Path.{_≡_, refl, sym, ap, ap₂, subst, _∙_, fun-ext}
 use mathlib.Core.List.{List}
 use Prim.Native.Nat.{ℕ, zero, suc, pred, _+_, _-_, _*_, _%_, _^_, _≤_, _<_}
@@ -23,7 +23,7 @@ use Rattle.division.specs.Remainders.{Pair, Remainder}
 use Rattle.steps.proofs.Degrees.{deg-of}
 use Rattle.numbers.specs.Divisors.{GcdCofactor}
 use Rattle.attempt.specs.Rooms.{room, room-next}
-use Rattle.attempt.specs.Attempts.{Placed, Divisor}
+use Rattle.attempt.specs.Stages.{Placed, Divisor}
 
 -- g = q f + r with r of d words
 pub reduce-by : (n d e : ℕ) → 1 ≤ n → 1 ≤ d → d ≤ e → (f g r : List ℕ) → length f ≡ d + 1 → length g ≡ e + 1 → length r ≡ d
@@ -136,8 +136,7 @@ module _ (n a d b e s i : ℕ) (w w₁ : List ℕ) (dv : Divisor n a d b e s i w
       ∙ ap₂ (λ (x y : ℕ). (x ^ (e + 1 - d) * y) % n) (piece-at w a (d + 1) d (omega arith)) (ap₂ (λ (x : ℕ) (y : List ℕ). resultant n (piece w₁ b x) y) z (sym kept))
 
   -- the value, from that of the next attempt
-  pub value-next : (v p r : ℕ) → v ≡ resultant n (piece w₁ b (d - 1 + 1)) (piece w₁ a (d + 1)) → p ≡ (getD w (a + d) 0 ^ (e + 1 - d)) % n → r ≡ (p * v) % n
-      → (r ≡ resultant n (piece w a (d + 1)) (piece w b (e + 1))) × (r < n)
-  value-next v p r hv hp hr =
-      (hr ∙ ap₂ (λ (x y : ℕ). (x * y) % n) hp hv ∙ c-mul (c-mod (getD w (a + d) 0 ^ (e + 1 - d))) c-refl .same ∙ sym law-next,
-      subst (λ (x : ℕ). x < n) (sym hr) (mod-lt _ (omega arith)))
+  pub times-next : (p : ℕ) → p ≡ (getD w (a + d) 0 ^ (e + 1 - d)) % n
+      → (p * resultant n (piece w₁ b (d - 1 + 1)) (piece w₁ a (d + 1))) % n ≡ resultant n (piece w a (d + 1)) (piece w b (e + 1))
+  times-next p hp =
+      ap (λ (x : ℕ). (x * resultant n (piece w₁ b (d - 1 + 1)) (piece w₁ a (d + 1))) % n) hp ∙ c-mul (c-mod (getD w (a + d) 0 ^ (e + 1 - d))) c-refl .same ∙ sym law-next

@@ -1,20 +1,16 @@
-// One attempt at a resultant modulo n.
+// One attempt at a resultant modulo n: it ends in the value, or in a split of n. 
 ghost use mathlib.Core.Path.{_≡_};
 ghost use Prim.Native.Nat.{ℕ, _+_, _-_, _*_, _/_, _%_, _^_, _<_, _≤_, _∣_};
 ghost use lib.ListN.{length, getD};
 ghost use Rattle.definitions.specs.Residues.{IsUnit};
 ghost use Rattle.definitions.specs.Resultants.{resultant};
 ghost use Rattle.windows.specs.Window.{piece};
+ghost use Rattle.steps.specs.Answers.{AnswerOf};
 ghost use Rattle.steps.specs.Layouts.{Primitive};
 ghost use Rattle.factor.specs.Factors.{LeadingUnit};
 ghost use Rattle.attempt.specs.Rooms.{room, place};
-ghost use Rattle.attempt.specs.Attempts.{AnswerOf, Placed, Divisor, Stacked, Part, Kept};
-
-// What an attempt comes to: the value, or two coprime factors of n.
-pub enum Attempt {
-    Value(u32),
-    Splits(u32, u32),
-}
+ghost use Rattle.attempt.specs.Stages.{Placed, Divisor, Stacked, Part, Kept};
+use steps::Attempt;
 
 // The resultant of f of degree d at a and g of degree e at b. Both are lost, and so are the words from s on.
 pub fn euclid(w: &mut [u32], n: u32, a: usize, d: usize, b: usize, e: usize, s: usize) -> Attempt
@@ -31,7 +27,7 @@ pub fn euclid(w: &mut [u32], n: u32, a: usize, d: usize, b: usize, e: usize, s: 
         return step(w, n, a, d, b, e, s, x.s);
     }
     steps::copy_pair(w, b, e + 1, a, d + 1, s);
-    cold(&mut w[s..], n, d, e)
+    by_content(&mut w[s..], n, d, e)
 }
 
 // The same, where the leading word of f has the inverse i: a division, and the remainder and f after it.
@@ -41,14 +37,12 @@ fn step(w: &mut [u32], n: u32, a: usize, d: usize, b: usize, e: usize, s: usize,
 {
     let lead = w[a + d];
     division::divide(w, n, a, d, b, e, i);
-    match euclid(w, n, b, d - 1, a, d, s) {
-        Attempt::Value(v) => Attempt::Value(arithmetic::mul_mod(n, arithmetic::power(n, lead, e + 1 - d), v)),
-        Attempt::Splits(p, q) => Attempt::Splits(p, q),
-    }
+    let r = euclid(w, n, b, d - 1, a, d, s);
+    steps::times(n, arithmetic::power(n, lead, e + 1 - d), r)
 }
 
 // The same for g at 0 and f above it, whose leading word is no unit: the content of f is taken out first.
-fn cold(w: &mut [u32], n: u32, d: usize, e: usize) -> Attempt
+fn by_content(w: &mut [u32], n: u32, d: usize, e: usize) -> Attempt
     requires { ⌜ Stacked n d e (now w) ⌝ }
     ensures { λ r. ⌜ AnswerOf n (resultant n (piece (now (w .entry)) (e + 1) (d + 1)) (piece (now (w .entry)) 0 (e + 1))) r ⌝ }
 {
@@ -56,13 +50,8 @@ fn cold(w: &mut [u32], n: u32, d: usize, e: usize) -> Attempt
     if c == n {
         return Attempt::Value(0);
     }
-    match primitive(w, n / c, d, e) {
-        Attempt::Value(v) => Attempt::Value(arithmetic::mul_mod(n, arithmetic::power(n, c, e), v)),
-        Attempt::Splits(p, q) => {
-            let r = steps::lift_split(n, p, q);
-            Attempt::Splits(r.p, r.q)
-        }
-    }
+    let r = steps::lifted(n, primitive(w, n / c, d, e));
+    steps::times(n, arithmetic::power(n, c, e), r)
 }
 
 // The same where f is primitive: some coefficient is not nilpotent.
@@ -71,10 +60,12 @@ fn primitive(w: &mut [u32], n: u32, d: usize, e: usize) -> Attempt
     requires { ⌜ Primitive n (piece (now w) (e + 1) (d + 1)) ⌝ }
     ensures { λ r. ⌜ AnswerOf n (resultant n (piece (now (w .entry)) (e + 1) (d + 1)) (piece (now (w .entry)) 0 (e + 1))) r ⌝ }
 {
-    match factor::highest_of(&w[e + 1..e + 1 + (d + 1)], n) {
+    let a = e + 1;
+    let s = a + (d + 1);
+    match factor::highest_of(&w[a..s], n) {
         factor::Highest::UnitAt(t, i) => {
             if t == d {
-                return step(w, n, e + 1, d, 0, e, e + 1 + (d + 1), i);
+                return step(w, n, a, d, 0, e, s, i);
             }
             factors(w, n, d, e, t, i)
         }
@@ -90,15 +81,15 @@ fn factors(w: &mut [u32], n: u32, d: usize, e: usize, t: usize, i: u32) -> Attem
     requires { ⌜ LeadingUnit n t i (piece (now w) (e + 1) (d + 1)) ⌝ }
     ensures { λ r. ⌜ AnswerOf n (resultant n (piece (now (w .entry)) (e + 1) (d + 1)) (piece (now (w .entry)) 0 (e + 1))) r ⌝ }
 {
-    factor::unit_times_monic(&mut w[e + 1..], n, d, t, i);
-    let h = e + 1 + (d + 1);
-    let u = h + (t + 1) + t;
-    let x = h + (t + 1) + (d + 1);
+    let a = e + 1;
+    let l = d + 1;
+    let h = a + l;
+    let v = h + (t + 1);
+    let u = v + t;
+    let x = v + l;
+    factor::unit_times_monic(&mut w[a..], n, d, t, i);
     match monic_part(w, n, h, t, e, x) {
-        Attempt::Value(y) => match unit_part(w, n, u, d - t, e, x) {
-            Attempt::Value(z) => Attempt::Value(arithmetic::mul_mod(n, y, z)),
-            Attempt::Splits(p, q) => Attempt::Splits(p, q),
-        },
+        Attempt::Value(y) => steps::times(n, y, unit_part(w, n, u, d - t, e, x)),
         Attempt::Splits(p, q) => Attempt::Splits(p, q),
     }
 }
@@ -112,8 +103,10 @@ fn monic_part(w: &mut [u32], n: u32, a: usize, t: usize, e: usize, x: usize) -> 
     if t == 0 {
         return Attempt::Value(1);
     }
-    steps::copy_pair(w, a, t + 1, 0, e + 1, x);
-    step(&mut w[x..], n, 0, t, t + 1, e, t + 1 + (e + 1), 1)
+    let l = t + 1;
+    let m = e + 1;
+    steps::copy_pair(w, a, l, 0, m, x);
+    step(&mut w[x..], n, 0, t, l, e, l + m, 1)
 }
 
 // The same for a polynomial of degree k whose constant is a unit: both are reversed, which brings the unit to the lead.
@@ -122,9 +115,9 @@ fn unit_part(w: &mut [u32], n: u32, a: usize, k: usize, e: usize, x: usize) -> A
     ensures { λ r. ⌜ AnswerOf n (resultant n (piece (now (w .entry)) a (k + 1)) (piece (now (w .entry)) 0 (e + 1))) r ⌝ }
 {
     let i = bezout::cofactor(n, w[a]);
-    steps::copy_pair_reversed(w, a, k + 1, 0, e + 1, x);
-    match step(&mut w[x..], n, 0, k, k + 1, e, k + 1 + (e + 1), i.s) {
-        Attempt::Value(v) => Attempt::Value(steps::with_sign(n, k, e, v)),
-        Attempt::Splits(p, q) => Attempt::Splits(p, q),
-    }
+    let l = k + 1;
+    let m = e + 1;
+    steps::copy_pair_reversed(w, a, l, 0, m, x);
+    let r = step(&mut w[x..], n, 0, k, l, e, l + m, i.s);
+    steps::times_sign(n, k, e, r)
 }

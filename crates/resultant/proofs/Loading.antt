@@ -2,7 +2,7 @@
 --
 --   placed-asked      what the attempt at them asks
 --   loaded-answer     its answer is about the sent polynomials
---   swapped-answer    the answer for g and f, with the sign (-1)^(d e)
+--   swapped-sign      the resultant of g and f, with the sign (-1)^(d e)
 --   working-enough    8192 words are enough for 49 words each
 use mathlib.Core.Path.{_≡_, refl, sym, ap, ap₂, subst, _∙_}
 use mathlib.Core.List.{List}
@@ -17,12 +17,11 @@ use Rattle.theory.specs.ReachedSteps.{coef-beyond}
 use Rattle.theory.specs.ResultantLaws.{signed, resultant-cong, resultant-swap}
 use Rattle.windows.specs.Window.{piece, Loaded, Below}
 use Rattle.windows.proofs.Leaf.{lt-or-le, piece-at, piece-length}
-use Rattle.factor.specs.Factors.{SplitOf}
+use Rattle.steps.specs.Answers.{AnswerOf}
+use Rattle.steps.specs.declared.Attempt.{Attempt}
 use Rattle.steps.proofs.Degrees.{deg-of}
-use Rattle.steps.proofs.Signs.{signed-lt}
 use Rattle.attempt.specs.Rooms.{room}
-use Rattle.attempt.specs.Attempts.{AnswerOf, Placed}
-use Rattle.attempt.specs.declared.Attempt.{Attempt}
+use Rattle.attempt.specs.Stages.{Placed}
 use Rattle.resultant.specs.Sizes.{Served}
 
 -- enough working words for f of l words and g of m
@@ -107,10 +106,9 @@ module _ (n : ℕ) (f g w w₁ w₂ : List ℕ) (two : 2 ≤ n) (one : 1 ≤ len
   loaded-answer r = subst (λ (x : ℕ). AnswerOf n x r) (same-resultant n refl)
 
 -- f and g in the other order
-pub swapped-answer : (n v r : ℕ) (f g w : List ℕ) → 2 ≤ n → Served f g w → (v ≡ resultant n g f) × (v < n) → r ≡ signed n ((length f - 1) * (length g - 1)) v → (r ≡ resultant n f g) × (r < n)
-swapped-answer zero v r f g w two s h hr = absurd (omega arith)
-swapped-answer (suc m) v r f g w two s h hr =
+pub swapped-sign : (n : ℕ) (f g w : List ℕ) → 2 ≤ n → Served f g w → signed n ((length f - 1) * (length g - 1)) (resultant n g f) ≡ resultant n f g
+swapped-sign zero f g w two s = absurd (omega arith)
+swapped-sign (suc m) f g w two s =
     let lf : length f ≡ length f - 1 + 1 = omega (arith, s .least-f) in
     let lg : length g ≡ length g - 1 + 1 = omega (arith, s .least-g) in
-    (hr ∙ ap₂ (λ (x y : ℕ). signed (suc m) x y) (sym (ap₂ (λ (x y : ℕ). x * y) (deg-of f (length f - 1) lf) (deg-of g (length g - 1) lg))) (h .0) ∙ sym (resultant-swap m f g),
-    subst (λ (x : ℕ). x < suc m) (sym hr) (signed-lt (suc m) ((length f - 1) * (length g - 1)) v (h .1)))
+    ap (λ (x : ℕ). signed (suc m) x (resultant (suc m) g f)) (sym (ap₂ (λ (x y : ℕ). x * y) (deg-of f (length f - 1) lf) (deg-of g (length g - 1) lg))) ∙ sym (resultant-swap m f g)

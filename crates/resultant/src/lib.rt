@@ -7,10 +7,10 @@ ghost use mathlib.Core.Path.{_≡_};
 ghost use Prim.Native.Nat.{ℕ, _+_, _-_, _*_, _<_, _≤_};
 ghost use lib.ListN.{length};
 ghost use Rattle.definitions.specs.Resultants.{resultant};
+ghost use Rattle.steps.specs.Answers.{AnswerOf};
 ghost use Rattle.attempt.specs.Rooms.{room};
-ghost use Rattle.attempt.specs.Attempts.{AnswerOf};
 ghost use Rattle.resultant.specs.Sizes.{Served};
-use attempt::Attempt;
+use steps::Attempt;
 
 // f and g are loaded modulo n, f first.
 fn ordered(w: &mut [u32], n: u32, f: &[u32], g: &[u32]) -> Attempt
@@ -35,10 +35,8 @@ fn once(w: &mut [u32], n: u32, f: &[u32], g: &[u32]) -> Attempt
     if l <= m {
         return ordered(w, n, f, g);
     }
-    match ordered(w, n, g, f) {
-        Attempt::Value(v) => Attempt::Value(steps::with_sign(n, l - 1, m - 1, v)),
-        Attempt::Splits(p, q) => Attempt::Splits(p, q),
-    }
+    let r = ordered(w, n, g, f);
+    steps::times_sign(n, l - 1, m - 1, r)
 }
 
 // "At a splitting coefficient, each of the two factors is worked as a modulus of its own, and the answers are joined by the

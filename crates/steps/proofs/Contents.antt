@@ -2,7 +2,7 @@
 --
 --   content-factors    c m = n and m above 1, where c is not n
 --   content-primitive  f / c is primitive modulo m
---   content-value      the value, from that modulo m
+--   content-times      the value, from that modulo m
 --   content-whole      c = n: the resultant is 0
 use mathlib.Core.Path.{_≡_, refl, sym, ap, ap₂, subst, _∙_}
 use mathlib.Core.List.{List}
@@ -167,10 +167,9 @@ module _ (n c d e : ℕ) (w w' : List ℕ) (two : 2 ≤ n) (one : 1 ≤ d) (near
           (λ k l. let b : k < d + 1 = omega (arith, lf) in subst (λ (y : ℕ). c * x ∣ y) (sym (first k b)) (mul-dvd-mul-left x c (q k (omega (arith, lf'))))))))
       }
 
-    pub content-value : (v p r : ℕ) → v ≡ resultant (n / c) (piece w' (e + 1) (d + 1)) (piece w' 0 (e + 1)) → p ≡ (c ^ e) % n → r ≡ (p * v) % n
-        → (r ≡ resultant n (piece w (e + 1) (d + 1)) (piece w 0 (e + 1))) × (r < n)
-    content-value v p r hv hp hr =
-        (hr ∙ ap₂ (λ (x y : ℕ). (x * y) % n) hp hv ∙ c-mul (c-mod (c ^ e)) c-refl .same
+    pub content-times : (p : ℕ) → p ≡ (c ^ e) % n
+        → (p * resultant (n / c) (piece w' (e + 1) (d + 1)) (piece w' 0 (e + 1))) % n ≡ resultant n (piece w (e + 1) (d + 1)) (piece w 0 (e + 1))
+    content-times p hp =
+        ap (λ (x : ℕ). (x * resultant (n / c) (piece w' (e + 1) (d + 1)) (piece w' 0 (e + 1))) % n) hp ∙ c-mul (c-mod (c ^ e)) c-refl .same
         ∙ sym (content-law n c (n / c) d e (piece w (e + 1) (d + 1)) (piece w' (e + 1) (d + 1)) (piece w 0 (e + 1)) (piece w' 0 (e + 1)) product (above .0) (omega (arith, above)) (omega arith)
-          lf lf' lg lg' first second),
-        subst (λ (x : ℕ). x < n) (sym hr) (mod-lt (p * v) (omega arith)))
+          lf lf' lg lg' first second)

@@ -3,3 +3,4 @@ pub mod Degrees
 pub mod SideBySide
 pub mod Signs
 pub mod Splitting
+pub mod Turned

@@ -4,12 +4,20 @@
 //   copy_pair, copy_pair_reversed  two polynomials laid side by side
 //   clear_content                  the content of f taken out
 //   lift_split                     a split of the modulus from one of a divisor of it
+//   times, times_sign, lifted        an answer turned into another
 ghost use mathlib.Core.Path.{_≡_};
 ghost use Prim.Native.Nat.{ℕ, _+_, _-_, _*_, _/_, _%_, _<_, _≤_, _∣_};
 ghost use lib.ListN.{length};
 ghost use Rattle.theory.specs.ResultantLaws.{signed};
 ghost use Rattle.factor.specs.Factors.{SplitOf};
+ghost use Rattle.steps.specs.Answers.{Answer, Partial, Follows, Lifted};
 ghost use Rattle.steps.specs.Layouts.{Cleared, Beside, words-at, words-back};
+
+// What an attempt comes to: the value, or two coprime factors of n.
+pub enum Attempt {
+    Value(u32),
+    Splits(u32, u32),
+}
 
 // Two coprime factors.
 pub struct Split {
@@ -69,5 +77,41 @@ pub fn lift_split(n: u32, p: u32, q: u32) -> Split
         residue::Kind::Splits(x, y) => Split { p: x, q: y },
         residue::Kind::Unit(_) => Split { p, q },
         residue::Kind::Nilpotent => Split { p, q },
+    }
+}
+
+// The answer times c.
+pub fn times(n: u32, c: u32, r: Attempt) -> Attempt
+    requires { ⌜ 1 ≤ n ⌝ }
+    ensures { λ s. ⌜ Follows n (λ x. (c * x) % n) r s ⌝ }
+{
+    match r {
+        Attempt::Value(v) => Attempt::Value(arithmetic::mul_mod(n, c, v)),
+        Attempt::Splits(p, q) => Attempt::Splits(p, q),
+    }
+}
+
+// The answer with the sign (-1)^(d e).
+pub fn times_sign(n: u32, d: usize, e: usize, r: Attempt) -> Attempt
+    requires { ⌜ Answer n r ⌝ }
+    ensures { λ s. ⌜ Follows n (signed n (d * e)) r s ⌝ }
+{
+    match r {
+        Attempt::Value(v) => Attempt::Value(with_sign(n, d, e, v)),
+        Attempt::Splits(p, q) => Attempt::Splits(p, q),
+    }
+}
+
+// The answer modulo a divisor of n, as one modulo n.
+pub fn lifted(n: u32, r: Attempt) -> Attempt
+    requires { ⌜ (2 ≤ n) × Partial n r ⌝ }
+    ensures { λ s. ⌜ Lifted n r s ⌝ }
+{
+    match r {
+        Attempt::Value(v) => Attempt::Value(v),
+        Attempt::Splits(p, q) => {
+            let s = lift_split(n, p, q);
+            Attempt::Splits(s.p, s.q)
+        }
     }
 }

@@ -1,15 +1,15 @@
 use Rattle.definitions.specs.Resultants.{resultant}
 use Rattle.windows.specs.Window.{piece}
 use borrow.Rule.Slice.PartMut.{midOf, putMid}
-use Rattle.steps.proofs.Contents.{content-positive, content-whole, content-value}
-use Rattle.attempt.specs.Attempts.{AnswerOf}
+use Rattle.steps.proofs.Contents.{content-positive, content-whole, content-times}
+use Rattle.steps.proofs.Turned.{followed}
+use Rattle.steps.specs.Answers.{AnswerOf}
+use Rattle.steps.specs.declared.Attempt.{Attempt}
 use Rattle.factor.specs.Factors.{HighestOf, LeadingUnit, Nilpotents}
-use Rattle.attempt.specs.declared.Attempt.{Attempt}
-use Rattle.factor.specs.declared.Highest.{Highest}
-use Rattle.attempt.proofs.Remaining.{at-constant, divisor-asked, divide-asked, next-asked, value-next}
-use Rattle.attempt.proofs.Copies.{copies-fit, stacked-asked, stacked-answer, part-fits, monic-constant, monic-asked, monic-answer, monic-kept, kept-none, unit-asked, unit-answer}
-use Rattle.attempt.proofs.Leads.{stacked-fits, cleared-asked, cleared-split, not-all-nilpotent, lent, lead-asked, lead-below, given-in}
-use Rattle.attempt.proofs.Products.{monic-part, monic-lead, unit-part, unit-constant, product-value}
+use Rattle.attempt.proofs.Remaining.{at-constant, divisor-asked, divide-asked, next-asked, times-next}
+use Rattle.attempt.proofs.Copies.{copies-fit, stacked-asked, stacked-answer, part-fits, monic-constant, monic-asked, monic-answer, monic-kept, kept-none, unit-asked, unit-sign}
+use Rattle.attempt.proofs.Leads.{stacked-fits, cleared-asked, cleared-divides, not-all-nilpotent, lent, lead-asked, lead-below, given-in}
+use Rattle.attempt.proofs.Products.{monic-part, monic-lead, unit-part, unit-constant, product-times}
 use lib.ListN.{length}
 use mathlib.Core.List.{List}
 use borrow.Author.Needs.{needs}
@@ -18,47 +18,47 @@ use mathlib.Core.Path.{_≡_, refl, sym, ap, subst, _∙_}
 use Prim.Native.Nat.{ℕ, _+_, _-_, _*_, _/_, _%_, _≤_, _<_}
 use borrow.Fn.Kinds.{In}
 use borrow.Fn.PlainCycle.{Measures, is, falls, and}
-use Rattle.attempt.proofs.cold.Reads as cold
-use Rattle.attempt.proofs.cold.Kinds as cold-kinds
-use Rattle.attempt.proofs.+cold+euclid+factors+monic_part+primitive+step+unit_part.Lts-cold as cold-lts
+use Rattle.attempt.proofs.by_content.Reads as by-content
+use Rattle.attempt.proofs.by_content.Kinds as by-content-kinds
+use Rattle.attempt.proofs.+by_content+euclid+factors+monic_part+primitive+step+unit_part.Lts-by_content as by-content-lts
 use Rattle.attempt.proofs.euclid.Reads as euclid
 use Rattle.attempt.proofs.euclid.Kinds as euclid-kinds
-use Rattle.attempt.proofs.+cold+euclid+factors+monic_part+primitive+step+unit_part.Lts-euclid as euclid-lts
+use Rattle.attempt.proofs.+by_content+euclid+factors+monic_part+primitive+step+unit_part.Lts-euclid as euclid-lts
 use Rattle.attempt.proofs.factors.Reads as factors
 use Rattle.attempt.proofs.factors.Kinds as factors-kinds
-use Rattle.attempt.proofs.+cold+euclid+factors+monic_part+primitive+step+unit_part.Lts-factors as factors-lts
+use Rattle.attempt.proofs.+by_content+euclid+factors+monic_part+primitive+step+unit_part.Lts-factors as factors-lts
 use Rattle.attempt.proofs.monic_part.Reads as monic-part
 use Rattle.attempt.proofs.monic_part.Kinds as monic-part-kinds
-use Rattle.attempt.proofs.+cold+euclid+factors+monic_part+primitive+step+unit_part.Lts-monic_part as monic-part-lts
+use Rattle.attempt.proofs.+by_content+euclid+factors+monic_part+primitive+step+unit_part.Lts-monic_part as monic-part-lts
 use Rattle.attempt.proofs.primitive.Reads as primitive
 use Rattle.attempt.proofs.primitive.Kinds as primitive-kinds
-use Rattle.attempt.proofs.+cold+euclid+factors+monic_part+primitive+step+unit_part.Lts-primitive as primitive-lts
+use Rattle.attempt.proofs.+by_content+euclid+factors+monic_part+primitive+step+unit_part.Lts-primitive as primitive-lts
 use Rattle.attempt.proofs.step.Reads as step
 use Rattle.attempt.proofs.step.Kinds as step-kinds
-use Rattle.attempt.proofs.+cold+euclid+factors+monic_part+primitive+step+unit_part.Lts-step as step-lts
+use Rattle.attempt.proofs.+by_content+euclid+factors+monic_part+primitive+step+unit_part.Lts-step as step-lts
 use Rattle.attempt.proofs.unit_part.Reads as unit-part
 use Rattle.attempt.proofs.unit_part.Kinds as unit-part-kinds
-use Rattle.attempt.proofs.+cold+euclid+factors+monic_part+primitive+step+unit_part.Lts-unit_part as unit-part-lts
-use Rattle.arithmetic.proofs.mul_mod.Reads as mul-mod-reads
+use Rattle.attempt.proofs.+by_content+euclid+factors+monic_part+primitive+step+unit_part.Lts-unit_part as unit-part-lts
 use Rattle.arithmetic.proofs.power.Reads as power-reads
-use Rattle.factor.proofs.highest_of.Reads as highest-of-reads
-use Rattle.factor.proofs.unit_times_monic.Reads as unit-times-monic-reads
 use Rattle.bezout.proofs.cofactor.Reads as cofactor-reads
 use Rattle.division.proofs.divide.Reads as divide-reads
+use Rattle.factor.proofs.highest_of.Reads as highest-of-reads
+use Rattle.factor.proofs.unit_times_monic.Reads as unit-times-monic-reads
 use Rattle.steps.proofs.clear_content.Reads as clear-content-reads
 use Rattle.steps.proofs.copy_pair.Reads as copy-pair-reads
 use Rattle.steps.proofs.copy_pair_reversed.Reads as copy-pair-reversed-reads
-use Rattle.steps.proofs.lift_split.Reads as lift-split-reads
-use Rattle.steps.proofs.with_sign.Reads as with-sign-reads
-use Rattle.attempt.proofs.+cold+euclid+factors+monic_part+primitive+step+unit_part.{
+use Rattle.steps.proofs.lifted.Reads as lifted-reads
+use Rattle.steps.proofs.times.Reads as times-reads
+use Rattle.steps.proofs.times_sign.Reads as times-sign-reads
+use Rattle.attempt.proofs.+by_content+euclid+factors+monic_part+primitive+step+unit_part.{
   statement,
 }
-use Rattle.attempt.proofs.+cold+euclid+factors+monic_part+primitive+step+unit_part.Tie.{
+use Rattle.attempt.proofs.+by_content+euclid+factors+monic_part+primitive+step+unit_part.Tie.{
   close,
 }
 
-abbrev μ-cold : Measures 1 cold-kinds.ps ℕ
-μ-cold κs a = 6 * a .1 .1 .0 + 4
+abbrev μ-by-content : Measures 1 by-content-kinds.ps ℕ
+μ-by-content κs a = 6 * a .1 .1 .0 + 4
 
 abbrev μ-euclid : Measures 1 euclid-kinds.ps ℕ
 μ-euclid κs a = 6 * a .1 .1 .1 .0 + 5
@@ -78,11 +78,13 @@ abbrev μ-step : Measures 1 step-kinds.ps ℕ
 abbrev μ-unit-part : Measures 1 unit-part-kinds.ps ℕ
 μ-unit-part κs a = 6 * a .1 .1 .1 .0 + 1
 
-abbrev cold-at : ℕ → In 1 cold-kinds.ps
-cold-at t = and 1 cold-kinds.ps (is 1 cold-kinds.ps μ-cold t) cold.Pre
+abbrev by-content-at : ℕ → In 1 by-content-kinds.ps
+by-content-at t =
+    and 1 by-content-kinds.ps (is 1 by-content-kinds.ps μ-by-content t) by-content.Pre
 
-abbrev cold-below : ℕ → In 1 cold-kinds.ps
-cold-below t = and 1 cold-kinds.ps (falls 1 cold-kinds.ps _<_ μ-cold t) cold.Pre
+abbrev by-content-below : ℕ → In 1 by-content-kinds.ps
+by-content-below t =
+    and 1 by-content-kinds.ps (falls 1 by-content-kinds.ps _<_ μ-by-content t) by-content.Pre
 
 abbrev euclid-at : ℕ → In 1 euclid-kinds.ps
 euclid-at t = and 1 euclid-kinds.ps (is 1 euclid-kinds.ps μ-euclid t) euclid.Pre
@@ -124,236 +126,170 @@ abbrev unit-part-below : ℕ → In 1 unit-part-kinds.ps
 unit-part-below t =
     and 1 unit-part-kinds.ps (falls 1 unit-part-kinds.ps _<_ μ-unit-part t) unit-part.Pre
 
--- src/lib.rt:76:9
-cold-clear-content-requires : (t : ℕ) → cold-lts.Need-clear-content-requires (
+-- src/lib.rt:49:9
+by-content-clear-content-requires : (t : ℕ) → by-content-lts.Need-clear-content-requires (
   clear-content-reads.Asked,
   clear-content-reads.Learnt,
   primitive-below t,
   primitive.Post,
+  lifted-reads.Asked,
+  lifted-reads.Learnt,
   power-reads.Asked,
   power-reads.Learnt,
-  mul-mod-reads.Asked,
-  mul-mod-reads.Learnt,
-  lift-split-reads.Asked,
-  lift-split-reads.Learnt,
-) (cold-at t) cold.Post
-cold-clear-content-requires t c κs = let s = c .before .before .args in
+  times-reads.Asked,
+  times-reads.Learnt,
+) (by-content-at t) by-content.Post
+by-content-clear-content-requires t c κs = let s = c .before .before .args in
     let st = c .before .before .pre .1 in
     (omega (arith, st .two), stacked-fits (s .n) (s .d) (s .e) (s .w .now) st)
 
--- src/lib.rt:78:9
-cold-same-length : (t : ℕ) → cold-lts.Need-same-length (
+-- src/lib.rt:51:9
+by-content-same-length : (t : ℕ) → by-content-lts.Need-same-length (
   clear-content-reads.Asked,
   clear-content-reads.Learnt,
   primitive-below t,
   primitive.Post,
+  lifted-reads.Asked,
+  lifted-reads.Learnt,
   power-reads.Asked,
   power-reads.Learnt,
-  mul-mod-reads.Asked,
-  mul-mod-reads.Learnt,
-  lift-split-reads.Asked,
-  lift-split-reads.Learnt,
-) (cold-at t) cold.Post
-cold-same-length t c = search needs
+  times-reads.Asked,
+  times-reads.Learnt,
+) (by-content-at t) by-content.Post
+by-content-same-length t c = search needs
 
--- src/lib.rt:78:9
-cold-returns : (t : ℕ) → cold-lts.Need-returns (
+-- src/lib.rt:51:9
+by-content-returns : (t : ℕ) → by-content-lts.Need-returns (
   clear-content-reads.Asked,
   clear-content-reads.Learnt,
   primitive-below t,
   primitive.Post,
+  lifted-reads.Asked,
+  lifted-reads.Learnt,
   power-reads.Asked,
   power-reads.Learnt,
-  mul-mod-reads.Asked,
-  mul-mod-reads.Learnt,
-  lift-split-reads.Asked,
-  lift-split-reads.Learnt,
-) (cold-at t) cold.Post
-cold-returns t c = let s = c .before .before .before .before .before .before .args in
+  times-reads.Asked,
+  times-reads.Learnt,
+) (by-content-at t) by-content.Post
+by-content-returns t c = let s = c .before .before .before .before .before .before .args in
     let st = c .before .before .before .before .before .before .pre .1 in
     content-whole (s .n) (c .before .before .before .clear-content .result) (s .d) (s .e) (s .w .now) (c .before .before .before .clear-content .last .0) (st .two) (st .one) (st .near) (stacked-fits (s .n) (s .d) (s .e) (s .w .now) st) (st .below) (c .before .before .before .clear-content .ensures) (c .if1 .taken)
 
--- src/lib.rt:80:24
-cold-div-primitive : (t : ℕ) → cold-lts.Need-div-primitive (
+-- src/lib.rt:53:43
+by-content-div-primitive : (t : ℕ) → by-content-lts.Need-div-primitive (
   clear-content-reads.Asked,
   clear-content-reads.Learnt,
   primitive-below t,
   primitive.Post,
+  lifted-reads.Asked,
+  lifted-reads.Learnt,
   power-reads.Asked,
   power-reads.Learnt,
-  mul-mod-reads.Asked,
-  mul-mod-reads.Learnt,
-  lift-split-reads.Asked,
-  lift-split-reads.Learnt,
-) (cold-at t) cold.Post
-cold-div-primitive t c = content-positive (omega (arith, c .before .before .before .before .before .before .before .pre .1 .two)) (c .before .before .before .before .clear-content .ensures .content)
+  times-reads.Asked,
+  times-reads.Learnt,
+) (by-content-at t) by-content.Post
+by-content-div-primitive t c = content-positive (omega (arith, c .before .before .before .before .before .before .before .pre .1 .two)) (c .before .before .before .before .clear-content .ensures .content)
 
--- src/lib.rt:80:11
-cold-primitive-requires : (t : ℕ) → cold-lts.Need-primitive-requires (
+-- src/lib.rt:53:30
+by-content-primitive-requires : (t : ℕ) → by-content-lts.Need-primitive-requires (
   clear-content-reads.Asked,
   clear-content-reads.Learnt,
   primitive-below t,
   primitive.Post,
+  lifted-reads.Asked,
+  lifted-reads.Learnt,
   power-reads.Asked,
   power-reads.Learnt,
-  mul-mod-reads.Asked,
-  mul-mod-reads.Learnt,
-  lift-split-reads.Asked,
-  lift-split-reads.Learnt,
-) (cold-at t) cold.Post
-cold-primitive-requires t c κs = let s = c .before .before .before .before .before .before .before .args in
+  times-reads.Asked,
+  times-reads.Learnt,
+) (by-content-at t) by-content.Post
+by-content-primitive-requires t c κs = let s = c .before .before .before .before .before .before .before .args in
     (omega (arith, c .before .before .before .before .before .before .before .pre .0), cleared-asked (s .n) (c .before .before .before .before .clear-content .result) (s .d) (s .e) (s .w .now) (c .before .before .before .before .clear-content .last .0) (c .before .before .before .before .before .before .before .pre .1) (c .before .before .before .before .clear-content .ensures) (c .before .if1 .left))
 
--- src/lib.rt:81:24
-cold-enum-known-v : (t : ℕ) → cold-lts.Need-enum-known-v (
+-- src/lib.rt:53:9
+by-content-lifted-requires : (t : ℕ) → by-content-lts.Need-lifted-requires (
   clear-content-reads.Asked,
   clear-content-reads.Learnt,
   primitive-below t,
   primitive.Post,
+  lifted-reads.Asked,
+  lifted-reads.Learnt,
   power-reads.Asked,
   power-reads.Learnt,
-  mul-mod-reads.Asked,
-  mul-mod-reads.Learnt,
-  lift-split-reads.Asked,
-  lift-split-reads.Learnt,
-) (cold-at t) cold.Post
-cold-enum-known-v t c = search needs
+  times-reads.Asked,
+  times-reads.Learnt,
+) (by-content-at t) by-content.Post
+by-content-lifted-requires t c κs = let s = c .before .before .before .before .before .before .before .before .before .before .args in
+    (c .before .before .before .before .before .before .before .before .before .before .pre .1 .two, record { m = s .n / c .before .before .before .before .before .before .before .clear-content .result; divides = cleared-divides (s .n) (c .before .before .before .before .before .before .before .clear-content .result) (s .d) (s .e) (s .w .now) (c .before .before .before .before .before .before .before .clear-content .last .0) (c .before .before .before .before .before .before .before .clear-content .ensures);
+      answer = record { x = resultant (s .n / c .before .before .before .before .before .before .before .clear-content .result) (piece (c .before .before .before .before .before .before .before .clear-content .last .0) (s .e + 1) (s .d + 1)) (piece (c .before .before .before .before .before .before .before .clear-content .last .0) 0 (s .e + 1)); is = c .before .before .primitive .ensures } })
 
--- src/lib.rt:81:68
-cold-power-requires : (t : ℕ) → cold-lts.Need-power-requires (
+-- src/lib.rt:54:21
+by-content-power-requires : (t : ℕ) → by-content-lts.Need-power-requires (
   clear-content-reads.Asked,
   clear-content-reads.Learnt,
   primitive-below t,
   primitive.Post,
+  lifted-reads.Asked,
+  lifted-reads.Learnt,
   power-reads.Asked,
   power-reads.Learnt,
-  mul-mod-reads.Asked,
-  mul-mod-reads.Learnt,
-  lift-split-reads.Asked,
-  lift-split-reads.Learnt,
-) (cold-at t) cold.Post
-cold-power-requires t c κs = search needs
+  times-reads.Asked,
+  times-reads.Learnt,
+) (by-content-at t) by-content.Post
+by-content-power-requires t c κs = search needs
 
--- src/lib.rt:81:45
-cold-mul-mod-requires : (t : ℕ) → cold-lts.Need-mul-mod-requires (
+-- src/lib.rt:54:5
+by-content-times-requires : (t : ℕ) → by-content-lts.Need-times-requires (
   clear-content-reads.Asked,
   clear-content-reads.Learnt,
   primitive-below t,
   primitive.Post,
+  lifted-reads.Asked,
+  lifted-reads.Learnt,
   power-reads.Asked,
   power-reads.Learnt,
-  mul-mod-reads.Asked,
-  mul-mod-reads.Learnt,
-  lift-split-reads.Asked,
-  lift-split-reads.Learnt,
-) (cold-at t) cold.Post
-cold-mul-mod-requires t c κs = search needs
+  times-reads.Asked,
+  times-reads.Learnt,
+) (by-content-at t) by-content.Post
+by-content-times-requires t c κs = search needs
 
--- src/lib.rt:82:25
-cold-enum-known-p : (t : ℕ) → cold-lts.Need-enum-known-p (
+-- src/lib.rt:45:1
+by-content-same-length-2 : (t : ℕ) → by-content-lts.Need-same-length-2 (
   clear-content-reads.Asked,
   clear-content-reads.Learnt,
   primitive-below t,
   primitive.Post,
+  lifted-reads.Asked,
+  lifted-reads.Learnt,
   power-reads.Asked,
   power-reads.Learnt,
-  mul-mod-reads.Asked,
-  mul-mod-reads.Learnt,
-  lift-split-reads.Asked,
-  lift-split-reads.Learnt,
-) (cold-at t) cold.Post
-cold-enum-known-p t c = search needs
+  times-reads.Asked,
+  times-reads.Learnt,
+) (by-content-at t) by-content.Post
+by-content-same-length-2 t c = search needs
 
--- src/lib.rt:83:17
-cold-lift-split-requires : (t : ℕ) → cold-lts.Need-lift-split-requires (
+-- src/lib.rt:45:1
+by-content-returns-2 : (t : ℕ) → by-content-lts.Need-returns-2 (
   clear-content-reads.Asked,
   clear-content-reads.Learnt,
   primitive-below t,
   primitive.Post,
+  lifted-reads.Asked,
+  lifted-reads.Learnt,
   power-reads.Asked,
   power-reads.Learnt,
-  mul-mod-reads.Asked,
-  mul-mod-reads.Learnt,
-  lift-split-reads.Asked,
-  lift-split-reads.Learnt,
-) (cold-at t) cold.Post
-cold-lift-split-requires t c κs = let s = c .before .before .before .before .before .before .before .before .before .before .before .before .before .args in
+  times-reads.Asked,
+  times-reads.Learnt,
+) (by-content-at t) by-content.Post
+by-content-returns-2 t c = let s = c .before .before .before .before .before .before .before .before .before .before .before .before .before .args in
+    let st = c .before .before .before .before .before .before .before .before .before .before .before .before .before .pre .1 in
     let w1 = c .before .before .before .before .before .before .before .before .before .before .clear-content .last .0 in
     let g = c .before .before .before .before .before .before .before .before .before .before .clear-content .result in
-    let m = s .n / g in
-    let p = c .before .p .given in
-    (c .before .before .before .before .before .before .before .before .before .before .before .before .before .pre .1 .two, cleared-split (s .n) g (s .d) (s .e) (p .0 .0) (p .0 .1 .0) (s .w .now) w1 (c .before .before .before .before .before .before .before .before .before .before .clear-content .ensures)
-      (subst (λ (y : Attempt). AnswerOf m (resultant m (piece w1 (s .e + 1) (s .d + 1)) (piece w1 0 (s .e + 1))) y) (p .1) (c .before .before .before .before .before .primitive .ensures)))
+    let cl = c .before .before .before .before .before .before .before .before .before .before .clear-content .ensures in
+    followed (c .times .ensures) (c .before .before .lifted .ensures .at (s .n / g) (resultant (s .n / g) (piece w1 (s .e + 1) (s .d + 1)) (piece w1 0 (s .e + 1))) (cleared-divides (s .n) g (s .d) (s .e) (s .w .now) w1 cl) (c .before .before .before .before .before .primitive .ensures))
+    (content-times (s .n) g (s .d) (s .e) (s .w .now) w1 (st .two) (st .one) (st .near) (stacked-fits (s .n) (s .d) (s .e) (s .w .now) st) (st .below) cl (c .before .before .before .before .before .before .before .if1 .left) (c .before .power .result) (c .before .power .ensures))
 
--- src/lib.rt:72:1
-cold-same-length-2 : (t : ℕ) → cold-lts.Need-same-length-2 (
-  clear-content-reads.Asked,
-  clear-content-reads.Learnt,
-  primitive-below t,
-  primitive.Post,
-  power-reads.Asked,
-  power-reads.Learnt,
-  mul-mod-reads.Asked,
-  mul-mod-reads.Learnt,
-  lift-split-reads.Asked,
-  lift-split-reads.Learnt,
-) (cold-at t) cold.Post
-cold-same-length-2 t c = search needs
-
--- src/lib.rt:72:1
-cold-returns-2 : (t : ℕ) → cold-lts.Need-returns-2 (
-  clear-content-reads.Asked,
-  clear-content-reads.Learnt,
-  primitive-below t,
-  primitive.Post,
-  power-reads.Asked,
-  power-reads.Learnt,
-  mul-mod-reads.Asked,
-  mul-mod-reads.Learnt,
-  lift-split-reads.Asked,
-  lift-split-reads.Learnt,
-) (cold-at t) cold.Post
-cold-returns-2 t c = let s = c .before .before .before .before .before .before .before .before .before .before .before .before .before .before .before .args in
-    let st = c .before .before .before .before .before .before .before .before .before .before .before .before .before .before .before .pre .1 in
-    let w1 = c .before .before .before .before .before .before .before .before .before .before .before .before .clear-content .last .0 in
-    let g = c .before .before .before .before .before .before .before .before .before .before .before .before .clear-content .result in
-    let m = s .n / g in
-    let v = c .before .before .before .v .given in
-    let k = subst (λ (y : Attempt). AnswerOf m (resultant m (piece w1 (s .e + 1) (s .d + 1)) (piece w1 0 (s .e + 1))) y) (v .1) (c .before .before .before .before .before .before .before .primitive .ensures) in
-    content-value (s .n) g (s .d) (s .e) (s .w .now) w1 (st .two) (st .one) (st .near) (stacked-fits (s .n) (s .d) (s .e) (s .w .now) st) (st .below) (c .before .before .before .before .before .before .before .before .before .before .before .before .clear-content .ensures) (c .before .before .before .before .before .before .before .before .before .if1 .left)
-    (v .0 .0) (c .before .power .result) (c .mul-mod .result) (k .0) (c .before .power .ensures) (c .mul-mod .ensures)
-
--- src/lib.rt:72:1
-cold-same-length-3 : (t : ℕ) → cold-lts.Need-same-length-3 (
-  clear-content-reads.Asked,
-  clear-content-reads.Learnt,
-  primitive-below t,
-  primitive.Post,
-  power-reads.Asked,
-  power-reads.Learnt,
-  mul-mod-reads.Asked,
-  mul-mod-reads.Learnt,
-  lift-split-reads.Asked,
-  lift-split-reads.Learnt,
-) (cold-at t) cold.Post
-cold-same-length-3 t c = search needs
-
--- src/lib.rt:72:1
-cold-returns-3 : (t : ℕ) → cold-lts.Need-returns-3 (
-  clear-content-reads.Asked,
-  clear-content-reads.Learnt,
-  primitive-below t,
-  primitive.Post,
-  power-reads.Asked,
-  power-reads.Learnt,
-  mul-mod-reads.Asked,
-  mul-mod-reads.Learnt,
-  lift-split-reads.Asked,
-  lift-split-reads.Learnt,
-) (cold-at t) cold.Post
-cold-returns-3 t c = c .lift-split .ensures
-
--- src/lib.rt:46:18
+-- src/lib.rt:21:18
 euclid-add-lead : (t : ℕ) → euclid-lts.Need-add-lead (
   power-reads.Asked,
   power-reads.Learnt,
@@ -363,12 +299,12 @@ euclid-add-lead : (t : ℕ) → euclid-lts.Need-add-lead (
   step.Post,
   copy-pair-reads.Asked,
   copy-pair-reads.Learnt,
-  cold-below t,
-  cold.Post,
+  by-content-below t,
+  by-content.Post,
 ) (euclid-at t) euclid.Post
 euclid-add-lead t c = search needs
 
--- src/lib.rt:46:16
+-- src/lib.rt:21:16
 euclid-mul-lead : (t : ℕ) → euclid-lts.Need-mul-lead (
   power-reads.Asked,
   power-reads.Learnt,
@@ -378,12 +314,12 @@ euclid-mul-lead : (t : ℕ) → euclid-lts.Need-mul-lead (
   step.Post,
   copy-pair-reads.Asked,
   copy-pair-reads.Learnt,
-  cold-below t,
-  cold.Post,
+  by-content-below t,
+  by-content.Post,
 ) (euclid-at t) euclid.Post
 euclid-mul-lead t c = search needs
 
--- src/lib.rt:46:16
+-- src/lib.rt:21:16
 euclid-slice-read-lead : (t : ℕ) → euclid-lts.Need-slice-read-lead (
   power-reads.Asked,
   power-reads.Learnt,
@@ -393,12 +329,12 @@ euclid-slice-read-lead : (t : ℕ) → euclid-lts.Need-slice-read-lead (
   step.Post,
   copy-pair-reads.Asked,
   copy-pair-reads.Learnt,
-  cold-below t,
-  cold.Post,
+  by-content-below t,
+  by-content.Post,
 ) (euclid-at t) euclid.Post
 euclid-slice-read-lead t c = search needs
 
--- src/lib.rt:48:31
+-- src/lib.rt:23:31
 euclid-power-requires : (t : ℕ) → euclid-lts.Need-power-requires (
   power-reads.Asked,
   power-reads.Learnt,
@@ -408,12 +344,12 @@ euclid-power-requires : (t : ℕ) → euclid-lts.Need-power-requires (
   step.Post,
   copy-pair-reads.Asked,
   copy-pair-reads.Learnt,
-  cold-below t,
-  cold.Post,
+  by-content-below t,
+  by-content.Post,
 ) (euclid-at t) euclid.Post
 euclid-power-requires t c κs = search needs
 
--- src/lib.rt:48:9
+-- src/lib.rt:23:9
 euclid-returns : (t : ℕ) → euclid-lts.Need-returns (
   power-reads.Asked,
   power-reads.Learnt,
@@ -423,13 +359,13 @@ euclid-returns : (t : ℕ) → euclid-lts.Need-returns (
   step.Post,
   copy-pair-reads.Asked,
   copy-pair-reads.Learnt,
-  cold-below t,
-  cold.Post,
+  by-content-below t,
+  by-content.Post,
 ) (euclid-at t) euclid.Post
 euclid-returns t c = let s = c .before .before .before .before .args in
     (at-constant (s .n) (s .a) (s .d) (s .b) (s .e) (s .s) (c .power .result) (s .w .now) (c .before .before .before .before .pre .1) (c .before .if1 .taken) (c .power .ensures), refl)
 
--- src/lib.rt:50:9
+-- src/lib.rt:25:9
 euclid-cofactor-requires : (t : ℕ) → euclid-lts.Need-cofactor-requires (
   power-reads.Asked,
   power-reads.Learnt,
@@ -439,12 +375,12 @@ euclid-cofactor-requires : (t : ℕ) → euclid-lts.Need-cofactor-requires (
   step.Post,
   copy-pair-reads.Asked,
   copy-pair-reads.Learnt,
-  cold-below t,
-  cold.Post,
+  by-content-below t,
+  by-content.Post,
 ) (euclid-at t) euclid.Post
 euclid-cofactor-requires t c κs = search needs
 
--- src/lib.rt:52:9
+-- src/lib.rt:27:9
 euclid-step-requires : (t : ℕ) → euclid-lts.Need-step-requires (
   power-reads.Asked,
   power-reads.Learnt,
@@ -454,13 +390,13 @@ euclid-step-requires : (t : ℕ) → euclid-lts.Need-step-requires (
   step.Post,
   copy-pair-reads.Asked,
   copy-pair-reads.Learnt,
-  cold-below t,
-  cold.Post,
+  by-content-below t,
+  by-content.Post,
 ) (euclid-at t) euclid.Post
 euclid-step-requires t c κs = let s = c .before .before .before .before .before .before .before .args in
     (omega (arith, c .before .before .before .before .before .before .before .pre .0), divisor-asked (s .n) (s .a) (s .d) (s .b) (s .e) (s .s) (c .before .before .before .cofactor .result .g) (c .before .before .before .cofactor .result .s) (s .w .now) (c .before .before .before .before .before .before .before .pre .1) (c .before .before .before .before .if1 .left) (c .before .before .before .cofactor .ensures) (c .before .if2 .taken))
 
--- src/lib.rt:52:9
+-- src/lib.rt:27:9
 euclid-same-length : (t : ℕ) → euclid-lts.Need-same-length (
   power-reads.Asked,
   power-reads.Learnt,
@@ -470,12 +406,12 @@ euclid-same-length : (t : ℕ) → euclid-lts.Need-same-length (
   step.Post,
   copy-pair-reads.Asked,
   copy-pair-reads.Learnt,
-  cold-below t,
-  cold.Post,
+  by-content-below t,
+  by-content.Post,
 ) (euclid-at t) euclid.Post
 euclid-same-length t c = search needs
 
--- src/lib.rt:52:9
+-- src/lib.rt:27:9
 euclid-returns-2 : (t : ℕ) → euclid-lts.Need-returns-2 (
   power-reads.Asked,
   power-reads.Learnt,
@@ -485,12 +421,12 @@ euclid-returns-2 : (t : ℕ) → euclid-lts.Need-returns-2 (
   step.Post,
   copy-pair-reads.Asked,
   copy-pair-reads.Learnt,
-  cold-below t,
-  cold.Post,
+  by-content-below t,
+  by-content.Post,
 ) (euclid-at t) euclid.Post
 euclid-returns-2 t c = (c .before .before .step .ensures, search needs)
 
--- src/lib.rt:54:28
+-- src/lib.rt:29:28
 euclid-add-copy-pair : (t : ℕ) → euclid-lts.Need-add-copy-pair (
   power-reads.Asked,
   power-reads.Learnt,
@@ -500,12 +436,12 @@ euclid-add-copy-pair : (t : ℕ) → euclid-lts.Need-add-copy-pair (
   step.Post,
   copy-pair-reads.Asked,
   copy-pair-reads.Learnt,
-  cold-below t,
-  cold.Post,
+  by-content-below t,
+  by-content.Post,
 ) (euclid-at t) euclid.Post
 euclid-add-copy-pair t c = search needs
 
--- src/lib.rt:54:38
+-- src/lib.rt:29:38
 euclid-add-copy-pair-2 : (t : ℕ) → euclid-lts.Need-add-copy-pair-2 (
   power-reads.Asked,
   power-reads.Learnt,
@@ -515,12 +451,12 @@ euclid-add-copy-pair-2 : (t : ℕ) → euclid-lts.Need-add-copy-pair-2 (
   step.Post,
   copy-pair-reads.Asked,
   copy-pair-reads.Learnt,
-  cold-below t,
-  cold.Post,
+  by-content-below t,
+  by-content.Post,
 ) (euclid-at t) euclid.Post
 euclid-add-copy-pair-2 t c = search needs
 
--- src/lib.rt:54:5
+-- src/lib.rt:29:5
 euclid-copy-pair-requires : (t : ℕ) → euclid-lts.Need-copy-pair-requires (
   power-reads.Asked,
   power-reads.Learnt,
@@ -530,14 +466,14 @@ euclid-copy-pair-requires : (t : ℕ) → euclid-lts.Need-copy-pair-requires (
   step.Post,
   copy-pair-reads.Asked,
   copy-pair-reads.Learnt,
-  cold-below t,
-  cold.Post,
+  by-content-below t,
+  by-content.Post,
 ) (euclid-at t) euclid.Post
 euclid-copy-pair-requires t c κs = let s = c .before .before .before .before .before .before .before .args in
     copies-fit (s .n) (s .a) (s .d) (s .b) (s .e) (s .s) (s .w .now) (c .before .before .before .before .before .before .before .pre .1) (c .before .before .before .before .if1 .left)
 
--- src/lib.rt:55:10
-euclid-mul-cold : (t : ℕ) → euclid-lts.Need-mul-cold (
+-- src/lib.rt:30:16
+euclid-mul-by-content : (t : ℕ) → euclid-lts.Need-mul-by-content (
   power-reads.Asked,
   power-reads.Learnt,
   cofactor-reads.Asked,
@@ -546,13 +482,13 @@ euclid-mul-cold : (t : ℕ) → euclid-lts.Need-mul-cold (
   step.Post,
   copy-pair-reads.Asked,
   copy-pair-reads.Learnt,
-  cold-below t,
-  cold.Post,
+  by-content-below t,
+  by-content.Post,
 ) (euclid-at t) euclid.Post
-euclid-mul-cold t c = search needs
+euclid-mul-by-content t c = search needs
 
--- src/lib.rt:55:10
-euclid-sub-cold : (t : ℕ) → euclid-lts.Need-sub-cold (
+-- src/lib.rt:30:16
+euclid-sub-by-content : (t : ℕ) → euclid-lts.Need-sub-by-content (
   power-reads.Asked,
   power-reads.Learnt,
   cofactor-reads.Asked,
@@ -561,13 +497,13 @@ euclid-sub-cold : (t : ℕ) → euclid-lts.Need-sub-cold (
   step.Post,
   copy-pair-reads.Asked,
   copy-pair-reads.Learnt,
-  cold-below t,
-  cold.Post,
+  by-content-below t,
+  by-content.Post,
 ) (euclid-at t) euclid.Post
-euclid-sub-cold t c = search needs
+euclid-sub-by-content t c = search needs
 
--- src/lib.rt:55:10
-euclid-part-cold-start : (t : ℕ) → euclid-lts.Need-part-cold-start (
+-- src/lib.rt:30:16
+euclid-part-by-content-start : (t : ℕ) → euclid-lts.Need-part-by-content-start (
   power-reads.Asked,
   power-reads.Learnt,
   cofactor-reads.Asked,
@@ -576,13 +512,13 @@ euclid-part-cold-start : (t : ℕ) → euclid-lts.Need-part-cold-start (
   step.Post,
   copy-pair-reads.Asked,
   copy-pair-reads.Learnt,
-  cold-below t,
-  cold.Post,
+  by-content-below t,
+  by-content.Post,
 ) (euclid-at t) euclid.Post
-euclid-part-cold-start t c = search needs
+euclid-part-by-content-start t c = search needs
 
--- src/lib.rt:55:10
-euclid-part-cold-end : (t : ℕ) → euclid-lts.Need-part-cold-end (
+-- src/lib.rt:30:16
+euclid-part-by-content-end : (t : ℕ) → euclid-lts.Need-part-by-content-end (
   power-reads.Asked,
   power-reads.Learnt,
   cofactor-reads.Asked,
@@ -591,13 +527,13 @@ euclid-part-cold-end : (t : ℕ) → euclid-lts.Need-part-cold-end (
   step.Post,
   copy-pair-reads.Asked,
   copy-pair-reads.Learnt,
-  cold-below t,
-  cold.Post,
+  by-content-below t,
+  by-content.Post,
 ) (euclid-at t) euclid.Post
-euclid-part-cold-end t c = search needs
+euclid-part-by-content-end t c = search needs
 
--- src/lib.rt:55:5
-euclid-cold-requires : (t : ℕ) → euclid-lts.Need-cold-requires (
+-- src/lib.rt:30:5
+euclid-by-content-requires : (t : ℕ) → euclid-lts.Need-by-content-requires (
   power-reads.Asked,
   power-reads.Learnt,
   cofactor-reads.Asked,
@@ -606,13 +542,13 @@ euclid-cold-requires : (t : ℕ) → euclid-lts.Need-cold-requires (
   step.Post,
   copy-pair-reads.Asked,
   copy-pair-reads.Learnt,
-  cold-below t,
-  cold.Post,
+  by-content-below t,
+  by-content.Post,
 ) (euclid-at t) euclid.Post
-euclid-cold-requires t c κs = let s = c .before .before .before .before .before .before .before .before .before .before .before .args in
+euclid-by-content-requires t c κs = let s = c .before .before .before .before .before .before .before .before .before .before .before .args in
     (omega (arith, c .before .before .before .before .before .before .before .before .before .before .before .pre .0), stacked-asked (s .n) (s .a) (s .d) (s .b) (s .e) (s .s) (s .w .now) (c .before .before .before .copy-pair .last .0) (c .before .before .before .before .before .before .before .before .before .before .before .pre .1) (c .before .before .before .before .before .before .before .before .if1 .left) (c .before .before .before .copy-pair .ensures))
 
--- src/lib.rt:41:1
+-- src/lib.rt:16:1
 euclid-same-length-2 : (t : ℕ) → euclid-lts.Need-same-length-2 (
   power-reads.Asked,
   power-reads.Learnt,
@@ -622,12 +558,12 @@ euclid-same-length-2 : (t : ℕ) → euclid-lts.Need-same-length-2 (
   step.Post,
   copy-pair-reads.Asked,
   copy-pair-reads.Learnt,
-  cold-below t,
-  cold.Post,
+  by-content-below t,
+  by-content.Post,
 ) (euclid-at t) euclid.Post
 euclid-same-length-2 t c = search needs
 
--- src/lib.rt:41:1
+-- src/lib.rt:16:1
 euclid-returns-3 : (t : ℕ) → euclid-lts.Need-returns-3 (
   power-reads.Asked,
   power-reads.Learnt,
@@ -637,93 +573,39 @@ euclid-returns-3 : (t : ℕ) → euclid-lts.Need-returns-3 (
   step.Post,
   copy-pair-reads.Asked,
   copy-pair-reads.Learnt,
-  cold-below t,
-  cold.Post,
+  by-content-below t,
+  by-content.Post,
 ) (euclid-at t) euclid.Post
 euclid-returns-3 t c = let s = c .before .before .before .before .before .before .before .before .before .before .before .before .before .before .args in
-    (stacked-answer (s .n) (s .a) (s .d) (s .b) (s .e) (s .s) (s .w .now) (c .before .before .before .before .before .before .copy-pair .last .0) (c .before .before .before .before .before .before .before .before .before .before .before .before .before .before .pre .1) (c .before .before .before .before .before .before .before .before .before .before .before .if1 .left) (c .before .before .before .before .before .before .copy-pair .ensures) (c .before .before .cold .result) (c .before .before .cold .ensures), search needs)
+    (stacked-answer (s .n) (s .a) (s .d) (s .b) (s .e) (s .s) (s .w .now) (c .before .before .before .before .before .before .copy-pair .last .0) (c .before .before .before .before .before .before .before .before .before .before .before .before .before .before .pre .1) (c .before .before .before .before .before .before .before .before .before .before .before .if1 .left) (c .before .before .before .before .before .before .copy-pair .ensures) (c .before .before .by-content .result) (c .before .before .by-content .ensures), search needs)
 
--- src/lib.rt:114:29
-factors-add-unit-times-monic : (t : ℕ) → factors-lts.Need-add-unit-times-monic (
+-- src/lib.rt:84:13
+factors-add-a : (t : ℕ) → factors-lts.Need-add-a (
   unit-times-monic-reads.Asked,
   unit-times-monic-reads.Learnt,
   monic-part-below t,
   monic-part.Post,
   unit-part-below t,
   unit-part.Post,
-  mul-mod-reads.Asked,
-  mul-mod-reads.Learnt,
+  times-reads.Asked,
+  times-reads.Learnt,
 ) (factors-at t) factors.Post
-factors-add-unit-times-monic t c = search needs
+factors-add-a t c = search needs
 
--- src/lib.rt:114:22
-factors-mul-unit-times-monic : (t : ℕ) → factors-lts.Need-mul-unit-times-monic (
+-- src/lib.rt:85:13
+factors-add-l : (t : ℕ) → factors-lts.Need-add-l (
   unit-times-monic-reads.Asked,
   unit-times-monic-reads.Learnt,
   monic-part-below t,
   monic-part.Post,
   unit-part-below t,
   unit-part.Post,
-  mul-mod-reads.Asked,
-  mul-mod-reads.Learnt,
+  times-reads.Asked,
+  times-reads.Learnt,
 ) (factors-at t) factors.Post
-factors-mul-unit-times-monic t c = search needs
+factors-add-l t c = search needs
 
--- src/lib.rt:114:22
-factors-sub-unit-times-monic : (t : ℕ) → factors-lts.Need-sub-unit-times-monic (
-  unit-times-monic-reads.Asked,
-  unit-times-monic-reads.Learnt,
-  monic-part-below t,
-  monic-part.Post,
-  unit-part-below t,
-  unit-part.Post,
-  mul-mod-reads.Asked,
-  mul-mod-reads.Learnt,
-) (factors-at t) factors.Post
-factors-sub-unit-times-monic t c = search needs
-
--- src/lib.rt:114:22
-factors-part-unit-times-monic-start : (t : ℕ) → factors-lts.Need-part-unit-times-monic-start (
-  unit-times-monic-reads.Asked,
-  unit-times-monic-reads.Learnt,
-  monic-part-below t,
-  monic-part.Post,
-  unit-part-below t,
-  unit-part.Post,
-  mul-mod-reads.Asked,
-  mul-mod-reads.Learnt,
-) (factors-at t) factors.Post
-factors-part-unit-times-monic-start t c = search needs
-
--- src/lib.rt:114:22
-factors-part-unit-times-monic-end : (t : ℕ) → factors-lts.Need-part-unit-times-monic-end (
-  unit-times-monic-reads.Asked,
-  unit-times-monic-reads.Learnt,
-  monic-part-below t,
-  monic-part.Post,
-  unit-part-below t,
-  unit-part.Post,
-  mul-mod-reads.Asked,
-  mul-mod-reads.Learnt,
-) (factors-at t) factors.Post
-factors-part-unit-times-monic-end t c = search needs
-
--- src/lib.rt:114:5
-factors-unit-times-monic-requires : (t : ℕ) → factors-lts.Need-unit-times-monic-requires (
-  unit-times-monic-reads.Asked,
-  unit-times-monic-reads.Learnt,
-  monic-part-below t,
-  monic-part.Post,
-  unit-part-below t,
-  unit-part.Post,
-  mul-mod-reads.Asked,
-  mul-mod-reads.Learnt,
-) (factors-at t) factors.Post
-factors-unit-times-monic-requires t c κs = let s = c .before .before .args in
-    let p = c .before .before .pre .1 in
-    given-in (s .n) (s .d) (s .e) (s .t) (s .i) (s .w .now) (p .0 .0) (p .0 .1) (p .1)
-
--- src/lib.rt:115:13
+-- src/lib.rt:86:13
 factors-add-h : (t : ℕ) → factors-lts.Need-add-h (
   unit-times-monic-reads.Asked,
   unit-times-monic-reads.Learnt,
@@ -731,38 +613,38 @@ factors-add-h : (t : ℕ) → factors-lts.Need-add-h (
   monic-part.Post,
   unit-part-below t,
   unit-part.Post,
-  mul-mod-reads.Asked,
-  mul-mod-reads.Learnt,
+  times-reads.Asked,
+  times-reads.Learnt,
 ) (factors-at t) factors.Post
 factors-add-h t c = search needs
 
--- src/lib.rt:115:22
-factors-add-h-2 : (t : ℕ) → factors-lts.Need-add-h-2 (
+-- src/lib.rt:87:18
+factors-add-v : (t : ℕ) → factors-lts.Need-add-v (
   unit-times-monic-reads.Asked,
   unit-times-monic-reads.Learnt,
   monic-part-below t,
   monic-part.Post,
   unit-part-below t,
   unit-part.Post,
-  mul-mod-reads.Asked,
-  mul-mod-reads.Learnt,
+  times-reads.Asked,
+  times-reads.Learnt,
 ) (factors-at t) factors.Post
-factors-add-h-2 t c = search needs
+factors-add-v t c = search needs
 
--- src/lib.rt:115:13
-factors-add-h-3 : (t : ℕ) → factors-lts.Need-add-h-3 (
+-- src/lib.rt:87:13
+factors-add-v-2 : (t : ℕ) → factors-lts.Need-add-v-2 (
   unit-times-monic-reads.Asked,
   unit-times-monic-reads.Learnt,
   monic-part-below t,
   monic-part.Post,
   unit-part-below t,
   unit-part.Post,
-  mul-mod-reads.Asked,
-  mul-mod-reads.Learnt,
+  times-reads.Asked,
+  times-reads.Learnt,
 ) (factors-at t) factors.Post
-factors-add-h-3 t c = search needs
+factors-add-v-2 t c = search needs
 
--- src/lib.rt:116:18
+-- src/lib.rt:88:13
 factors-add-u : (t : ℕ) → factors-lts.Need-add-u (
   unit-times-monic-reads.Asked,
   unit-times-monic-reads.Learnt,
@@ -770,38 +652,12 @@ factors-add-u : (t : ℕ) → factors-lts.Need-add-u (
   monic-part.Post,
   unit-part-below t,
   unit-part.Post,
-  mul-mod-reads.Asked,
-  mul-mod-reads.Learnt,
+  times-reads.Asked,
+  times-reads.Learnt,
 ) (factors-at t) factors.Post
 factors-add-u t c = search needs
 
--- src/lib.rt:116:13
-factors-add-u-2 : (t : ℕ) → factors-lts.Need-add-u-2 (
-  unit-times-monic-reads.Asked,
-  unit-times-monic-reads.Learnt,
-  monic-part-below t,
-  monic-part.Post,
-  unit-part-below t,
-  unit-part.Post,
-  mul-mod-reads.Asked,
-  mul-mod-reads.Learnt,
-) (factors-at t) factors.Post
-factors-add-u-2 t c = search needs
-
--- src/lib.rt:116:13
-factors-add-u-3 : (t : ℕ) → factors-lts.Need-add-u-3 (
-  unit-times-monic-reads.Asked,
-  unit-times-monic-reads.Learnt,
-  monic-part-below t,
-  monic-part.Post,
-  unit-part-below t,
-  unit-part.Post,
-  mul-mod-reads.Asked,
-  mul-mod-reads.Learnt,
-) (factors-at t) factors.Post
-factors-add-u-3 t c = search needs
-
--- src/lib.rt:117:18
+-- src/lib.rt:89:13
 factors-add-x : (t : ℕ) → factors-lts.Need-add-x (
   unit-times-monic-reads.Asked,
   unit-times-monic-reads.Learnt,
@@ -809,51 +665,79 @@ factors-add-x : (t : ℕ) → factors-lts.Need-add-x (
   monic-part.Post,
   unit-part-below t,
   unit-part.Post,
-  mul-mod-reads.Asked,
-  mul-mod-reads.Learnt,
+  times-reads.Asked,
+  times-reads.Learnt,
 ) (factors-at t) factors.Post
 factors-add-x t c = search needs
 
--- src/lib.rt:117:13
-factors-add-x-2 : (t : ℕ) → factors-lts.Need-add-x-2 (
+-- src/lib.rt:90:30
+factors-mul-unit-times-monic : (t : ℕ) → factors-lts.Need-mul-unit-times-monic (
   unit-times-monic-reads.Asked,
   unit-times-monic-reads.Learnt,
   monic-part-below t,
   monic-part.Post,
   unit-part-below t,
   unit-part.Post,
-  mul-mod-reads.Asked,
-  mul-mod-reads.Learnt,
+  times-reads.Asked,
+  times-reads.Learnt,
 ) (factors-at t) factors.Post
-factors-add-x-2 t c = search needs
+factors-mul-unit-times-monic t c = search needs
 
--- src/lib.rt:117:28
-factors-add-x-3 : (t : ℕ) → factors-lts.Need-add-x-3 (
+-- src/lib.rt:90:30
+factors-sub-unit-times-monic : (t : ℕ) → factors-lts.Need-sub-unit-times-monic (
   unit-times-monic-reads.Asked,
   unit-times-monic-reads.Learnt,
   monic-part-below t,
   monic-part.Post,
   unit-part-below t,
   unit-part.Post,
-  mul-mod-reads.Asked,
-  mul-mod-reads.Learnt,
+  times-reads.Asked,
+  times-reads.Learnt,
 ) (factors-at t) factors.Post
-factors-add-x-3 t c = search needs
+factors-sub-unit-times-monic t c = search needs
 
--- src/lib.rt:117:13
-factors-add-x-4 : (t : ℕ) → factors-lts.Need-add-x-4 (
+-- src/lib.rt:90:30
+factors-part-unit-times-monic-start : (t : ℕ) → factors-lts.Need-part-unit-times-monic-start (
   unit-times-monic-reads.Asked,
   unit-times-monic-reads.Learnt,
   monic-part-below t,
   monic-part.Post,
   unit-part-below t,
   unit-part.Post,
-  mul-mod-reads.Asked,
-  mul-mod-reads.Learnt,
+  times-reads.Asked,
+  times-reads.Learnt,
 ) (factors-at t) factors.Post
-factors-add-x-4 t c = search needs
+factors-part-unit-times-monic-start t c = search needs
 
--- src/lib.rt:118:11
+-- src/lib.rt:90:30
+factors-part-unit-times-monic-end : (t : ℕ) → factors-lts.Need-part-unit-times-monic-end (
+  unit-times-monic-reads.Asked,
+  unit-times-monic-reads.Learnt,
+  monic-part-below t,
+  monic-part.Post,
+  unit-part-below t,
+  unit-part.Post,
+  times-reads.Asked,
+  times-reads.Learnt,
+) (factors-at t) factors.Post
+factors-part-unit-times-monic-end t c = search needs
+
+-- src/lib.rt:90:5
+factors-unit-times-monic-requires : (t : ℕ) → factors-lts.Need-unit-times-monic-requires (
+  unit-times-monic-reads.Asked,
+  unit-times-monic-reads.Learnt,
+  monic-part-below t,
+  monic-part.Post,
+  unit-part-below t,
+  unit-part.Post,
+  times-reads.Asked,
+  times-reads.Learnt,
+) (factors-at t) factors.Post
+factors-unit-times-monic-requires t c κs = let s = c .before .before .args in
+    let p = c .before .before .pre .1 in
+    given-in (s .n) (s .d) (s .e) (s .t) (s .i) (s .w .now) (p .0 .0) (p .0 .1) (p .1)
+
+-- src/lib.rt:91:11
 factors-monic-part-requires : (t : ℕ) → factors-lts.Need-monic-part-requires (
   unit-times-monic-reads.Asked,
   unit-times-monic-reads.Learnt,
@@ -861,8 +745,8 @@ factors-monic-part-requires : (t : ℕ) → factors-lts.Need-monic-part-requires
   monic-part.Post,
   unit-part-below t,
   unit-part.Post,
-  mul-mod-reads.Asked,
-  mul-mod-reads.Learnt,
+  times-reads.Asked,
+  times-reads.Learnt,
 ) (factors-at t) factors.Post
 factors-monic-part-requires t c κs = let s = c .before .before .before .before .before .before .args in
     let p = c .before .before .before .before .before .before .pre .1 .0 in
@@ -870,7 +754,7 @@ factors-monic-part-requires t c κs = let s = c .before .before .before .before 
     (omega (arith, c .before .before .before .before .before .before .pre .0, p .1), (monic-part (s .n) (s .d) (s .e) (s .t) (s .w .now) (u .last .0) (p .0) (p .1) (u .kept .0) (u .ensures),
     monic-lead (s .n) (s .d) (s .e) (s .t) (s .w .now) (u .last .0) (p .0) (p .1) (u .kept .0) (u .ensures)))
 
--- src/lib.rt:119:24
+-- src/lib.rt:92:24
 factors-enum-known-y : (t : ℕ) → factors-lts.Need-enum-known-y (
   unit-times-monic-reads.Asked,
   unit-times-monic-reads.Learnt,
@@ -878,12 +762,12 @@ factors-enum-known-y : (t : ℕ) → factors-lts.Need-enum-known-y (
   monic-part.Post,
   unit-part-below t,
   unit-part.Post,
-  mul-mod-reads.Asked,
-  mul-mod-reads.Learnt,
+  times-reads.Asked,
+  times-reads.Learnt,
 ) (factors-at t) factors.Post
 factors-enum-known-y t c = search needs
 
--- src/lib.rt:119:55
+-- src/lib.rt:92:68
 factors-sub-unit-part : (t : ℕ) → factors-lts.Need-sub-unit-part (
   unit-times-monic-reads.Asked,
   unit-times-monic-reads.Learnt,
@@ -891,12 +775,12 @@ factors-sub-unit-part : (t : ℕ) → factors-lts.Need-sub-unit-part (
   monic-part.Post,
   unit-part-below t,
   unit-part.Post,
-  mul-mod-reads.Asked,
-  mul-mod-reads.Learnt,
+  times-reads.Asked,
+  times-reads.Learnt,
 ) (factors-at t) factors.Post
 factors-sub-unit-part t c = search needs
 
--- src/lib.rt:119:36
+-- src/lib.rt:92:49
 factors-unit-part-requires : (t : ℕ) → factors-lts.Need-unit-part-requires (
   unit-times-monic-reads.Asked,
   unit-times-monic-reads.Learnt,
@@ -904,8 +788,8 @@ factors-unit-part-requires : (t : ℕ) → factors-lts.Need-unit-part-requires (
   monic-part.Post,
   unit-part-below t,
   unit-part.Post,
-  mul-mod-reads.Asked,
-  mul-mod-reads.Learnt,
+  times-reads.Asked,
+  times-reads.Learnt,
 ) (factors-at t) factors.Post
 factors-unit-part-requires t c κs = let s = c .before .before .before .before .before .before .before .before .before .before .before .before .before .args in
     let p = c .before .before .before .before .before .before .before .before .before .before .before .before .before .pre .1 .0 in
@@ -914,33 +798,20 @@ factors-unit-part-requires t c κs = let s = c .before .before .before .before .
     (omega (arith, c .before .before .before .before .before .before .before .before .before .before .before .before .before .pre .0, p .1), (unit-part (s .n) (s .d) (s .e) (s .t) (s .w .now) (u .last .0) (p .0) (p .1) (u .kept .0) (u .ensures) (h .last .0) (h .ensures .1),
     (omega (arith, p .1), unit-constant (s .n) (s .d) (s .e) (s .t) (s .w .now) (u .last .0) (p .0) (p .1) (u .kept .0) (u .ensures) (h .last .0) (h .ensures .1))))
 
--- src/lib.rt:120:28
-factors-enum-known-z : (t : ℕ) → factors-lts.Need-enum-known-z (
+-- src/lib.rt:92:30
+factors-times-requires : (t : ℕ) → factors-lts.Need-times-requires (
   unit-times-monic-reads.Asked,
   unit-times-monic-reads.Learnt,
   monic-part-below t,
   monic-part.Post,
   unit-part-below t,
   unit-part.Post,
-  mul-mod-reads.Asked,
-  mul-mod-reads.Learnt,
+  times-reads.Asked,
+  times-reads.Learnt,
 ) (factors-at t) factors.Post
-factors-enum-known-z t c = search needs
+factors-times-requires t c κs = search needs
 
--- src/lib.rt:120:49
-factors-mul-mod-requires : (t : ℕ) → factors-lts.Need-mul-mod-requires (
-  unit-times-monic-reads.Asked,
-  unit-times-monic-reads.Learnt,
-  monic-part-below t,
-  monic-part.Post,
-  unit-part-below t,
-  unit-part.Post,
-  mul-mod-reads.Asked,
-  mul-mod-reads.Learnt,
-) (factors-at t) factors.Post
-factors-mul-mod-requires t c κs = search needs
-
--- src/lib.rt:121:29
+-- src/lib.rt:93:25
 factors-enum-known-p : (t : ℕ) → factors-lts.Need-enum-known-p (
   unit-times-monic-reads.Asked,
   unit-times-monic-reads.Learnt,
@@ -948,25 +819,12 @@ factors-enum-known-p : (t : ℕ) → factors-lts.Need-enum-known-p (
   monic-part.Post,
   unit-part-below t,
   unit-part.Post,
-  mul-mod-reads.Asked,
-  mul-mod-reads.Learnt,
+  times-reads.Asked,
+  times-reads.Learnt,
 ) (factors-at t) factors.Post
 factors-enum-known-p t c = search needs
 
--- src/lib.rt:123:25
-factors-enum-known-p-2 : (t : ℕ) → factors-lts.Need-enum-known-p-2 (
-  unit-times-monic-reads.Asked,
-  unit-times-monic-reads.Learnt,
-  monic-part-below t,
-  monic-part.Post,
-  unit-part-below t,
-  unit-part.Post,
-  mul-mod-reads.Asked,
-  mul-mod-reads.Learnt,
-) (factors-at t) factors.Post
-factors-enum-known-p-2 t c = search needs
-
--- src/lib.rt:109:1
+-- src/lib.rt:79:1
 factors-same-length : (t : ℕ) → factors-lts.Need-same-length (
   unit-times-monic-reads.Asked,
   unit-times-monic-reads.Learnt,
@@ -974,12 +832,12 @@ factors-same-length : (t : ℕ) → factors-lts.Need-same-length (
   monic-part.Post,
   unit-part-below t,
   unit-part.Post,
-  mul-mod-reads.Asked,
-  mul-mod-reads.Learnt,
+  times-reads.Asked,
+  times-reads.Learnt,
 ) (factors-at t) factors.Post
 factors-same-length t c = search needs
 
--- src/lib.rt:109:1
+-- src/lib.rt:79:1
 factors-returns : (t : ℕ) → factors-lts.Need-returns (
   unit-times-monic-reads.Asked,
   unit-times-monic-reads.Learnt,
@@ -987,23 +845,19 @@ factors-returns : (t : ℕ) → factors-lts.Need-returns (
   monic-part.Post,
   unit-part-below t,
   unit-part.Post,
-  mul-mod-reads.Asked,
-  mul-mod-reads.Learnt,
+  times-reads.Asked,
+  times-reads.Learnt,
 ) (factors-at t) factors.Post
-factors-returns t c = let s = c .before .before .before .before .before .before .before .before .before .before .before .before .before .before .before .before .before .before .before .before .args in
-    let p = c .before .before .before .before .before .before .before .before .before .before .before .before .before .before .before .before .before .before .before .before .pre .1 .0 in
-    let u = c .before .before .before .before .before .before .before .before .before .before .before .before .before .before .before .before .before .unit-times-monic in
-    let h = c .before .before .before .before .before .before .before .before .before .before .before .before .before .monic-part in
+factors-returns t c = let s = c .before .before .before .before .before .before .before .before .before .before .before .before .before .before .before .before .before .args in
+    let p = c .before .before .before .before .before .before .before .before .before .before .before .before .before .before .before .before .before .pre .1 .0 in
+    let u = c .before .before .before .before .before .before .before .before .before .before .before .before .before .before .unit-times-monic in
+    let h = c .before .before .before .before .before .before .before .before .before .before .monic-part in
     let w1 : List ℕ = putMid (s .e + 1) (length (s .w .now) - (s .e + 1)) (s .w .now) (u .last .0) in
-    let w2 = h .last .0 in
-    let y = c .before .before .before .before .before .before .before .before .before .y .given in
-    let z = c .before .before .z .given in
-    let at : ℕ = s .e + 1 + (s .d + 1) in
-    let hy = subst (λ (r : Attempt). AnswerOf (s .n) (resultant (s .n) (piece w1 at (s .t + 1)) (piece w1 0 (s .e + 1))) r) (y .1) (h .ensures .0) in
-    let hz = subst (λ (r : Attempt). AnswerOf (s .n) (resultant (s .n) (piece w2 (at + (s .t + 1) + s .t) (s .d - s .t + 1)) (piece w2 0 (s .e + 1))) r) (z .1) (c .before .before .before .before .before .before .unit-part .ensures) in
-    product-value (s .n) (s .d) (s .e) (s .t) (s .w .now) (u .last .0) (p .0) (p .1) (u .kept .0) (u .ensures) w2 (h .ensures .1) (y .0 .0) (z .0 .0) (c .mul-mod .result) (hy .0) (hz .0) (c .mul-mod .ensures)
+    let y = c .before .before .before .before .before .before .y .given in
+    let hy = subst (λ (r : Attempt). AnswerOf (s .n) (resultant (s .n) (piece w1 (s .e + 1 + (s .d + 1)) (s .t + 1)) (piece w1 0 (s .e + 1))) r) (y .1) (h .ensures .0) in
+    followed (c .times .ensures) (c .before .before .before .unit-part .ensures) (product-times (s .n) (s .d) (s .e) (s .t) (s .w .now) (u .last .0) (p .0) (p .1) (u .kept .0) (u .ensures) (h .last .0) (h .ensures .1) (y .0 .0) (hy .0))
 
--- src/lib.rt:109:1
+-- src/lib.rt:79:1
 factors-same-length-2 : (t : ℕ) → factors-lts.Need-same-length-2 (
   unit-times-monic-reads.Asked,
   unit-times-monic-reads.Learnt,
@@ -1011,12 +865,12 @@ factors-same-length-2 : (t : ℕ) → factors-lts.Need-same-length-2 (
   monic-part.Post,
   unit-part-below t,
   unit-part.Post,
-  mul-mod-reads.Asked,
-  mul-mod-reads.Learnt,
+  times-reads.Asked,
+  times-reads.Learnt,
 ) (factors-at t) factors.Post
 factors-same-length-2 t c = search needs
 
--- src/lib.rt:109:1
+-- src/lib.rt:79:1
 factors-returns-2 : (t : ℕ) → factors-lts.Need-returns-2 (
   unit-times-monic-reads.Asked,
   unit-times-monic-reads.Learnt,
@@ -1024,43 +878,14 @@ factors-returns-2 : (t : ℕ) → factors-lts.Need-returns-2 (
   monic-part.Post,
   unit-part-below t,
   unit-part.Post,
-  mul-mod-reads.Asked,
-  mul-mod-reads.Learnt,
+  times-reads.Asked,
+  times-reads.Learnt,
 ) (factors-at t) factors.Post
-factors-returns-2 t c = let s = c .before .before .before .before .before .before .before .before .before .before .before .before .before .before .before .before .before .before .before .args in
-    let w2 = c .before .before .before .before .before .before .before .before .before .before .before .before .monic-part .last .0 in
-    let at : ℕ = s .e + 1 + (s .d + 1) in
-    subst (λ (r : Attempt). AnswerOf (s .n) (resultant (s .n) (piece w2 (at + (s .t + 1) + s .t) (s .d - s .t + 1)) (piece w2 0 (s .e + 1))) r) (c .before .p .given .1) (c .before .before .before .before .before .unit-part .ensures)
-
--- src/lib.rt:109:1
-factors-same-length-3 : (t : ℕ) → factors-lts.Need-same-length-3 (
-  unit-times-monic-reads.Asked,
-  unit-times-monic-reads.Learnt,
-  monic-part-below t,
-  monic-part.Post,
-  unit-part-below t,
-  unit-part.Post,
-  mul-mod-reads.Asked,
-  mul-mod-reads.Learnt,
-) (factors-at t) factors.Post
-factors-same-length-3 t c = search needs
-
--- src/lib.rt:109:1
-factors-returns-3 : (t : ℕ) → factors-lts.Need-returns-3 (
-  unit-times-monic-reads.Asked,
-  unit-times-monic-reads.Learnt,
-  monic-part-below t,
-  monic-part.Post,
-  unit-part-below t,
-  unit-part.Post,
-  mul-mod-reads.Asked,
-  mul-mod-reads.Learnt,
-) (factors-at t) factors.Post
-factors-returns-3 t c = let s = c .before .before .before .before .before .before .before .before .before .before .before .before .args in
+factors-returns-2 t c = let s = c .before .before .before .before .before .before .before .before .before .before .before .before .args in
     let w1 : List ℕ = putMid (s .e + 1) (length (s .w .now) - (s .e + 1)) (s .w .now) (c .before .before .before .before .before .before .before .before .before .unit-times-monic .last .0) in
-    subst (λ (r : Attempt). AnswerOf (s .n) (resultant (s .n) (piece w1 (s .e + 1 + (s .d + 1)) (s .t + 1)) (piece w1 0 (s .e + 1))) r) (c .before .p2 .given .1) (c .before .before .before .before .before .monic-part .ensures .0)
+    subst (λ (r : Attempt). AnswerOf (s .n) (resultant (s .n) (piece w1 (s .e + 1 + (s .d + 1)) (s .t + 1)) (piece w1 0 (s .e + 1))) r) (c .before .p .given .1) (c .before .before .before .before .before .monic-part .ensures .0)
 
--- src/lib.rt:134:9
+-- src/lib.rt:104:9
 monic-part-returns : (t : ℕ) → monic-part-lts.Need-returns (
   copy-pair-reads.Asked,
   copy-pair-reads.Learnt,
@@ -1070,25 +895,25 @@ monic-part-returns : (t : ℕ) → monic-part-lts.Need-returns (
 monic-part-returns t c = let s = c .before .before .args in
     (monic-constant (s .n) (s .a) (s .t) (s .e) (s .x) (s .w .now) (c .before .before .pre .1 .0) (c .before .before .pre .1 .1) (c .if1 .taken), kept-none (s .x) (s .w .now))
 
--- src/lib.rt:136:28
-monic-part-add-copy-pair : (t : ℕ) → monic-part-lts.Need-add-copy-pair (
+-- src/lib.rt:106:13
+monic-part-add-l : (t : ℕ) → monic-part-lts.Need-add-l (
   copy-pair-reads.Asked,
   copy-pair-reads.Learnt,
   step-below t,
   step.Post,
 ) (monic-part-at t) monic-part.Post
-monic-part-add-copy-pair t c = search needs
+monic-part-add-l t c = search needs
 
--- src/lib.rt:136:38
-monic-part-add-copy-pair-2 : (t : ℕ) → monic-part-lts.Need-add-copy-pair-2 (
+-- src/lib.rt:107:13
+monic-part-add-m : (t : ℕ) → monic-part-lts.Need-add-m (
   copy-pair-reads.Asked,
   copy-pair-reads.Learnt,
   step-below t,
   step.Post,
 ) (monic-part-at t) monic-part.Post
-monic-part-add-copy-pair-2 t c = search needs
+monic-part-add-m t c = search needs
 
--- src/lib.rt:136:5
+-- src/lib.rt:108:5
 monic-part-copy-pair-requires : (t : ℕ) → monic-part-lts.Need-copy-pair-requires (
   copy-pair-reads.Asked,
   copy-pair-reads.Learnt,
@@ -1098,7 +923,7 @@ monic-part-copy-pair-requires : (t : ℕ) → monic-part-lts.Need-copy-pair-requ
 monic-part-copy-pair-requires t c κs = let s = c .before .before .before .args in
     part-fits (s .n) (s .a) (s .t) (s .e) (s .x) (s .w .now) (c .before .before .before .pre .1 .0)
 
--- src/lib.rt:137:10
+-- src/lib.rt:109:10
 monic-part-mul-step : (t : ℕ) → monic-part-lts.Need-mul-step (
   copy-pair-reads.Asked,
   copy-pair-reads.Learnt,
@@ -1107,7 +932,7 @@ monic-part-mul-step : (t : ℕ) → monic-part-lts.Need-mul-step (
 ) (monic-part-at t) monic-part.Post
 monic-part-mul-step t c = search needs
 
--- src/lib.rt:137:10
+-- src/lib.rt:109:10
 monic-part-sub-step : (t : ℕ) → monic-part-lts.Need-sub-step (
   copy-pair-reads.Asked,
   copy-pair-reads.Learnt,
@@ -1116,7 +941,7 @@ monic-part-sub-step : (t : ℕ) → monic-part-lts.Need-sub-step (
 ) (monic-part-at t) monic-part.Post
 monic-part-sub-step t c = search needs
 
--- src/lib.rt:137:10
+-- src/lib.rt:109:10
 monic-part-part-step-start : (t : ℕ) → monic-part-lts.Need-part-step-start (
   copy-pair-reads.Asked,
   copy-pair-reads.Learnt,
@@ -1125,7 +950,7 @@ monic-part-part-step-start : (t : ℕ) → monic-part-lts.Need-part-step-start (
 ) (monic-part-at t) monic-part.Post
 monic-part-part-step-start t c = search needs
 
--- src/lib.rt:137:10
+-- src/lib.rt:109:10
 monic-part-part-step-end : (t : ℕ) → monic-part-lts.Need-part-step-end (
   copy-pair-reads.Asked,
   copy-pair-reads.Learnt,
@@ -1134,7 +959,7 @@ monic-part-part-step-end : (t : ℕ) → monic-part-lts.Need-part-step-end (
 ) (monic-part-at t) monic-part.Post
 monic-part-part-step-end t c = search needs
 
--- src/lib.rt:137:32
+-- src/lib.rt:109:38
 monic-part-add-step : (t : ℕ) → monic-part-lts.Need-add-step (
   copy-pair-reads.Asked,
   copy-pair-reads.Learnt,
@@ -1143,34 +968,7 @@ monic-part-add-step : (t : ℕ) → monic-part-lts.Need-add-step (
 ) (monic-part-at t) monic-part.Post
 monic-part-add-step t c = search needs
 
--- src/lib.rt:137:42
-monic-part-add-step-2 : (t : ℕ) → monic-part-lts.Need-add-step-2 (
-  copy-pair-reads.Asked,
-  copy-pair-reads.Learnt,
-  step-below t,
-  step.Post,
-) (monic-part-at t) monic-part.Post
-monic-part-add-step-2 t c = search needs
-
--- src/lib.rt:137:51
-monic-part-add-step-3 : (t : ℕ) → monic-part-lts.Need-add-step-3 (
-  copy-pair-reads.Asked,
-  copy-pair-reads.Learnt,
-  step-below t,
-  step.Post,
-) (monic-part-at t) monic-part.Post
-monic-part-add-step-3 t c = search needs
-
--- src/lib.rt:137:42
-monic-part-add-step-4 : (t : ℕ) → monic-part-lts.Need-add-step-4 (
-  copy-pair-reads.Asked,
-  copy-pair-reads.Learnt,
-  step-below t,
-  step.Post,
-) (monic-part-at t) monic-part.Post
-monic-part-add-step-4 t c = search needs
-
--- src/lib.rt:137:5
+-- src/lib.rt:109:5
 monic-part-step-requires : (t : ℕ) → monic-part-lts.Need-step-requires (
   copy-pair-reads.Asked,
   copy-pair-reads.Learnt,
@@ -1180,7 +978,7 @@ monic-part-step-requires : (t : ℕ) → monic-part-lts.Need-step-requires (
 monic-part-step-requires t c κs = let s = c .before .before .before .before .before .before .before .args in
     (omega (arith, c .before .before .before .before .before .before .before .pre .0), monic-asked (s .n) (s .a) (s .t) (s .e) (s .x) (s .w .now) (c .before .before .before .copy-pair .last .0) (c .before .before .before .before .before .before .before .pre .1 .0) (c .before .before .before .copy-pair .ensures) (c .before .before .before .before .before .before .before .pre .1 .1) (c .before .before .before .before .before .if1 .left))
 
--- src/lib.rt:128:1
+-- src/lib.rt:98:1
 monic-part-same-length : (t : ℕ) → monic-part-lts.Need-same-length (
   copy-pair-reads.Asked,
   copy-pair-reads.Learnt,
@@ -1189,7 +987,7 @@ monic-part-same-length : (t : ℕ) → monic-part-lts.Need-same-length (
 ) (monic-part-at t) monic-part.Post
 monic-part-same-length t c = search needs
 
--- src/lib.rt:128:1
+-- src/lib.rt:98:1
 monic-part-returns-2 : (t : ℕ) → monic-part-lts.Need-returns-2 (
   copy-pair-reads.Asked,
   copy-pair-reads.Learnt,
@@ -1201,8 +999,8 @@ monic-part-returns-2 t c = let s = c .before .before .before .before .before .be
     (monic-answer (s .n) (s .a) (s .t) (s .e) (s .x) (s .w .now) w1 (c .before .before .before .before .before .before .before .before .before .before .pre .1 .0) (c .before .before .before .before .before .before .copy-pair .ensures) (c .before .before .step .result) (c .before .before .step .ensures),
     monic-kept (s .n) (s .a) (s .t) (s .e) (s .x) (s .w .now) w1 (c .before .before .before .before .before .before .before .before .before .before .pre .1 .0) (c .before .before .before .before .before .before .copy-pair .ensures) (c .before .before .step .last .0) (c .before .before .step .kept .0))
 
--- src/lib.rt:95:25
-primitive-add-highest-of : (t : ℕ) → primitive-lts.Need-add-highest-of (
+-- src/lib.rt:63:13
+primitive-add-a : (t : ℕ) → primitive-lts.Need-add-a (
   highest-of-reads.Asked,
   highest-of-reads.Learnt,
   step-below t,
@@ -1210,10 +1008,10 @@ primitive-add-highest-of : (t : ℕ) → primitive-lts.Need-add-highest-of (
   factors-below t,
   factors.Post,
 ) (primitive-at t) primitive.Post
-primitive-add-highest-of t c = search needs
+primitive-add-a t c = search needs
 
--- src/lib.rt:95:32
-primitive-add-highest-of-2 : (t : ℕ) → primitive-lts.Need-add-highest-of-2 (
+-- src/lib.rt:64:18
+primitive-add-s : (t : ℕ) → primitive-lts.Need-add-s (
   highest-of-reads.Asked,
   highest-of-reads.Learnt,
   step-below t,
@@ -1221,10 +1019,10 @@ primitive-add-highest-of-2 : (t : ℕ) → primitive-lts.Need-add-highest-of-2 (
   factors-below t,
   factors.Post,
 ) (primitive-at t) primitive.Post
-primitive-add-highest-of-2 t c = search needs
+primitive-add-s t c = search needs
 
--- src/lib.rt:95:41
-primitive-add-highest-of-3 : (t : ℕ) → primitive-lts.Need-add-highest-of-3 (
+-- src/lib.rt:64:13
+primitive-add-s-2 : (t : ℕ) → primitive-lts.Need-add-s-2 (
   highest-of-reads.Asked,
   highest-of-reads.Learnt,
   step-below t,
@@ -1232,20 +1030,9 @@ primitive-add-highest-of-3 : (t : ℕ) → primitive-lts.Need-add-highest-of-3 (
   factors-below t,
   factors.Post,
 ) (primitive-at t) primitive.Post
-primitive-add-highest-of-3 t c = search needs
+primitive-add-s-2 t c = search needs
 
--- src/lib.rt:95:32
-primitive-add-highest-of-4 : (t : ℕ) → primitive-lts.Need-add-highest-of-4 (
-  highest-of-reads.Asked,
-  highest-of-reads.Learnt,
-  step-below t,
-  step.Post,
-  factors-below t,
-  factors.Post,
-) (primitive-at t) primitive.Post
-primitive-add-highest-of-4 t c = search needs
-
--- src/lib.rt:95:22
+-- src/lib.rt:65:30
 primitive-mul-highest-of : (t : ℕ) → primitive-lts.Need-mul-highest-of (
   highest-of-reads.Asked,
   highest-of-reads.Learnt,
@@ -1256,7 +1043,7 @@ primitive-mul-highest-of : (t : ℕ) → primitive-lts.Need-mul-highest-of (
 ) (primitive-at t) primitive.Post
 primitive-mul-highest-of t c = search needs
 
--- src/lib.rt:95:22
+-- src/lib.rt:65:30
 primitive-sub-highest-of : (t : ℕ) → primitive-lts.Need-sub-highest-of (
   highest-of-reads.Asked,
   highest-of-reads.Learnt,
@@ -1267,7 +1054,7 @@ primitive-sub-highest-of : (t : ℕ) → primitive-lts.Need-sub-highest-of (
 ) (primitive-at t) primitive.Post
 primitive-sub-highest-of t c = search needs
 
--- src/lib.rt:95:22
+-- src/lib.rt:65:30
 primitive-part-highest-of-start : (t : ℕ) → primitive-lts.Need-part-highest-of-start (
   highest-of-reads.Asked,
   highest-of-reads.Learnt,
@@ -1278,7 +1065,7 @@ primitive-part-highest-of-start : (t : ℕ) → primitive-lts.Need-part-highest-
 ) (primitive-at t) primitive.Post
 primitive-part-highest-of-start t c = search needs
 
--- src/lib.rt:95:22
+-- src/lib.rt:65:30
 primitive-part-highest-of-end : (t : ℕ) → primitive-lts.Need-part-highest-of-end (
   highest-of-reads.Asked,
   highest-of-reads.Learnt,
@@ -1289,7 +1076,7 @@ primitive-part-highest-of-end : (t : ℕ) → primitive-lts.Need-part-highest-of
 ) (primitive-at t) primitive.Post
 primitive-part-highest-of-end t c = search needs
 
--- src/lib.rt:95:11
+-- src/lib.rt:65:11
 primitive-highest-of-requires : (t : ℕ) → primitive-lts.Need-highest-of-requires (
   highest-of-reads.Asked,
   highest-of-reads.Learnt,
@@ -1300,7 +1087,7 @@ primitive-highest-of-requires : (t : ℕ) → primitive-lts.Need-highest-of-requ
 ) (primitive-at t) primitive.Post
 primitive-highest-of-requires t c κs = search needs
 
--- src/lib.rt:96:25
+-- src/lib.rt:66:33
 primitive-enum-known-t : (t : ℕ) → primitive-lts.Need-enum-known-t (
   highest-of-reads.Asked,
   highest-of-reads.Learnt,
@@ -1311,51 +1098,7 @@ primitive-enum-known-t : (t : ℕ) → primitive-lts.Need-enum-known-t (
 ) (primitive-at t) primitive.Post
 primitive-enum-known-t t c = search needs
 
--- src/lib.rt:98:35
-primitive-add-step : (t : ℕ) → primitive-lts.Need-add-step (
-  highest-of-reads.Asked,
-  highest-of-reads.Learnt,
-  step-below t,
-  step.Post,
-  factors-below t,
-  factors.Post,
-) (primitive-at t) primitive.Post
-primitive-add-step t c = search needs
-
--- src/lib.rt:98:51
-primitive-add-step-2 : (t : ℕ) → primitive-lts.Need-add-step-2 (
-  highest-of-reads.Asked,
-  highest-of-reads.Learnt,
-  step-below t,
-  step.Post,
-  factors-below t,
-  factors.Post,
-) (primitive-at t) primitive.Post
-primitive-add-step-2 t c = search needs
-
--- src/lib.rt:98:60
-primitive-add-step-3 : (t : ℕ) → primitive-lts.Need-add-step-3 (
-  highest-of-reads.Asked,
-  highest-of-reads.Learnt,
-  step-below t,
-  step.Post,
-  factors-below t,
-  factors.Post,
-) (primitive-at t) primitive.Post
-primitive-add-step-3 t c = search needs
-
--- src/lib.rt:98:51
-primitive-add-step-4 : (t : ℕ) → primitive-lts.Need-add-step-4 (
-  highest-of-reads.Asked,
-  highest-of-reads.Learnt,
-  step-below t,
-  step.Post,
-  factors-below t,
-  factors.Post,
-) (primitive-at t) primitive.Post
-primitive-add-step-4 t c = search needs
-
--- src/lib.rt:98:17
+-- src/lib.rt:68:17
 primitive-step-requires : (t : ℕ) → primitive-lts.Need-step-requires (
   highest-of-reads.Asked,
   highest-of-reads.Learnt,
@@ -1370,7 +1113,7 @@ primitive-step-requires t c κs = let s = c .before .before .before .before .bef
     let u = lent (LeadingUnit (s .n) (g .0 .0) (g .0 .1 .0)) (s .e + 1) (s .d + 1) m (s .w .now) (omega arith) (subst (HighestOf (s .n) (midOf (s .e + 1) m (s .w .now))) (g .1) (c .before .before .before .before .before .highest-of .ensures)) in
     (omega (arith, c .before .before .before .before .before .before .before .before .before .pre .0), lead-asked (s .n) (s .d) (s .e) (g .0 .0) (g .0 .1 .0) (s .w .now) (c .before .before .before .before .before .before .before .before .before .pre .1 .0) u (c .before .if1 .taken))
 
--- src/lib.rt:98:17
+-- src/lib.rt:68:17
 primitive-same-length : (t : ℕ) → primitive-lts.Need-same-length (
   highest-of-reads.Asked,
   highest-of-reads.Learnt,
@@ -1381,7 +1124,7 @@ primitive-same-length : (t : ℕ) → primitive-lts.Need-same-length (
 ) (primitive-at t) primitive.Post
 primitive-same-length t c = search needs
 
--- src/lib.rt:98:17
+-- src/lib.rt:68:17
 primitive-returns : (t : ℕ) → primitive-lts.Need-returns (
   highest-of-reads.Asked,
   highest-of-reads.Learnt,
@@ -1392,7 +1135,7 @@ primitive-returns : (t : ℕ) → primitive-lts.Need-returns (
 ) (primitive-at t) primitive.Post
 primitive-returns t c = c .before .before .step .ensures
 
--- src/lib.rt:100:13
+-- src/lib.rt:70:13
 primitive-factors-requires : (t : ℕ) → primitive-lts.Need-factors-requires (
   highest-of-reads.Asked,
   highest-of-reads.Learnt,
@@ -1407,7 +1150,7 @@ primitive-factors-requires t c κs = let s = c .before .before .before .before .
     let u = lent (LeadingUnit (s .n) (g .0 .0) (g .0 .1 .0)) (s .e + 1) (s .d + 1) m (s .w .now) (omega arith) (subst (HighestOf (s .n) (midOf (s .e + 1) m (s .w .now))) (g .1) (c .before .before .before .before .before .highest-of .ensures)) in
     (omega (arith, c .before .before .before .before .before .before .before .before .before .pre .0), ((c .before .before .before .before .before .before .before .before .before .pre .1 .0, lead-below (s .n) (s .d) (s .e) (g .0 .0) (g .0 .1 .0) (s .w .now) (c .before .before .before .before .before .before .before .before .before .pre .1 .0) u (c .before .if1 .left)), u))
 
--- src/lib.rt:102:25
+-- src/lib.rt:72:33
 primitive-enum-known-p : (t : ℕ) → primitive-lts.Need-enum-known-p (
   highest-of-reads.Asked,
   highest-of-reads.Learnt,
@@ -1418,7 +1161,7 @@ primitive-enum-known-p : (t : ℕ) → primitive-lts.Need-enum-known-p (
 ) (primitive-at t) primitive.Post
 primitive-enum-known-p t c = search needs
 
--- src/lib.rt:103:34
+-- src/lib.rt:73:42
 primitive-enum-told : (t : ℕ) → primitive-lts.Need-enum-told (
   highest-of-reads.Asked,
   highest-of-reads.Learnt,
@@ -1429,7 +1172,7 @@ primitive-enum-told : (t : ℕ) → primitive-lts.Need-enum-told (
 ) (primitive-at t) primitive.Post
 primitive-enum-told t c = search needs
 
--- src/lib.rt:90:1
+-- src/lib.rt:58:1
 primitive-same-length-2 : (t : ℕ) → primitive-lts.Need-same-length-2 (
   highest-of-reads.Asked,
   highest-of-reads.Learnt,
@@ -1440,7 +1183,7 @@ primitive-same-length-2 : (t : ℕ) → primitive-lts.Need-same-length-2 (
 ) (primitive-at t) primitive.Post
 primitive-same-length-2 t c = search needs
 
--- src/lib.rt:90:1
+-- src/lib.rt:58:1
 primitive-returns-2 : (t : ℕ) → primitive-lts.Need-returns-2 (
   highest-of-reads.Asked,
   highest-of-reads.Learnt,
@@ -1451,7 +1194,7 @@ primitive-returns-2 : (t : ℕ) → primitive-lts.Need-returns-2 (
 ) (primitive-at t) primitive.Post
 primitive-returns-2 t c = c .before .before .factors .ensures
 
--- src/lib.rt:90:1
+-- src/lib.rt:58:1
 primitive-same-length-3 : (t : ℕ) → primitive-lts.Need-same-length-3 (
   highest-of-reads.Asked,
   highest-of-reads.Learnt,
@@ -1462,7 +1205,7 @@ primitive-same-length-3 : (t : ℕ) → primitive-lts.Need-same-length-3 (
 ) (primitive-at t) primitive.Post
 primitive-same-length-3 t c = search needs
 
--- src/lib.rt:90:1
+-- src/lib.rt:58:1
 primitive-returns-3 : (t : ℕ) → primitive-lts.Need-returns-3 (
   highest-of-reads.Asked,
   highest-of-reads.Learnt,
@@ -1475,7 +1218,7 @@ primitive-returns-3 t c = let s = c .before .before .before .before .before .bef
     let m : ℕ = s .e + 1 + (s .d + 1) - (s .e + 1) in
     subst (HighestOf (s .n) (midOf (s .e + 1) m (s .w .now))) (c .before .p .given .1) (c .before .before .before .highest-of .ensures)
 
--- src/lib.rt:90:1
+-- src/lib.rt:58:1
 primitive-same-length-4 : (t : ℕ) → primitive-lts.Need-same-length-4 (
   highest-of-reads.Asked,
   highest-of-reads.Learnt,
@@ -1486,7 +1229,7 @@ primitive-same-length-4 : (t : ℕ) → primitive-lts.Need-same-length-4 (
 ) (primitive-at t) primitive.Post
 primitive-same-length-4 t c = search needs
 
--- src/lib.rt:90:1
+-- src/lib.rt:58:1
 primitive-returns-4 : (t : ℕ) → primitive-lts.Need-returns-4 (
   highest-of-reads.Asked,
   highest-of-reads.Learnt,
@@ -1500,7 +1243,7 @@ primitive-returns-4 t c = let s = c .before .before .before .before .before .bef
     absurd (not-all-nilpotent (s .n) (piece (s .w .now) (s .e + 1) (s .d + 1)) (c .before .before .before .before .before .before .pre .1 .0 .two) (c .before .before .before .before .before .before .pre .1 .1)
     (lent (Nilpotents (s .n)) (s .e + 1) (s .d + 1) m (s .w .now) (omega arith) (subst (HighestOf (s .n) (midOf (s .e + 1) m (s .w .now))) (c .enum-told .given .1) (c .before .before .highest-of .ensures))))
 
--- src/lib.rt:63:18
+-- src/lib.rt:38:18
 step-add-lead : (t : ℕ) → step-lts.Need-add-lead (
   divide-reads.Asked,
   divide-reads.Learnt,
@@ -1508,12 +1251,12 @@ step-add-lead : (t : ℕ) → step-lts.Need-add-lead (
   euclid.Post,
   power-reads.Asked,
   power-reads.Learnt,
-  mul-mod-reads.Asked,
-  mul-mod-reads.Learnt,
+  times-reads.Asked,
+  times-reads.Learnt,
 ) (step-at t) step.Post
 step-add-lead t c = search needs
 
--- src/lib.rt:63:16
+-- src/lib.rt:38:16
 step-mul-lead : (t : ℕ) → step-lts.Need-mul-lead (
   divide-reads.Asked,
   divide-reads.Learnt,
@@ -1521,12 +1264,12 @@ step-mul-lead : (t : ℕ) → step-lts.Need-mul-lead (
   euclid.Post,
   power-reads.Asked,
   power-reads.Learnt,
-  mul-mod-reads.Asked,
-  mul-mod-reads.Learnt,
+  times-reads.Asked,
+  times-reads.Learnt,
 ) (step-at t) step.Post
 step-mul-lead t c = search needs
 
--- src/lib.rt:63:16
+-- src/lib.rt:38:16
 step-slice-read-lead : (t : ℕ) → step-lts.Need-slice-read-lead (
   divide-reads.Asked,
   divide-reads.Learnt,
@@ -1534,12 +1277,12 @@ step-slice-read-lead : (t : ℕ) → step-lts.Need-slice-read-lead (
   euclid.Post,
   power-reads.Asked,
   power-reads.Learnt,
-  mul-mod-reads.Asked,
-  mul-mod-reads.Learnt,
+  times-reads.Asked,
+  times-reads.Learnt,
 ) (step-at t) step.Post
 step-slice-read-lead t c = search needs
 
--- src/lib.rt:64:5
+-- src/lib.rt:39:5
 step-divide-requires : (t : ℕ) → step-lts.Need-divide-requires (
   divide-reads.Asked,
   divide-reads.Learnt,
@@ -1547,13 +1290,13 @@ step-divide-requires : (t : ℕ) → step-lts.Need-divide-requires (
   euclid.Post,
   power-reads.Asked,
   power-reads.Learnt,
-  mul-mod-reads.Asked,
-  mul-mod-reads.Learnt,
+  times-reads.Asked,
+  times-reads.Learnt,
 ) (step-at t) step.Post
 step-divide-requires t c κs = let s = c .before .before .before .args in
     divide-asked (s .n) (s .a) (s .d) (s .b) (s .e) (s .s) (s .i) (s .w .now) (c .before .before .before .pre .1)
 
--- src/lib.rt:65:27
+-- src/lib.rt:40:29
 step-sub-euclid : (t : ℕ) → step-lts.Need-sub-euclid (
   divide-reads.Asked,
   divide-reads.Learnt,
@@ -1561,12 +1304,12 @@ step-sub-euclid : (t : ℕ) → step-lts.Need-sub-euclid (
   euclid.Post,
   power-reads.Asked,
   power-reads.Learnt,
-  mul-mod-reads.Asked,
-  mul-mod-reads.Learnt,
+  times-reads.Asked,
+  times-reads.Learnt,
 ) (step-at t) step.Post
 step-sub-euclid t c = search needs
 
--- src/lib.rt:65:11
+-- src/lib.rt:40:9
 step-euclid-requires : (t : ℕ) → step-lts.Need-euclid-requires (
   divide-reads.Asked,
   divide-reads.Learnt,
@@ -1574,27 +1317,14 @@ step-euclid-requires : (t : ℕ) → step-lts.Need-euclid-requires (
   euclid.Post,
   power-reads.Asked,
   power-reads.Learnt,
-  mul-mod-reads.Asked,
-  mul-mod-reads.Learnt,
+  times-reads.Asked,
+  times-reads.Learnt,
 ) (step-at t) step.Post
 step-euclid-requires t c κs = let s = c .before .before .before .before .before .before .before .args in
     let dv = c .before .before .before .before .before .before .before .pre .1 in
     (omega (arith, c .before .before .before .before .before .before .before .pre .0, dv .one), next-asked (s .n) (s .a) (s .d) (s .b) (s .e) (s .s) (s .i) (s .w .now) (c .before .before .before .divide .last .0) dv (c .before .before .before .divide .ensures))
 
--- src/lib.rt:66:24
-step-enum-known-v : (t : ℕ) → step-lts.Need-enum-known-v (
-  divide-reads.Asked,
-  divide-reads.Learnt,
-  euclid-below t,
-  euclid.Post,
-  power-reads.Asked,
-  power-reads.Learnt,
-  mul-mod-reads.Asked,
-  mul-mod-reads.Learnt,
-) (step-at t) step.Post
-step-enum-known-v t c = search needs
-
--- src/lib.rt:66:95
+-- src/lib.rt:41:48
 step-add-power : (t : ℕ) → step-lts.Need-add-power (
   divide-reads.Asked,
   divide-reads.Learnt,
@@ -1602,12 +1332,12 @@ step-add-power : (t : ℕ) → step-lts.Need-add-power (
   euclid.Post,
   power-reads.Asked,
   power-reads.Learnt,
-  mul-mod-reads.Asked,
-  mul-mod-reads.Learnt,
+  times-reads.Asked,
+  times-reads.Learnt,
 ) (step-at t) step.Post
 step-add-power t c = search needs
 
--- src/lib.rt:66:95
+-- src/lib.rt:41:48
 step-sub-power : (t : ℕ) → step-lts.Need-sub-power (
   divide-reads.Asked,
   divide-reads.Learnt,
@@ -1615,12 +1345,12 @@ step-sub-power : (t : ℕ) → step-lts.Need-sub-power (
   euclid.Post,
   power-reads.Asked,
   power-reads.Learnt,
-  mul-mod-reads.Asked,
-  mul-mod-reads.Learnt,
+  times-reads.Asked,
+  times-reads.Learnt,
 ) (step-at t) step.Post
 step-sub-power t c = search needs
 
--- src/lib.rt:66:68
+-- src/lib.rt:41:21
 step-power-requires : (t : ℕ) → step-lts.Need-power-requires (
   divide-reads.Asked,
   divide-reads.Learnt,
@@ -1628,38 +1358,25 @@ step-power-requires : (t : ℕ) → step-lts.Need-power-requires (
   euclid.Post,
   power-reads.Asked,
   power-reads.Learnt,
-  mul-mod-reads.Asked,
-  mul-mod-reads.Learnt,
+  times-reads.Asked,
+  times-reads.Learnt,
 ) (step-at t) step.Post
 step-power-requires t c κs = search needs
 
--- src/lib.rt:66:45
-step-mul-mod-requires : (t : ℕ) → step-lts.Need-mul-mod-requires (
+-- src/lib.rt:41:5
+step-times-requires : (t : ℕ) → step-lts.Need-times-requires (
   divide-reads.Asked,
   divide-reads.Learnt,
   euclid-below t,
   euclid.Post,
   power-reads.Asked,
   power-reads.Learnt,
-  mul-mod-reads.Asked,
-  mul-mod-reads.Learnt,
+  times-reads.Asked,
+  times-reads.Learnt,
 ) (step-at t) step.Post
-step-mul-mod-requires t c κs = search needs
+step-times-requires t c κs = search needs
 
--- src/lib.rt:67:25
-step-enum-known-p : (t : ℕ) → step-lts.Need-enum-known-p (
-  divide-reads.Asked,
-  divide-reads.Learnt,
-  euclid-below t,
-  euclid.Post,
-  power-reads.Asked,
-  power-reads.Learnt,
-  mul-mod-reads.Asked,
-  mul-mod-reads.Learnt,
-) (step-at t) step.Post
-step-enum-known-p t c = search needs
-
--- src/lib.rt:59:1
+-- src/lib.rt:34:1
 step-same-length : (t : ℕ) → step-lts.Need-same-length (
   divide-reads.Asked,
   divide-reads.Learnt,
@@ -1667,12 +1384,12 @@ step-same-length : (t : ℕ) → step-lts.Need-same-length (
   euclid.Post,
   power-reads.Asked,
   power-reads.Learnt,
-  mul-mod-reads.Asked,
-  mul-mod-reads.Learnt,
+  times-reads.Asked,
+  times-reads.Learnt,
 ) (step-at t) step.Post
 step-same-length t c = search needs
 
--- src/lib.rt:59:1
+-- src/lib.rt:34:1
 step-returns : (t : ℕ) → step-lts.Need-returns (
   divide-reads.Asked,
   divide-reads.Learnt,
@@ -1680,44 +1397,14 @@ step-returns : (t : ℕ) → step-lts.Need-returns (
   euclid.Post,
   power-reads.Asked,
   power-reads.Learnt,
-  mul-mod-reads.Asked,
-  mul-mod-reads.Learnt,
+  times-reads.Asked,
+  times-reads.Learnt,
 ) (step-at t) step.Post
-step-returns t c = let s = c .before .before .before .before .before .before .before .before .before .before .before .before .before .before .before .args in
-    let w1 = c .before .before .before .before .before .before .before .before .before .before .before .divide .last .0 in
-    let v = c .before .before .before .v .given in
-    let k = subst (λ (y : Attempt). AnswerOf (s .n) (resultant (s .n) (piece w1 (s .b) (s .d - 1 + 1)) (piece w1 (s .a) (s .d + 1))) y) (v .1) (c .before .before .before .before .before .before .before .euclid .ensures .0) in
-    value-next (s .n) (s .a) (s .d) (s .b) (s .e) (s .s) (s .i) (s .w .now) w1 (c .before .before .before .before .before .before .before .before .before .before .before .before .before .before .before .pre .1) (c .before .before .before .before .before .before .before .before .before .before .before .divide .ensures) (v .0 .0) (c .before .power .result) (c .mul-mod .result) (k .0) (c .before .power .ensures) (c .mul-mod .ensures)
+step-returns t c = let s = c .before .before .before .before .before .before .before .before .before .before .before .before .args in
+    followed (c .times .ensures) (c .before .before .before .before .euclid .ensures .0)
+    (times-next (s .n) (s .a) (s .d) (s .b) (s .e) (s .s) (s .i) (s .w .now) (c .before .before .before .before .before .before .before .before .divide .last .0) (c .before .before .before .before .before .before .before .before .before .before .before .before .pre .1) (c .before .before .before .before .before .before .before .before .divide .ensures) (c .before .power .result) (c .before .power .ensures))
 
--- src/lib.rt:59:1
-step-same-length-2 : (t : ℕ) → step-lts.Need-same-length-2 (
-  divide-reads.Asked,
-  divide-reads.Learnt,
-  euclid-below t,
-  euclid.Post,
-  power-reads.Asked,
-  power-reads.Learnt,
-  mul-mod-reads.Asked,
-  mul-mod-reads.Learnt,
-) (step-at t) step.Post
-step-same-length-2 t c = search needs
-
--- src/lib.rt:59:1
-step-returns-2 : (t : ℕ) → step-lts.Need-returns-2 (
-  divide-reads.Asked,
-  divide-reads.Learnt,
-  euclid-below t,
-  euclid.Post,
-  power-reads.Asked,
-  power-reads.Learnt,
-  mul-mod-reads.Asked,
-  mul-mod-reads.Learnt,
-) (step-at t) step.Post
-step-returns-2 t c = let s = c .before .before .before .before .before .before .before .before .before .before .before .before .before .args in
-    let w1 = c .before .before .before .before .before .before .before .before .before .divide .last .0 in
-    subst (λ (y : Attempt). AnswerOf (s .n) (resultant (s .n) (piece w1 (s .b) (s .d - 1 + 1)) (piece w1 (s .a) (s .d + 1))) y) (c .before .p .given .1) (c .before .before .before .before .before .euclid .ensures .0)
-
--- src/lib.rt:145:33
+-- src/lib.rt:117:33
 unit-part-mul-cofactor : (t : ℕ) → unit-part-lts.Need-mul-cofactor (
   cofactor-reads.Asked,
   cofactor-reads.Learnt,
@@ -1725,12 +1412,12 @@ unit-part-mul-cofactor : (t : ℕ) → unit-part-lts.Need-mul-cofactor (
   copy-pair-reversed-reads.Learnt,
   step-below t,
   step.Post,
-  with-sign-reads.Asked,
-  with-sign-reads.Learnt,
+  times-sign-reads.Asked,
+  times-sign-reads.Learnt,
 ) (unit-part-at t) unit-part.Post
 unit-part-mul-cofactor t c = search needs
 
--- src/lib.rt:145:33
+-- src/lib.rt:117:33
 unit-part-slice-read-cofactor : (t : ℕ) → unit-part-lts.Need-slice-read-cofactor (
   cofactor-reads.Asked,
   cofactor-reads.Learnt,
@@ -1738,12 +1425,12 @@ unit-part-slice-read-cofactor : (t : ℕ) → unit-part-lts.Need-slice-read-cofa
   copy-pair-reversed-reads.Learnt,
   step-below t,
   step.Post,
-  with-sign-reads.Asked,
-  with-sign-reads.Learnt,
+  times-sign-reads.Asked,
+  times-sign-reads.Learnt,
 ) (unit-part-at t) unit-part.Post
 unit-part-slice-read-cofactor t c = search needs
 
--- src/lib.rt:145:9
+-- src/lib.rt:117:9
 unit-part-cofactor-requires : (t : ℕ) → unit-part-lts.Need-cofactor-requires (
   cofactor-reads.Asked,
   cofactor-reads.Learnt,
@@ -1751,38 +1438,38 @@ unit-part-cofactor-requires : (t : ℕ) → unit-part-lts.Need-cofactor-requires
   copy-pair-reversed-reads.Learnt,
   step-below t,
   step.Post,
-  with-sign-reads.Asked,
-  with-sign-reads.Learnt,
+  times-sign-reads.Asked,
+  times-sign-reads.Learnt,
 ) (unit-part-at t) unit-part.Post
 unit-part-cofactor-requires t c κs = search needs
 
--- src/lib.rt:146:37
-unit-part-add-copy-pair-reversed : (t : ℕ) → unit-part-lts.Need-add-copy-pair-reversed (
+-- src/lib.rt:118:13
+unit-part-add-l : (t : ℕ) → unit-part-lts.Need-add-l (
   cofactor-reads.Asked,
   cofactor-reads.Learnt,
   copy-pair-reversed-reads.Asked,
   copy-pair-reversed-reads.Learnt,
   step-below t,
   step.Post,
-  with-sign-reads.Asked,
-  with-sign-reads.Learnt,
+  times-sign-reads.Asked,
+  times-sign-reads.Learnt,
 ) (unit-part-at t) unit-part.Post
-unit-part-add-copy-pair-reversed t c = search needs
+unit-part-add-l t c = search needs
 
--- src/lib.rt:146:47
-unit-part-add-copy-pair-reversed-2 : (t : ℕ) → unit-part-lts.Need-add-copy-pair-reversed-2 (
+-- src/lib.rt:119:13
+unit-part-add-m : (t : ℕ) → unit-part-lts.Need-add-m (
   cofactor-reads.Asked,
   cofactor-reads.Learnt,
   copy-pair-reversed-reads.Asked,
   copy-pair-reversed-reads.Learnt,
   step-below t,
   step.Post,
-  with-sign-reads.Asked,
-  with-sign-reads.Learnt,
+  times-sign-reads.Asked,
+  times-sign-reads.Learnt,
 ) (unit-part-at t) unit-part.Post
-unit-part-add-copy-pair-reversed-2 t c = search needs
+unit-part-add-m t c = search needs
 
--- src/lib.rt:146:5
+-- src/lib.rt:120:5
 unit-part-copy-pair-reversed-requires : (t : ℕ) → unit-part-lts.Need-copy-pair-reversed-requires (
   cofactor-reads.Asked,
   cofactor-reads.Learnt,
@@ -1790,13 +1477,13 @@ unit-part-copy-pair-reversed-requires : (t : ℕ) → unit-part-lts.Need-copy-pa
   copy-pair-reversed-reads.Learnt,
   step-below t,
   step.Post,
-  with-sign-reads.Asked,
-  with-sign-reads.Learnt,
+  times-sign-reads.Asked,
+  times-sign-reads.Learnt,
 ) (unit-part-at t) unit-part.Post
 unit-part-copy-pair-reversed-requires t c κs = let s = c .before .before .before .before .args in
     part-fits (s .n) (s .a) (s .k) (s .e) (s .x) (s .w .now) (c .before .before .before .before .pre .1 .0)
 
--- src/lib.rt:147:16
+-- src/lib.rt:121:18
 unit-part-mul-step : (t : ℕ) → unit-part-lts.Need-mul-step (
   cofactor-reads.Asked,
   cofactor-reads.Learnt,
@@ -1804,12 +1491,12 @@ unit-part-mul-step : (t : ℕ) → unit-part-lts.Need-mul-step (
   copy-pair-reversed-reads.Learnt,
   step-below t,
   step.Post,
-  with-sign-reads.Asked,
-  with-sign-reads.Learnt,
+  times-sign-reads.Asked,
+  times-sign-reads.Learnt,
 ) (unit-part-at t) unit-part.Post
 unit-part-mul-step t c = search needs
 
--- src/lib.rt:147:16
+-- src/lib.rt:121:18
 unit-part-sub-step : (t : ℕ) → unit-part-lts.Need-sub-step (
   cofactor-reads.Asked,
   cofactor-reads.Learnt,
@@ -1817,12 +1504,12 @@ unit-part-sub-step : (t : ℕ) → unit-part-lts.Need-sub-step (
   copy-pair-reversed-reads.Learnt,
   step-below t,
   step.Post,
-  with-sign-reads.Asked,
-  with-sign-reads.Learnt,
+  times-sign-reads.Asked,
+  times-sign-reads.Learnt,
 ) (unit-part-at t) unit-part.Post
 unit-part-sub-step t c = search needs
 
--- src/lib.rt:147:16
+-- src/lib.rt:121:18
 unit-part-part-step-start : (t : ℕ) → unit-part-lts.Need-part-step-start (
   cofactor-reads.Asked,
   cofactor-reads.Learnt,
@@ -1830,12 +1517,12 @@ unit-part-part-step-start : (t : ℕ) → unit-part-lts.Need-part-step-start (
   copy-pair-reversed-reads.Learnt,
   step-below t,
   step.Post,
-  with-sign-reads.Asked,
-  with-sign-reads.Learnt,
+  times-sign-reads.Asked,
+  times-sign-reads.Learnt,
 ) (unit-part-at t) unit-part.Post
 unit-part-part-step-start t c = search needs
 
--- src/lib.rt:147:16
+-- src/lib.rt:121:18
 unit-part-part-step-end : (t : ℕ) → unit-part-lts.Need-part-step-end (
   cofactor-reads.Asked,
   cofactor-reads.Learnt,
@@ -1843,12 +1530,12 @@ unit-part-part-step-end : (t : ℕ) → unit-part-lts.Need-part-step-end (
   copy-pair-reversed-reads.Learnt,
   step-below t,
   step.Post,
-  with-sign-reads.Asked,
-  with-sign-reads.Learnt,
+  times-sign-reads.Asked,
+  times-sign-reads.Learnt,
 ) (unit-part-at t) unit-part.Post
 unit-part-part-step-end t c = search needs
 
--- src/lib.rt:147:38
+-- src/lib.rt:121:46
 unit-part-add-step : (t : ℕ) → unit-part-lts.Need-add-step (
   cofactor-reads.Asked,
   cofactor-reads.Learnt,
@@ -1856,51 +1543,12 @@ unit-part-add-step : (t : ℕ) → unit-part-lts.Need-add-step (
   copy-pair-reversed-reads.Learnt,
   step-below t,
   step.Post,
-  with-sign-reads.Asked,
-  with-sign-reads.Learnt,
+  times-sign-reads.Asked,
+  times-sign-reads.Learnt,
 ) (unit-part-at t) unit-part.Post
 unit-part-add-step t c = search needs
 
--- src/lib.rt:147:48
-unit-part-add-step-2 : (t : ℕ) → unit-part-lts.Need-add-step-2 (
-  cofactor-reads.Asked,
-  cofactor-reads.Learnt,
-  copy-pair-reversed-reads.Asked,
-  copy-pair-reversed-reads.Learnt,
-  step-below t,
-  step.Post,
-  with-sign-reads.Asked,
-  with-sign-reads.Learnt,
-) (unit-part-at t) unit-part.Post
-unit-part-add-step-2 t c = search needs
-
--- src/lib.rt:147:57
-unit-part-add-step-3 : (t : ℕ) → unit-part-lts.Need-add-step-3 (
-  cofactor-reads.Asked,
-  cofactor-reads.Learnt,
-  copy-pair-reversed-reads.Asked,
-  copy-pair-reversed-reads.Learnt,
-  step-below t,
-  step.Post,
-  with-sign-reads.Asked,
-  with-sign-reads.Learnt,
-) (unit-part-at t) unit-part.Post
-unit-part-add-step-3 t c = search needs
-
--- src/lib.rt:147:48
-unit-part-add-step-4 : (t : ℕ) → unit-part-lts.Need-add-step-4 (
-  cofactor-reads.Asked,
-  cofactor-reads.Learnt,
-  copy-pair-reversed-reads.Asked,
-  copy-pair-reversed-reads.Learnt,
-  step-below t,
-  step.Post,
-  with-sign-reads.Asked,
-  with-sign-reads.Learnt,
-) (unit-part-at t) unit-part.Post
-unit-part-add-step-4 t c = search needs
-
--- src/lib.rt:147:11
+-- src/lib.rt:121:9
 unit-part-step-requires : (t : ℕ) → unit-part-lts.Need-step-requires (
   cofactor-reads.Asked,
   cofactor-reads.Learnt,
@@ -1908,57 +1556,30 @@ unit-part-step-requires : (t : ℕ) → unit-part-lts.Need-step-requires (
   copy-pair-reversed-reads.Learnt,
   step-below t,
   step.Post,
-  with-sign-reads.Asked,
-  with-sign-reads.Learnt,
+  times-sign-reads.Asked,
+  times-sign-reads.Learnt,
 ) (unit-part-at t) unit-part.Post
 unit-part-step-requires t c κs = let s = c .before .before .before .before .before .before .before .before .args in
     let p = c .before .before .before .before .before .before .before .before .pre .1 in
     (omega (arith, c .before .before .before .before .before .before .before .before .pre .0), unit-asked (s .n) (s .a) (s .k) (s .e) (s .x) (s .w .now) (c .before .before .before .copy-pair-reversed .last .0) (p .0) (c .before .before .before .copy-pair-reversed .ensures) (c .before .before .before .before .before .cofactor .result .g) (c .before .before .before .before .before .cofactor .result .s) (p .1 .0) (p .1 .1) (c .before .before .before .before .before .cofactor .ensures))
 
--- src/lib.rt:148:24
-unit-part-enum-known-v : (t : ℕ) → unit-part-lts.Need-enum-known-v (
+-- src/lib.rt:122:5
+unit-part-times-sign-requires : (t : ℕ) → unit-part-lts.Need-times-sign-requires (
   cofactor-reads.Asked,
   cofactor-reads.Learnt,
   copy-pair-reversed-reads.Asked,
   copy-pair-reversed-reads.Learnt,
   step-below t,
   step.Post,
-  with-sign-reads.Asked,
-  with-sign-reads.Learnt,
+  times-sign-reads.Asked,
+  times-sign-reads.Learnt,
 ) (unit-part-at t) unit-part.Post
-unit-part-enum-known-v t c = search needs
-
--- src/lib.rt:148:45
-unit-part-with-sign-requires : (t : ℕ) → unit-part-lts.Need-with-sign-requires (
-  cofactor-reads.Asked,
-  cofactor-reads.Learnt,
-  copy-pair-reversed-reads.Asked,
-  copy-pair-reversed-reads.Learnt,
-  step-below t,
-  step.Post,
-  with-sign-reads.Asked,
-  with-sign-reads.Learnt,
-) (unit-part-at t) unit-part.Post
-unit-part-with-sign-requires t c κs = let s = c .before .before .before .before .before .before .before .before .before .before .before .before .before .before .args in
-    let w1 = c .before .before .before .before .before .before .before .before .before .copy-pair-reversed .last .0 in
+unit-part-times-sign-requires t c κs = let s = c .before .before .before .before .before .before .before .before .before .before .before .args in
+    let w1 = c .before .before .before .before .before .before .copy-pair-reversed .last .0 in
     let u : List ℕ = midOf (s .x) (length w1 - s .x) w1 in
-    let v = c .before .v .given in
-    subst (λ (y : Attempt). AnswerOf (s .n) (resultant (s .n) (piece u 0 (s .k + 1)) (piece u (s .k + 1) (s .e + 1))) y) (v .1) (c .before .before .before .before .before .step .ensures) .1
+    record { x = resultant (s .n) (piece u 0 (s .k + 1)) (piece u (s .k + 1) (s .e + 1)); is = c .before .before .step .ensures }
 
--- src/lib.rt:149:25
-unit-part-enum-known-p : (t : ℕ) → unit-part-lts.Need-enum-known-p (
-  cofactor-reads.Asked,
-  cofactor-reads.Learnt,
-  copy-pair-reversed-reads.Asked,
-  copy-pair-reversed-reads.Learnt,
-  step-below t,
-  step.Post,
-  with-sign-reads.Asked,
-  with-sign-reads.Learnt,
-) (unit-part-at t) unit-part.Post
-unit-part-enum-known-p t c = search needs
-
--- src/lib.rt:141:1
+-- src/lib.rt:113:1
 unit-part-same-length : (t : ℕ) → unit-part-lts.Need-same-length (
   cofactor-reads.Asked,
   cofactor-reads.Learnt,
@@ -1966,12 +1587,12 @@ unit-part-same-length : (t : ℕ) → unit-part-lts.Need-same-length (
   copy-pair-reversed-reads.Learnt,
   step-below t,
   step.Post,
-  with-sign-reads.Asked,
-  with-sign-reads.Learnt,
+  times-sign-reads.Asked,
+  times-sign-reads.Learnt,
 ) (unit-part-at t) unit-part.Post
 unit-part-same-length t c = search needs
 
--- src/lib.rt:141:1
+-- src/lib.rt:113:1
 unit-part-returns : (t : ℕ) → unit-part-lts.Need-returns (
   cofactor-reads.Asked,
   cofactor-reads.Learnt,
@@ -1979,83 +1600,48 @@ unit-part-returns : (t : ℕ) → unit-part-lts.Need-returns (
   copy-pair-reversed-reads.Learnt,
   step-below t,
   step.Post,
-  with-sign-reads.Asked,
-  with-sign-reads.Learnt,
+  times-sign-reads.Asked,
+  times-sign-reads.Learnt,
 ) (unit-part-at t) unit-part.Post
-unit-part-returns t c = let s = c .before .before .before .before .before .before .before .before .before .before .before .before .before .before .before .args in
-    let w1 = c .before .before .before .before .before .before .before .before .before .before .copy-pair-reversed .last .0 in
-    let u : List ℕ = midOf (s .x) (length w1 - s .x) w1 in
-    let v = c .before .before .v .given in
-    unit-answer (s .n) (s .a) (s .k) (s .e) (s .x) (s .w .now) w1 (c .before .before .before .before .before .before .before .before .before .before .before .before .before .before .before .pre .1 .0) (c .before .before .before .before .before .before .before .before .before .before .copy-pair-reversed .ensures) (v .0 .0) (c .with-sign .result)
-    (subst (λ (y : Attempt). AnswerOf (s .n) (resultant (s .n) (piece u 0 (s .k + 1)) (piece u (s .k + 1) (s .e + 1))) y) (v .1) (c .before .before .before .before .before .before .step .ensures)) (c .with-sign .ensures)
+unit-part-returns t c = let s = c .before .before .before .before .before .before .before .before .before .before .before .before .args in
+    followed (c .times-sign .ensures) (c .before .before .before .step .ensures)
+    (unit-sign (s .n) (s .a) (s .k) (s .e) (s .x) (s .w .now) (c .before .before .before .before .before .before .before .copy-pair-reversed .last .0) (c .before .before .before .before .before .before .before .before .before .before .before .before .pre .1 .0) (c .before .before .before .before .before .before .before .copy-pair-reversed .ensures))
 
--- src/lib.rt:141:1
-unit-part-same-length-2 : (t : ℕ) → unit-part-lts.Need-same-length-2 (
-  cofactor-reads.Asked,
-  cofactor-reads.Learnt,
-  copy-pair-reversed-reads.Asked,
-  copy-pair-reversed-reads.Learnt,
-  step-below t,
-  step.Post,
-  with-sign-reads.Asked,
-  with-sign-reads.Learnt,
-) (unit-part-at t) unit-part.Post
-unit-part-same-length-2 t c = search needs
-
--- src/lib.rt:141:1
-unit-part-returns-2 : (t : ℕ) → unit-part-lts.Need-returns-2 (
-  cofactor-reads.Asked,
-  cofactor-reads.Learnt,
-  copy-pair-reversed-reads.Asked,
-  copy-pair-reversed-reads.Learnt,
-  step-below t,
-  step.Post,
-  with-sign-reads.Asked,
-  with-sign-reads.Learnt,
-) (unit-part-at t) unit-part.Post
-unit-part-returns-2 t c = let s = c .before .before .before .before .before .before .before .before .before .before .before .before .before .before .args in
-    let w1 = c .before .before .before .before .before .before .before .before .before .copy-pair-reversed .last .0 in
-    let u : List ℕ = midOf (s .x) (length w1 - s .x) w1 in
-    subst (λ (y : Attempt). AnswerOf (s .n) (resultant (s .n) (piece u 0 (s .k + 1)) (piece u (s .k + 1) (s .e + 1))) y) (c .before .p .given .1) (c .before .before .before .before .before .step .ensures)
-
-pub +cold+euclid+factors+monic-part+primitive+step+unit-part-spec : {M : Type 1} → statement M
-+cold+euclid+factors+monic-part+primitive+step+unit-part-spec =
+pub +by-content+euclid+factors+monic-part+primitive+step+unit-part-spec :
+    {M : Type 1} → statement M
++by-content+euclid+factors+monic-part+primitive+step+unit-part-spec =
     close
-    μ-cold
+    μ-by-content
     μ-euclid
     μ-factors
     μ-monic-part
     μ-primitive
     μ-step
     μ-unit-part
-    (λ t. cold-lts.spec (
+    (λ t. by-content-lts.spec (
       clear-content-reads.Asked,
       clear-content-reads.Learnt,
       primitive-below t,
       primitive.Post,
+      lifted-reads.Asked,
+      lifted-reads.Learnt,
       power-reads.Asked,
       power-reads.Learnt,
-      mul-mod-reads.Asked,
-      mul-mod-reads.Learnt,
-      lift-split-reads.Asked,
-      lift-split-reads.Learnt,
+      times-reads.Asked,
+      times-reads.Learnt,
     )
-    (cold-at t)
-    cold.Post
-    (cold-clear-content-requires t)
-    (cold-same-length t)
-    (cold-returns t)
-    (cold-div-primitive t)
-    (cold-primitive-requires t)
-    (cold-enum-known-v t)
-    (cold-power-requires t)
-    (cold-mul-mod-requires t)
-    (cold-enum-known-p t)
-    (cold-lift-split-requires t)
-    (cold-same-length-2 t)
-    (cold-returns-2 t)
-    (cold-same-length-3 t)
-    (cold-returns-3 t))
+    (by-content-at t)
+    by-content.Post
+    (by-content-clear-content-requires t)
+    (by-content-same-length t)
+    (by-content-returns t)
+    (by-content-div-primitive t)
+    (by-content-primitive-requires t)
+    (by-content-lifted-requires t)
+    (by-content-power-requires t)
+    (by-content-times-requires t)
+    (by-content-same-length-2 t)
+    (by-content-returns-2 t))
     (λ t. euclid-lts.spec (
       power-reads.Asked,
       power-reads.Learnt,
@@ -2065,8 +1651,8 @@ pub +cold+euclid+factors+monic-part+primitive+step+unit-part-spec : {M : Type 1}
       step.Post,
       copy-pair-reads.Asked,
       copy-pair-reads.Learnt,
-      cold-below t,
-      cold.Post,
+      by-content-below t,
+      by-content.Post,
     )
     (euclid-at t)
     euclid.Post
@@ -2082,11 +1668,11 @@ pub +cold+euclid+factors+monic-part+primitive+step+unit-part-spec : {M : Type 1}
     (euclid-add-copy-pair t)
     (euclid-add-copy-pair-2 t)
     (euclid-copy-pair-requires t)
-    (euclid-mul-cold t)
-    (euclid-sub-cold t)
-    (euclid-part-cold-start t)
-    (euclid-part-cold-end t)
-    (euclid-cold-requires t)
+    (euclid-mul-by-content t)
+    (euclid-sub-by-content t)
+    (euclid-part-by-content-start t)
+    (euclid-part-by-content-end t)
+    (euclid-by-content-requires t)
     (euclid-same-length-2 t)
     (euclid-returns-3 t))
     (λ t. factors-lts.spec (
@@ -2096,41 +1682,33 @@ pub +cold+euclid+factors+monic-part+primitive+step+unit-part-spec : {M : Type 1}
       monic-part.Post,
       unit-part-below t,
       unit-part.Post,
-      mul-mod-reads.Asked,
-      mul-mod-reads.Learnt,
+      times-reads.Asked,
+      times-reads.Learnt,
     )
     (factors-at t)
     factors.Post
-    (factors-add-unit-times-monic t)
+    (factors-add-a t)
+    (factors-add-l t)
+    (factors-add-h t)
+    (factors-add-v t)
+    (factors-add-v-2 t)
+    (factors-add-u t)
+    (factors-add-x t)
     (factors-mul-unit-times-monic t)
     (factors-sub-unit-times-monic t)
     (factors-part-unit-times-monic-start t)
     (factors-part-unit-times-monic-end t)
     (factors-unit-times-monic-requires t)
-    (factors-add-h t)
-    (factors-add-h-2 t)
-    (factors-add-h-3 t)
-    (factors-add-u t)
-    (factors-add-u-2 t)
-    (factors-add-u-3 t)
-    (factors-add-x t)
-    (factors-add-x-2 t)
-    (factors-add-x-3 t)
-    (factors-add-x-4 t)
     (factors-monic-part-requires t)
     (factors-enum-known-y t)
     (factors-sub-unit-part t)
     (factors-unit-part-requires t)
-    (factors-enum-known-z t)
-    (factors-mul-mod-requires t)
+    (factors-times-requires t)
     (factors-enum-known-p t)
-    (factors-enum-known-p-2 t)
     (factors-same-length t)
     (factors-returns t)
     (factors-same-length-2 t)
-    (factors-returns-2 t)
-    (factors-same-length-3 t)
-    (factors-returns-3 t))
+    (factors-returns-2 t))
     (λ t. monic-part-lts.spec (
       copy-pair-reads.Asked,
       copy-pair-reads.Learnt,
@@ -2140,17 +1718,14 @@ pub +cold+euclid+factors+monic-part+primitive+step+unit-part-spec : {M : Type 1}
     (monic-part-at t)
     monic-part.Post
     (monic-part-returns t)
-    (monic-part-add-copy-pair t)
-    (monic-part-add-copy-pair-2 t)
+    (monic-part-add-l t)
+    (monic-part-add-m t)
     (monic-part-copy-pair-requires t)
     (monic-part-mul-step t)
     (monic-part-sub-step t)
     (monic-part-part-step-start t)
     (monic-part-part-step-end t)
     (monic-part-add-step t)
-    (monic-part-add-step-2 t)
-    (monic-part-add-step-3 t)
-    (monic-part-add-step-4 t)
     (monic-part-step-requires t)
     (monic-part-same-length t)
     (monic-part-returns-2 t))
@@ -2164,20 +1739,15 @@ pub +cold+euclid+factors+monic-part+primitive+step+unit-part-spec : {M : Type 1}
     )
     (primitive-at t)
     primitive.Post
-    (primitive-add-highest-of t)
-    (primitive-add-highest-of-2 t)
-    (primitive-add-highest-of-3 t)
-    (primitive-add-highest-of-4 t)
+    (primitive-add-a t)
+    (primitive-add-s t)
+    (primitive-add-s-2 t)
     (primitive-mul-highest-of t)
     (primitive-sub-highest-of t)
     (primitive-part-highest-of-start t)
     (primitive-part-highest-of-end t)
     (primitive-highest-of-requires t)
     (primitive-enum-known-t t)
-    (primitive-add-step t)
-    (primitive-add-step-2 t)
-    (primitive-add-step-3 t)
-    (primitive-add-step-4 t)
     (primitive-step-requires t)
     (primitive-same-length t)
     (primitive-returns t)
@@ -2197,8 +1767,8 @@ pub +cold+euclid+factors+monic-part+primitive+step+unit-part-spec : {M : Type 1}
       euclid.Post,
       power-reads.Asked,
       power-reads.Learnt,
-      mul-mod-reads.Asked,
-      mul-mod-reads.Learnt,
+      times-reads.Asked,
+      times-reads.Learnt,
     )
     (step-at t)
     step.Post
@@ -2208,16 +1778,12 @@ pub +cold+euclid+factors+monic-part+primitive+step+unit-part-spec : {M : Type 1}
     (step-divide-requires t)
     (step-sub-euclid t)
     (step-euclid-requires t)
-    (step-enum-known-v t)
     (step-add-power t)
     (step-sub-power t)
     (step-power-requires t)
-    (step-mul-mod-requires t)
-    (step-enum-known-p t)
+    (step-times-requires t)
     (step-same-length t)
-    (step-returns t)
-    (step-same-length-2 t)
-    (step-returns-2 t))
+    (step-returns t))
     λ t. unit-part-lts.spec (
       cofactor-reads.Asked,
       cofactor-reads.Learnt,
@@ -2225,30 +1791,23 @@ pub +cold+euclid+factors+monic-part+primitive+step+unit-part-spec : {M : Type 1}
       copy-pair-reversed-reads.Learnt,
       step-below t,
       step.Post,
-      with-sign-reads.Asked,
-      with-sign-reads.Learnt,
+      times-sign-reads.Asked,
+      times-sign-reads.Learnt,
     )
     (unit-part-at t)
     unit-part.Post
     (unit-part-mul-cofactor t)
     (unit-part-slice-read-cofactor t)
     (unit-part-cofactor-requires t)
-    (unit-part-add-copy-pair-reversed t)
-    (unit-part-add-copy-pair-reversed-2 t)
+    (unit-part-add-l t)
+    (unit-part-add-m t)
     (unit-part-copy-pair-reversed-requires t)
     (unit-part-mul-step t)
     (unit-part-sub-step t)
     (unit-part-part-step-start t)
     (unit-part-part-step-end t)
     (unit-part-add-step t)
-    (unit-part-add-step-2 t)
-    (unit-part-add-step-3 t)
-    (unit-part-add-step-4 t)
     (unit-part-step-requires t)
-    (unit-part-enum-known-v t)
-    (unit-part-with-sign-requires t)
-    (unit-part-enum-known-p t)
+    (unit-part-times-sign-requires t)
     (unit-part-same-length t)
     (unit-part-returns t)
-    (unit-part-same-length-2 t)
-    (unit-part-returns-2 t)

@@ -1,7 +1,5 @@
--- What an attempt at a resultant modulo n comes to, and what each of its stages asks of the buffer w: f of degree d, g of degree e,
--- d at most e.
+-- What each stage of an attempt asks of the buffer w: f of degree d, g of degree e, d at most e.
 --
---   AnswerOf n x r     the answer r is the value x, or two coprime factors of n
 --   Placed             f at a, g at b, and room from s on
 --   Divisor            the same, the leading word of f with the inverse i
 --   Stacked            g at 0 and f above it, and room above both
@@ -13,14 +11,7 @@ use Prim.Native.Nat.{ℕ, _+_, _-_, _*_, _%_, _<_, _≤_}
 use lib.ListN.{length, getD}
 use Rattle.windows.specs.Window.{Below}
 use Rattle.division.specs.Remainders.{Pair}
-use Rattle.factor.specs.Factors.{SplitOf}
 use Rattle.attempt.specs.Rooms.{room}
-use Rattle.attempt.specs.declared.Attempt.{Attempt}
-use Rattle.attempt.specs.declared.Attempt.the-variants.{Value, Splits}
-
-abbrev pub AnswerOf : ℕ → ℕ → Attempt → Type 0
-AnswerOf n x (Value v) = (v ≡ x) × (v < n)
-AnswerOf n x (Splits p q) = SplitOf n p q
 
 pub record Placed (n a d b e s : ℕ) (w : List ℕ) : Type 0 where
   pub two : 2 ≤ n
