@@ -140,18 +140,18 @@ pub fn unit_times_monic(n: u32, f: &[u32], u: &mut [u32], h: &mut [u32], work: &
 // ---- inverse
 
 // The inverse of the unit polynomial f, the inverse of whose constant is i, in the K d + 1 words of out.
-pub fn inverse_words(n: u32, f: &[u32], i: u32, out: &mut [u32], work: &mut [u32])
+pub fn inverse_words(n: u32, f: &[u32], i: u32, out: &mut [u32], room: &mut [u32])
     requires { ⌜ (2 ≤ n) × ((1 ≤ length (now f)) × ((Residues n (now f)) × ((UnitPolynomial n (now f)) × Inverse n (coef (now f) 0) i))) ⌝ }
-    requires { ⌜ (length (now out) ≡ suc (K n * deg (now f))) × (length (now f) + length (now out) ≤ length (now work)) ⌝ }
+    requires { ⌜ (length (now out) ≡ suc (K n * deg (now f))) × (length (now f) + length (now out) ≤ length (now room)) ⌝ }
     ensures { λ _. ⌜ InverseOf n (now (f .entry)) (now (out .exit)) ⌝ }
-    ensures { λ _. ⌜ now (work .exit) ≡ replicate (length (now (work .entry))) 0 ⌝ }
+    ensures { λ _. ⌜ now (room .exit) ≡ replicate (length (now (room .entry))) 0 ⌝ }
 {
     let d = f.len() - 1;
     let m = out.len();
-    windows::load(work, 0, f, n);
-    factor::series_inverse(work, n, d, i, i, m);
-    hand_out(out, work, d + 1, m);
-    windows::wipe(work);
+    windows::load(room, 0, f, n);
+    factor::series_inverse(room, n, d, i, i, m);
+    hand_out(out, room, d + 1, m);
+    windows::wipe(room);
 }
 
 // The refusals 5, 6 and 7 of an inverse: g is what the leading coefficient, at t, has in common with n; the buffers have k and l words,
