@@ -1,0 +1,74 @@
+// The refusals that every service shares, and the answer of a service.
+ghost use mathlib.Core.Path.{_≡_};
+ghost use Prim.Native.Nat.{ℕ};
+ghost use lib.ListN.{length};
+ghost use Rattle.refusals.specs.Refusals.{all-below, bad-length, refusal-one, refusal-two};
+
+// What a service answers: the number, and 0 or the number of the refusal.
+#[repr(C)]
+pub struct Answer {
+    pub value: u32,
+    pub status: u32,
+}
+
+// Whether every word of f is a residue.
+pub fn all_below(n: u32, f: &[u32]) -> bool
+    ensures { λ r. ⌜ r ≡ all-below n (now (f .entry)) ⌝ }
+{
+    let mut i: usize = 0;
+    while i < f.len() {
+        if f[i] >= n {
+            return false;
+        }
+        i += 1;
+    }
+    true
+}
+
+// Whether f has no word, or more than 49.
+pub fn bad_length(f: &[u32]) -> bool
+    ensures { λ r. ⌜ r ≡ bad-length (now (f .entry)) ⌝ }
+{
+    if f.len() == 0 {
+        return true;
+    }
+    49 < f.len()
+}
+
+// Refusals 1, 2 and 3 of one polynomial; 0 where none applies.
+pub fn refusal_one(n: u32, f: &[u32]) -> u32
+    ensures { λ r. ⌜ r ≡ refusal-one n (now (f .entry)) ⌝ }
+{
+    if n < 2 {
+        return 1;
+    }
+    if bad_length(f) {
+        return 2;
+    }
+    if all_below(n, f) {
+        return 0;
+    }
+    3
+}
+
+// Refusals 1, 2 and 3 of two polynomials; 0 where none applies.
+pub fn refusal_two(n: u32, f: &[u32], g: &[u32]) -> u32
+    ensures { λ r. ⌜ r ≡ refusal-two n (now (f .entry)) (now (g .entry)) ⌝ }
+{
+    if n < 2 {
+        return 1;
+    }
+    if bad_length(f) {
+        return 2;
+    }
+    if bad_length(g) {
+        return 2;
+    }
+    if !all_below(n, f) {
+        return 3;
+    }
+    if all_below(n, g) {
+        return 0;
+    }
+    3
+}
