@@ -4,7 +4,7 @@ use mathlib.Core.Bool.{Bool, true, false, _&&_, _||_}
 use mathlib.Core.List.{List, [], _∷_, _++_}
 use Prim.Native.Nat.{ℕ, zero, suc, _+_, _-_, _*_, _<_, _≤_}
 use native.Mathlib.Omega.{arith}
-use lib.ListN.{length, take, drop, take-append-drop}
+use lib.ListN.{length, take, drop}
 use lib.Dec.{leb, eqb}
 use lib.Seq.{drop-drop}
 use borrow.Author.Tests.{le-leb, lt-leb, ne-eqb, eq-eqb}
@@ -12,7 +12,7 @@ use Rattle.hexadecimal.specs.declared.Reading.{Reading}
 use Rattle.hexadecimal.specs.declared.Reading.the-variants.{Number, Other}
 use Rattle.hexadecimal.specs.Hexadecimal.{all-digits, number-of}
 use Rattle.hexadecimal.specs.Readings.{if-digits, reading-of}
-use Rattle.hexadecimal.specs.DigitLaws.{all-digits-append, and-false}
+use Rattle.hexadecimal.specs.DigitLaws.{all-digits-part, all-digits-after, and-false}
 use Rattle.frames.specs.Frames.{kind-of, modulus-of, first-degree, second-degree, count-of, is-frame}
 use Rattle.frames.specs.Heads.{Fields}
 
@@ -52,21 +52,12 @@ module _ (s : List ℕ) where
   other-length h = simp (ne-eqb (length s) (14 + 8 * count-of s) h, and-false)
 
   pub part-not-digits : (a k : ℕ) → all-digits (take k (drop a s)) ≡ false → is-frame s ≡ false
-  part-not-digits a k h =
-      not-digits
-      (ap all-digits (sym (take-append-drop a s) ∙ ap (λ (x : List ℕ). take a s ++ x) (sym (take-append-drop k (drop a s))))
-      ∙ all-digits-append (take a s) (take k (drop a s) ++ drop k (drop a s))
-      ∙ ap (λ (b : Bool). all-digits (take a s) && b) (all-digits-append (take k (drop a s)) (drop k (drop a s)) ∙ ap (λ (b : Bool). b && all-digits (drop k (drop a s))) h)
-      ∙ and-false (all-digits (take a s)))
+  part-not-digits a k h = not-digits (all-digits-part a k s h)
 
 -- ---- a head that is right
 
--- digits in front change nothing
 after-digits : (a k b : ℕ) (s : List ℕ) → a + k ≡ b → all-digits (take k (drop a s)) ≡ true → all-digits (drop a s) ≡ all-digits (drop b s)
-after-digits a k b s e h =
-    ap all-digits (sym (take-append-drop k (drop a s)))
-    ∙ all-digits-append (take k (drop a s)) (drop k (drop a s))
-    ∙ ap₂ (λ (x : Bool) (t : List ℕ). x && all-digits t) h (drop-drop k a s ∙ ap (λ (x : ℕ). drop x s) e)
+after-digits a k b s e h = all-digits-after k (drop a s) h ∙ ap all-digits (drop-drop k a s ∙ ap (λ (x : ℕ). drop x s) e)
 
 and-true : (b : Bool) → (b && true) ≡ b
 and-true true = refl

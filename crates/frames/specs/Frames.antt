@@ -73,3 +73,9 @@ pub data AnswerOf (s : List ℕ) : List ℕ → Type 0 where
   refused : is-frame s ≡ false → AnswerOf s (answer-line 255 8 0)
   answered : (r v : ℕ) → is-frame s ≡ true → Outcome (kind-of s) (modulus-of s) (first-polynomial s) (second-polynomial s) r v
     → AnswerOf s (answer-line (kind-of s) r v)
+
+-- the answer to the line s was written into o from place at on
+pub record Wrote (s : List ℕ) (at : ℕ) (o o' : List ℕ) : Type 0 where
+  pub line : List ℕ
+  pub is : AnswerOf s line
+  pub put : o' ≡ take at o ++ (line ++ drop (at + 13) o)

@@ -6,7 +6,7 @@ use Prim.Native.Nat.{ℕ, zero, suc, _+_, _-_, _*_, _/_, _%_, _^_, _<_, _≤_}
 use native.Mathlib.Nat.{lt-of-lt-of-le, mul-le-mul-right, pow-suc, mod-lt, div-add-mod, pow-le-pow-right}
 use native.Mathlib.Omega.{arith}
 use native.Mathlib.Decide.{decLt}
-use lib.ListN.{length, length-append}
+use lib.ListN.{length, take, drop, length-append, take-append-drop}
 use lib.Dec.{ltb}
 use borrow.Author.Tests.{ltb-true, lt-ltb, le-ltb}
 use Rattle.hexadecimal.specs.Hexadecimal.{digit-of, all-digits, spelled, number-of, character-of, digits-of}
@@ -31,6 +31,20 @@ pub all-digits-append : (s t : List ℕ) → all-digits (s ++ t) ≡ (all-digits
 unfolding all-digits
 all-digits-append [] t = refl
 all-digits-append (c ∷ s) t = ap (λ (b : Bool). ltb (digit-of c) 16 && b) (all-digits-append s t) ∙ sym (and-assoc (ltb (digit-of c) 16) (all-digits s) (all-digits t))
+
+-- a character of a part that is no digit is one of the whole
+pub all-digits-part : (a k : ℕ) (s : List ℕ) → all-digits (take k (drop a s)) ≡ false → all-digits s ≡ false
+all-digits-part a k s h =
+    ap all-digits (sym (take-append-drop a s) ∙ ap (λ (x : List ℕ). take a s ++ x) (sym (take-append-drop k (drop a s))))
+    ∙ all-digits-append (take a s) (take k (drop a s) ++ drop k (drop a s))
+    ∙ ap (λ (b : Bool). all-digits (take a s) && b)
+      (all-digits-append (take k (drop a s)) (drop k (drop a s)) ∙ ap (λ (b : Bool). b && all-digits (drop k (drop a s))) h)
+    ∙ and-false (all-digits (take a s))
+
+-- k digits in front change nothing
+pub all-digits-after : (k : ℕ) (s : List ℕ) → all-digits (take k s) ≡ true → all-digits s ≡ all-digits (drop k s)
+all-digits-after k s h =
+    ap all-digits (sym (take-append-drop k s)) ∙ all-digits-append (take k s) (drop k s) ∙ ap (λ (b : Bool). b && all-digits (drop k s)) h
 
 pub spelled-append : (x : ℕ) (s t : List ℕ) → spelled x (s ++ t) ≡ spelled (spelled x s) t
 unfolding spelled
