@@ -64,6 +64,10 @@ pub record Outcome (k n : ℕ) (f g : List ℕ) (r v : ℕ) : Type 0 where
   pub status : r ≡ refusal-two n f g
   pub refused : (r ≡ 0 → ⊥) → v ≡ 0
 
+-- A job was served, with the working words w before and w' after.
+pub record Served (k n : ℕ) (f g : List ℕ) (r v : ℕ) (w w' : List ℕ) : Type 0 where
+  pub outcome : Outcome k n f g r v
+
 -- "kind as sent (ff after refusal 8), status (00 or the refusal number, 2 digits), value (8 digits), newline"
 unfoldable pub answer-line : ℕ → ℕ → ℕ → List ℕ
 answer-line k r v = digits-of 2 k ++ (digits-of 2 r ++ (digits-of 8 v ++ 10 ∷ []))
@@ -74,8 +78,9 @@ pub data AnswerOf (s : List ℕ) : List ℕ → Type 0 where
   answered : (r v : ℕ) → is-frame s ≡ true → Outcome (kind-of s) (modulus-of s) (first-polynomial s) (second-polynomial s) r v
     → AnswerOf s (answer-line (kind-of s) r v)
 
--- the answer to the line s was written into o from place at on
-pub record Wrote (s : List ℕ) (at : ℕ) (o o' : List ℕ) : Type 0 where
+-- A line was answered: its answer stands in the buffer o' from place at on, and the rest of it is as it was in o. w and w' are
+-- the working words before and after.
+pub record Wrote (s : List ℕ) (at : ℕ) (o o' w w' : List ℕ) : Type 0 where
   pub line : List ℕ
   pub is : AnswerOf s line
   pub put : o' ≡ take at o ++ (line ++ drop (at + 13) o)

@@ -1,6 +1,2 @@
 pub mod Frames
 pub mod Heads
-pub mod Lines
-pub mod LineLaws
-pub mod Pieces
-pub mod Whole

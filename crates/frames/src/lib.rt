@@ -1,17 +1,15 @@
-// From a line's characters to its answer line, and from an input that comes in pieces to the answers to its lines.
+// From a line's characters to its answer line (document 01, "Job frames").
 ghost use mathlib.Core.Path.{_≡_};
-ghost use mathlib.Core.Bool.{true};
-ghost use mathlib.Core.List.{List, _++_};
-ghost use Prim.Native.Nat.{ℕ, _+_, _*_, _≤_};
+ghost use mathlib.Core.List.{_++_};
+ghost use Prim.Native.Nat.{_+_, _*_, _≤_};
 ghost use lib.ListN.{length, take, drop};
-ghost use Rattle.hexadecimal.specs.Hexadecimal.{all-digits};
-ghost use Rattle.frames.specs.Frames.{words-of, answer-line, Outcome, Wrote};
+ghost use Rattle.frames.specs.Frames.{answer-line, Served, Wrote};
 ghost use Rattle.frames.specs.Heads.{HeadOf, WordsRead};
 use hexadecimal::Reading;
 use refusals::Answer;
 
 // The head of a line: kind, modulus and degrees, where the line can be a frame by its length and its first 14 characters.
-pub enum Head {
+enum Head {
     Frame {
         kind: u32,
         n: u32,
@@ -77,7 +75,7 @@ fn read_words(s: &[u8], words: &mut [u32], count: usize) -> bool
 }
 
 // Writes an answer line from place `at` on; what stands before and after it is left.
-fn write_line(out: &mut [u8], at: usize, kind: u32, status: u32, value: u32)
+pub fn write_line(out: &mut [u8], at: usize, kind: u32, status: u32, value: u32)
     requires { ⌜ at + 13 ≤ length (now out) ⌝ }
     ensures { λ _. ⌜ now (out .exit) ≡ take at (now (out .entry)) ++ (answer-line kind status value ++ drop (at + 13) (now (out .entry))) ⌝ }
 {
@@ -90,7 +88,7 @@ fn write_line(out: &mut [u8], at: usize, kind: u32, status: u32, value: u32)
 // Serves the job of a frame's words: the first polynomial is the first d + 1 of them, the second is the part from place d + 1 onward.
 fn serve(kind: u32, n: u32, words: &[u32], d: usize, work: &mut [u32]) -> Answer
     requires { ⌜ (d + 1 ≤ length (now words)) × (8192 ≤ length (now work)) ⌝ }
-    ensures { λ r. ⌜ Outcome kind n (take (d + 1) (now (words .entry))) (drop (d + 1) (now (words .entry))) (r .status) (r .value) ⌝ }
+    ensures { λ r. ⌜ Served kind n (take (d + 1) (now (words .entry))) (drop (d + 1) (now (words .entry))) (r .status) (r .value) (now (work .entry)) (now (work .exit)) ⌝ }
 {
     let f = &words[0..d + 1];
     let g = &words[d + 1..];
@@ -101,9 +99,9 @@ fn serve(kind: u32, n: u32, words: &[u32], d: usize, work: &mut [u32]) -> Answer
 }
 
 // Writes the answer to the line s from place `at` on.
-fn answer(s: &[u8], work: &mut [u32], out: &mut [u8], at: usize)
+pub fn answer(s: &[u8], work: &mut [u32], out: &mut [u8], at: usize)
     requires { ⌜ (at + 13 ≤ length (now out)) × (8192 ≤ length (now work)) ⌝ }
-    ensures { λ _. ⌜ Wrote (now (s .entry)) at (now (out .entry)) (now (out .exit)) ⌝ }
+    ensures { λ _. ⌜ Wrote (now (s .entry)) at (now (out .entry)) (now (out .exit)) (now (work .entry)) (now (work .exit)) ⌝ }
 {
     let Head::Frame { kind, n, d, e } = read_head(s) else {
         write_line(out, at, 255, 8, 0);

@@ -51,7 +51,7 @@ refusal-two-requires c κs = search needs
 
 -- src/lib.rt:91:1
 returns : tie.Need-returns
-returns c = record { status = c .refusal-two .ensures ∙ ap₂ (refusal-two (c .before .before .before .before .before .args .n)) (first-handed (c .before .before .before .before .before .args .d + 1) (c .before .before .before .before .before .args .words .now)) (second-handed (c .before .before .before .before .before .args .d + 1) (c .before .before .before .before .before .args .words .now)); refused = λ _. refl }
+returns c = record { outcome = record { status = c .refusal-two .ensures ∙ ap₂ (refusal-two (c .before .before .before .before .before .args .n)) (first-handed (c .before .before .before .before .before .args .d + 1) (c .before .before .before .before .before .args .words .now)) (second-handed (c .before .before .before .before .before .args .d + 1) (c .before .before .before .before .before .args .words .now)); refused = λ _. refl } }
 
 pub serve-spec : {M : Type 1} → statement M
 serve-spec =

@@ -6,8 +6,8 @@ use mathlib.Core.List.{List, [], _∷_, _++_, append-assoc, append-nil}
 use Prim.Native.Nat.{ℕ}
 use lib.Dec.{eqb}
 use borrow.Author.Tests.{eqb-true}
-use Rattle.frames.specs.Lines.{has-newline, lengthen, finished, unfinished, last-line, lines, Answers, none, then}
+use Rattle.reader.specs.Lines.{has-newline, lengthen, finished, unfinished, last-line, lines, Answers, none, then}
 use Rattle.frames.specs.Frames.{AnswerOf}
 
 -- neither of two tests
 pub or-neither : (a b : Bool) → (a || b) ≡ false → (a ≡ false) × (b ≡ false)

@@ -1,14 +1,22 @@
 -- An input that comes in pieces. Between two pieces the unfinished line is held in a buffer, as far as it can be a frame.
 --
+--   NewlineAt p a r           r is the place of the first newline of p from place a on, or the length of p
 --   Held s h b                the unfinished line s is held: h counts its characters, up to 799, and they stand at the front of b
 --   Stepped s p h b w o o'    what a step over the piece p owes, s being the line held before it
 --   Written h b ps a          a is what is written, from a line held as h in b, for the pieces ps and at the end of the input
 use mathlib.Core.Path.{_≡_}
 use mathlib.Core.Bool.{false}
 use mathlib.Core.List.{List, [], _∷_, _++_}
-use Prim.Native.Nat.{ℕ, min, _≤_}
-use lib.ListN.{length, take, drop}
-use Rattle.frames.specs.Lines.{has-newline, finished, unfinished, lines, last-line, Answers}
+use Prim.Native.Nat.{ℕ, min, _-_, _≤_, _<_}
+use lib.ListN.{length, getD, take, drop}
+use Rattle.reader.specs.Lines.{has-newline, finished, unfinished, lines, last-line, Answers}
+
+-- r is the place of the first newline of p from place a on, or the length of p
+pub record NewlineAt (p : List ℕ) (a r : ℕ) : Type 0 where
+  pub least : a ≤ r
+  pub most : r ≤ length p
+  pub before : has-newline (take (r - a) (drop a p)) ≡ false
+  pub at : r < length p → getD p r 0 ≡ 10
 
 -- A line of more than 798 characters is no frame, whatever they are.
 pub record Held (s : List ℕ) (h : ℕ) (b : List ℕ) : Type 0 where

@@ -5,9 +5,9 @@ use mathlib.Core.List.{List, [], _∷_, _++_, append-assoc, append-nil}
 use Prim.Native.Nat.{ℕ}
 use lib.ListN.{take}
 use native.Mathlib.Omega.{arith}
-use Rattle.frames.specs.Lines.{has-newline, finished, unfinished, last-line, lines, Answers}
-use Rattle.frames.specs.LineLaws.{finished-none, unfinished-all, lines-append, answers-append}
-use Rattle.frames.specs.Pieces.{Held, Written, end, piece, joined}
+use Rattle.reader.specs.Lines.{has-newline, finished, unfinished, last-line, lines, Answers}
+use Rattle.reader.specs.LineLaws.{finished-none, unfinished-all, lines-append, answers-append}
+use Rattle.reader.specs.Pieces.{Held, Written, end, piece, joined}
 
 -- a text without a newline has at most one line
 pub lines-single : (s : List ℕ) → has-newline s ≡ false → lines s ≡ last-line s
