@@ -15,6 +15,13 @@ pub struct Progress {
     pub written: usize,
 }
 
+// Working words for the services. Of zeros only the count is told: whoever has them need not look at 8192 of them.
+fn working_words() -> [u32; 8192]
+    ensures { λ r. ⌜ 8192 ≡ length r ⌝ }
+{
+    [0; 8192]
+}
+
 // The place of the first newline from place `from` on, and the length of the piece where there is none.
 fn find_newline(piece: &[u8], from: usize) -> usize
     requires { ⌜ from ≤ length (now piece) ⌝ }
@@ -82,7 +89,7 @@ pub fn step(held: usize, line: &mut [u8], piece: &[u8], out: &mut [u8]) -> Progr
     ensures { λ r. ⌜ r .written ≤ length (now (out .entry)) ⌝ }
     ensures { λ r. ⌜ Steps held (now (line .entry)) (now (piece .entry)) (r .held) (now (line .exit)) (r .written) (now (out .entry)) (now (out .exit)) ⌝ }
 {
-    let mut work = [0u32; 8192];
+    let mut work = working_words();
     let mut h = held;
     let mut i: usize = 0;
     let mut w: usize = 0;
@@ -115,7 +122,7 @@ pub fn finish(held: usize, line: &[u8], out: &mut [u8]) -> usize
     if held == 0 {
         return 0;
     }
-    let mut work = [0u32; 8192];
+    let mut work = working_words();
     answer_held(held, line, &mut work[0..8192], out, 0);
     13
 }
