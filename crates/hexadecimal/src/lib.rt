@@ -3,7 +3,7 @@ ghost use mathlib.Core.Path.{_≡_};
 ghost use mathlib.Core.List.{_++_};
 ghost use Prim.Native.Nat.{_+_, _≤_, _<_};
 ghost use lib.ListN.{length, take, drop};
-ghost use Rattle.hexadecimal.specs.Hexadecimal.{digit-of, character-of, digits-of};
+ghost use Rattle.hexadecimal.specs.Hexadecimal.{character-of, digits-of};
 ghost use Rattle.hexadecimal.specs.Readings.{reading-of};
 
 // What characters come to: a number, or something else.
@@ -12,38 +12,30 @@ pub enum Reading {
     Other,
 }
 
-// The value of the digit c, 16 where c is no digit.
-pub fn digit(c: u8) -> u32
-    ensures { λ r. ⌜ r ≡ digit-of c ⌝ }
-{
-    if c < 48 {
-        return 16;
-    }
-    if c < 58 {
-        return (c - 48) as u32;
-    }
-    if c < 97 {
-        return 16;
-    }
-    if c < 103 {
-        return (c - 87) as u32;
-    }
-    16
-}
-
 // What the count characters of s from place `at` on spell: at most 8 digits, so that the number fits.
 pub fn number(s: &[u8], at: usize, count: usize) -> Reading
     requires { ⌜ (at + count ≤ length (now s)) × (count ≤ 8) ⌝ }
     ensures { λ r. ⌜ r ≡ reading-of (take count (drop at (now (s .entry)))) ⌝ }
 {
+    // The characters from 0 to f have here the one whose code is 48 above their value, 64 where they are no digits. A test
+    // between 9 and a would be a branch that is often foreseen wrongly.
+    let values = b"0123456789@@@@@@@@@@@@@@@@@@@@@@@@@@@@@@@@@@@@@@@:;<=>?";
     let mut x: u32 = 0;
     let mut i: usize = 0;
     while i < count {
-        let v = digit(s[at + i]);
+        let c = s[at + i];
+        if c < 48 {
+            return Reading::Other;
+        }
+        if c > 102 {
+            return Reading::Other;
+        }
+        let place = (c - 48) as usize;
+        let v = values[place] - 48;
         if v > 15 {
             return Reading::Other;
         }
-        x = x * 16 + v;
+        x = x * 16 + (v as u32);
         i += 1;
     }
     Reading::Number(x)
