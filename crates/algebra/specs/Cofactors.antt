@@ -1,35 +1,40 @@
--- The cofactors of one column, and the resultant as a short combination.
-use mathlib.Core.Path.{_≡_, refl, sym, _∙_, ap, ap₂, fun-ext}
+-- The cofactors of one column of a matrix, and from the last column of Sylvester's: the resultant is u f + v g with u of e coefficients and
+-- v of d.
+--
+--   cofactor n a k j    the cofactor of the entry in row j and column k
+--   Cofactors d e f g x    u and v with u f + v g = x, u of e coefficients and v of d
+--   cofactors           those of the resultant, where d + e ≥ 1
+--
+-- Letters: a is a matrix; f, g are series, the constant first, of degrees d and e; p is a place of the product, c a column.
+use mathlib.Core.Path.{_≡_, refl, sym, _∙_, ap, ap₂}
 use mathlib.Core.Logic.{_≢_}
 use Prim.Native.Nat.{ℕ, zero, suc, _<_, _≤_, _+_ as _+ℕ_, _-_ as _-ℕ_}
-use native.Mathlib.Decide.{ℕ-discrete, decLt}
+use native.Mathlib.Decide.{decLt}
 use native.Mathlib.Omega.{arith}
-use Rattle.algebra.specs.Block.{up, up-is, pad}
-use Rattle.algebra.specs.Det.{det}
-use Rattle.algebra.specs.Form.{Form, det-form, det-transpose, e, basis, spread}
-use Rattle.algebra.specs.Ideal.{conv-short, Finite, Combines}
+use Rattle.algebra.specs.Block.{pad}
+use Rattle.algebra.specs.Determinant.{det}
+use Rattle.algebra.specs.Form.{det-form, det-transpose, e, basis, spread}
 use Rattle.algebra.specs.Index.{ins, skip, ins-eta}
-use Rattle.algebra.specs.Plain.{put, repeated}
-use Rattle.algebra.specs.Product.{act}
-use Rattle.algebra.specs.Resultant.{stack, shift, conv, act-conv, sylvester, res}
-use Rattle.algebra.specs.Reverse.{rv, rv-out, rv-twice, shift-rv, sum-last}
-use Rattle.algebra.specs.Ring.{CRing, add-zero, add-left-comm}
-use Rattle.algebra.specs.SentResultant.{Rs}
-use Rattle.algebra.specs.Series.{series, Short, const}
-use Rattle.algebra.specs.Signs.{back, back-at}
-use Rattle.algebra.specs.Sum.{sum, sum-cong}
+use Rattle.algebra.specs.Resultant.{shift, act-conv, sylvester, res}
+use Rattle.algebra.specs.Reverse.{rv, shift-rv}
+use Rattle.algebra.specs.Ring.{CRing}
+use Rattle.algebra.specs.Rows.{put, repeated}
+use Rattle.algebra.specs.SentLaws.{Rs}
+use Rattle.algebra.specs.Series.{Short, const, conv-short, conv}
+use Rattle.algebra.specs.Stack.{back-at, up, back, up-is, stack}
+use Rattle.algebra.specs.Sum.{sum, sum-cong, sum-last}
 
 module _ {R : Type 0} (𝓡 : CRing R) where
-  open CRing 𝓡 using (add as _+_, mul as _*_, neg as -_, nil as 𝟘, unit as 𝟙, add-assoc, add-comm, zero-add, neg-add, mul-assoc, mul-comm, one-mul, mul-add)
+  open CRing 𝓡 using (add as _+_, mul as _*_, nil as 𝟘, add-assoc, zero-add, mul-comm)
 
   infixl 65 _+_
   infixl 70 _*_
-  infix 75 -_
   -- the cofactors of the column k
   unfoldable pub cofactor : ℕ → (ℕ → ℕ → R) → ℕ → ℕ → R
   cofactor n a k j = det 𝓡 n (put 𝓡 k (e 𝓡 j) (λ c r. a r c))
 
-  expand : (n : ℕ) (a : ℕ → ℕ → R) (k : ℕ) → k < n → (v : ℕ → R) → det 𝓡 n (put 𝓡 k v (λ c r. a r c)) ≡ sum 𝓡 n (λ j. v j * cofactor n a k j)
+  expand : (n : ℕ) (a : ℕ → ℕ → R) (k : ℕ) → k < n → (v : ℕ → R)
+      → det 𝓡 n (put 𝓡 k v (λ c r. a r c)) ≡ sum 𝓡 n (λ j. v j * cofactor n a k j)
   unfolding cofactor
   expand n a k l v =
       let b : ℕ → ℕ → R = λ i r. a r (skip k i) in
@@ -52,7 +57,8 @@ module _ {R : Type 0} (𝓡 : CRing R) where
   sum-back zero f = refl
   sum-back (suc n) f = ap (λ x. f n + x) (sum-back n f) ∙ sym (sum-last 𝓡 n f)
 
-  sum-stack : (m n c : ℕ) (a b : ℕ → ℕ → R) (w : ℕ → R) → sum 𝓡 (up m n) (λ j. stack m a b j c * w j) ≡ sum 𝓡 m (λ i. a i c * w i) + sum 𝓡 n (λ i. b i c * w (up m i))
+  sum-stack : (m n c : ℕ) (a b : ℕ → ℕ → R) (w : ℕ → R) → sum 𝓡 (up m n) (λ j. stack m a b j c * w j) ≡ sum 𝓡 m (λ i. a i c * w i) + sum 𝓡 n
+      (λ i. b i c * w (up m i))
   sum-stack zero n c a b w = sym (zero-add _)
   sum-stack (suc m) n c a b w = ap (λ x. a 0 c * w 0 + x) (sum-stack m n c (λ i. a (suc i)) b (λ i. w (suc i))) ∙ sym (add-assoc _ _ _)
 
@@ -88,9 +94,16 @@ module _ {R : Type 0} (𝓡 : CRing R) where
     pub short-v : Short 𝓡 d v
     pub eq : (k : ℕ) → conv 𝓡 u f k + conv 𝓡 v g k ≡ const 𝓡 x k
 
-  pub cofactors : (d e : ℕ) (f g : ℕ → R) → ((k : ℕ) → d < k → f k ≡ 𝟘) → ((k : ℕ) → e < k → g k ≡ 𝟘) → 1 ≤ d +ℕ e → Cofactors d e f g (Rs 𝓡 d e f g)
+  pub cofactors : (d e : ℕ) (f g : ℕ → R) → ((k : ℕ) → d < k → f k ≡ 𝟘) → ((k : ℕ) → e < k → g k ≡ 𝟘) → 1 ≤ d +ℕ e
+      → Cofactors d e f g (Rs 𝓡 d e f g)
   unfolding res
-  cofactors d e f g zf zg l = record { u = u; v = v; short-u = pad-short e (back e w); short-v = pad-short d (back d (λ i. w (up e i))); eq = eq }
+  cofactors d e f g zf zg l = record {
+    u = u;
+    v = v;
+    short-u = pad-short e (back e w);
+    short-v = pad-short d (back d (λ i. w (up e i)));
+    eq = eq;
+  }
     where
       n : ℕ
       n = up e d
@@ -109,7 +122,8 @@ module _ {R : Type 0} (𝓡 : CRing R) where
 
       both : (c p : ℕ) → suc (c +ℕ p) ≡ n → conv 𝓡 u f p + conv 𝓡 v g p ≡ sum 𝓡 n (λ j. s j c * w j)
       both c p h =
-          ap₂ _+_ (sym (rows e d f w zf c p (omega (arith, up-is e d)))) (sym (rows d e g (λ i. w (up e i)) zg c p (omega (arith, up-is e d))))
+          ap₂ _+_ (sym (rows e d f w zf c p (omega (arith, up-is e d))))
+          (sym (rows d e g (λ i. w (up e i)) zg c p (omega (arith, up-is e d))))
           ∙ sym (sum-stack e d c (λ i. shift 𝓡 i (rv 𝓡 d f)) (λ i. shift 𝓡 i (rv 𝓡 e g)) w)
 
       eq : (k : ℕ) → conv 𝓡 u f k + conv 𝓡 v g k ≡ const 𝓡 (det 𝓡 n s) k
@@ -117,8 +131,11 @@ module _ {R : Type 0} (𝓡 : CRing R) where
       eq (suc k) = go (decLt (suc k) n)
         where
           go : Dec (suc k < n) → conv 𝓡 u f (suc k) + conv 𝓡 v g (suc k) ≡ 𝟘
-          go (yes q) = both (n -ℕ suc (suc k)) (suc k) (omega arith) ∙ cofactor-other n s (n -ℕ 1) (n -ℕ suc (suc k)) (omega arith) (omega arith) (omega arith)
+          go (yes q) = both (n -ℕ suc (suc k)) (suc k) (omega arith)
+              ∙ cofactor-other n s (n -ℕ 1) (n -ℕ suc (suc k)) (omega arith) (omega arith) (omega arith)
           go (no q) =
-              ap₂ _+_ (conv-short 𝓡 e d u f (pad-short e (back e w)) (record { out = λ k l. zf k (omega arith) }) .out (suc k) (omega (arith, up-is e d)))
-              (conv-short 𝓡 d e v g (pad-short d (back d (λ i. w (up e i)))) (record { out = λ k l. zg k (omega arith) }) .out (suc k) (omega (arith, up-is e d)))
+              ap₂ _+_ (conv-short 𝓡 e d u f (pad-short e (back e w)) (record { out = λ k l. zf k (omega arith) }) .out (suc k)
+              (omega (arith, up-is e d)))
+              (conv-short 𝓡 d e v g (pad-short d (back d (λ i. w (up e i)))) (record { out = λ k l. zg k (omega arith) }) .out (suc k)
+              (omega (arith, up-is e d)))
               ∙ zero-add 𝟘

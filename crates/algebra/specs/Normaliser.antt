@@ -1,9 +1,19 @@
--- A decision procedure for identities of commutative rings, by reflection: `solve 𝓡 ρ e f refl : den e ≡ den f`.
+-- A normal form for expressions in a commutative ring, so that an identity is proved by computing both sides: a polynomial is a sorted list
+-- of monomials with their signs, a monomial a sorted list of atoms. `by-ring 𝓡 ρ (search quote depth 20) (search quote depth 20) refl`
+-- proves x ≡ y where ρ lists the atoms, ten at most.
+--
+--   E, den ρ e      expressions over numbered atoms, and their value where ρ lists the atoms
+--   norm e          the normal form
+--   solve           expressions with one normal form have one value
+--   Quoted ρ x      an expression whose value is x; the ruleset `quote` finds it
+--   by-ring         the identity, from the two quotations
+--
+-- Letters: e, f are expressions; m, n monomials; t, u terms; p, q polynomials in normal form.
 use mathlib.Core.Path.{_≡_, refl, sym, _∙_, ap, ap₂}
 use mathlib.Core.List.{List, [], _∷_}
 use Prim.Native.Nat.{ℕ, zero, suc, compare, Ordering, Ordering·lt, Ordering·eq, Ordering·gt}
 use lib.Dec.{T, isEq, eqb→eq}
-use Rattle.algebra.specs.Ring.{CRing, add-zero, add-neg, add-left-comm, mul-left-comm, add-mul, mul-zero, mul-neg, neg-neg, neg-mul, neg-of-add, add-neg-cancel, neg-add-cancel}
+use Rattle.algebra.specs.Ring.{CRing, neg-zero, add-zero, add-left-comm, mul-zero, mul-neg, mul-left-comm, add-mul, neg-neg, neg-mul, neg-of-add, add-neg-cancel, neg-add-cancel}
 
 infixl 65 _⊕_
 infixl 70 _⊗_
@@ -117,7 +127,7 @@ norm O = []
 norm I = plus [] ∷ []
 
 module _ {R : Type 0} (𝓡 : CRing R) (ρ : List R) where
-  open CRing 𝓡 using (add as _+_, mul as _*_, neg as -_, nil as 𝟘, unit as 𝟙, add-assoc, add-comm, zero-add, neg-add, mul-assoc, mul-comm, one-mul, mul-add)
+  open CRing 𝓡 using (add as _+_, mul as _*_, neg as -_, nil as 𝟘, unit as 𝟙, add-assoc, zero-add, mul-assoc, mul-comm, one-mul, mul-add)
 
   infixl 65 _+_
   infixl 70 _*_
@@ -168,7 +178,8 @@ module _ {R : Type 0} (𝓡 : CRing R) (ρ : List R) where
   mulT-ok (plus m) (plus n) = mulM-ok m n
   mulT-ok (plus m) (minus n) = ap (λ y. - y) (mulM-ok m n) ∙ sym (mul-neg 𝓡 (evM m) (evM n))
   mulT-ok (minus m) (plus n) = ap (λ y. - y) (mulM-ok m n) ∙ sym (neg-mul 𝓡 (evM m) (evM n))
-  mulT-ok (minus m) (minus n) = mulM-ok m n ∙ sym (neg-mul 𝓡 (evM m) (- evM n) ∙ ap (λ y. - y) (mul-neg 𝓡 (evM m) (evM n)) ∙ neg-neg 𝓡 (evM m * evM n))
+  mulT-ok (minus m) (minus n) = mulM-ok m n ∙ sym (neg-mul 𝓡 (evM m) (- evM n) ∙ ap (λ y. - y) (mul-neg 𝓡 (evM m) (evM n))
+      ∙ neg-neg 𝓡 (evM m * evM n))
 
   merge-ok : (t u : Term) (us : Poly) → mono t ≡ mono u → evP (merge t u us) ≡ evT t + (evT u + evP us)
   unfolding evP evT
@@ -199,12 +210,9 @@ module _ {R : Type 0} (𝓡 : CRing R) (ρ : List R) where
   flip-ok (plus m) = refl
   flip-ok (minus m) = sym (neg-neg 𝓡 (evM m))
 
-  neg-zero : - 𝟘 ≡ 𝟘
-  neg-zero = sym (add-zero 𝓡 (- 𝟘)) ∙ neg-add 𝟘
-
   negP-ok : (p : Poly) → evP (negP p) ≡ - evP p
   unfolding evP
-  negP-ok [] = sym neg-zero
+  negP-ok [] = sym (neg-zero 𝓡)
   negP-ok (t ∷ p) = ap₂ _+_ (flip-ok t) (negP-ok p) ∙ sym (neg-of-add 𝓡 (evT t) (evP p))
 
   scaleP-ok : (t : Term) (q acc : Poly) → evP (scaleP t q acc) ≡ evT t * evP q + evP acc
@@ -230,3 +238,60 @@ module _ {R : Type 0} (𝓡 : CRing R) (ρ : List R) where
 
   pub solve : (e f : E) → norm e ≡ norm f → den e ≡ den f
   solve e f h = sym (norm-ok e) ∙ ap evP h ∙ norm-ok f
+
+-- an expression whose value is x
+pub record Quoted {R : Type 0} (𝓡 : CRing R) (ρ : List R) (x : R) : Type 0 where
+  pub e : E
+  pub ok : den 𝓡 ρ e ≡ x
+
+module _ {R : Type 0} {𝓡 : CRing R} {ρ : List R} where
+  abbrev pub q-add : {x y : R} → Quoted 𝓡 ρ x → Quoted 𝓡 ρ y → Quoted 𝓡 ρ (𝓡 .add x y)
+  q-add a b = record { e = a .e ⊕ b .e; ok = ap₂ (𝓡 .add) (a .ok) (b .ok) }
+
+  abbrev pub q-mul : {x y : R} → Quoted 𝓡 ρ x → Quoted 𝓡 ρ y → Quoted 𝓡 ρ (𝓡 .mul x y)
+  q-mul a b = record { e = a .e ⊗ b .e; ok = ap₂ (𝓡 .mul) (a .ok) (b .ok) }
+
+  abbrev pub q-neg : {x : R} → Quoted 𝓡 ρ x → Quoted 𝓡 ρ (𝓡 .neg x)
+  q-neg a = record { e = ⊖ (a .e); ok = ap (𝓡 .neg) (a .ok) }
+
+  abbrev pub q-zero : Quoted 𝓡 ρ (𝓡 .nil)
+  q-zero = record { e = O; ok = refl }
+
+  abbrev pub q-one : Quoted 𝓡 ρ (𝓡 .unit)
+  q-one = record { e = I; ok = refl }
+
+module _ {R : Type 0} {𝓡 : CRing R} where
+  abbrev pub q0 : {a : R} {l : List R} → Quoted 𝓡 (a ∷ l) a
+  q0 = record { e = var 0; ok = refl }
+
+  abbrev pub q1 : {a b : R} {l : List R} → Quoted 𝓡 (b ∷ a ∷ l) a
+  q1 = record { e = var 1; ok = refl }
+
+  abbrev pub q2 : {a b c : R} {l : List R} → Quoted 𝓡 (c ∷ b ∷ a ∷ l) a
+  q2 = record { e = var 2; ok = refl }
+
+  abbrev pub q3 : {a b c d : R} {l : List R} → Quoted 𝓡 (d ∷ c ∷ b ∷ a ∷ l) a
+  q3 = record { e = var 3; ok = refl }
+
+  abbrev pub q4 : {a b c d e : R} {l : List R} → Quoted 𝓡 (e ∷ d ∷ c ∷ b ∷ a ∷ l) a
+  q4 = record { e = var 4; ok = refl }
+
+  abbrev pub q5 : {a b c d e f : R} {l : List R} → Quoted 𝓡 (f ∷ e ∷ d ∷ c ∷ b ∷ a ∷ l) a
+  q5 = record { e = var 5; ok = refl }
+
+  abbrev pub q6 : {a b c d e f g : R} {l : List R} → Quoted 𝓡 (g ∷ f ∷ e ∷ d ∷ c ∷ b ∷ a ∷ l) a
+  q6 = record { e = var 6; ok = refl }
+
+  abbrev pub q7 : {a b c d e f g h : R} {l : List R} → Quoted 𝓡 (h ∷ g ∷ f ∷ e ∷ d ∷ c ∷ b ∷ a ∷ l) a
+  q7 = record { e = var 7; ok = refl }
+
+  abbrev pub q8 : {x8 x7 x6 x5 x4 x3 x2 x1 x0 : R} {l : List R} → Quoted 𝓡 (x8 ∷ x7 ∷ x6 ∷ x5 ∷ x4 ∷ x3 ∷ x2 ∷ x1 ∷ x0 ∷ l) x0
+  q8 = record { e = var 8; ok = refl }
+
+  abbrev pub q9 : {x9 x8 x7 x6 x5 x4 x3 x2 x1 x0 : R} {l : List R} → Quoted 𝓡 (x9 ∷ x8 ∷ x7 ∷ x6 ∷ x5 ∷ x4 ∷ x3 ∷ x2 ∷ x1 ∷ x0 ∷ l) x0
+  q9 = record { e = var 9; ok = refl }
+
+pub by-ring : {R : Type 0} (𝓡 : CRing R) (ρ : List R) {x y : R} (l : Quoted 𝓡 ρ x) (r : Quoted 𝓡 ρ y) → norm (l .e) ≡ norm (r .e) → x ≡ y
+by-ring 𝓡 ρ l r h = sym (l .ok) ∙ solve 𝓡 ρ (l .e) (r .e) h ∙ r .ok
+
+pub ruleset quote = (q-zero, q-one, q0, q1, q2, q3, q4, q5, q6, q7, q8, q9, q-neg, q-add, q-mul)

@@ -1,65 +1,32 @@
--- The integers have no divisors of zero; the map of the integers into a ring; the integers modulo a number.
-use mathlib.Core.Path.{_≡_, refl, sym, _∙_, ap, ap₂, subst}
-use mathlib.Core.Logic.{_≢_, _⊎_, inl, inr}
+-- Maps of rings that reduce: of the integers to Z/(m + 1), and of Z/(m + 1) to Z/(k + 1) where k + 1 divides m + 1.
+--
+--   ext 𝓢 ν        a map ν of the numbers, carried on to the integers; a map of rings if ν keeps sums, products and 1 (ι-hom)
+--   reduce m        the integers modulo m + 1
+--   lower m k       Z/(m + 1) modulo k + 1
+--   det-mod         a determinant of integers, reduced
+--
+-- Letters: a, b are numbers, integers or residues; m, k moduli less 1.
+use mathlib.Core.Path.{_≡_, refl, sym, _∙_, ap, subst}
 use mathlib.Core.Bool.{Bool, true, false, not, cond}
-use Prim.Native.Nat.{ℕ, zero, suc, _+_ as _+ℕ_, _*_ as _*ℕ_, _-_ as _-ℕ_, _%_, _<_, _≤_}
-use native.Mathlib.Nat.{mul-pos, mod-add-mod, add-mod-mod}
+use Prim.Native.Nat.{ℕ, zero, suc, _<_, _≤_, _∣_, _+_ as _+ℕ_, _-_ as _-ℕ_, _*_ as _*ℕ_}
 use native.Mathlib.Decide.{Fin·val-path}
+use native.Mathlib.Nat.{mod-add-mod, add-mod-mod, mod-mod-of-dvd}
 use native.Mathlib.Omega.{arith}
 use lib.Dec.{T, ltb, ltb→lt, nltb→le}
-use lib.IntN.{ℤ, pos, negsuc, negℤ, natAbs, _+ℤ_, _*ℤ_, subℕ}
-use Rattle.algebra.specs.Det.{det}
+use lib.IntN.{ℤ, pos, negsuc, negℤ, _+ℤ_, _*ℤ_, subℕ}
+use Rattle.algebra.specs.Determinant.{det, det-hom}
 use Rattle.algebra.specs.Integers.{ℤ-ring}
-use Rattle.algebra.specs.Modular.{mul-mod}
-use Rattle.algebra.specs.Residues.{Res, toRes, Res-ring}
-use Rattle.algebra.specs.Ring.{CRing, add-zero, add-neg, add-left-comm, mul-neg, add-cancel, mul-zero, neg-neg, neg-mul, neg-of-add, add-neg-cancel, neg-add-cancel}
-use Rattle.algebra.specs.Rows.{Hom, det-hom}
-use Rattle.algebra.specs.Sum.{neg-zero}
-
-abs-neg : (n : ℕ) → natAbs (negℤ (pos n)) ≡ n
-abs-neg zero = refl
-abs-neg (suc n) = refl
-
-pub abs-mul : (a b : ℤ) → natAbs (a *ℤ b) ≡ natAbs a *ℕ natAbs b
-abs-mul (pos m) (pos n) = refl
-abs-mul (pos m) (negsuc n) = abs-neg (m *ℕ suc n)
-abs-mul (negsuc m) (pos n) = abs-neg (suc m *ℕ n)
-abs-mul (negsuc m) (negsuc n) = refl
-
-abs-zero : (a : ℤ) → natAbs a ≡ 0 → a ≡ pos 0
-abs-zero (pos n) h = ap pos h
-abs-zero (negsuc n) h = absurd (omega arith)
-
-mul-zero-nat : (a b : ℕ) → a *ℕ b ≡ 0 → 0 < a → b ≡ 0
-mul-zero-nat a zero h l = refl
-mul-zero-nat a (suc b) h l = absurd (omega (arith, mul-pos l (suc-pos b)))
-  where
-    suc-pos : (b : ℕ) → 0 < suc b
-    suc-pos b = omega arith
-
--- a ≢ 0 as a number
-pub nonzero : (a : ℤ) → a ≢ pos 0 → 0 < natAbs a
-nonzero (pos zero) h = absurd (h refl)
-nonzero (pos (suc n)) h = omega arith
-nonzero (negsuc n) h = omega arith
-
-pub no-divisors : (a b : ℤ) → a ≢ pos 0 → a *ℤ b ≡ pos 0 → b ≡ pos 0
-no-divisors a b z h = abs-zero b (mul-zero-nat (natAbs a) (natAbs b) (sym (abs-mul a b) ∙ ap natAbs h) (nonzero a z))
-
-pub cancel : (a b c : ℤ) → a ≢ pos 0 → a *ℤ b ≡ a *ℤ c → b ≡ c
-cancel a b c z h =
-    add-cancel ℤ-ring (negℤ c) b c
-    (ℤ-ring .add-comm (negℤ c) b
-    ∙ no-divisors a (b +ℤ negℤ c) z (ℤ-ring .mul-add a b (negℤ c) ∙ ap₂ _+ℤ_ h (mul-neg ℤ-ring a c) ∙ add-neg ℤ-ring (a *ℤ c))
-    ∙ sym (ℤ-ring .neg-add c))
+use Rattle.algebra.specs.Residues.{Res, toRes, Res-ring, mul-mod}
+use Rattle.algebra.specs.Ring.{CRing, add-zero, add-left-comm, add-neg, add-cancel, mul-neg, neg-neg, neg-mul, neg-of-add, Hom, neg-zero}
 
 -- a map of the numbers, carried on to the integers
 abbrev pub ext : {S : Type 0} → CRing S → (ℕ → S) → ℤ → S
 ext 𝓢 ν (pos n) = ν n
 ext 𝓢 ν (negsuc n) = 𝓢 .neg (ν (suc n))
 
-module _ {S : Type 0} (𝓢 : CRing S) (ν : ℕ → S) (ν-add : (a b : ℕ) → ν (a +ℕ b) ≡ 𝓢 .add (ν a) (ν b)) (ν-mul : (a b : ℕ) → ν (a *ℕ b) ≡ 𝓢 .mul (ν a) (ν b)) (ν-one : ν 1 ≡ 𝓢 .unit) where
-  open CRing 𝓢 using (add as _+_, mul as _*_, neg as -_, nil as 𝟘, unit as 𝟙, add-assoc, add-comm, zero-add, neg-add, mul-assoc, mul-comm, one-mul, mul-add)
+module _ {S : Type 0} (𝓢 : CRing S) (ν : ℕ → S) (ν-add : (a b : ℕ) → ν (a +ℕ b) ≡ 𝓢 .add (ν a) (ν b))
+    (ν-mul : (a b : ℕ) → ν (a *ℕ b) ≡ 𝓢 .mul (ν a) (ν b)) (ν-one : ν 1 ≡ 𝓢 .unit) where
+  open CRing 𝓢 using (add as _+_, mul as _*_, neg as -_, nil as 𝟘, add-comm)
 
   infixl 65 _+_
   infixl 70 _*_
@@ -113,19 +80,46 @@ module _ {S : Type 0} (𝓢 : CRing S) (ν : ℕ → S) (ν-add : (a b : ℕ) �
   pub ι-hom : Hom ℤ-ring 𝓢 (ext 𝓢 ν)
   ι-hom = record { h-add = ι-add; h-mul = ι-mul; h-neg = ι-neg; h-zero = ν-zero; h-one = ν-one }
 
--- modulo m + 1
 module _ (m : ℕ) where
-  res-add : (a b : ℕ) → toRes m (a +ℕ b) ≡ Res-ring m .add (toRes m a) (toRes m b)
-  res-add a b = Fin·val-path (simp (mod-add-mod, add-mod-mod))
+  toRes-add : (a b : ℕ) → toRes m (a +ℕ b) ≡ Res-ring m .add (toRes m a) (toRes m b)
+  toRes-add a b = Fin·val-path (simp (mod-add-mod, add-mod-mod))
 
-  res-mul : (a b : ℕ) → toRes m (a *ℕ b) ≡ Res-ring m .mul (toRes m a) (toRes m b)
-  res-mul a b = Fin·val-path (mul-mod a b (suc m))
+  toRes-mul : (a b : ℕ) → toRes m (a *ℕ b) ≡ Res-ring m .mul (toRes m a) (toRes m b)
+  toRes-mul a b = Fin·val-path (mul-mod a b (suc m))
 
   abbrev pub reduce : ℤ → Res m
   reduce = ext (Res-ring m) (toRes m)
 
   pub reduce-hom : Hom ℤ-ring (Res-ring m) reduce
-  reduce-hom = ι-hom (Res-ring m) (toRes m) res-add res-mul refl
+  reduce-hom = ι-hom (Res-ring m) (toRes m) toRes-add toRes-mul refl
 
   pub det-mod : (n : ℕ) (a : ℕ → ℕ → ℤ) → reduce (det ℤ-ring n a) ≡ det (Res-ring m) n (λ r c. reduce (a r c))
   det-mod = det-hom ℤ-ring (Res-ring m) reduce reduce-hom
+
+abbrev pub lower : (m k : ℕ) → Res m → Res k
+lower m k a = toRes k (a .0)
+
+-- k + 1 divides m + 1
+module _ (m k : ℕ) (divides : suc k ∣ suc m) where
+  -- the residue of a number, through Z/(m + 1)
+  pub lower-toRes : (a : ℕ) → lower m k (toRes m a) ≡ toRes k a
+  lower-toRes a = Fin·val-path (mod-mod-of-dvd (suc k) a divides)
+
+  lower-add : (a b : Res m) → lower m k (Res-ring m .add a b) ≡ Res-ring k .add (lower m k a) (lower m k b)
+  lower-add a b = lower-toRes (a .0 +ℕ b .0) ∙ toRes-add k (a .0) (b .0)
+
+  pub lower-hom : Hom (Res-ring m) (Res-ring k) (lower m k)
+  lower-hom = record {
+    h-add = lower-add;
+    h-mul = λ a b. lower-toRes (a .0 *ℕ b .0) ∙ toRes-mul k (a .0) (b .0);
+    h-neg = λ a.
+        add-cancel (Res-ring k) (lower m k a) (lower m k (Res-ring m .neg a)) (Res-ring k .neg (lower m k a))
+        (sym (lower-add a (Res-ring m .neg a)) ∙ ap (lower m k) (add-neg (Res-ring m) a) ∙ lower-toRes 0
+        ∙ sym (add-neg (Res-ring k) (lower m k a)));
+    h-zero = lower-toRes 0;
+    h-one = lower-toRes 1;
+  }
+
+  pub lower-reduce : (z : ℤ) → lower m k (reduce m z) ≡ reduce k z
+  lower-reduce (pos a) = lower-toRes a
+  lower-reduce (negsuc a) = lower-hom .h-neg (toRes m (suc a)) ∙ ap (Res-ring k .neg) (lower-toRes (suc a))

@@ -1,19 +1,27 @@
--- What follows from uniqueness: the determinant of a product, and of a product of the top rows.
-use mathlib.Core.Path.{_≡_, refl, sym, _∙_, ap, ap₂, fun-ext, subst}
-use Prim.Native.Nat.{ℕ, zero, suc, _+_ as _+ℕ_, _<_, _≤_}
+-- What follows from uniqueness for products: det (A B) = det A · det B, and the determinant of a matrix whose top rows are multiplied by
+-- another.
+--
+--   act n b v       the row v times the matrix b of n rows
+--   mmul n a b      the product of matrices
+--   over m a w      the first m rows of a, the others of w
+--   under           a form of the top rows, those below fixed
+--   det-over        det [A · top of W ; rest of W] = det A · det W
+--
+-- Letters: a, b, w are matrices; u, v rows; m, n, N numbers of rows.
+use mathlib.Core.Path.{_≡_, refl, sym, _∙_, ap, ap₂, fun-ext}
+use Prim.Native.Nat.{ℕ, zero, suc, _<_, _≤_}
 use native.Mathlib.Omega.{arith}
-use Rattle.algebra.specs.Det.{comb, det, det-cong}
-use Rattle.algebra.specs.Form.{Form, Linear, pull, det-form, e, basis, unique}
+use Rattle.algebra.specs.Determinant.{det-cong, det, comb}
+use Rattle.algebra.specs.Form.{Form, det-form, e, basis, Linear, pull, unique}
 use Rattle.algebra.specs.Index.{ins}
-use Rattle.algebra.specs.Ring.{CRing, add-zero, add-neg, add-left-comm, mul-left-comm, add-mul, add-cancel, mul-zero, mul-neg}
+use Rattle.algebra.specs.Ring.{CRing, add-mul}
 use Rattle.algebra.specs.Sum.{sum, sum-cong, sum-lin}
 
 module _ {R : Type 0} (𝓡 : CRing R) where
-  open CRing 𝓡 using (add as _+_, mul as _*_, neg as -_, nil as 𝟘, unit as 𝟙, add-assoc, add-comm, zero-add, neg-add, mul-assoc, mul-comm, one-mul, mul-add)
+  open CRing 𝓡 using (add as _+_, mul as _*_, mul-assoc, mul-comm)
 
   infixl 65 _+_
   infixl 70 _*_
-  infix 75 -_
   -- a row times a matrix of n rows
   abbrev pub act : ℕ → (ℕ → ℕ → R) → (ℕ → R) → ℕ → R
   act n b v c = sum 𝓡 n (λ k. v k * b k c)
@@ -28,7 +36,8 @@ module _ {R : Type 0} (𝓡 : CRing R) where
   e-sym (suc r) (suc c) = e-sym r c
 
   pub act-e : (n : ℕ) (b : ℕ → ℕ → R) (r c : ℕ) → r < n → act n b (e 𝓡 r) c ≡ b r c
-  act-e n b r c l = sum-cong 𝓡 n _ _ (λ k p. mul-comm (e 𝓡 r k) (b k c) ∙ ap (λ x. b k c * x) (e-sym r k)) ∙ sym (basis 𝓡 n (λ k. b k c) r l)
+  act-e n b r c l = sum-cong 𝓡 n _ _ (λ k p. mul-comm (e 𝓡 r k) (b k c) ∙ ap (λ x. b k c * x) (e-sym r k))
+      ∙ sym (basis 𝓡 n (λ k. b k c) r l)
 
   pub act-linear : (n n′ : ℕ) (b : ℕ → ℕ → R) → Linear 𝓡 n n′ (act n b)
   act-linear n n′ b = record {
@@ -47,24 +56,28 @@ module _ {R : Type 0} (𝓡 : CRing R) where
   over (suc m) a w zero = a zero
   over (suc m) a w (suc r) = over m (λ i. a (suc i)) (λ i. w (suc i)) r
 
-  over-ins : (m k : ℕ) → k < suc m → (v : ℕ → R) (b w : ℕ → ℕ → R) (r : ℕ) → over (suc m) (ins k v b) w r ≡ ins k v (over m b (λ i. w (suc i))) r
+  over-ins : (m k : ℕ) → k < suc m → (v : ℕ → R) (b w : ℕ → ℕ → R) (r : ℕ)
+      → over (suc m) (ins k v b) w r ≡ ins k v (over m b (λ i. w (suc i))) r
   over-ins m zero l v b w zero = refl
   over-ins m zero l v b w (suc r) = refl
   over-ins zero (suc k) l v b w r = absurd (omega arith)
   over-ins (suc m) (suc k) l v b w zero = refl
   over-ins (suc m) (suc k) l v b w (suc r) = over-ins m k (omega arith) v (λ i. b (suc i)) (λ i. w (suc i)) r
 
-  pub over-cong : (m n N : ℕ) (a b w : ℕ → ℕ → R) → ((r c : ℕ) → r < m → c < n → a r c ≡ b r c) → (r c : ℕ) → r < N → c < n → over m a w r c ≡ over m b w r c
+  pub over-cong : (m n N : ℕ) (a b w : ℕ → ℕ → R) → ((r c : ℕ) → r < m → c < n → a r c ≡ b r c) → (r c : ℕ) → r < N → c < n
+      → over m a w r c ≡ over m b w r c
   over-cong zero n N a b w h r c p q = refl
   over-cong (suc m) n N a b w h zero c p q = h 0 c (omega arith) q
-  over-cong (suc m) n N a b w h (suc r) c p q = over-cong m n N (λ i. a (suc i)) (λ i. b (suc i)) (λ i. w (suc i)) (λ r c x y. h (suc r) c (omega arith) y) r c (omega arith) q
+  over-cong (suc m) n N a b w h (suc r) c p q = over-cong m n N (λ i. a (suc i)) (λ i. b (suc i)) (λ i. w (suc i))
+      (λ r c x y. h (suc r) c (omega arith) y) r c (omega arith) q
 
   pub over-self : (m : ℕ) (a w : ℕ → ℕ → R) (c : ℕ) → ((r : ℕ) → r < m → a r c ≡ w r c) → (r : ℕ) → over m a w r c ≡ w r c
   over-self zero a w c h r = refl
   over-self (suc m) a w c h zero = h 0 (omega arith)
   over-self (suc m) a w c h (suc r) = over-self m (λ i. a (suc i)) (λ i. w (suc i)) c (λ r l. h (suc r) (omega arith)) r
 
-  over-two : (m k : ℕ) → suc k < suc m → (v : ℕ → R) (b w : ℕ → ℕ → R) → (t : ℕ → ℕ → R) × (over (suc m) (ins k v (ins k v b)) w ≡ ins k v (ins k v t))
+  over-two : (m k : ℕ) → suc k < suc m → (v : ℕ → R) (b w : ℕ → ℕ → R)
+      → (t : ℕ → ℕ → R) × (over (suc m) (ins k v (ins k v b)) w ≡ ins k v (ins k v t))
   over-two zero k l v b w = absurd (omega arith)
   over-two (suc m) k l v b w = (
     over m b (λ i. w (suc (suc i))),
