@@ -9,7 +9,8 @@ use lib.Seq.{take-all}
 use Rattle.hexadecimal.specs.Hexadecimal.{all-digits, number-of}
 use Rattle.frames.specs.declared.Head.{Head}
 use Rattle.frames.specs.declared.Head.the-variants.{Frame, Other}
-use Rattle.frames.specs.Frames.{kind-of, modulus-of, first-degree, second-degree, count-of, words-of, frame-words, first-polynomial, second-polynomial, is-frame, Outcome, Served, answer-line, AnswerOf, refused, answered, Wrote}
+use Rattle.frames.specs.Frames.{kind-of, modulus-of, first-degree, second-degree, count-of, words-of, frame-words, first-polynomial}
+use Rattle.frames.specs.Frames.{second-polynomial, is-frame, Outcome, Served, answer-line, AnswerOf, refused, answered, Wrote}
 use Rattle.frames.specs.Heads.{Fields, HeadOf, WordsRead}
 
 pub head-fields : {r : Head} (s : List ℕ) (k n d e : ℕ) → r ≡ Frame k n d e → HeadOf s r → Fields s k n d e
@@ -22,10 +23,12 @@ head-other s h p = subst (HeadOf s) h p
 pub count-most : {s : List ℕ} {k n d e : ℕ} → Fields s k n d e → d + 1 + (e + 1) ≤ 98
 count-most h = omega (arith, h .short, h .fits)
 
-pub wrote-refused : (s : List ℕ) (at : ℕ) {o o' w w' : List ℕ} → is-frame s ≡ false → o' ≡ take at o ++ (answer-line 255 8 0 ++ drop (at + 13) o) → Wrote s at o o' w w'
+pub wrote-refused : (s : List ℕ) (at : ℕ) {o o' w w' : List ℕ} → is-frame s ≡ false
+    → o' ≡ take at o ++ (answer-line 255 8 0 ++ drop (at + 13) o) → Wrote s at o o' w w'
 wrote-refused s at h p = record { line = answer-line 255 8 0; is = refused h; put = p }
 
-pub words-refused : {s : List ℕ} {k n d e count : ℕ} {w : List ℕ} {r : Bool} → Fields s k n d e → WordsRead s count w r → r ≡ false → is-frame s ≡ false
+pub words-refused : {s : List ℕ} {k n d e count : ℕ} {w : List ℕ} {r : Bool} → Fields s k n d e → WordsRead s count w r → r ≡ false
+    → is-frame s ≡ false
 words-refused h p e = h .frame ∙ sym (p .digits) ∙ e
 
 -- the words that are handed on: the first count of those read
@@ -33,9 +36,12 @@ pub handed : (count : ℕ) (w : List ℕ) → take (count - 0) (w ++ []) ≡ tak
 handed count w = let e : count - 0 ≡ count = omega arith in ap₂ take e (append-nil w)
 
 outcome-same : {k k' n n' r v : ℕ} {f f' g g' : List ℕ} → k ≡ k' → n ≡ n' → f ≡ f' → g ≡ g' → Outcome k n f g r v → Outcome k' n' f' g' r v
-outcome-same {r = r} {v = v} a b c d p = subst (λ (x : ℕ × (ℕ × (List ℕ × List ℕ))). Outcome (x .0) (x .1 .0) (x .1 .1 .0) (x .1 .1 .1) r v) (λ i. (a i, (b i, (c i, d i)))) p
+outcome-same {r =
+    r} {v = v} a b c d p = subst (λ (x : ℕ × (ℕ × (List ℕ × List ℕ))). Outcome (x .0) (x .1 .0) (x .1 .1 .0) (x .1 .1 .1) r v) (λ i.
+    (a i, (b i, (c i, d i)))) p
 
-pub wrote-answered : (s : List ℕ) (at : ℕ) {o o' w w' : List ℕ} {k n d e : ℕ} {m : List ℕ} {b : Bool} (x : List ℕ) (r v : ℕ) → Fields s k n d e → WordsRead s (d + 1 + (e + 1)) m b → b ≡ true
+pub wrote-answered : (s : List ℕ) (at : ℕ) {o o' w w' : List ℕ} {k n d e : ℕ} {m : List ℕ} {b : Bool} (x : List ℕ) (r v : ℕ)
+    → Fields s k n d e → WordsRead s (d + 1 + (e + 1)) m b → b ≡ true
     → x ≡ take (d + 1 + (e + 1)) m → Served k n (take (d + 1) x) (drop (d + 1) x) r v w w'
     → o' ≡ take at o ++ (answer-line k r v ++ drop (at + 13) o) → Wrote s at o o' w w'
 wrote-answered s at {o} {o'} {w} {w'} {k} {n} {d} {e} {m} {b} x r v h p t i q put =
@@ -44,8 +50,9 @@ wrote-answered s at {o} {o'} {w} {w'} {k} {n} {d} {e} {m} {b} x r v h p t i q pu
     let ed : d + 1 ≡ first-degree s + 1 = ap (λ (y : ℕ). y + 1) (h .first) in
     record {
       line = answer-line (kind-of s) r v;
-      is = answered r v (h .frame ∙ sym (p .digits) ∙ t) (outcome-same (h .kind) (h .modulus) (ap₂ take ed ew) (ap₂ drop ed ew) (q .outcome));
-      put = put ∙ ap (λ (y : ℕ). take at o ++ (answer-line y r v ++ drop (at + 13) o)) (h .kind)
+      is = answered r v (h .frame ∙ sym (p .digits) ∙ t)
+          (outcome-same (h .kind) (h .modulus) (ap₂ take ed ew) (ap₂ drop ed ew) (q .outcome));
+      put = put ∙ ap (λ (y : ℕ). take at o ++ (answer-line y r v ++ drop (at + 13) o)) (h .kind);
     }
 
 pub room : (count : ℕ) (w : List ℕ) → length w ≡ 98 → count ≤ 98 → count ≤ length (w ++ [])

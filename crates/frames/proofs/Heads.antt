@@ -71,17 +71,25 @@ known-kind (suc (suc (suc k))) h l = absurd (omega arith)
 
 pub fields : (s : List ℕ) (k n d e : ℕ) → (all-digits (take 2 s) ≡ true) × (k ≡ kind-of s) → 1 ≤ k → k ≤ 2
     → (all-digits (take 8 (drop 2 s)) ≡ true) × (n ≡ modulus-of s) → (all-digits (take 2 (drop 10 s)) ≡ true) × (d ≡ first-degree s)
-    → (all-digits (take 2 (drop 12 s)) ≡ true) × (e ≡ second-degree s) → length s ≤ 798 → length s ≡ 14 + 8 * (d + 1 + (e + 1)) → Fields s k n d e
+    → (all-digits (take 2 (drop 12 s)) ≡ true) × (e ≡ second-degree s) → length s ≤ 798 → length s ≡ 14 + 8 * (d + 1 + (e + 1)) → Fields s
+    k n d e
 unfolding is-frame
 fields s k n d e hk one two hn hd he short fit = record {
-      kind = hk .1;
-      known = (one, two);
-      modulus = hn .1;
-      first = hd .1;
-      second = he .1;
-      short = short;
-      fits = fit;
-      frame =
-        simp (le-leb (length s) 798 short, ap (λ (x : ℕ). eqb x 1 || eqb x 2) (sym (hk .1)) ∙ known-kind k one two, eq-eqb (length s) (14 + 8 * count-of s) (fit ∙ ap₂ (λ (x y : ℕ). 14 + 8 * (x + 1 + (y + 1))) (hd .1) (he .1)), and-true)
-        (after-digits 0 2 2 s (omega arith) (hk .0) ∙ after-digits 2 8 10 s (omega arith) (hn .0) ∙ after-digits 10 2 12 s (omega arith) (hd .0) ∙ after-digits 12 2 14 s (omega arith) (he .0))
-    }
+  kind = hk .1;
+  known = (one, two);
+  modulus = hn .1;
+  first = hd .1;
+  second = he .1;
+  short = short;
+  fits = fit;
+  frame =
+      simp (
+        le-leb (length s) 798 short,
+        ap (λ (x : ℕ). eqb x 1 || eqb x 2) (sym (hk .1)) ∙ known-kind k one two,
+        eq-eqb (length s)
+            (14 + 8 * count-of s) (fit ∙ ap₂ (λ (x y : ℕ). 14 + 8 * (x + 1 + (y + 1))) (hd .1) (he .1)),
+        and-true,
+      )
+      (after-digits 0 2 2 s (omega arith) (hk .0) ∙ after-digits 2 8 10 s (omega arith) (hn .0) ∙ after-digits 10 2 12 s (omega arith)
+      (hd .0) ∙ after-digits 12 2 14 s (omega arith) (he .0));
+}

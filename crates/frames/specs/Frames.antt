@@ -76,7 +76,7 @@ answer-line k r v = digits-of 2 k ++ (digits-of 2 r ++ (digits-of 8 v ++ 10 ∷ 
 pub data AnswerOf (s : List ℕ) : List ℕ → Type 0 where
   refused : is-frame s ≡ false → AnswerOf s (answer-line 255 8 0)
   answered : (r v : ℕ) → is-frame s ≡ true → Outcome (kind-of s) (modulus-of s) (first-polynomial s) (second-polynomial s) r v
-    → AnswerOf s (answer-line (kind-of s) r v)
+      → AnswerOf s (answer-line (kind-of s) r v)
 
 -- A line was answered: its answer stands in the buffer o' from place at on, and the rest of it is as it was in o. w and w' are
 -- the working words before and after.

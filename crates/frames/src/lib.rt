@@ -77,7 +77,8 @@ fn read_words(s: &[u8], words: &mut [u32], count: usize) -> bool
 // Writes an answer line from place `at` on; what stands before and after it is left.
 pub fn write_line(out: &mut [u8], at: usize, kind: u32, status: u32, value: u32)
     requires { ⌜ at + 13 ≤ length (now out) ⌝ }
-    ensures { λ _. ⌜ now (out .exit) ≡ take at (now (out .entry)) ++ (answer-line kind status value ++ drop (at + 13) (now (out .entry))) ⌝ }
+    ensures { λ _. ⌜ now (out .exit) ≡
+        take at (now (out .entry)) ++ (answer-line kind status value ++ drop (at + 13) (now (out .entry))) ⌝ }
 {
     hexadecimal::write(out, at, 2, kind);
     hexadecimal::write(out, at + 2, 2, status);
@@ -88,7 +89,8 @@ pub fn write_line(out: &mut [u8], at: usize, kind: u32, status: u32, value: u32)
 // Serves the job of a frame's words: the first polynomial is the first d + 1 of them, the second is the part from place d + 1 onward.
 fn serve(kind: u32, n: u32, words: &[u32], d: usize, work: &mut [u32]) -> Answer
     requires { ⌜ (d + 1 ≤ length (now words)) × (8192 ≤ length (now work)) ⌝ }
-    ensures { λ r. ⌜ Served kind n (take (d + 1) (now (words .entry))) (drop (d + 1) (now (words .entry))) (r .status) (r .value) (now (work .entry)) (now (work .exit)) ⌝ }
+    ensures { λ r. ⌜ Served kind n (take (d + 1) (now (words .entry))) (drop (d + 1) (now (words .entry)))
+        (r .status) (r .value) (now (work .entry)) (now (work .exit)) ⌝ }
 {
     let f = &words[0..d + 1];
     let g = &words[d + 1..];

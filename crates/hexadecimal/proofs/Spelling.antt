@@ -10,7 +10,8 @@ use native.Mathlib.Omega.{arith}
 use native.Mathlib.Numerals.{add-one}
 use lib.ListN.{length, getD, take, drop, set, length-drop, length-set, take-append-drop}
 use lib.Dec.{ltb}
-use lib.Seq.{take-suc, take-all, split-at, length-take-le, getD-take, getD-drop, take-set-le, drop-cons, drop-set-lt, getD-set-same, take-take}
+use lib.Seq.{take-suc, take-all, split-at, length-take-le, getD-take, getD-drop, take-set-le, drop-cons, drop-set-lt, getD-set-same}
+use lib.Seq.{take-take}
 use borrow.Author.Tests.{lt-ltb, le-ltb}
 use Rattle.hexadecimal.specs.Hexadecimal.{digit-of, all-digits, spelled, number-of, character-of, digits-of}
 use Rattle.hexadecimal.specs.declared.Reading.the-variants.{Number, Other}
@@ -32,14 +33,16 @@ pub spelling-none : (t : List ℕ) → Spelling t 0 0
 unfolding all-digits spelled
 spelling-none t = record { good = refl; value = refl }
 
-pub spelling-step : {t : List ℕ} {i x : ℕ} (v : ℕ) → i < length t → digit-of (getD t i 0) ≡ v → v < 16 → Spelling t i x → Spelling t (i + 1) (x * 16 + v)
+pub spelling-step : {t : List ℕ} {i x : ℕ} (v : ℕ) → i < length t → digit-of (getD t i 0) ≡ v → v < 16 → Spelling t i x
+    → Spelling t (i + 1) (x * 16 + v)
 unfolding all-digits
 spelling-step {t} {i} {x} v h e l p =
     let c = getD t i 0 in
     let e₁ : take (i + 1) t ≡ take i t ++ c ∷ [] = rw (add-one i) (take-suc t i 0 h) in
     record {
-      good = ap all-digits e₁ ∙ all-digits-append (take i t) (c ∷ []) ∙ ap₂ (λ (a b : Bool). a && (b && true)) (p .good) (ap (λ (y : ℕ). ltb y 16) e ∙ lt-ltb v 16 l);
-      value = ap number-of e₁ ∙ number-snoc (take i t) c ∙ ap₂ (λ (a b : ℕ). a * 16 + b) (p .value) e
+      good = ap all-digits e₁ ∙ all-digits-append (take i t) (c ∷ []) ∙ ap₂ (λ (a b : Bool). a && (b && true)) (p .good)
+          (ap (λ (y : ℕ). ltb y 16) e ∙ lt-ltb v 16 l);
+      value = ap number-of e₁ ∙ number-snoc (take i t) c ∙ ap₂ (λ (a b : ℕ). a * 16 + b) (p .value) e;
     }
 
 -- a character that is no digit
@@ -55,7 +58,8 @@ pub spelling-end : {t : List ℕ} {i x : ℕ} → length t ≤ i → Spelling t 
 spelling-end {t} {i} {x} h p = let e = take-all i t h in (ap all-digits (sym e) ∙ p .good, ap number-of (sym e) ∙ p .value)
 
 pub spelling-below : {t : List ℕ} {i x : ℕ} (k : ℕ) → i ≤ k → i ≤ length t → Spelling t i x → x < 16 ^ k
-spelling-below {t} {i} {x} k h l p = subst (λ (y : ℕ). y < 16 ^ k) (p .value) (number-below (take i t) k (p .good) (omega (arith, length-take-le i t l)))
+spelling-below {t} {i} {x} k h l p =
+    subst (λ (y : ℕ). y < 16 ^ k) (p .value) (number-below (take i t) k (p .good) (omega (arith, length-take-le i t l)))
 
 -- the same of the count characters of s from place at on
 module _ (s : List ℕ) (at count : ℕ) (fits : at + count ≤ length s) where
@@ -66,7 +70,8 @@ module _ (s : List ℕ) (at count : ℕ) (fits : at + count ≤ length s) where
   pub part-stop : (i v : ℕ) → i < count → v ≡ digit-of (getD s (at + i) 0) → 15 < v → Other ≡ reading-of (take count (drop at s))
   part-stop i v h e l =
       ap (λ (b : Bool). if-digits b (number-of (take count (drop at s))))
-      (sym (spelling-stop (take count (drop at s)) i v (omega (arith, part-length s at count fits)) (ap digit-of (part-at s at count i h) ∙ sym e) l))
+      (sym (spelling-stop (take count (drop at s)) i v (omega (arith, part-length s at count fits))
+      (ap digit-of (part-at s at count i h) ∙ sym e) l))
 
   pub part-end : {i x : ℕ} → count ≤ i → Spelling (take count (drop at s)) i x → Number x ≡ reading-of (take count (drop at s))
   part-end {i} {x} h p =
@@ -84,7 +89,8 @@ pub record Writing (k x at : ℕ) (w₀ : List ℕ) (i y : ℕ) (w : List ℕ) :
 pub writing-none : (k x at : ℕ) (w₀ : List ℕ) → Writing k x at w₀ k x w₀
 writing-none k x at w₀ = record { same = refl; low = refl; high = refl }
 
-pub writing-step : {k x at i y : ℕ} {w₀ w : List ℕ} (c : ℕ) → 0 < i → at + i ≤ length w → c ≡ character-of (y % 16) → Writing k x at w₀ i y w
+pub writing-step : {k x at i y : ℕ} {w₀ w : List ℕ} (c : ℕ) → 0 < i → at + i ≤ length w → c ≡ character-of (y % 16)
+    → Writing k x at w₀ i y w
     → Writing k x at w₀ (i - 1) (y / 16) (set w (at + (i - 1)) c)
 unfolding digits-of
 writing-step {k} {x} {at} {i} {y} {w₀} {w} c h l e p =
@@ -95,16 +101,17 @@ writing-step {k} {x} {at} {i} {y} {w₀} {w} c h l e p =
     let w' = set w q c in
     let lq : q < length w' = omega (arith, length-set w q c) in
     let d : drop q w' ≡ c ∷ drop (at + i) w =
-      drop-cons w' q 0 lq
-      ∙ ap₂ (λ (a : ℕ) (b : List ℕ). a ∷ b) (getD-set-same w q c 0 (omega arith))
-        (drop-set-lt (suc q) w q c (omega arith) ∙ ap (λ (a : ℕ). drop a w) (sym e₂)) in
+    drop-cons w' q 0 lq
+    ∙ ap₂ (λ (a : ℕ) (b : List ℕ). a ∷ b) (getD-set-same w q c 0 (omega arith))
+    (drop-set-lt (suc q) w q c (omega arith) ∙ ap (λ (a : ℕ). drop a w) (sym e₂)) in
     record {
       same = length-set w q c ∙ p .same;
-      low = take-set-le q w q c (omega arith) ∙ sym (take-take q (at + i) w (omega arith)) ∙ ap (take q) (p .low) ∙ take-take q (at + i) w₀ (omega arith);
+      low = take-set-le q w q c (omega arith) ∙ sym (take-take q (at + i) w (omega arith)) ∙ ap (take q) (p .low) ∙ take-take q (at + i)
+          w₀ (omega arith);
       high = ap (λ (a : List ℕ). digits-of j (y / 16) ++ a) (d ∙ ap (λ (a : ℕ). a ∷ drop (at + i) w) e)
-        ∙ sym (append-assoc (digits-of j (y / 16)) (character-of (y % 16) ∷ []) (drop (at + i) w))
-        ∙ ap (λ (a : ℕ). digits-of a y ++ drop (at + i) w) (sym e₁)
-        ∙ p .high
+          ∙ sym (append-assoc (digits-of j (y / 16)) (character-of (y % 16) ∷ []) (drop (at + i) w))
+          ∙ ap (λ (a : ℕ). digits-of a y ++ drop (at + i) w) (sym e₁)
+          ∙ p .high;
     }
 
 pub writing-end : {k x at y : ℕ} {w₀ w : List ℕ} → Writing k x at w₀ 0 y w → w ≡ take at w₀ ++ (digits-of k x ++ drop (at + k) w₀)

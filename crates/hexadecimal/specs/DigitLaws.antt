@@ -30,7 +30,9 @@ and-false false = refl
 pub all-digits-append : (s t : List ℕ) → all-digits (s ++ t) ≡ (all-digits s && all-digits t)
 unfolding all-digits
 all-digits-append [] t = refl
-all-digits-append (c ∷ s) t = ap (λ (b : Bool). ltb (digit-of c) 16 && b) (all-digits-append s t) ∙ sym (and-assoc (ltb (digit-of c) 16) (all-digits s) (all-digits t))
+all-digits-append (c ∷ s) t =
+    ap (λ (b : Bool). ltb (digit-of c) 16 && b) (all-digits-append s t) ∙ sym
+    (and-assoc (ltb (digit-of c) 16) (all-digits s) (all-digits t))
 
 -- a character of a part that is no digit is one of the whole
 pub all-digits-part : (a k : ℕ) (s : List ℕ) → all-digits (take k (drop a s)) ≡ false → all-digits s ≡ false
@@ -38,7 +40,7 @@ all-digits-part a k s h =
     ap all-digits (sym (take-append-drop a s) ∙ ap (λ (x : List ℕ). take a s ++ x) (sym (take-append-drop k (drop a s))))
     ∙ all-digits-append (take a s) (take k (drop a s) ++ drop k (drop a s))
     ∙ ap (λ (b : Bool). all-digits (take a s) && b)
-      (all-digits-append (take k (drop a s)) (drop k (drop a s)) ∙ ap (λ (b : Bool). b && all-digits (drop k (drop a s))) h)
+    (all-digits-append (take k (drop a s)) (drop k (drop a s)) ∙ ap (λ (b : Bool). b && all-digits (drop k (drop a s))) h)
     ∙ and-false (all-digits (take a s))
 
 -- k digits in front change nothing
@@ -83,15 +85,25 @@ digit-character x h = elim (decLt x 10) [ yes l ↦ low l | no l ↦ high (omega
   where
     low : x < 10 → digit-of (character-of x) ≡ x
     low l = simp (lt-ltb x 10 l, le-ltb (48 + x) 48 (omega arith), lt-ltb (48 + x) 58 (omega arith)) (omega arith)
+
     high : 10 ≤ x → digit-of (character-of x) ≡ x
-    high l = simp (le-ltb x 10 l, le-ltb (87 + x) 48 (omega arith), le-ltb (87 + x) 58 (omega arith), le-ltb (87 + x) 97 (omega arith), lt-ltb (87 + x) 103 (omega arith)) (omega arith)
+    high l =
+        simp (
+          le-ltb x 10 l,
+          le-ltb (87 + x) 48 (omega arith),
+          le-ltb (87 + x) 58 (omega arith),
+          le-ltb (87 + x) 97 (omega arith),
+          lt-ltb
+              (87 + x) 103 (omega arith),
+        ) (omega arith)
 
 pub digits-are-digits : (k x : ℕ) → all-digits (digits-of k x) ≡ true
 unfolding digits-of all-digits
 digits-are-digits zero x = refl
 digits-are-digits (suc k) x =
     all-digits-append (digits-of k (x / 16)) (character-of (x % 16) ∷ [])
-    ∙ ap₂ _&&_ (digits-are-digits k (x / 16)) (ap (λ (y : ℕ). ltb y 16 && true) (digit-character (x % 16) (omega arith)) ∙ ap (λ (b : Bool). b && true) (lt-ltb (x % 16) 16 (omega arith)))
+    ∙ ap₂ _&&_ (digits-are-digits k (x / 16)) (ap (λ (y : ℕ). ltb y 16 && true) (digit-character (x % 16) (omega arith)) ∙ ap
+    (λ (b : Bool). b && true) (lt-ltb (x % 16) 16 (omega arith)))
 
 pub number-digits : (k x : ℕ) → x < 16 ^ k → number-of (digits-of k x) ≡ x
 unfolding digits-of spelled

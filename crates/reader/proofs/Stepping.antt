@@ -1,5 +1,6 @@
 -- A step over a piece, line by line.
 --
+--   Sizes p b₀ o₀ i w b o m   the lengths that a turn relies on
 --   Going s p i h w b o₀ o    of the piece p the first i characters are worked, s being the line held before it
 use mathlib.Core.Path.{_≡_, refl, sym, ap, ap₂, _∙_, subst}
 use mathlib.Core.Bool.{Bool, true, false}
@@ -15,7 +16,8 @@ use Rattle.hexadecimal.specs.DigitLaws.{digits-length}
 use Rattle.frames.specs.Frames.{answer-line, AnswerOf, refused, answered, Wrote}
 use Rattle.frames.proofs.Putting.{put-front, put-rest}
 use Rattle.reader.specs.Lines.{has-newline, finished, unfinished, last-line, Answers, none}
-use Rattle.reader.specs.LineLaws.{none-in-either, finished-none, unfinished-all, finished-line, unfinished-line, answers-append, answers-one}
+use Rattle.reader.specs.LineLaws.{none-in-either, finished-none, unfinished-all, finished-line, unfinished-line, answers-append}
+use Rattle.reader.specs.LineLaws.{answers-one}
 use Rattle.reader.specs.Pieces.{NewlineAt, Held, Stepped, Ended}
 use Rattle.reader.specs.Whole.{held-none}
 
@@ -33,9 +35,11 @@ answer-length (refused h) = line-length 255 8 0
 answer-length {s} (answered r v h q) = line-length _ r v
 
 -- one more line
-wrote-more : {ls : List (List ℕ)} {s : List ℕ} {at : ℕ} {o o' w w' : List ℕ} → at + 13 ≤ length o → Answers ls (take at o) → Wrote s at o o' w w' → Answers (ls ++ s ∷ []) (take (at + 13) o')
+wrote-more : {ls : List (List ℕ)} {s : List ℕ} {at : ℕ} {o o' w w' : List ℕ} → at + 13 ≤ length o → Answers ls (take at o)
+    → Wrote s at o o' w w' → Answers (ls ++ s ∷ []) (take (at + 13) o')
 wrote-more {ls} {s} {at} {o} {o'} l q r =
-    subst (λ (x : List ℕ). Answers (ls ++ s ∷ []) x) (sym (put-front o o' (r .line) at 13 l (answer-length (r .is)) (r .put))) (answers-append q (answers-one (r .is)))
+    subst (λ (x : List ℕ). Answers (ls ++ s ∷ []) x) (sym (put-front o o' (r .line) at 13 l (answer-length (r .is)) (r .put)))
+    (answers-append q (answers-one (r .is)))
 
 wrote-rest : {s : List ℕ} {at : ℕ} {o o' w w' : List ℕ} → at + 13 ≤ length o → Wrote s at o o' w w' → drop (at + 13) o' ≡ drop (at + 13) o
 wrote-rest {s} {at} {o} {o'} l r = put-rest o o' (r .line) at 13 l (answer-length (r .is)) (r .put)
@@ -48,10 +52,18 @@ cut-at p i j l h e =
     let e₁ : i + (j - i) ≡ j = omega arith in
     sym (take-append-drop (j - i) (drop i p))
     ∙ ap (λ (x : List ℕ). take (j - i) (drop i p) ++ x)
-      (drop-drop (j - i) i p
-      ∙ ap (λ (x : ℕ). drop x p) e₁
-      ∙ drop-cons p j 0 h
-      ∙ ap₂ (λ (x : ℕ) (y : List ℕ). x ∷ y) e (ap (λ (x : ℕ). drop x p) (sym (add-one j))))
+    (drop-drop (j - i) i p
+    ∙ ap (λ (x : ℕ). drop x p) e₁
+    ∙ drop-cons p j 0 h
+    ∙ ap₂ (λ (x : ℕ) (y : List ℕ). x ∷ y) e (ap (λ (x : ℕ). drop x p) (sym (add-one j))))
+
+-- what stays in reach: the place in the piece, the room for answers, and the buffers' lengths
+pub record Sizes (p b₀ o₀ : List ℕ) (i w : ℕ) (b o m : List ℕ) : Type 0 where
+  pub place : i ≤ length p
+  pub room : w ≤ 13 * i
+  pub line : length b ≡ length b₀
+  pub out : length o ≡ length o₀
+  pub work : length m ≡ 8192
 
 pub record Going (s p : List ℕ) (i h w : ℕ) (b o₀ o : List ℕ) : Type 0 where
   pub done : List (List ℕ)
@@ -73,17 +85,18 @@ module _ {s p : List ℕ} {i h w : ℕ} {b o₀ o : List ℕ} (g : Going s p i h
       let line = g .rest ++ part in
       let more = drop (j + 1) p in
       let c : g .rest ++ drop i p ≡ line ++ 10 ∷ more =
-        ap (λ (x : List ℕ). g .rest ++ x) (cut-at p i j (n .least) l (n .at l)) ∙ sym (append-assoc (g .rest) part (10 ∷ more)) in
+      ap (λ (x : List ℕ). g .rest ++ x) (cut-at p i j (n .least) l (n .at l)) ∙ sym (append-assoc (g .rest) part (10 ∷ more)) in
       let single : has-newline line ≡ false = none-in-either (g .rest) part (g .held .single) (n .before) in
       record {
         done = g .done ++ line ∷ [];
         rest = [];
-        ended = g .ended ∙ ap (λ (x : List ℕ). g .done ++ finished x) c ∙ ap (λ (x : List (List ℕ)). g .done ++ x) (finished-line line more single)
-          ∙ sym (append-assoc (g .done) (line ∷ []) (finished more));
+        ended = g .ended ∙ ap (λ (x : List ℕ). g .done ++ finished x) c ∙ ap (λ (x : List (List ℕ)). g .done ++ x)
+            (finished-line line more single)
+            ∙ sym (append-assoc (g .done) (line ∷ []) (finished more));
         left = g .left ∙ ap unfinished c ∙ unfinished-line line more;
         held = held-none b';
         answers = wrote-more m (g .answers) r;
-        after = wrote-rest m r ∙ sym (drop-drop 13 w o) ∙ ap (drop 13) (g .after) ∙ drop-drop 13 w o₀
+        after = wrote-rest m r ∙ sym (drop-drop 13 w o) ∙ ap (drop 13) (g .after) ∙ drop-drop 13 w o₀;
       }
 
   -- what is left of the piece has no newline
@@ -92,8 +105,9 @@ module _ {s p : List ℕ} {i h w : ℕ} {b o₀ o : List ℕ} (g : Going s p i h
       record {
         held = subst (λ (x : List ℕ). Held x h' b') (sym (g .left ∙ unfinished-all (g .rest ++ drop i p) (k .single))) k;
         answers = subst (λ (x : List (List ℕ)). Answers x (take w o))
-          (sym (g .ended ∙ ap (λ (x : List (List ℕ)). g .done ++ x) (finished-none (g .rest ++ drop i p) (k .single)) ∙ append-nil (g .done))) (g .answers);
-        rest = g .after
+            (sym (g .ended ∙ ap (λ (x : List (List ℕ)). g .done ++ x) (finished-none (g .rest ++ drop i p) (k .single)) ∙ append-nil
+            (g .done))) (g .answers);
+        rest = g .after;
       }
 
   pub going-hold : {j h' : ℕ} {b' : List ℕ} → length p ≤ j → Held (g .rest ++ take (j - i) (drop i p)) h' b' → Stepped s p h' b' w o₀ o
@@ -102,7 +116,8 @@ module _ {s p : List ℕ} {i h w : ℕ} {b o₀ o : List ℕ} (g : Going s p i h
 
   pub going-end : length p ≤ i → Stepped s p h b w o₀ o
   going-end l =
-      going-last (subst (λ (x : List ℕ). Held x h b) (sym (ap (λ (x : List ℕ). g .rest ++ x) (drop-of-length-le p l) ∙ append-nil (g .rest))) (g .held))
+      going-last (subst (λ (x : List ℕ). Held x h b)
+      (sym (ap (λ (x : List ℕ). g .rest ++ x) (drop-of-length-le p l) ∙ append-nil (g .rest))) (g .held))
 
 -- ---- the end of the input
 
@@ -115,7 +130,11 @@ ended-none {h} {b} o e s k =
     let z : [] ≡ s = ap (λ (x : ℕ). take x b) (sym e) ∙ k .kept (omega arith) in
     record { answers = subst (λ (x : List ℕ). Answers (last-line x) []) z none; rest = refl }
 
-pub ended-line : {h : ℕ} {b o o' v v' : List ℕ} (s : List ℕ) → (h ≡ 0 → ⊥) → 13 ≤ length o → Held s h b → Wrote s 0 o o' v v' → Ended s 13 o o'
+pub ended-line : {h : ℕ} {b o o' v v' : List ℕ} (s : List ℕ) → (h ≡ 0 → ⊥) → 13 ≤ length o → Held s h b → Wrote s 0 o o' v v'
+    → Ended s 13 o o'
 ended-line {h} {b} {o} {o'} s n l k r =
     let z : 0 < length s = pos-of-ne-zero (λ e. n (omega (arith, k .count))) in
-    record { answers = subst (λ (x : List (List ℕ)). Answers x (take 13 o')) (sym (last-some s z)) (wrote-more {ls = []} l none r); rest = wrote-rest l r }
+    record {
+      answers = subst (λ (x : List (List ℕ)). Answers x (take 13 o')) (sym (last-some s z)) (wrote-more {ls = []} l none r);
+      rest = wrote-rest l r;
+    }

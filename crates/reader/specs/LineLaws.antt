@@ -25,7 +25,8 @@ or-assoc false b c = refl
 pub has-newline-append : (s t : List ℕ) → has-newline (s ++ t) ≡ (has-newline s || has-newline t)
 unfolding has-newline
 has-newline-append [] t = refl
-has-newline-append (c ∷ s) t = ap (λ (b : Bool). eqb c 10 || b) (has-newline-append s t) ∙ sym (or-assoc (eqb c 10) (has-newline s) (has-newline t))
+has-newline-append (c ∷ s) t =
+    ap (λ (b : Bool). eqb c 10 || b) (has-newline-append s t) ∙ sym (or-assoc (eqb c 10) (has-newline s) (has-newline t))
 
 pub none-in-either : (s t : List ℕ) → has-newline s ≡ false → has-newline t ≡ false → has-newline (s ++ t) ≡ false
 none-in-either s t h k = has-newline-append s t ∙ ap₂ _||_ h k
@@ -35,7 +36,9 @@ none-in-either s t h k = has-newline-append s t ∙ ap₂ _||_ h k
 pub finished-none : (s : List ℕ) → has-newline s ≡ false → finished s ≡ []
 unfolding finished has-newline
 finished-none [] h = refl
-finished-none (c ∷ s) h = let k = or-neither (eqb c 10) (has-newline s) h in ap₂ (λ (b : Bool) (x : List (List ℕ)). cond b ([] ∷ finished s) (lengthen c x)) (k .0) (finished-none s (k .1))
+finished-none (c ∷ s) h =
+    let k = or-neither (eqb c 10) (has-newline s) h in ap₂ (λ (b : Bool) (x : List (List ℕ)). cond b ([] ∷ finished s) (lengthen c x))
+    (k .0) (finished-none s (k .1))
 
 pub unfinished-all : (s : List ℕ) → has-newline s ≡ false → unfinished s ≡ s
 unfolding unfinished
@@ -58,7 +61,8 @@ newline-within s t = has-newline-append s (10 ∷ t) ∙ or-true (has-newline s)
 pub unfinished-line : (s t : List ℕ) → unfinished (s ++ 10 ∷ t) ≡ unfinished t
 unfolding unfinished
 unfinished-line [] t = ap (λ (b : Bool). cond b (unfinished t) (10 ∷ t)) (newline-within [] t)
-unfinished-line (c ∷ s) t = ap (λ (b : Bool). cond b (unfinished (s ++ 10 ∷ t)) (c ∷ s ++ 10 ∷ t)) (newline-within (c ∷ s) t) ∙ unfinished-line s t
+unfinished-line (c ∷ s) t =
+    ap (λ (b : Bool). cond b (unfinished (s ++ 10 ∷ t)) (c ∷ s ++ 10 ∷ t)) (newline-within (c ∷ s) t) ∙ unfinished-line s t
 
 -- ---- every text is of one of the two kinds
 
@@ -119,7 +123,9 @@ unfinished-single t = go (cut t)
 
 pub answers-append : {ls ms : List (List ℕ)} {a b : List ℕ} → Answers ls a → Answers ms b → Answers (ls ++ ms) (a ++ b)
 answers-append none q = q
-answers-append {ms = ms} {b = b} (then {s = s} {a = a} {b = c} {ls = ls} p ps) q = subst (λ (x : List ℕ). Answers (s ∷ ls ++ ms) x) (sym (append-assoc a c b)) (then p (answers-append ps q))
+answers-append {ms =
+    ms} {b = b} (then {s = s} {a = a} {b = c} {ls = ls} p ps) q = subst (λ (x : List ℕ). Answers (s ∷ ls ++ ms) x) (sym
+    (append-assoc a c b)) (then p (answers-append ps q))
 
 pub answers-one : {s a : List ℕ} → AnswerOf s a → Answers (s ∷ []) a
 answers-one {s} {a} p = subst (λ (x : List ℕ). Answers (s ∷ []) x) (append-nil a) (then p none)

@@ -46,7 +46,8 @@ Ends h b w o o' = (s : List ℕ) → Held s h b → Ended s w o o'
 -- What is written for the pieces ps and at the end, from a line held as h in b on: each step takes up what the step before it left.
 pub data Written : ℕ → List ℕ → List (List ℕ) → List ℕ → Type 0 where
   end : {h w : ℕ} {b o o' : List ℕ} → Ends h b w o o' → Written h b [] (take w o')
-  piece : {h h' w : ℕ} {b b' o o' p a : List ℕ} {ps : List (List ℕ)} → Steps h b p h' b' w o o' → Written h' b' ps a → Written h b (p ∷ ps) (take w o' ++ a)
+  piece : {h h' w : ℕ} {b b' o o' p a : List ℕ} {ps : List (List ℕ)} → Steps h b p h' b' w o o' → Written h' b' ps a
+      → Written h b (p ∷ ps) (take w o' ++ a)
 
 -- the pieces, one after the other
 abbrev pub joined : List (List ℕ) → List ℕ

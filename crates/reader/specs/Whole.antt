@@ -19,12 +19,14 @@ unfolding has-newline
 held-none b = record { single = refl; count = refl; kept = λ h. refl }
 
 -- from a held line s on
-written-answers : {h : ℕ} {b a : List ℕ} {ps : List (List ℕ)} (s : List ℕ) → Held s h b → Written h b ps a → Answers (lines (s ++ joined ps)) a
+written-answers : {h : ℕ} {b a : List ℕ} {ps : List (List ℕ)} (s : List ℕ) → Held s h b → Written h b ps a
+    → Answers (lines (s ++ joined ps)) a
 written-answers s k (end {w = w} {o' = o'} e) =
     subst (λ (x : List (List ℕ)). Answers x (take w o')) (sym (ap lines (append-nil s) ∙ lines-single s (k .single))) (e s k .answers)
 written-answers s k (piece {w = w} {o' = o'} {p = p} {a = a} {ps = ps} e more) =
     let q = e s k in
-    subst (λ (x : List (List ℕ)). Answers x (take w o' ++ a)) (sym (ap lines (sym (append-assoc s p (joined ps))) ∙ lines-append (s ++ p) (joined ps)))
+    subst (λ (x : List (List ℕ)). Answers x (take w o' ++ a))
+    (sym (ap lines (sym (append-assoc s p (joined ps))) ∙ lines-append (s ++ p) (joined ps)))
     (answers-append (q .answers) (written-answers (unfinished (s ++ p)) (q .held) more))
 
 -- "One frame a line", "A last line without a final newline counts as a line", "Empty input gives empty output": the whole input.

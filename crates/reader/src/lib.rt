@@ -40,7 +40,8 @@ fn find_newline(piece: &[u8], from: usize) -> usize
 // Holds part after what is held of an unfinished line.
 fn hold(held: usize, line: &mut [u8], part: &[u8]) -> usize
     requires { ⌜ 798 ≤ length (now line) ⌝ }
-    ensures { λ r. ⌜ ((s : List ℕ) → Held s held (now (line .entry)) → has-newline (now (part .entry)) ≡ false → Held (s ++ now (part .entry)) r (now (line .exit))) ⌝ }
+    ensures { λ r. ⌜ ((s : List ℕ) → Held s held (now (line .entry)) → has-newline (now (part .entry)) ≡ false
+        → Held (s ++ now (part .entry)) r (now (line .exit))) ⌝ }
 {
     if held > 798 {
         return 799;
@@ -59,7 +60,8 @@ fn hold(held: usize, line: &mut [u8], part: &[u8]) -> usize
 // Writes the answer to the line held.
 fn answer_held(held: usize, line: &[u8], work: &mut [u32], out: &mut [u8], at: usize)
     requires { ⌜ (798 ≤ length (now line)) × ((8192 ≤ length (now work)) × (at + 13 ≤ length (now out))) ⌝ }
-    ensures { λ _. ⌜ ((s : List ℕ) → Held s held (now (line .entry)) → Wrote s at (now (out .entry)) (now (out .exit)) (now (work .entry)) (now (work .exit))) ⌝ }
+    ensures { λ _. ⌜ ((s : List ℕ) → Held s held (now (line .entry))
+        → Wrote s at (now (out .entry)) (now (out .exit)) (now (work .entry)) (now (work .exit))) ⌝ }
 {
     if held > 798 {
         frames::write_line(out, at, 255, 8, 0);
@@ -72,7 +74,7 @@ fn answer_held(held: usize, line: &[u8], work: &mut [u32], out: &mut [u8], at: u
 fn close(held: usize, line: &mut [u8], part: &[u8], work: &mut [u32], out: &mut [u8], at: usize)
     requires { ⌜ (798 ≤ length (now line)) × ((8192 ≤ length (now work)) × (at + 13 ≤ length (now out))) ⌝ }
     ensures { λ _. ⌜ ((s : List ℕ) → Held s held (now (line .entry)) → has-newline (now (part .entry)) ≡ false
-      → Wrote (s ++ now (part .entry)) at (now (out .entry)) (now (out .exit)) (now (work .entry)) (now (work .exit))) ⌝ }
+        → Wrote (s ++ now (part .entry)) at (now (out .entry)) (now (out .exit)) (now (work .entry)) (now (work .exit))) ⌝ }
 {
     if held == 0 {
         frames::answer(part, work, out, at);
@@ -87,7 +89,8 @@ fn close(held: usize, line: &mut [u8], part: &[u8], work: &mut [u32], out: &mut 
 pub fn step(held: usize, line: &mut [u8], piece: &[u8], out: &mut [u8]) -> Progress
     requires { ⌜ (798 ≤ length (now line)) × (13 * length (now piece) ≤ length (now out)) ⌝ }
     ensures { λ r. ⌜ r .written ≤ length (now (out .entry)) ⌝ }
-    ensures { λ r. ⌜ Steps held (now (line .entry)) (now (piece .entry)) (r .held) (now (line .exit)) (r .written) (now (out .entry)) (now (out .exit)) ⌝ }
+    ensures { λ r. ⌜ Steps held (now (line .entry)) (now (piece .entry)) (r .held) (now (line .exit)) (r .written)
+        (now (out .entry)) (now (out .exit)) ⌝ }
 {
     let mut work = working_words();
     let mut h = held;

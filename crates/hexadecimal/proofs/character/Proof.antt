@@ -2,30 +2,22 @@ use borrow.Author.Tests.{lt-ltb, le-ltb}
 use borrow.Author.Needs.{needs}
 use Rattle.hexadecimal.proofs.character.Statement.{statement}
 use Rattle.hexadecimal.proofs.character.Tie as tie
-use Rattle.hexadecimal.proofs.character.Reads as reads
-use Rattle.hexadecimal.proofs.character.Lts as lts
 
--- src/lib.rt:58:17
 add-result : tie.Need-add-result
 add-result c = search needs
 
--- src/lib.rt:58:16
 cast-result : tie.Need-cast-result
 cast-result c = search needs
 
--- src/lib.rt:58:9
 returns : tie.Need-returns
 returns c = simp (lt-ltb _ _ (c .if1 .taken))
 
--- src/lib.rt:60:6
 add-result-2 : tie.Need-add-result-2
 add-result-2 c = search needs
 
--- src/lib.rt:60:5
 cast-result-2 : tie.Need-cast-result-2
 cast-result-2 c = search needs
 
--- src/lib.rt:53:1
 returns-2 : tie.Need-returns-2
 returns-2 c = simp (le-ltb _ _ (c .if1 .left))
 

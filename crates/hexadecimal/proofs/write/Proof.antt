@@ -1,14 +1,9 @@
-use mathlib.Core.Path.{_≡_}
 use borrow.Author.Needs.{needs}
-use Prim.Native.Nat.{_-_, _≤_}
-use native.Mathlib.Omega.{arith}
-use lib.ListN.{take, drop}
+use mathlib.Core.Path.{_≡_}
+use Prim.Native.Nat.{_≤_}
 use Rattle.hexadecimal.proofs.Spelling.{Writing, writing-none, writing-step, writing-end}
 use Rattle.hexadecimal.proofs.write.Statement.{statement}
 use Rattle.hexadecimal.proofs.write.Tie as tie
-use Rattle.hexadecimal.proofs.write.Reads as reads
-use Rattle.hexadecimal.proofs.write.Lts as lts
-use Rattle.hexadecimal.proofs.character.Reads as character-reads
 
 abbrev Inv-loop : tie.InvT-loop
 Inv-loop out₀ at count x y₀ i₀ out y i = (i ≤ count) × Writing count x at out₀ i y out
@@ -16,41 +11,38 @@ Inv-loop out₀ at count x y₀ i₀ out y i = (i ≤ count) × Writing count x 
 abbrev μ-loop : tie.MeasureT-loop
 μ-loop out₀ at count x y₀ i₀ out y i = i
 
--- src/lib.rt:70:5
 loop-holds : tie.Need-loop-holds Inv-loop μ-loop
 loop-holds c = (search needs, writing-none _ _ _ _)
 
--- src/lib.rt:71:9
 sub-i : tie.Need-sub-i Inv-loop μ-loop
 sub-i c = search needs
 
--- src/lib.rt:72:23
 character-requires : tie.Need-character-requires Inv-loop μ-loop
 character-requires c κs = search needs
 
--- src/lib.rt:72:13
 add-out : tie.Need-add-out Inv-loop μ-loop
 add-out c = search needs
 
--- src/lib.rt:72:9
 slice-write-out : tie.Need-slice-write-out Inv-loop μ-loop
 slice-write-out c = search needs
 
--- src/lib.rt:70:5
 loop-less : tie.Need-loop-less Inv-loop μ-loop
 loop-less c = search needs
 
--- src/lib.rt:70:5
 loop-again : tie.Need-loop-again Inv-loop μ-loop
-loop-again c = (search needs, writing-step (c .character .result) (search needs) (search needs) (c .character .ensures) (c .before .before .loop .inv .1))
+loop-again c = (
+  search needs,
+  writing-step (c .character .result) (search needs) (search needs) (c .character .ensures)
+      (c .before .before .loop .inv .1),
+)
 
--- src/lib.rt:64:1
 same-length : tie.Need-same-length Inv-loop μ-loop
 same-length c = search needs
 
--- src/lib.rt:64:1
 returns : tie.Need-returns Inv-loop μ-loop
-returns c = let e : c .before .loop .i ≡ 0 = search needs in writing-end (rw e at (c .before .loop .inv .1))
+returns c =
+    let e : c .before .loop .i ≡ 0 = search needs in
+    writing-end (rw e at (c .before .loop .inv .1))
 
 pub write-spec : {M : Type 1} → statement M
 write-spec =

@@ -8,8 +8,6 @@ use Rattle.reader.specs.Lines.{has-newline}
 use Rattle.reader.proofs.Holding.{scan-none, scan-step}
 use Rattle.reader.proofs.find_newline.Statement.{statement}
 use Rattle.reader.proofs.find_newline.Tie as tie
-use Rattle.reader.proofs.find_newline.Reads as reads
-use Rattle.reader.proofs.find_newline.Lts as lts
 
 abbrev Inv-loop : tie.InvT-loop
 Inv-loop piece from j₀ j = (from ≤ j) × ((j ≤ length piece) × (has-newline (take (j - from) (drop from piece)) ≡ false))
@@ -17,31 +15,35 @@ Inv-loop piece from j₀ j = (from ≤ j) × ((j ≤ length piece) × (has-newli
 abbrev μ-loop : tie.MeasureT-loop
 μ-loop piece from j₀ j = length piece - j
 
--- src/lib.rt:24:5
 loop-holds : tie.Need-loop-holds Inv-loop μ-loop
 loop-holds c = (search needs, (search needs, scan-none (c .args .piece .now) (c .args .from)))
 
--- src/lib.rt:25:12
 shared-slice-read-if1 : tie.Need-shared-slice-read-if1 Inv-loop μ-loop
 shared-slice-read-if1 c = search needs
 
--- src/lib.rt:26:13
 returns : tie.Need-returns Inv-loop μ-loop
-returns c = record { least = search needs; most = search needs; before = c .before .before .before .loop .inv .1 .1; at = λ _. c .if1 .taken }
+returns c =
+    let at-loop = c .before .before .before in
+    record { least = search needs; most = search needs; before = at-loop .loop .inv .1 .1; at = λ _. c .if1 .taken }
 
--- src/lib.rt:28:9
 add-j : tie.Need-add-j Inv-loop μ-loop
 add-j c = search needs
 
--- src/lib.rt:24:5
 loop-less : tie.Need-loop-less Inv-loop μ-loop
 loop-less c = search needs
 
--- src/lib.rt:24:5
 loop-again : tie.Need-loop-again Inv-loop μ-loop
-loop-again c = (search needs, (search needs, scan-step (c .before .before .before .before .args .piece .now) (c .before .before .before .before .args .from) (c .before .before .before .loop .j) (search needs) (search needs) (c .if1 .left) (c .before .before .before .loop .inv .1 .1)))
+loop-again c =
+    let at-loop = c .before .before .before in
+    let start = at-loop .before in (
+      search needs,
+      (
+        search needs,
+        scan-step (start .args .piece .now) (start .args .from) (at-loop .loop .j) (search needs) (search needs)
+            (c .if1 .left) (at-loop .loop .inv .1 .1),
+      ),
+    )
 
--- src/lib.rt:19:1
 returns-2 : tie.Need-returns-2 Inv-loop μ-loop
 returns-2 c = record { least = search needs; most = search needs; before = c .before .loop .inv .1 .1; at = λ h. absurd (omega arith) }
 

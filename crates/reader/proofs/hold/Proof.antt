@@ -5,8 +5,6 @@ use lib.ListN.{length}
 use Rattle.reader.proofs.Holding.{Holding, holding-none, holding-step, holding-end, holding-long}
 use Rattle.reader.proofs.hold.Statement.{statement}
 use Rattle.reader.proofs.hold.Tie as tie
-use Rattle.reader.proofs.hold.Reads as reads
-use Rattle.reader.proofs.hold.Lts as lts
 
 abbrev Inv-loop : tie.InvT-loop
 Inv-loop held line₀ part i₀ line i = (i ≤ length part) × Holding held line₀ part i line
@@ -14,51 +12,39 @@ Inv-loop held line₀ part i₀ line i = (i ≤ length part) × Holding held lin
 abbrev μ-loop : tie.MeasureT-loop
 μ-loop held line₀ part i₀ line i = length part - i
 
--- src/lib.rt:39:9
 returns : tie.Need-returns Inv-loop μ-loop
 returns c = λ s. holding-long (c .before .args .line .now) _ (c .before .args .part .now) (omega arith) s
 
--- src/lib.rt:42:9
 returns-2 : tie.Need-returns-2 Inv-loop μ-loop
 returns-2 c = λ s. holding-long (c .before .before .args .line .now) _ (c .before .before .args .part .now) (omega arith) s
 
--- src/lib.rt:45:5
 loop-holds : tie.Need-loop-holds Inv-loop μ-loop
 loop-holds c = (search needs, holding-none _ _ _)
 
--- src/lib.rt:46:26
 shared-slice-read-line : tie.Need-shared-slice-read-line Inv-loop μ-loop
 shared-slice-read-line c = search needs
 
--- src/lib.rt:46:14
 add-line : tie.Need-add-line Inv-loop μ-loop
 add-line c = search needs
 
--- src/lib.rt:46:9
 slice-write-line : tie.Need-slice-write-line Inv-loop μ-loop
 slice-write-line c = search needs
 
--- src/lib.rt:47:9
 add-i : tie.Need-add-i Inv-loop μ-loop
 add-i c = search needs
 
--- src/lib.rt:45:5
 loop-less : tie.Need-loop-less Inv-loop μ-loop
 loop-less c = search needs
 
--- src/lib.rt:45:5
 loop-again : tie.Need-loop-again Inv-loop μ-loop
 loop-again c = (search needs, holding-step (search needs) (search needs) (c .before .before .loop .inv .1))
 
--- src/lib.rt:49:5
 add-result : tie.Need-add-result Inv-loop μ-loop
 add-result c = search needs
 
--- src/lib.rt:34:1
 same-length : tie.Need-same-length Inv-loop μ-loop
 same-length c = search needs
 
--- src/lib.rt:34:1
 returns-3 : tie.Need-returns-3 Inv-loop μ-loop
 returns-3 c = λ s. holding-end (search needs) (search needs) (search needs) (c .before .loop .inv .1) s
 
