@@ -1,16 +1,15 @@
 -- From the parts of a line, its words and its job's outcome to its answer line.
-use mathlib.Core.Path.{_≡_, refl, sym, ap, ap₂, _∙_, subst}
+use mathlib.Core.Path.{_≡_, sym, ap, ap₂, _∙_, subst}
 use mathlib.Core.Bool.{Bool, true, false}
-use mathlib.Core.List.{List, [], _∷_, _++_, append-nil}
-use Prim.Native.Nat.{ℕ, zero, suc, _+_, _-_, _*_, _<_, _≤_}
+use mathlib.Core.List.{List, [], _++_, append-nil}
+use Prim.Native.Nat.{ℕ, _+_, _-_, _≤_}
 use native.Mathlib.Omega.{arith}
 use lib.ListN.{length, take, drop, length-drop}
 use lib.Seq.{take-all}
-use Rattle.hexadecimal.specs.Hexadecimal.{all-digits, number-of}
 use Rattle.frames.specs.declared.Head.{Head}
 use Rattle.frames.specs.declared.Head.the-variants.{Frame, Other}
-use Rattle.frames.specs.Frames.{kind-of, modulus-of, first-degree, second-degree, count-of, words-of, frame-words, first-polynomial}
-use Rattle.frames.specs.Frames.{second-polynomial, is-frame, Outcome, Served, answer-line, AnswerOf, refused, answered, Wrote}
+use Rattle.frames.specs.Frames.{kind-of, first-degree, count-of, words-of, frame-words}
+use Rattle.frames.specs.Frames.{is-frame, Outcome, Served, answer-line, refused, answered, Wrote}
 use Rattle.frames.specs.Heads.{Fields, HeadOf, WordsRead}
 
 pub head-fields : {r : Head} (s : List ℕ) (k n d e : ℕ) → r ≡ Frame k n d e → HeadOf s r → Fields s k n d e

@@ -1,9 +1,9 @@
 -- Writing texts one after the other into a buffer.
-use mathlib.Core.Path.{_≡_, refl, sym, ap, ap₂, _∙_}
+use mathlib.Core.Path.{_≡_, sym, ap, ap₂, _∙_}
 use mathlib.Core.List.{List, [], _∷_, _++_, append-assoc}
-use Prim.Native.Nat.{ℕ, suc, _+_, _<_, _≤_}
+use Prim.Native.Nat.{ℕ, suc, _+_, _≤_}
 use native.Mathlib.Omega.{arith}
-use lib.ListN.{length, take, drop, set, length-append, length-set}
+use lib.ListN.{length, take, drop, set, length-append}
 use lib.Seq.{length-take-le, take-at, drop-at, drop-drop, set-split}
 use Rattle.hexadecimal.specs.Hexadecimal.{digits-of}
 use Rattle.hexadecimal.specs.DigitLaws.{digits-length}

@@ -2,14 +2,14 @@
 --
 --   Words t i w       the first i words of the text t stand in w, and their characters are digits
 use mathlib.Core.Path.{_≡_, refl, sym, ap, ap₂, _∙_}
-use mathlib.Core.Bool.{Bool, true, false, _&&_, false≢true}
+use mathlib.Core.Bool.{true, false, _&&_, false≢true}
 use mathlib.Core.List.{List, [], _∷_, _++_}
-use Prim.Native.Nat.{ℕ, zero, suc, _+_, _*_, _<_, _≤_}
+use Prim.Native.Nat.{ℕ, zero, suc, _+_, _*_, _<_}
 use native.Mathlib.Omega.{arith}
 use native.Mathlib.Numerals.{add-one}
 use lib.ListN.{length, take, drop, set, length-drop}
 use lib.Seq.{take-add, take-all, take-suc-set, drop-drop}
-use Rattle.hexadecimal.specs.Hexadecimal.{all-digits, spelled, number-of}
+use Rattle.hexadecimal.specs.Hexadecimal.{all-digits, number-of}
 use Rattle.hexadecimal.specs.DigitLaws.{all-digits-append, all-digits-part}
 use Rattle.frames.specs.Frames.{words-of}
 use Rattle.frames.specs.Heads.{WordsRead}

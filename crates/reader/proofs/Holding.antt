@@ -2,21 +2,20 @@
 --
 --   Holding h b₀ p i b        the first i characters of p stand in b after the first h of b₀
 use mathlib.Core.Path.{_≡_, refl, sym, ap, ap₂, _∙_, subst}
-use mathlib.Core.Bool.{Bool, true, false, _||_}
+use mathlib.Core.Bool.{Bool, false, _||_}
 use mathlib.Core.List.{List, [], _∷_, _++_, append-assoc, append-nil}
-use Prim.Native.Nat.{ℕ, zero, suc, min, _+_, _-_, _*_, _<_, _≤_}
+use Prim.Native.Nat.{ℕ, suc, _+_, _-_, _<_, _≤_}
 use native.Mathlib.Omega.{arith}
 use native.Mathlib.Numerals.{add-one}
 use lib.ListN.{length, getD, take, drop, set, length-append, length-set, length-drop}
-use lib.Seq.{take-suc, take-all, take-suc-set, getD-drop, take-nil}
-use lib.Dec.{eqb}
+use lib.Seq.{take-suc, take-all, take-suc-set, getD-drop}
 use borrow.Author.Tests.{ne-eqb}
-use Rattle.frames.specs.Frames.{is-frame, answer-line, Wrote}
+use Rattle.frames.specs.Frames.{answer-line, Wrote}
 use Rattle.frames.proofs.Heads.{too-long}
 use Rattle.frames.proofs.Answering.{wrote-refused, first-handed}
 use Rattle.reader.specs.Lines.{has-newline}
 use Rattle.reader.specs.LineLaws.{none-in-either}
-use Rattle.reader.specs.Pieces.{NewlineAt, Held}
+use Rattle.reader.specs.Pieces.{Held}
 
 -- ---- looking for a newline
 

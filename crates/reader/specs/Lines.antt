@@ -3,7 +3,7 @@
 --   finished t, unfinished t      the lines that end with a newline, and what comes after the last newline
 --   lines t                       all lines of t
 --   Answers ls a                  a is the answers to the lines ls, in order
-use mathlib.Core.Bool.{Bool, true, false, cond, _||_}
+use mathlib.Core.Bool.{Bool, false, cond, _||_}
 use mathlib.Core.List.{List, [], _∷_, _++_}
 use Prim.Native.Nat.{ℕ}
 use lib.Dec.{eqb}

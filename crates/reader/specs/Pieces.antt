@@ -9,7 +9,7 @@ use mathlib.Core.Bool.{false}
 use mathlib.Core.List.{List, [], _∷_, _++_}
 use Prim.Native.Nat.{ℕ, min, _-_, _≤_, _<_}
 use lib.ListN.{length, getD, take, drop}
-use Rattle.reader.specs.Lines.{has-newline, finished, unfinished, lines, last-line, Answers}
+use Rattle.reader.specs.Lines.{has-newline, finished, unfinished, last-line, Answers}
 
 -- r is the place of the first newline of p from place a on, or the length of p
 pub record NewlineAt (p : List ℕ) (a r : ℕ) : Type 0 where

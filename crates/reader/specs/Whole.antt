@@ -1,11 +1,10 @@
 -- The promise about a whole input: however it is cut into pieces, what is written is the answers to its lines, in order.
 use mathlib.Core.Path.{_≡_, refl, sym, ap, ap₂, _∙_, subst}
 use mathlib.Core.Bool.{false}
-use mathlib.Core.List.{List, [], _∷_, _++_, append-assoc, append-nil}
+use mathlib.Core.List.{List, [], _++_, append-assoc, append-nil}
 use Prim.Native.Nat.{ℕ}
 use lib.ListN.{take}
-use native.Mathlib.Omega.{arith}
-use Rattle.reader.specs.Lines.{has-newline, finished, unfinished, last-line, lines, Answers}
+use Rattle.reader.specs.Lines.{has-newline, unfinished, last-line, lines, Answers}
 use Rattle.reader.specs.LineLaws.{finished-none, unfinished-all, lines-append, answers-append}
 use Rattle.reader.specs.Pieces.{Held, Written, end, piece, joined}
 
