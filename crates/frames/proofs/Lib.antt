@@ -1,0 +1,4 @@
+pub mod Heads
+pub mod Putting
+pub mod WordsRead
+pub mod Answering
