@@ -7,17 +7,17 @@ use mathlib.Core.Path.{_≡_, refl, sym, ap, ap₂, subst, _∙_}
 use mathlib.Core.List.{List}
 use Prim.Native.Nat.{ℕ, zero, suc, _+_, _-_, _*_, _%_, _^_, _≤_, _<_}
 use native.Mathlib.Omega.{arith}
-use native.Mathlib.Nat.{mod-eq-of-lt, mod-lt, mul-comm, mul-one, one-mul, pow-zero, pow-suc}
+use native.Mathlib.Nat.{mod-eq-of-lt, mul-comm, mul-one, one-mul, pow-zero, pow-suc}
 use lib.ListN.{length, getD}
 use borrow.Rule.Slice.PartMut.{putMid, midOf}
 use Rattle.definitions.specs.Residues.{IsUnit}
-use Rattle.definitions.specs.Polynomials.{coef, deg, tabulate}
+use Rattle.definitions.specs.Polynomials.{coef, deg}
 use Rattle.definitions.specs.Resultants.{resultant}
 use Rattle.numbers.specs.Divisors.{GcdCofactor}
 use Rattle.numbers.specs.Units.{coprime-of-unit, gcd-of-coprime}
 use Rattle.theory.specs.Words.{coef-tabulate, length-tabulate}
 use Rattle.theory.specs.ResultantLaws.{signed, reversed, resultant-reversed, resultant-const-first}
-use Rattle.windows.specs.Window.{piece, Below}
+use Rattle.windows.specs.Window.{piece}
 use Rattle.windows.proofs.Leaf.{piece-at, piece-length}
 use Rattle.windows.proofs.Lift.{mid-length, window}
 use Rattle.steps.specs.Answers.{AnswerOf}
@@ -26,7 +26,7 @@ use Rattle.steps.specs.Layouts.{Beside, words-at, words-back}
 use Rattle.steps.proofs.Degrees.{deg-of, resultant-lt}
 use Rattle.steps.proofs.SideBySide.{beside-below, beside-first, beside-second, beside-lead, pair-of}
 use Rattle.steps.proofs.Signs.{signed-twice}
-use Rattle.attempt.specs.Rooms.{room, room-copies}
+use Rattle.attempt.specs.Rooms.{room-copies}
 use Rattle.attempt.specs.Stages.{Placed, Divisor, Stacked, Part, Kept}
 
 -- ---- f and g

@@ -4,21 +4,19 @@
 --   not-all-nilpotent       some coefficient of a primitive polynomial is not nilpotent
 --   lead-asked              the highest such coefficient leads
 --   given-in                what unit times monic asks
-use mathlib.Core.Path.{_≡_, refl, sym, ap, ap₂, subst, _∙_}
+use mathlib.Core.Path.{_≡_, sym, ap, subst, _∙_}
 use mathlib.Core.List.{List}
-use mathlib.Core.Logic.{⊎-elim}
-use Prim.Native.Nat.{ℕ, zero, suc, _+_, _-_, _*_, _/_, _%_, _^_, _≤_, _<_, _∣_}
+use Prim.Native.Nat.{ℕ, _+_, _-_, _*_, _/_, _%_, _≤_, _<_, _∣_}
 use native.Mathlib.Omega.{arith}
-use native.Mathlib.Nat.{mul-comm, zero-add, dvd-mul-left}
+use native.Mathlib.Nat.{mul-comm, dvd-mul-left}
 use lib.ListN.{length, getD}
 use borrow.Rule.Slice.PartMut.{midOf}
-use Rattle.definitions.specs.Residues.{Inverse, IsNilpotent}
+use Rattle.definitions.specs.Residues.{IsNilpotent}
 use Rattle.definitions.specs.Polynomials.{coef}
-use Rattle.numbers.specs.Primes.{Prime, PrimeOf, prime-of}
+use Rattle.numbers.specs.Primes.{prime-of}
 use Rattle.numbers.specs.Nilpotents.{nilpotent-radical}
-use Rattle.theory.specs.ReachedSteps.{coef-beyond}
-use Rattle.windows.specs.Window.{piece, Below, Content}
-use Rattle.windows.proofs.Leaf.{lt-or-le, piece-at, piece-length}
+use Rattle.windows.specs.Window.{piece}
+use Rattle.windows.proofs.Leaf.{piece-at, piece-length}
 use Rattle.windows.proofs.Lift.{mid-length, piece-mid, mid-below}
 use Rattle.steps.specs.Layouts.{Primitive, Cleared}
 use Rattle.steps.proofs.Contents.{factors, content-two, content-below, content-primitive}

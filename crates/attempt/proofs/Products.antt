@@ -4,7 +4,7 @@
 --   monic-part   what the attempt at H asks
 --   unit-part    what the attempt at U asks
 --   product-times   the value, from those of both
-use mathlib.Core.Path.{_≡_, refl, sym, ap, ap₂, subst, _∙_}
+use mathlib.Core.Path.{_≡_, sym, ap, ap₂, subst, _∙_}
 use mathlib.Core.List.{List}
 use Prim.Native.Nat.{ℕ, zero, suc, _+_, _-_, _*_, _%_, _≤_, _<_}
 use native.Mathlib.Omega.{arith}
@@ -12,15 +12,15 @@ use native.Mathlib.Nat.{mul-comm}
 use lib.ListN.{length, getD}
 use borrow.Rule.Slice.PartMut.{putMid, midOf}
 use Rattle.definitions.specs.Residues.{IsUnit}
-use Rattle.definitions.specs.Polynomials.{coef, deg, Multiplied}
+use Rattle.definitions.specs.Polynomials.{coef, Multiplied}
 use Rattle.definitions.specs.Resultants.{resultant}
 use Rattle.theory.specs.ResultantLaws.{resultant-multiplied}
-use Rattle.windows.specs.Window.{piece, Below, Around}
+use Rattle.windows.specs.Window.{piece, Around}
 use Rattle.windows.proofs.Leaf.{piece-at, piece-length, piece-same}
-use Rattle.windows.proofs.Lift.{mid-length, piece-mid, piece-put, window, lift-below, piece-low, below-is, is-now}
+use Rattle.windows.proofs.Lift.{mid-length, piece-mid, piece-put, window, lift-below, piece-low, below-is}
 use Rattle.steps.proofs.Degrees.{deg-of}
 use Rattle.factor.specs.Factors.{Factored}
-use Rattle.attempt.specs.Rooms.{room, place, room-factor, room-place, room-monic}
+use Rattle.attempt.specs.Rooms.{place, room-factor, room-place, room-monic}
 use Rattle.attempt.specs.Stages.{Stacked, Part, Kept}
 use Rattle.attempt.proofs.Leads.{stacked-fits}
 

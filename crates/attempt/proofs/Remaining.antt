@@ -5,24 +5,24 @@
 --   divisor-asked  f with a unit for its leading word
 --   next-asked     what the next attempt, at r and f, asks
 --   times-next     the value, from that of the next attempt
-use mathlib.Core.Path.{_≡_, refl, sym, ap, ap₂, subst, _∙_, fun-ext}
+use mathlib.Core.Path.{_≡_, sym, ap, ap₂, subst, _∙_, fun-ext}
 use mathlib.Core.List.{List}
 use Prim.Native.Nat.{ℕ, zero, suc, pred, _+_, _-_, _*_, _%_, _^_, _≤_, _<_}
 use native.Mathlib.Omega.{arith}
 use native.Mathlib.Nat.{mod-lt}
 use lib.ListN.{length, getD}
-use Rattle.numbers.specs.Congruence.{Cong, c-refl, c-mul, c-mod}
-use Rattle.definitions.specs.Polynomials.{coef, deg, convolve, tabulate, Divided}
+use Rattle.numbers.specs.Congruence.{c-refl, c-mul, c-mod}
+use Rattle.definitions.specs.Polynomials.{coef, deg, convolve, tabulate}
 use Rattle.definitions.specs.Resultants.{resultant}
 use Rattle.theory.specs.Words.{length-tabulate}
 use Rattle.theory.specs.ReachedSteps.{coef-whole}
 use Rattle.theory.specs.ResultantLaws.{resultant-divide, resultant-const-first}
-use Rattle.windows.specs.Window.{piece, Below, Around, Apart}
+use Rattle.windows.specs.Window.{piece}
 use Rattle.windows.proofs.Leaf.{piece-at, piece-length, piece-same, apart-at}
 use Rattle.division.specs.Remainders.{Pair, Remainder}
 use Rattle.steps.proofs.Degrees.{deg-of}
 use Rattle.numbers.specs.Divisors.{GcdCofactor}
-use Rattle.attempt.specs.Rooms.{room, room-next}
+use Rattle.attempt.specs.Rooms.{room-next}
 use Rattle.attempt.specs.Stages.{Placed, Divisor}
 
 -- g = q f + r with r of d words

@@ -3,7 +3,7 @@
 --   room d e     enough for a copy of both, for the unit and the monic factor of f, and for the attempts at those
 --   place d e t  where such an attempt begins: above g, f, the monic factor of degree t and the unit factor
 use mathlib.Core.Path.{_≡_, sym, subst}
-use Prim.Native.Nat.{ℕ, zero, suc, _+_, _-_, _*_, _≤_, _<_}
+use Prim.Native.Nat.{ℕ, zero, suc, _+_, _-_, _*_, _≤_}
 use native.Mathlib.Omega.{arith}
 
 abbrev pub room : ℕ → ℕ → ℕ

@@ -5,12 +5,12 @@
 --   join-value    the residue that is the resultant modulo each factor is the resultant
 use mathlib.Core.Path.{_≡_, refl, sym, subst, _∙_}
 use mathlib.Core.List.{List}
-use Prim.Native.Nat.{ℕ, _*_, _%_, _^_, _≤_, _<_}
+use Prim.Native.Nat.{ℕ, _*_, _%_, _≤_, _<_}
 use native.Mathlib.Omega.{arith}
 use native.Mathlib.Nat.{dvd-mul-right, dvd-mul-left, mul-le-mul-left, mul-le-mul-right}
 use Rattle.definitions.specs.Residues.{Coprime}
 use Rattle.definitions.specs.Resultants.{resultant}
-use Rattle.numbers.specs.Chinese.{Joined, joined-unique}
+use Rattle.numbers.specs.Chinese.{joined-unique}
 use Rattle.theory.specs.ResultantLaws.{resultant-mod}
 use Rattle.factor.specs.Factors.{SplitOf}
 use Rattle.steps.proofs.Degrees.{resultant-lt}

@@ -11,11 +11,11 @@ use Prim.Native.Nat.{ℕ, zero, suc, pred, _+_, _-_, _*_, _%_, _≤_, _<_}
 use native.Mathlib.Omega.{arith}
 use native.Mathlib.Nat.{mod-lt, mod-mod, mul-le-mul}
 use lib.ListN.{length, getD}
-use Rattle.definitions.specs.Polynomials.{coef, deg}
+use Rattle.definitions.specs.Polynomials.{coef}
 use Rattle.definitions.specs.Resultants.{resultant}
 use Rattle.theory.specs.ReachedSteps.{coef-beyond}
 use Rattle.theory.specs.ResultantLaws.{signed, resultant-cong, resultant-swap}
-use Rattle.windows.specs.Window.{piece, Loaded, Below}
+use Rattle.windows.specs.Window.{piece, Loaded}
 use Rattle.windows.proofs.Leaf.{lt-or-le, piece-at, piece-length}
 use Rattle.steps.specs.Answers.{AnswerOf}
 use Rattle.steps.specs.declared.Attempt.{Attempt}

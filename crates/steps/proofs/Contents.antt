@@ -11,11 +11,11 @@ use Prim.Native.Nat.{ℕ, zero, suc, _+_, _-_, _*_, _/_, _%_, _^_, _≤_, _<_, _
 use native.Mathlib.Omega.{arith}
 use native.Mathlib.Nat.{mod-lt, mod-mod, mul-div-cancel', pos-of-dvd-of-pos, pow-suc, mul-one, mul-zero, zero-add, zero-mod, mul-le-mul-left, mul-dvd-mul-left, dvd-mul-left, dvd-of-mul-dvd-mul-left, dvd-one, mod-eq-zero-of-dvd}
 use lib.ListN.{length, getD}
-use Rattle.definitions.specs.Polynomials.{coef, deg}
+use Rattle.definitions.specs.Polynomials.{coef}
 use Rattle.definitions.specs.Resultants.{resultant}
-use Rattle.numbers.specs.Congruence.{Cong, c-refl, c-mul, c-mod}
+use Rattle.numbers.specs.Congruence.{c-refl, c-mul, c-mod}
 use Rattle.theory.specs.PointThree.{resultant-content}
-use Rattle.theory.specs.ReachedSteps.{Times, coef-beyond}
+use Rattle.theory.specs.ReachedSteps.{coef-beyond}
 use Rattle.theory.specs.ResultantLaws.{resultant-cong, resultant-scale-first}
 use borrow.Rule.Slice.PartMut.{midOf}
 use Rattle.windows.specs.Window.{piece, Moved, quotient-by, reduced-by, Below, Content}

@@ -7,14 +7,14 @@
 use mathlib.Core.Path.{_≡_, refl, sym, ap, subst, _∙_}
 use mathlib.Core.List.{List}
 use mathlib.Core.Logic.{⊎-elim}
-use Prim.Native.Nat.{ℕ, zero, suc, _+_, _-_, _*_, _%_, _≤_, _<_}
+use Prim.Native.Nat.{ℕ, _+_, _-_, _≤_, _<_}
 use native.Mathlib.Omega.{arith}
 use native.Mathlib.Nat.{zero-add}
 use lib.ListN.{length, getD}
 use lib.Seq.{ext-getD}
 use borrow.Rule.Slice.PartMut.{midOf}
 use Rattle.definitions.specs.Polynomials.{coef}
-use Rattle.windows.specs.Window.{piece, Moved, second, Reversed, Below, Around, Apart}
+use Rattle.windows.specs.Window.{piece, Moved, second, Reversed, Below, Around}
 use Rattle.windows.proofs.Leaf.{lt-or-le, piece-at, piece-length}
 use Rattle.windows.proofs.Lift.{was, mid-length}
 use Rattle.division.specs.Remainders.{Pair}

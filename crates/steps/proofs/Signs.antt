@@ -3,8 +3,8 @@
 --   signed-even, signed-odd   the two cases
 --   signed-twice              the same sign twice
 --   sign-first, sign-second, sign-both   the sign of a product of degrees
-use mathlib.Core.Path.{_≡_, refl, sym, ap, ap₂, subst, _∙_}
-use Prim.Native.Nat.{ℕ, zero, suc, _+_, _-_, _*_, _%_, _≤_, _<_}
+use mathlib.Core.Path.{_≡_, refl, sym, ap, ap₂, _∙_}
+use Prim.Native.Nat.{ℕ, zero, suc, _-_, _*_, _%_, _<_}
 use native.Mathlib.Omega.{arith}
 use native.Mathlib.Nat.{mod-eq-of-lt, mod-lt}
 use Rattle.algebra.specs.Modular.{mul-mod}

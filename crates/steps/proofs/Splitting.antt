@@ -3,7 +3,7 @@
 --   split-own          a split of m is one of the product of its factors
 --   no-unit, no-power  a factor of a split of a divisor of n is neither a unit nor nilpotent modulo n
 use mathlib.Core.Path.{_≡_, refl, sym, subst}
-use Prim.Native.Nat.{ℕ, _*_, _%_, _^_, _<_, _∣_}
+use Prim.Native.Nat.{ℕ, _*_, _∣_}
 use native.Mathlib.Omega.{arith}
 use native.Mathlib.Nat.{dvd-refl, dvd-trans, dvd-mul-right, dvd-mul-left, dvd-of-mod-eq-zero}
 use Rattle.definitions.specs.Residues.{Inverse, IsNilpotent, Splitting}
