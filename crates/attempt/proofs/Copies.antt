@@ -9,7 +9,7 @@ use Prim.Native.Nat.{ℕ, zero, suc, _+_, _-_, _*_, _%_, _^_, _≤_, _<_}
 use native.Mathlib.Omega.{arith}
 use native.Mathlib.Nat.{mod-eq-of-lt, mul-comm, mul-one, one-mul, pow-zero, pow-suc}
 use lib.ListN.{length, getD}
-use borrow.Rule.Slice.PartMut.{putMid, midOf}
+use borrow.Rule.Slice.PartMut.{putMid}
 use Rattle.definitions.specs.Residues.{IsUnit}
 use Rattle.definitions.specs.Polynomials.{coef, deg}
 use Rattle.definitions.specs.Resultants.{resultant}
@@ -24,7 +24,7 @@ use Rattle.steps.specs.Answers.{AnswerOf}
 use Rattle.steps.specs.declared.Attempt.{Attempt}
 use Rattle.steps.specs.Layouts.{Beside, words-at, words-back}
 use Rattle.steps.proofs.Degrees.{deg-of, resultant-lt}
-use Rattle.steps.proofs.SideBySide.{beside-below, beside-first, beside-second, beside-lead, pair-of}
+use Rattle.steps.proofs.SideBySide.{beside-below, beside-first, beside-second, beside-lead, pair-of, onward}
 use Rattle.steps.proofs.Signs.{signed-twice}
 use Rattle.attempt.specs.Rooms.{room-copies}
 use Rattle.attempt.specs.Stages.{Placed, Divisor, Stacked, Part, Kept}
@@ -41,16 +41,16 @@ module _ (n a d b e s : ℕ) (w w₁ : List ℕ) (pl : Placed n a d b e s w) (nz
   enough : e + 1 + (d + 1) ≤ length w₁ - s
   enough = omega (arith, bs .around .same, copies-fit n a d b e s w pl nz)
 
-  pub stacked-asked : Stacked n d e (midOf s (length w₁ - s) w₁)
+  pub stacked-asked : Stacked n d e (onward w₁ s)
   stacked-asked = record {
-      two = pl .two;
-      one = omega arith;
-      near = pl .near;
-      fits = omega (arith, mid-length s (length w₁ - s) w₁ fit, bs .around .same, pl .fits);
-      below = beside-below (words-at w b) (words-at w a) (e + 1) (d + 1) s (length w₁ - s) w w₁ bs fit enough n (pl .pair .second .at) (pl .pair .first .at)
-    }
+    two = pl .two;
+    one = omega arith;
+    near = pl .near;
+    fits = omega (arith, mid-length s (length w₁ - s) w₁ fit, bs .around .same, pl .fits);
+    below = beside-below (words-at w b) (words-at w a) (e + 1) (d + 1) s (length w₁ - s) w w₁ bs fit enough n (pl .pair .second .at) (pl .pair .first .at);
+  }
 
-  pub stacked-answer : (r : Attempt) → AnswerOf n (resultant n (piece (midOf s (length w₁ - s) w₁) (e + 1) (d + 1)) (piece (midOf s (length w₁ - s) w₁) 0 (e + 1))) r
+  pub stacked-answer : (r : Attempt) → AnswerOf n (resultant n (piece (onward w₁ s) (e + 1) (d + 1)) (piece (onward w₁ s) 0 (e + 1))) r
       → AnswerOf n (resultant n (piece w a (d + 1)) (piece w b (e + 1))) r
   stacked-answer r = subst (λ (x : ℕ). AnswerOf n x r) (ap₂ (resultant n)
       (beside-second (words-at w b) (words-at w a) (e + 1) (d + 1) s (length w₁ - s) w w₁ bs fit enough (piece w a (d + 1)) (piece-length w a (d + 1) (omega arith)) (λ k l. piece-at w a (d + 1) k l))
@@ -69,25 +69,25 @@ module _ (F G : ℕ → ℕ) (n a d e x : ℕ) (w w₁ : List ℕ) (pt : Part n 
   part-enough = omega (arith, bs .around .same, pt .fits)
 
   part-asked : (i : ℕ) → 1 ≤ d → ((k : ℕ) → k < d + 1 → F k < n) → ((k : ℕ) → k < e + 1 → G k < n) → (i * F d) % n ≡ 1 % n
-      → Divisor n 0 d (d + 1) e (d + 1 + (e + 1)) i (midOf x (length w₁ - x) w₁)
+      → Divisor n 0 d (d + 1) e (d + 1 + (e + 1)) i (onward w₁ x)
   part-asked i one bf bg h = record {
-      two = pt .two;
-      one = one;
-      near = pt .near;
-      first = omega arith;
-      second = omega arith;
-      fits = omega (arith, mid-length x (length w₁ - x) w₁ part-fit, bs .around .same, pt .fits);
-      pair = pair-of n d e (midOf x (length w₁ - x) w₁) (beside-below F G (d + 1) (e + 1) x (length w₁ - x) w w₁ bs part-fit part-enough n bf bg);
-      inverse = ap (λ (y : ℕ). (i * y) % n) (beside-lead F G (d + 1) (e + 1) x (length w₁ - x) w w₁ bs part-fit part-enough d (omega arith)) ∙ h
-    }
+    two = pt .two;
+    one = one;
+    near = pt .near;
+    first = omega arith;
+    second = omega arith;
+    fits = omega (arith, mid-length x (length w₁ - x) w₁ part-fit, bs .around .same, pt .fits);
+    pair = pair-of n d e (onward w₁ x) (beside-below F G (d + 1) (e + 1) x (length w₁ - x) w w₁ bs part-fit part-enough n bf bg);
+    inverse = ap (λ (y : ℕ). (i * y) % n) (beside-lead F G (d + 1) (e + 1) x (length w₁ - x) w w₁ bs part-fit part-enough d (omega arith)) ∙ h;
+  }
 
   part-answer : (f g : List ℕ) → length f ≡ d + 1 → length g ≡ e + 1 → ((k : ℕ) → k < d + 1 → coef f k ≡ F k) → ((k : ℕ) → k < e + 1 → coef g k ≡ G k)
-      → resultant n (piece (midOf x (length w₁ - x) w₁) 0 (d + 1)) (piece (midOf x (length w₁ - x) w₁) (d + 1) (e + 1)) ≡ resultant n f g
+      → resultant n (piece (onward w₁ x) 0 (d + 1)) (piece (onward w₁ x) (d + 1) (e + 1)) ≡ resultant n f g
   part-answer f g lf lg hf hg = ap₂ (resultant n)
       (beside-first F G (d + 1) (e + 1) x (length w₁ - x) w w₁ bs part-fit part-enough f lf hf)
       (beside-second F G (d + 1) (e + 1) x (length w₁ - x) w w₁ bs part-fit part-enough g lg hg)
 
-  part-kept : (ys : List ℕ) → length ys ≡ length (midOf x (length w₁ - x) w₁) → Kept x w (putMid x (length w₁ - x) w₁ ys)
+  part-kept : (ys : List ℕ) → length ys ≡ length (onward w₁ x) → Kept x w (putMid x (length w₁ - x) w₁ ys)
   part-kept ys ly =
       let a = window x (length w₁ - x) w₁ part-fit ys ly in
       record { same = a .same ∙ bs .around .same; low = λ k l. a .low k l ∙ bs .around .low k l }
@@ -110,19 +110,19 @@ monic-constant (suc m) a t e x w pt h z =
     power-one (suc k) = pow-suc 1 k ∙ mul-one (1 ^ k) ∙ power-one k
 
 module _ (n a t e x : ℕ) (w w₁ : List ℕ) (pt : Part n a t e x w) (bs : Beside (words-at w a) (words-at w 0) (t + 1) (e + 1) x w w₁) where
-  pub monic-asked : getD w (a + t) 0 ≡ 1 → (t ≡ 0 → ⊥) → Divisor n 0 t (t + 1) e (t + 1 + (e + 1)) 1 (midOf x (length w₁ - x) w₁)
+  pub monic-asked : getD w (a + t) 0 ≡ 1 → (t ≡ 0 → ⊥) → Divisor n 0 t (t + 1) e (t + 1 + (e + 1)) 1 (onward w₁ x)
   monic-asked h nz =
       part-asked (words-at w a) (words-at w 0) n a t e x w w₁ pt bs 1 (omega arith) (pt .below-first .at) (pt .below-second .at)
       (ap (λ (y : ℕ). y % n) (one-mul (getD w (a + t) 0) ∙ h))
 
   pub monic-answer : (r : Attempt)
-      → AnswerOf n (resultant n (piece (midOf x (length w₁ - x) w₁) 0 (t + 1)) (piece (midOf x (length w₁ - x) w₁) (t + 1) (e + 1))) r
+      → AnswerOf n (resultant n (piece (onward w₁ x) 0 (t + 1)) (piece (onward w₁ x) (t + 1) (e + 1))) r
       → AnswerOf n (resultant n (piece w a (t + 1)) (piece w 0 (e + 1))) r
   monic-answer r = subst (λ (y : ℕ). AnswerOf n y r)
       (part-answer (words-at w a) (words-at w 0) n a t e x w w₁ pt bs (piece w a (t + 1)) (piece w 0 (e + 1))
       (piece-length w a (t + 1) (omega (arith, pt .first, pt .fits))) (piece-length w 0 (e + 1) (omega (arith, pt .second, pt .fits))) (λ k l. piece-at w a (t + 1) k l) (λ k l. piece-at w 0 (e + 1) k l))
 
-  pub monic-kept : (ys : List ℕ) → length ys ≡ length (midOf x (length w₁ - x) w₁) → Kept x w (putMid x (length w₁ - x) w₁ ys)
+  pub monic-kept : (ys : List ℕ) → length ys ≡ length (onward w₁ x) → Kept x w (putMid x (length w₁ - x) w₁ ys)
   monic-kept ys ly = part-kept (words-at w a) (words-at w 0) n a t e x w w₁ pt bs ys ly
 
 pub kept-none : (x : ℕ) (w : List ℕ) → Kept x w w
@@ -160,7 +160,7 @@ reversed-law (suc m) d e f g l hd he =
     ∙ signed-twice (suc m) (d * e) (resultant (suc m) f g) (resultant-lt (suc m) l f g)
 
 module _ (n a k e x : ℕ) (w w₁ : List ℕ) (pt : Part n a k e x w) (bs : Beside (words-back w a (k + 1)) (words-back w 0 (e + 1)) (k + 1) (e + 1) x w w₁) where
-  pub unit-asked : (g i : ℕ) → 1 ≤ k → IsUnit n (getD w a 0) → GcdCofactor n (getD w a 0) g i → Divisor n 0 k (k + 1) e (k + 1 + (e + 1)) i (midOf x (length w₁ - x) w₁)
+  pub unit-asked : (g i : ℕ) → 1 ≤ k → IsUnit n (getD w a 0) → GcdCofactor n (getD w a 0) g i → Divisor n 0 k (k + 1) e (k + 1 + (e + 1)) i (onward w₁ x)
   unit-asked g i one u c =
       part-asked (words-back w a (k + 1)) (words-back w 0 (e + 1)) n a k e x w w₁ pt bs i one
       (λ j l. pt .below-first .at (k + 1 - 1 - j) (omega arith)) (λ j l. pt .below-second .at (e + 1 - 1 - j) (omega arith))
@@ -169,7 +169,7 @@ module _ (n a k e x : ℕ) (w w₁ : List ℕ) (pt : Part n a k e x w) (bs : Bes
       last : a + (k + 1 - 1 - k) ≡ a
       last = omega arith
 
-  pub unit-sign : signed n (k * e) (resultant n (piece (midOf x (length w₁ - x) w₁) 0 (k + 1)) (piece (midOf x (length w₁ - x) w₁) (k + 1) (e + 1)))
+  pub unit-sign : signed n (k * e) (resultant n (piece (onward w₁ x) 0 (k + 1)) (piece (onward w₁ x) (k + 1) (e + 1)))
       ≡ resultant n (piece w a (k + 1)) (piece w 0 (e + 1))
   unit-sign =
       let f : List ℕ = piece w a (k + 1) in
@@ -177,5 +177,5 @@ module _ (n a k e x : ℕ) (w w₁ : List ℕ) (pt : Part n a k e x w) (bs : Bes
       let ia : a + (k + 1) ≤ length w = omega (arith, pt .first, pt .fits) in
       let ib : 0 + (e + 1) ≤ length w = omega (arith, pt .second, pt .fits) in
       ap (signed n (k * e)) (part-answer (words-back w a (k + 1)) (words-back w 0 (e + 1)) n a k e x w w₁ pt bs (reversed f) (reversed g)
-          (reversed-length w a k ia) (reversed-length w 0 e ib) (reversed-at w a k ia) (reversed-at w 0 e ib))
+      (reversed-length w a k ia) (reversed-length w 0 e ib) (reversed-at w a k ia) (reversed-at w 0 e ib))
       ∙ reversed-law n k e f g (omega (arith, pt .two)) (deg-of f k (piece-length w a (k + 1) ia)) (deg-of g e (piece-length w 0 (e + 1) ib))

@@ -20,7 +20,7 @@ use Rattle.windows.proofs.Leaf.{piece-at, piece-length}
 use Rattle.windows.proofs.Lift.{mid-length, piece-mid, mid-below}
 use Rattle.steps.specs.Layouts.{Primitive, Cleared}
 use Rattle.steps.proofs.Contents.{factors, content-two, content-below, content-primitive}
-use Rattle.steps.proofs.SideBySide.{pair-above}
+use Rattle.steps.proofs.SideBySide.{pair-above, onward}
 use Rattle.factor.specs.Factors.{LeadingUnit, Nilpotents, Given}
 use Rattle.attempt.specs.Rooms.{room, room-copies, room-copied, room-place}
 use Rattle.attempt.specs.Stages.{Stacked, Divisor}
@@ -38,7 +38,7 @@ cleared-asked n c d e w w' st cl ne =
         one = st .one;
         near = st .near;
         fits = omega (arith, st .fits, cl .same);
-        below = content-below n c d e w w' (st .two) (st .one) (st .near) f (st .below) cl ne
+        below = content-below n c d e w w' (st .two) (st .one) (st .near) f (st .below) cl ne;
       },
       content-primitive n c d e w w' (st .two) (st .one) (st .near) f (st .below) cl ne,
     )
@@ -62,15 +62,15 @@ lent P a l m w h x = subst (λ (k : ℕ). P (midOf a k w)) h x
 
 pub lead-asked : (n d e t i : ℕ) (w : List ℕ) → Stacked n d e w → LeadingUnit n t i (piece w (e + 1) (d + 1)) → t ≡ d → Divisor n (e + 1) d 0 e (e + 1 + (d + 1)) i w
 lead-asked n d e t i w st u h = record {
-      two = st .two;
-      one = st .one;
-      near = st .near;
-      first = omega arith;
-      second = omega arith;
-      fits = omega (arith, room-copied d e (st .one) (st .near), st .fits);
-      pair = pair-above n d e w (st .below);
-      inverse = ap (λ (x : ℕ). x % n) (mul-comm i (getD w (e + 1 + d) 0) ∙ ap (λ (x : ℕ). x * i) (sym (ap (coef (piece w (e + 1) (d + 1))) h ∙ piece-at w (e + 1) (d + 1) d (omega arith)))) ∙ u .inverse .one
-    }
+  two = st .two;
+  one = st .one;
+  near = st .near;
+  first = omega arith;
+  second = omega arith;
+  fits = omega (arith, room-copied d e (st .one) (st .near), st .fits);
+  pair = pair-above n d e w (st .below);
+  inverse = ap (λ (x : ℕ). x % n) (mul-comm i (getD w (e + 1 + d) 0) ∙ ap (λ (x : ℕ). x * i) (sym (ap (coef (piece w (e + 1) (d + 1))) h ∙ piece-at w (e + 1) (d + 1) d (omega arith)))) ∙ u .inverse .one;
+}
 
 pub lead-below : (n d e t i : ℕ) (w : List ℕ) → Stacked n d e w → LeadingUnit n t i (piece w (e + 1) (d + 1)) → (t ≡ d → ⊥) → t < d
 lead-below n d e t i w st u ne = omega (arith, u .place, piece-length w (e + 1) (d + 1) (stacked-fits n d e w st))
@@ -78,18 +78,18 @@ lead-below n d e t i w st u ne = omega (arith, u .place, piece-length w (e + 1) 
 -- ---- unit times monic, in the part that begins with f
 
 pub given-in : (n d e t i : ℕ) (w : List ℕ) → Stacked n d e w → t < d → LeadingUnit n t i (piece w (e + 1) (d + 1))
-    → ((2 ≤ n) × ((t ≤ d) × (d + 1 + (t + 1 + (d + 1)) ≤ length (midOf (e + 1) (length w - (e + 1)) w)))) × Given n d t i (midOf (e + 1) (length w - (e + 1)) w)
+    → ((2 ≤ n) × ((t ≤ d) × (d + 1 + (t + 1 + (d + 1)) ≤ length (onward w (e + 1))))) × Given n d t i (onward w (e + 1))
 given-in n d e t i w st l u =
     let room = room-place d e t (st .one) (st .near) (le d t l) in
     let fit : e + 1 + (length w - (e + 1)) ≤ length w = omega (arith, stacked-fits n d e w st) in
     let long : d + 1 ≤ length w - (e + 1) = omega (arith, stacked-fits n d e w st) in
-    let same : piece (midOf (e + 1) (length w - (e + 1)) w) 0 (d + 1) ≡ piece w (e + 1) (d + 1) = piece-mid (e + 1) (length w - (e + 1)) w fit 0 (d + 1) (omega arith) ∙ ap (λ (x : ℕ). piece w x (d + 1)) (none (e + 1)) in (
+    let same : piece (onward w (e + 1)) 0 (d + 1) ≡ piece w (e + 1) (d + 1) = piece-mid (e + 1) (length w - (e + 1)) w fit 0 (d + 1) (omega arith) ∙ ap (λ (x : ℕ). piece w x (d + 1)) (none (e + 1)) in (
       (st .two, (omega arith, omega (arith, room, mid-length (e + 1) (length w - (e + 1)) w fit, st .fits))),
       record {
         below = mid-below (e + 1) (length w - (e + 1)) w fit n 0 (d + 1) (omega arith)
-          (record { at = λ k b. subst (λ (x : ℕ). getD w x 0 < n) (place k) (st .below .at (e + 1 + k) (omega arith)) });
+            (record { at = λ k b. subst (λ (x : ℕ). getD w x 0 < n) (place k) (st .below .at (e + 1 + k) (omega arith)) });
         unit = ap (λ (f : List ℕ). (i * coef f t) % n) same ∙ ap (λ (x : ℕ). x % n) (mul-comm i (coef (piece w (e + 1) (d + 1)) t)) ∙ u .inverse .one;
-        nilpotent = λ k b. subst (λ (f : List ℕ). IsNilpotent n (coef f k)) (sym same) (u .nilpotent k b)
+        nilpotent = λ k b. subst (λ (f : List ℕ). IsNilpotent n (coef f k)) (sym same) (u .nilpotent k b);
       },
     )
   where

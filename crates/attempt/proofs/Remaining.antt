@@ -85,15 +85,15 @@ at-constant (suc m) a d b e s r w pl z h =
 -- a leading word whose common divisor with n is 1
 pub divisor-asked : (n a d b e s g i : ℕ) (w : List ℕ) → Placed n a d b e s w → (d ≡ 0 → ⊥) → GcdCofactor n (getD w (a + d) 0) g i → g ≡ 1 → Divisor n a d b e s i w
 divisor-asked n a d b e s g i w pl nz c h = record {
-      two = pl .two;
-      one = omega arith;
-      near = pl .near;
-      first = pl .first;
-      second = pl .second;
-      fits = omega (arith, pl .fits, room-next d e (omega arith) (pl .near));
-      pair = pl .pair;
-      inverse = c .bezout ∙ ap (λ (x : ℕ). x % n) h
-    }
+  two = pl .two;
+  one = omega arith;
+  near = pl .near;
+  first = pl .first;
+  second = pl .second;
+  fits = omega (arith, pl .fits, room-next d e (omega arith) (pl .near));
+  pair = pl .pair;
+  inverse = c .bezout ∙ ap (λ (x : ℕ). x % n) h;
+}
 
 -- what the division asks
 pub divide-asked : (n a d b e s i : ℕ) (w : List ℕ) → Divisor n a d b e s i w
@@ -114,17 +114,17 @@ module _ (n a d b e s i : ℕ) (w w₁ : List ℕ) (dv : Divisor n a d b e s i w
   -- what the next attempt asks
   pub next-asked : Placed n b (d - 1) a d s w₁
   next-asked = record {
-      two = dv .two;
-      near = omega arith;
-      first = omega arith;
-      second = dv .first;
-      fits = omega (arith, rem .around .same);
-      pair = record {
-        first = record { at = λ k l. rem .below .at k (omega arith) };
-        second = record { at = λ k l. subst (λ (x : ℕ). x < n) (sym (apart-at (dv .pair .apart) (rem .around) k l)) (dv .pair .first .at k l) };
-        apart = record { ok = λ i j p q h. dv .pair .apart .ok j i q (omega arith) (sym h) }
-      }
-    }
+    two = dv .two;
+    near = omega arith;
+    first = omega arith;
+    second = dv .first;
+    fits = omega (arith, rem .around .same);
+    pair = record {
+      first = record { at = λ k l. rem .below .at k (omega arith) };
+      second = record { at = λ k l. subst (λ (x : ℕ). x < n) (sym (apart-at (dv .pair .apart) (rem .around) k l)) (dv .pair .first .at k l) };
+      apart = record { ok = λ i j p q h. dv .pair .apart .ok j i q (omega arith) (sym h) };
+    };
+  }
 
   -- the law, between the words before and after the division
   law-next : resultant n (piece w a (d + 1)) (piece w b (e + 1)) ≡ (getD w (a + d) 0 ^ (e + 1 - d) * resultant n (piece w₁ b (d - 1 + 1)) (piece w₁ a (d + 1))) % n

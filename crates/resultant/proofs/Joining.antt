@@ -25,9 +25,10 @@ pub join-asked : (n p q : ℕ) (f g : List ℕ) (x y : ℕ) (b : ℕ) → SplitO
     → ((1 ≤ p) × ((1 ≤ q) × ((p * q < b) × Coprime p q))) × ((x < p) × (y < q))
 join-asked n p q f g x y b s l hx hy =
     let lp : 1 ≤ p = omega (arith, s .above₁) in
-    let lq : 1 ≤ q = omega (arith, s .above₂) in
-    ((lp, (lq, (subst (λ (k : ℕ). k < b) (sym (s .product)) l, s .coprime))),
-    (subst (λ (k : ℕ). k < p) (sym hx) (resultant-lt p lp f g), subst (λ (k : ℕ). k < q) (sym hy) (resultant-lt q lq f g)))
+    let lq : 1 ≤ q = omega (arith, s .above₂) in (
+      (lp, (lq, (subst (λ (k : ℕ). k < b) (sym (s .product)) l, s .coprime))),
+      (subst (λ (k : ℕ). k < p) (sym hx) (resultant-lt p lp f g), subst (λ (k : ℕ). k < q) (sym hy) (resultant-lt q lq f g)),
+    )
 
 pub join-value : (n p q : ℕ) (f g : List ℕ) (x y r : ℕ) → SplitOf n p q → x ≡ resultant p f g → y ≡ resultant q f g → (r < p * q) × ((r % p ≡ x) × (r % q ≡ y)) → r ≡ resultant n f g
 join-value n p q f g x y r s hx hy j =
@@ -37,7 +38,7 @@ join-value n p q f g x y r s hx hy j =
     (record {
       below = resultant-lt (p * q) (omega (arith, two)) f g;
       first = resultant-mod p (p * q) lp (omega (arith, two)) (dvd-mul-right p q) f g ∙ sym (j .1 .0 ∙ hx);
-      second = resultant-mod q (p * q) lq (omega (arith, two)) (dvd-mul-left q p) f g ∙ sym (j .1 .1 ∙ hy)
+      second = resultant-mod q (p * q) lq (omega (arith, two)) (dvd-mul-left q p) f g ∙ sym (j .1 .1 ∙ hy);
     }))
   where
     lp : 1 ≤ p

@@ -45,7 +45,6 @@ swapped-asked n f g w two s l =
 
 module _ (n : ℕ) (f g w w₁ w₂ : List ℕ) (two : 2 ≤ n) (one : 1 ≤ length f) (near : length f ≤ length g)
     (fits : length f + length g + room (length f - 1) (length g - 1) ≤ length w) (lf : Loaded n 0 f w w₁) (lg : Loaded n (length f) g w₁ w₂) where
-
   first : (k : ℕ) → k < length f → getD w₂ (0 + k) 0 ≡ coef f k % n
   first k l = lg .low (0 + k) (omega arith) ∙ lf .mid k l
 
@@ -57,17 +56,17 @@ module _ (n : ℕ) (f g w w₁ w₂ : List ℕ) (two : 2 ≤ n) (one : 1 ≤ len
 
   pub placed-asked : Placed n 0 (length f - 1) (length f) (length g - 1) (length f + length g) w₂
   placed-asked = record {
-      two = two;
-      near = omega arith;
-      first = omega arith;
-      second = omega arith;
-      fits = omega (arith, lf .same, lg .same);
-      pair = record {
-        first = record { at = λ k l. subst (λ (x : ℕ). x < n) (sym (first k (omega arith))) (mod-lt (coef f k) (omega arith)) };
-        second = record { at = λ k l. subst (λ (x : ℕ). x < n) (sym (lg .mid k (omega arith))) (mod-lt (coef g k) (omega arith)) };
-        apart = record { ok = λ i j p q h. omega arith }
-      }
-    }
+    two = two;
+    near = omega arith;
+    first = omega arith;
+    second = omega arith;
+    fits = omega (arith, lf .same, lg .same);
+    pair = record {
+      first = record { at = λ k l. subst (λ (x : ℕ). x < n) (sym (first k (omega arith))) (mod-lt (coef f k) (omega arith)) };
+      second = record { at = λ k l. subst (λ (x : ℕ). x < n) (sym (lg .mid k (omega arith))) (mod-lt (coef g k) (omega arith)) };
+      apart = record { ok = λ i j p q h. omega arith };
+    };
+  }
 
   -- f and g as they stand in the buffer
   F : List ℕ

@@ -46,7 +46,6 @@ quotient-lt c a b {x} {n} h k l = ⊎-elim (λ p. p) (λ p. absurd (omega (arith
 module _ (n c m d e : ℕ) (f f' g g' : List ℕ) (product : c * m ≡ n) (lc : 1 ≤ c) (lm : 1 ≤ m) (le : 1 ≤ e)
     (lf : length f ≡ d + 1) (lf' : length f' ≡ d + 1) (lg : length g ≡ e + 1) (lg' : length g' ≡ e + 1)
     (first : (k : ℕ) → k < d + 1 → coef f k ≡ c * coef f' k) (second : (k : ℕ) → k < e + 1 → coef g' k ≡ coef g k % m) where
-
   scaled : (k : ℕ) → coef f k ≡ c * coef f' k
   scaled k = ⊎-elim (first k) (λ l. coef-beyond f k (omega arith) ∙ sym (ap (λ (x : ℕ). c * x) (coef-beyond f' k (omega arith)) ∙ mul-zero c)) (lt-or-le k (d + 1))
 
@@ -76,8 +75,10 @@ module _ (n c m d e : ℕ) (f f' g g' : List ℕ) (product : c * m ≡ n) (lc : 
 pub none-law : (n d e : ℕ) (f g : List ℕ) → 1 ≤ n → 1 ≤ e → length f ≡ d + 1 → length g ≡ e + 1 → ((k : ℕ) → k < length f → n ∣ coef f k) → resultant n f g ≡ 0
 none-law zero d e f g l le lf lg h = absurd (omega arith)
 none-law (suc n) d e f g l le lf lg h =
-    resultant-scale-first n 0 f f g refl (record { at = λ k. ⊎-elim (λ b. mod-eq-zero-of-dvd (suc n) (h k b) ∙ sym (nothing (coef f k)))
-      (λ b. ap (λ (x : ℕ). x % suc n) (coef-beyond f k b) ∙ sym (nothing (coef f k) ∙ sym (zero-mod (suc n)))) (lt-or-le k (length f)) })
+    resultant-scale-first n 0 f f g refl (record {
+      at = λ k. ⊎-elim (λ b. mod-eq-zero-of-dvd (suc n) (h k b) ∙ sym (nothing (coef f k)))
+          (λ b. ap (λ (x : ℕ). x % suc n) (coef-beyond f k b) ∙ sym (nothing (coef f k) ∙ sym (zero-mod (suc n)))) (lt-or-le k (length f));
+    })
     ∙ ap (λ (x : ℕ). (x * resultant (suc n) f g) % suc n) (ap (λ (x : ℕ). 0 ^ x) (deg-of g e lg ∙ back) ∙ pow-suc 0 (e - 1) ∙ mul-zero (0 ^ (e - 1)))
     ∙ nothing (resultant (suc n) f g)
   where
@@ -102,15 +103,14 @@ pub cleared : (n c d e m : ℕ) (w w₁ w₂ : List ℕ) → m ≡ d + 1 → e +
     → Moved (quotient-by c) (e + 1) (e + 1) (d + 1) w w₁ → Moved (reduced-by (n / c)) 0 0 (e + 1) w₁ w₂ → Cleared n d e c w w₂
 unfolding piece
 cleared n c d e m w w₁ w₂ h fits ct x y = record {
-      content = subst (λ (k : ℕ). Content n (midOf (e + 1) k w) c) h ct;
-      same = y .same ∙ x .same;
-      first = λ k l. y .high (e + 1 + k) (omega arith) ∙ x .mid k l;
-      second = λ k l. ap (λ (i : ℕ). getD w₂ i 0) (sym (zero-add k)) ∙ y .mid k l ∙ ap (λ (i : ℕ). i % (n / c)) (ap (λ (i : ℕ). getD w₁ i 0) (zero-add k) ∙ x .low k (omega arith))
-    }
+  content = subst (λ (k : ℕ). Content n (midOf (e + 1) k w) c) h ct;
+  same = y .same ∙ x .same;
+  first = λ k l. y .high (e + 1 + k) (omega arith) ∙ x .mid k l;
+  second = λ k l. ap (λ (i : ℕ). getD w₂ i 0) (sym (zero-add k)) ∙ y .mid k l ∙ ap (λ (i : ℕ). i % (n / c)) (ap (λ (i : ℕ). getD w₁ i 0) (zero-add k) ∙ x .low k (omega arith));
+}
 
 module _ (n c d e : ℕ) (w w' : List ℕ) (two : 2 ≤ n) (one : 1 ≤ d) (near : d ≤ e) (fits : e + 1 + (d + 1) ≤ length w)
     (below : Below n 0 (e + 1 + (d + 1)) w) (cl : Cleared n d e c w w') where
-
   lf : length (piece w (e + 1) (d + 1)) ≡ d + 1
   lf = piece-length w (e + 1) (d + 1) fits
 
@@ -163,14 +163,15 @@ module _ (n c d e : ℕ) (w w' : List ℕ) (two : 2 ≤ n) (one : 1 ≤ d) (near
             (quotient-lt c (getD w (e + 1 + i) 0 / c) (n / c) (mul-div-cancel' c (divides i l)) product (subst (λ (x : ℕ). getD w x 0 < n) (zero-add (e + 1 + i)) (below .at (e + 1 + i) (omega arith))))
 
     pub content-primitive : Primitive (n / c) (piece w' (e + 1) (d + 1))
-    content-primitive = record { only = λ x p q. dvd-one .0 (dvd-of-mul-dvd-mul-left x (above .0) (subst (λ (y : ℕ). c * x ∣ y) (sym (mul-one c))
+    content-primitive = record {
+      only = λ x p q. dvd-one .0 (dvd-of-mul-dvd-mul-left x (above .0) (subst (λ (y : ℕ). c * x ∣ y) (sym (mul-one c))
           (cl .content .greatest (c * x) (subst (λ (y : ℕ). c * x ∣ y) product (mul-dvd-mul-left x c p))
-          (λ k l. let b : k < d + 1 = omega (arith, lf) in subst (λ (y : ℕ). c * x ∣ y) (sym (first k b)) (mul-dvd-mul-left x c (q k (omega (arith, lf'))))))))
-      }
+          (λ k l. let b : k < d + 1 = omega (arith, lf) in subst (λ (y : ℕ). c * x ∣ y) (sym (first k b)) (mul-dvd-mul-left x c (q k (omega (arith, lf'))))))));
+    }
 
     pub content-times : (p : ℕ) → p ≡ (c ^ e) % n
         → (p * resultant (n / c) (piece w' (e + 1) (d + 1)) (piece w' 0 (e + 1))) % n ≡ resultant n (piece w (e + 1) (d + 1)) (piece w 0 (e + 1))
     content-times p hp =
         ap (λ (x : ℕ). (x * resultant (n / c) (piece w' (e + 1) (d + 1)) (piece w' 0 (e + 1))) % n) hp ∙ c-mul (c-mod (c ^ e)) c-refl .same
         ∙ sym (content-law n c (n / c) d e (piece w (e + 1) (d + 1)) (piece w' (e + 1) (d + 1)) (piece w 0 (e + 1)) (piece w' 0 (e + 1)) product (above .0) (omega (arith, above)) (omega arith)
-          lf lf' lg lg' first second)
+        lf lf' lg lg' first second)

@@ -3,6 +3,7 @@
 --   copies-beside      two copies, one after the other
 --   beside-below       residues side by side
 --   beside-first, beside-second   the polynomials, read in the part that begins at s
+--   onward w x         the words of w from x on
 --   pair-of            two polynomials side by side, as an attempt wants them
 use mathlib.Core.Path.{_≡_, refl, sym, ap, subst, _∙_}
 use mathlib.Core.List.{List}
@@ -25,10 +26,10 @@ use Rattle.steps.specs.Layouts.{Beside, words-at, words-back}
 written : (F G : ℕ → ℕ) (l m s : ℕ) (w w₁ w₂ : List ℕ) → Around s l w w₁ → Around (s + l) m w₁ w₂ → ((k : ℕ) → k < l → getD w₁ (s + k) 0 ≡ F k) → ((k : ℕ) → k < m → getD w₂ (s + l + k) 0 ≡ G k)
     → Beside F G l m s w w₂
 written F G l m s w w₁ w₂ a b f g = record {
-      around = record { same = b .same ∙ a .same; low = λ k h. b .low k (omega arith) ∙ a .low k h; high = λ k h. b .high k (omega arith) ∙ a .high k (omega arith) };
-      first = λ k h. b .low (s + k) (omega arith) ∙ f k h;
-      second = g
-    }
+  around = record { same = b .same ∙ a .same; low = λ k h. b .low k (omega arith) ∙ a .low k h; high = λ k h. b .high k (omega arith) ∙ a .high k (omega arith) };
+  first = λ k h. b .low (s + k) (omega arith) ∙ f k h;
+  second = g;
+}
 
 pub copies-beside : (a l b m s : ℕ) (w w₁ w₂ : List ℕ) → a + l ≤ s → b + m ≤ s → Moved second a s l w w₁ → Moved second b (s + l) m w₁ w₂ → Beside (words-at w a) (words-at w b) l m s w w₂
 copies-beside a l b m s w w₁ w₂ p q x y =
@@ -51,11 +52,11 @@ module _ (F G : ℕ → ℕ) (l m s M : ℕ) (w w' : List ℕ) (bs : Beside F G 
 
   pub beside-below : (n : ℕ) → ((k : ℕ) → k < l → F k < n) → ((k : ℕ) → k < m → G k < n) → Below n 0 (l + m) (midOf s M w')
   beside-below n f g = record {
-        at = λ k h. ⊎-elim (λ b. subst (λ (x : ℕ). x < n) (sym (ap (λ (x : ℕ). getD (midOf s M w') x 0) (zero-add k) ∙ at-first k b)) (f k b))
-          (λ b. let e : 0 + k ≡ l + (k - l) = omega arith in
-            subst (λ (x : ℕ). x < n) (sym (ap (λ (x : ℕ). getD (midOf s M w') x 0) e ∙ at-second (k - l) (omega arith))) (g (k - l) (omega arith)))
-          (lt-or-le k l)
-      }
+    at = λ k h. ⊎-elim (λ b. subst (λ (x : ℕ). x < n) (sym (ap (λ (x : ℕ). getD (midOf s M w') x 0) (zero-add k) ∙ at-first k b)) (f k b))
+        (λ b. let e : 0 + k ≡ l + (k - l) = omega arith in
+        subst (λ (x : ℕ). x < n) (sym (ap (λ (x : ℕ). getD (midOf s M w') x 0) e ∙ at-second (k - l) (omega arith))) (g (k - l) (omega arith)))
+        (lt-or-le k l);
+  }
 
   pub beside-first : (f : List ℕ) → length f ≡ l → ((k : ℕ) → k < l → coef f k ≡ F k) → piece (midOf s M w') 0 l ≡ f
   beside-first f e h =
@@ -73,19 +74,23 @@ module _ (F G : ℕ → ℕ) (l m s M : ℕ) (w w' : List ℕ) (bs : Beside F G 
   pub beside-lead : (k : ℕ) → k < l → getD (midOf s M w') (0 + k) 0 ≡ F k
   beside-lead k h = ap (λ (x : ℕ). getD (midOf s M w') x 0) (zero-add k) ∙ at-first k h
 
+-- the words from x on, as a call in that part of the buffer finds them
+abbrev pub onward : List ℕ → ℕ → List ℕ
+onward w x = midOf x (length w - x) w
+
 -- ---- as an attempt wants them
 
 pub pair-of : (n d e : ℕ) (w : List ℕ) → Below n 0 (d + 1 + (e + 1)) w → Pair n 0 d (d + 1) e w
 pair-of n d e w b = record {
-      first = record { at = λ k l. b .at k (omega arith) };
-      second = record { at = λ k l. subst (λ (x : ℕ). getD w x 0 < n) (zero-add (d + 1 + k)) (b .at (d + 1 + k) (omega arith)) };
-      apart = record { ok = λ i j p q z. omega arith }
-    }
+  first = record { at = λ k l. b .at k (omega arith) };
+  second = record { at = λ k l. subst (λ (x : ℕ). getD w x 0 < n) (zero-add (d + 1 + k)) (b .at (d + 1 + k) (omega arith)) };
+  apart = record { ok = λ i j p q z. omega arith };
+}
 
 -- the same, with the second below the first
 pub pair-above : (n d e : ℕ) (w : List ℕ) → Below n 0 (e + 1 + (d + 1)) w → Pair n (e + 1) d 0 e w
 pair-above n d e w b = record {
-      first = record { at = λ k l. subst (λ (x : ℕ). getD w x 0 < n) (zero-add (e + 1 + k)) (b .at (e + 1 + k) (omega arith)) };
-      second = record { at = λ k l. b .at k (omega arith) };
-      apart = record { ok = λ i j p q z. omega arith }
-    }
+  first = record { at = λ k l. subst (λ (x : ℕ). getD w x 0 < n) (zero-add (e + 1 + k)) (b .at (e + 1 + k) (omega arith)) };
+  second = record { at = λ k l. b .at k (omega arith) };
+  apart = record { ok = λ i j p q z. omega arith };
+}

@@ -24,7 +24,7 @@ module _ (n p q : ℕ) (s : SplitOf (p * q) p q) (h : p * q ∣ n) where
   pub no-power : IsNilpotent n p → ⊥
   no-power z =
       let e : q ≡ 1 = coprime-power (omega (arith, s .above₂)) (coprime-sym (s .coprime)) (z .exponent) .only q (dvd-refl q)
-          (dvd-trans q (dvd-mul-left q p) (dvd-trans (p * q) h (dvd-of-mod-eq-zero n (z .power)))) in
+      (dvd-trans q (dvd-mul-left q p) (dvd-trans (p * q) h (dvd-of-mod-eq-zero n (z .power)))) in
       omega (arith, s .above₂)
 
 pub split-of : {n a p q : ℕ} → Splitting n a p q → SplitOf n p q
