@@ -30,7 +30,8 @@ use Rattle.attempt.specs.Stages.{Stacked, Divisor}
 pub stacked-fits : (n d e : ℕ) (w : List ℕ) → Stacked n d e w → e + 1 + (d + 1) ≤ length w
 stacked-fits n d e w st = omega (arith, room-copies d e (st .one) (st .near), st .fits)
 
-pub cleared-asked : (n c d e : ℕ) (w w' : List ℕ) → Stacked n d e w → Cleared n d e c w w' → (c ≡ n → ⊥) → Stacked (n / c) d e w' × Primitive (n / c) (piece w' (e + 1) (d + 1))
+pub cleared-asked : (n c d e : ℕ) (w w' : List ℕ) → Stacked n d e w → Cleared n d e c w w' → (c ≡ n → ⊥)
+    → Stacked (n / c) d e w' × Primitive (n / c) (piece w' (e + 1) (d + 1))
 cleared-asked n c d e w w' st cl ne =
     let f = stacked-fits n d e w st in (
       record {
@@ -60,7 +61,8 @@ pub lent : (P : List ℕ → Type 0) (a l m : ℕ) (w : List ℕ) → m ≡ l �
 unfolding piece
 lent P a l m w h x = subst (λ (k : ℕ). P (midOf a k w)) h x
 
-pub lead-asked : (n d e t i : ℕ) (w : List ℕ) → Stacked n d e w → LeadingUnit n t i (piece w (e + 1) (d + 1)) → t ≡ d → Divisor n (e + 1) d 0 e (e + 1 + (d + 1)) i w
+pub lead-asked : (n d e t i : ℕ) (w : List ℕ) → Stacked n d e w → LeadingUnit n t i (piece w (e + 1) (d + 1)) → t ≡ d
+    → Divisor n (e + 1) d 0 e (e + 1 + (d + 1)) i w
 lead-asked n d e t i w st u h = record {
   two = st .two;
   one = st .one;
@@ -69,7 +71,8 @@ lead-asked n d e t i w st u h = record {
   second = omega arith;
   fits = omega (arith, room-copied d e (st .one) (st .near), st .fits);
   pair = pair-above n d e w (st .below);
-  inverse = ap (λ (x : ℕ). x % n) (mul-comm i (getD w (e + 1 + d) 0) ∙ ap (λ (x : ℕ). x * i) (sym (ap (coef (piece w (e + 1) (d + 1))) h ∙ piece-at w (e + 1) (d + 1) d (omega arith)))) ∙ u .inverse .one;
+  inverse = ap (λ (x : ℕ). x % n) (mul-comm i (getD w (e + 1 + d) 0)
+      ∙ ap (λ (x : ℕ). x * i) (sym (ap (coef (piece w (e + 1) (d + 1))) h ∙ piece-at w (e + 1) (d + 1) d (omega arith)))) ∙ u .inverse .one;
 }
 
 pub lead-below : (n d e t i : ℕ) (w : List ℕ) → Stacked n d e w → LeadingUnit n t i (piece w (e + 1) (d + 1)) → (t ≡ d → ⊥) → t < d
@@ -83,12 +86,14 @@ given-in n d e t i w st l u =
     let room = room-place d e t (st .one) (st .near) (le d t l) in
     let fit : e + 1 + (length w - (e + 1)) ≤ length w = omega (arith, stacked-fits n d e w st) in
     let long : d + 1 ≤ length w - (e + 1) = omega (arith, stacked-fits n d e w st) in
-    let same : piece (onward w (e + 1)) 0 (d + 1) ≡ piece w (e + 1) (d + 1) = piece-mid (e + 1) (length w - (e + 1)) w fit 0 (d + 1) (omega arith) ∙ ap (λ (x : ℕ). piece w x (d + 1)) (none (e + 1)) in (
+    let same : piece (onward w (e + 1)) 0 (d + 1) ≡ piece w (e + 1) (d + 1) = piece-mid (e + 1) (length w - (e + 1)) w fit 0 (d + 1)
+    (omega arith) ∙ ap (λ (x : ℕ). piece w x (d + 1)) (none (e + 1)) in (
       (st .two, (omega arith, omega (arith, room, mid-length (e + 1) (length w - (e + 1)) w fit, st .fits))),
       record {
         below = mid-below (e + 1) (length w - (e + 1)) w fit n 0 (d + 1) (omega arith)
             (record { at = λ k b. subst (λ (x : ℕ). getD w x 0 < n) (place k) (st .below .at (e + 1 + k) (omega arith)) });
-        unit = ap (λ (f : List ℕ). (i * coef f t) % n) same ∙ ap (λ (x : ℕ). x % n) (mul-comm i (coef (piece w (e + 1) (d + 1)) t)) ∙ u .inverse .one;
+        unit = ap (λ (f : List ℕ). (i * coef f t) % n) same ∙ ap (λ (x : ℕ). x % n) (mul-comm i (coef (piece w (e + 1) (d + 1)) t))
+            ∙ u .inverse .one;
         nilpotent = λ k b. subst (λ (f : List ℕ). IsNilpotent n (coef f k)) (sym same) (u .nilpotent k b);
       },
     )

@@ -62,7 +62,8 @@ module _ (n d e t : ℕ) (w ys : List ℕ) (st : Stacked n d e w) (lt : t < d) (
   h-is = piece-put (e + 1) (length w - (e + 1)) w fit ys ly (d + 1) (t + 1) (omega (arith, long))
 
   u-is : piece w₁ (e + 1 + (d + 1) + (t + 1) + t) (d - t + 1) ≡ piece ys (d + 1 + (t + 1) + t) (d + 1 - t)
-  u-is = ap₂ (λ (x y : ℕ). piece w₁ x y) at size ∙ piece-put (e + 1) (length w - (e + 1)) w fit ys ly (d + 1 + (t + 1) + t) (d + 1 - t) (omega (arith, long))
+  u-is = ap₂ (λ (x y : ℕ). piece w₁ x y) at size
+      ∙ piece-put (e + 1) (length w - (e + 1)) w fit ys ly (d + 1 + (t + 1) + t) (d + 1 - t) (omega (arith, long))
     where
       at : e + 1 + (d + 1) + (t + 1) + t ≡ e + 1 + (d + 1 + (t + 1) + t)
       at = omega arith
@@ -96,7 +97,8 @@ module _ (n d e t : ℕ) (w ys : List ℕ) (st : Stacked n d e w) (lt : t < d) (
 
   module _ (w₂ : List ℕ) (kp : Kept (place d e t) w₁ w₂) where
     u-kept : piece w₂ (e + 1 + (d + 1) + (t + 1) + t) (d - t + 1) ≡ piece w₁ (e + 1 + (d + 1) + (t + 1) + t) (d - t + 1)
-    u-kept = piece-same w₁ w₂ (e + 1 + (d + 1) + (t + 1) + t) (d - t + 1) (omega (arith, long, around .same)) (kp .same) (λ k l. kp .low _ (omega arith))
+    u-kept = piece-same w₁ w₂ (e + 1 + (d + 1) + (t + 1) + t) (d - t + 1) (omega (arith, long, around .same)) (kp .same)
+        (λ k l. kp .low _ (omega arith))
 
     g-kept : piece w₂ 0 (e + 1) ≡ piece w₁ 0 (e + 1)
     g-kept = piece-same w₁ w₂ 0 (e + 1) (omega (arith, long, around .same)) (kp .same) (λ k l. kp .low (0 + k) (omega arith))
@@ -110,7 +112,8 @@ module _ (n d e t : ℕ) (w ys : List ℕ) (st : Stacked n d e w) (lt : t < d) (
       fits = omega (arith, room-factor d e t (d - t) less (omega arith) (omega arith), st .fits, around .same, kp .same);
       below-first = record {
         at = λ k l. subst (λ (x : ℕ). x < n) (sym (kp .low (e + 1 + (d + 1) + (t + 1) + t + k) (omega arith) ∙ ap (λ (x : ℕ). getD w₁ x 0) (at k)))
-            (lift-below (e + 1) (length w - (e + 1)) w fit ys ly n (d + 1 + (t + 1) + t) (d + 1 - t) (omega (arith, long)) (fc .below-u) .at k (omega arith));
+            (lift-below (e + 1) (length w - (e + 1)) w fit ys ly n (d + 1 + (t + 1) + t) (d + 1 - t) (omega (arith, long))
+            (fc .below-u) .at k (omega arith));
       };
       below-second = below-is n 0 0 (e + 1) w₁ w₂ (λ k l. kp .low (0 + k) (omega arith)) (monic-part .below-second);
     }
@@ -119,18 +122,22 @@ module _ (n d e t : ℕ) (w ys : List ℕ) (st : Stacked n d e w) (lt : t < d) (
         at k = omega arith
 
     pub unit-constant : IsUnit n (getD w₂ (e + 1 + (d + 1) + (t + 1) + t) 0)
-    unit-constant = subst (IsUnit n) (sym (ap (λ (x : ℕ). getD w₂ x 0) none ∙ sym (piece-at w₂ (e + 1 + (d + 1) + (t + 1) + t) (d - t + 1) 0 (omega arith))
+    unit-constant = subst (IsUnit n) (sym (ap (λ (x : ℕ). getD w₂ x 0) none
+        ∙ sym (piece-at w₂ (e + 1 + (d + 1) + (t + 1) + t) (d - t + 1) 0 (omega arith))
         ∙ ap (λ (f : List ℕ). coef f 0) (u-kept ∙ u-is))) (fc .unit .unit)
       where
         none : e + 1 + (d + 1) + (t + 1) + t ≡ e + 1 + (d + 1) + (t + 1) + t + 0
         none = omega arith
 
     pub product-times : (y : ℕ) → y ≡ resultant n (piece w₁ (e + 1 + (d + 1)) (t + 1)) (piece w₁ 0 (e + 1))
-        → (y * resultant n (piece w₂ (e + 1 + (d + 1) + (t + 1) + t) (d - t + 1)) (piece w₂ 0 (e + 1))) % n ≡ resultant n (piece w (e + 1) (d + 1)) (piece w 0 (e + 1))
+        → (y * resultant n (piece w₂ (e + 1 + (d + 1) + (t + 1) + t) (d - t + 1)) (piece w₂ 0 (e + 1))) % n ≡ resultant n
+        (piece w (e + 1) (d + 1)) (piece w 0 (e + 1))
     product-times y hy =
         ap₂ (λ (a b : ℕ). (a * b) % n) (hy ∙ ap₂ (resultant n) h-is g-is) (ap₂ (resultant n) (u-kept ∙ u-is) (g-kept ∙ g-is))
-        ∙ sym (product-law n d t (omega (arith, st .two)) less (piece w (e + 1) (d + 1)) (piece ys (d + 1 + (t + 1) + t) (d + 1 - t)) (piece ys (d + 1) (t + 1)) (piece w 0 (e + 1))
-        (piece-length w (e + 1) (d + 1) (stacked-fits n d e w st)) (piece-length ys (d + 1 + (t + 1) + t) (d + 1 - t) (omega (arith, ly, mid-length (e + 1) (length w - (e + 1)) w fit, long)) ∙ size)
+        ∙ sym (product-law n d t (omega (arith, st .two)) less (piece w (e + 1) (d + 1)) (piece ys (d + 1 + (t + 1) + t) (d + 1 - t))
+        (piece ys (d + 1) (t + 1)) (piece w 0 (e + 1))
+        (piece-length w (e + 1) (d + 1) (stacked-fits n d e w st)) (piece-length ys (d + 1 + (t + 1) + t) (d + 1 - t)
+        (omega (arith, ly, mid-length (e + 1) (length w - (e + 1)) w fit, long)) ∙ size)
         (piece-length ys (d + 1) (t + 1) (omega (arith, ly, mid-length (e + 1) (length w - (e + 1)) w fit, long)))
         (subst (λ (f : List ℕ). Multiplied n f (piece ys (d + 1 + (t + 1) + t) (d + 1 - t)) (piece ys (d + 1) (t + 1))) f-is (fc .equation)))
       where

@@ -79,11 +79,15 @@ at-constant (suc m) a d b e s r w pl z h =
     let g : List ℕ = piece w b (e + 1) in
     let lf : length f ≡ d + 1 = piece-length w a (d + 1) (omega arith) in
     let lg : length g ≡ e + 1 = piece-length w b (e + 1) (omega arith) in
-    let word : coef f 0 ≡ getD w (a + d) 0 = piece-at w a (d + 1) 0 (omega arith) ∙ ap (λ (x : ℕ). getD w (a + x) 0) (sym z) in
-    (h ∙ sym (resultant-const-first m f g (deg-of f d lf ∙ z) ∙ ap₂ (λ (x y : ℕ). (x ^ y) % suc m) word (deg-of g e lg)), subst (λ (x : ℕ). x < suc m) (sym h) (mod-lt _ (omega arith)))
+    let word : coef f 0 ≡ getD w (a + d) 0 = piece-at w a (d + 1) 0 (omega arith) ∙ ap (λ (x : ℕ). getD w (a + x) 0) (sym z) in (
+      h ∙ sym (resultant-const-first m f g (deg-of f d lf ∙ z)
+          ∙ ap₂ (λ (x y : ℕ). (x ^ y) % suc m) word (deg-of g e lg)),
+      subst (λ (x : ℕ). x < suc m) (sym h) (mod-lt _ (omega arith)),
+    )
 
 -- a leading word whose common divisor with n is 1
-pub divisor-asked : (n a d b e s g i : ℕ) (w : List ℕ) → Placed n a d b e s w → (d ≡ 0 → ⊥) → GcdCofactor n (getD w (a + d) 0) g i → g ≡ 1 → Divisor n a d b e s i w
+pub divisor-asked : (n a d b e s g i : ℕ) (w : List ℕ) → Placed n a d b e s w → (d ≡ 0 → ⊥) → GcdCofactor n (getD w (a + d) 0) g i → g ≡ 1
+    → Divisor n a d b e s i w
 divisor-asked n a d b e s g i w pl nz c h = record {
   two = pl .two;
   one = omega arith;
@@ -97,8 +101,12 @@ divisor-asked n a d b e s g i w pl nz c h = record {
 
 -- what the division asks
 pub divide-asked : (n a d b e s i : ℕ) (w : List ℕ) → Divisor n a d b e s i w
-    → ((1 ≤ n) × ((1 ≤ d) × ((d ≤ e + 1) × ((a + d < length w) × (b + e < length w))))) × ((Pair n a d b e w) × ((i * getD w (a + d) 0) % n ≡ 1 % n))
-divide-asked n a d b e s i w dv = ((omega (arith, dv .two), (dv .one, (omega (arith, dv .near), (omega arith, omega arith)))), (dv .pair, dv .inverse))
+    → ((1 ≤ n) × ((1 ≤ d) × ((d ≤ e + 1) × ((a + d < length w) × (b + e < length w))))) ×
+    ((Pair n a d b e w) × ((i * getD w (a + d) 0) % n ≡ 1 % n))
+divide-asked n a d b e s i w dv = (
+  (omega (arith, dv .two), (dv .one, (omega (arith, dv .near), (omega arith, omega arith)))),
+  (dv .pair, dv .inverse),
+)
 
 module _ (n a d b e s i : ℕ) (w w₁ : List ℕ) (dv : Divisor n a d b e s i w) (rem : Remainder n a d b e w w₁) where
   ia : a + d < length w
@@ -131,12 +139,15 @@ module _ (n a d b e s i : ℕ) (w w₁ : List ℕ) (dv : Divisor n a d b e s i w
   law-next =
       let z : d ≡ d - 1 + 1 = omega arith in
       let f : List ℕ = piece w a (d + 1) in
-      reduce-by n d e (omega arith) (dv .one) (dv .near) f (piece w b (e + 1)) (piece w₁ b d) (piece-length w a (d + 1) (omega (arith, ia))) (piece-length w b (e + 1) (omega (arith, ib)))
+      reduce-by n d e (omega arith) (dv .one) (dv .near) f (piece w b (e + 1)) (piece w₁ b d) (piece-length w a (d + 1) (omega (arith, ia)))
+      (piece-length w b (e + 1) (omega (arith, ib)))
       (piece-length w₁ b d (omega (arith, rem .around .same, ib))) (rem .q) (rem .top) (rem .at)
-      ∙ ap₂ (λ (x y : ℕ). (x ^ (e + 1 - d) * y) % n) (piece-at w a (d + 1) d (omega arith)) (ap₂ (λ (x : ℕ) (y : List ℕ). resultant n (piece w₁ b x) y) z (sym kept))
+      ∙ ap₂ (λ (x y : ℕ). (x ^ (e + 1 - d) * y) % n) (piece-at w a (d + 1) d (omega arith))
+      (ap₂ (λ (x : ℕ) (y : List ℕ). resultant n (piece w₁ b x) y) z (sym kept))
 
   -- the value, from that of the next attempt
   pub times-next : (p : ℕ) → p ≡ (getD w (a + d) 0 ^ (e + 1 - d)) % n
       → (p * resultant n (piece w₁ b (d - 1 + 1)) (piece w₁ a (d + 1))) % n ≡ resultant n (piece w a (d + 1)) (piece w b (e + 1))
   times-next p hp =
-      ap (λ (x : ℕ). (x * resultant n (piece w₁ b (d - 1 + 1)) (piece w₁ a (d + 1))) % n) hp ∙ c-mul (c-mod (getD w (a + d) 0 ^ (e + 1 - d))) c-refl .same ∙ sym law-next
+      ap (λ (x : ℕ). (x * resultant n (piece w₁ b (d - 1 + 1)) (piece w₁ a (d + 1))) % n) hp
+      ∙ c-mul (c-mod (getD w (a + d) 0 ^ (e + 1 - d))) c-refl .same ∙ sym law-next

@@ -36,7 +36,11 @@ served-same h s = record { least-f = s .least-f; most-f = s .most-f; least-g = s
 
 pub ordered-asked : (n : ℕ) (f g w : List ℕ) → 2 ≤ n → Served f g w → length f ≤ length g
     → ((2 ≤ n) × ((1 ≤ length f) × (length f ≤ length g))) × (length f + length g + room (length f - 1) (length g - 1) ≤ length w)
-ordered-asked n f g w two s l = ((two, (s .least-f, l)), working-enough (length f) (length g) (length w) (s .least-f) (s .most-f) (s .least-g) (s .most-g) (s .working))
+ordered-asked n f g w two s l = (
+  (two, (s .least-f, l)),
+  working-enough (length f) (length g) (length w) (s .least-f) (s .most-f)
+      (s .least-g) (s .most-g) (s .working),
+)
 
 pub swapped-asked : (n : ℕ) (f g w : List ℕ) → 2 ≤ n → Served f g w → length g < length f
     → ((2 ≤ n) × ((1 ≤ length g) × (length g ≤ length f))) × (length g + length f + room (length g - 1) (length f - 1) ≤ length w)
@@ -98,9 +102,11 @@ module _ (n : ℕ) (f g w w₁ w₂ : List ℕ) (two : 2 ≤ n) (one : 1 ≤ len
   same-resultant : (m : ℕ) → n ≡ m → resultant m F G ≡ resultant m f g
   same-resultant zero h = absurd (omega arith)
   same-resultant (suc m) h =
-      resultant-cong m F f G g (ap pred length-F) (ap pred length-G) (λ k. subst (λ (x : ℕ). coef F k % x ≡ coef f k % x) h (same-F k)) (λ k. subst (λ (x : ℕ). coef G k % x ≡ coef g k % x) h (same-G k))
+      resultant-cong m F f G g (ap pred length-F) (ap pred length-G) (λ k. subst (λ (x : ℕ). coef F k % x ≡ coef f k % x) h (same-F k))
+      (λ k. subst (λ (x : ℕ). coef G k % x ≡ coef g k % x) h (same-G k))
 
-  pub loaded-answer : (r : Attempt) → AnswerOf n (resultant n (piece w₂ 0 (length f - 1 + 1)) (piece w₂ (length f) (length g - 1 + 1))) r → AnswerOf n (resultant n f g) r
+  pub loaded-answer : (r : Attempt) → AnswerOf n (resultant n (piece w₂ 0 (length f - 1 + 1)) (piece w₂ (length f) (length g - 1 + 1))) r
+      → AnswerOf n (resultant n f g) r
   unfolding F G
   loaded-answer r = subst (λ (x : ℕ). AnswerOf n x r) (same-resultant n refl)
 
@@ -110,4 +116,5 @@ swapped-sign zero f g w two s = absurd (omega arith)
 swapped-sign (suc m) f g w two s =
     let lf : length f ≡ length f - 1 + 1 = omega (arith, s .least-f) in
     let lg : length g ≡ length g - 1 + 1 = omega (arith, s .least-g) in
-    ap (λ (x : ℕ). signed (suc m) x (resultant (suc m) g f)) (sym (ap₂ (λ (x y : ℕ). x * y) (deg-of f (length f - 1) lf) (deg-of g (length g - 1) lg))) ∙ sym (resultant-swap m f g)
+    ap (λ (x : ℕ). signed (suc m) x (resultant (suc m) g f))
+    (sym (ap₂ (λ (x y : ℕ). x * y) (deg-of f (length f - 1) lf) (deg-of g (length g - 1) lg))) ∙ sym (resultant-swap m f g)

@@ -23,22 +23,32 @@ use Rattle.steps.specs.Layouts.{Beside, words-at, words-back}
 
 -- ---- two runs of words written one after the other
 
-written : (F G : ℕ → ℕ) (l m s : ℕ) (w w₁ w₂ : List ℕ) → Around s l w w₁ → Around (s + l) m w₁ w₂ → ((k : ℕ) → k < l → getD w₁ (s + k) 0 ≡ F k) → ((k : ℕ) → k < m → getD w₂ (s + l + k) 0 ≡ G k)
+written : (F G : ℕ → ℕ) (l m s : ℕ) (w w₁ w₂ : List ℕ) → Around s l w w₁ → Around (s + l) m w₁ w₂
+    → ((k : ℕ) → k < l → getD w₁ (s + k) 0 ≡ F k) → ((k : ℕ) → k < m → getD w₂ (s + l + k) 0 ≡ G k)
     → Beside F G l m s w w₂
 written F G l m s w w₁ w₂ a b f g = record {
-  around = record { same = b .same ∙ a .same; low = λ k h. b .low k (omega arith) ∙ a .low k h; high = λ k h. b .high k (omega arith) ∙ a .high k (omega arith) };
+  around = record {
+    same = b .same ∙ a .same;
+    low = λ k h. b .low k (omega arith) ∙ a .low k h;
+    high = λ k h. b .high k (omega arith)
+        ∙ a .high k (omega arith);
+  };
   first = λ k h. b .low (s + k) (omega arith) ∙ f k h;
   second = g;
 }
 
-pub copies-beside : (a l b m s : ℕ) (w w₁ w₂ : List ℕ) → a + l ≤ s → b + m ≤ s → Moved second a s l w w₁ → Moved second b (s + l) m w₁ w₂ → Beside (words-at w a) (words-at w b) l m s w w₂
+pub copies-beside : (a l b m s : ℕ) (w w₁ w₂ : List ℕ) → a + l ≤ s → b + m ≤ s → Moved second a s l w w₁ → Moved second b (s + l) m w₁ w₂
+    → Beside (words-at w a) (words-at w b) l m s w w₂
 copies-beside a l b m s w w₁ w₂ p q x y =
-    written (words-at w a) (words-at w b) l m s w w₁ w₂ (record { same = x .same; low = x .low; high = x .high }) (record { same = y .same; low = y .low; high = y .high })
+    written (words-at w a) (words-at w b) l m s w w₁ w₂ (record { same = x .same; low = x .low; high = x .high })
+    (record { same = y .same; low = y .low; high = y .high })
     (λ k h. x .mid k h) (λ k h. y .mid k h ∙ x .low (b + k) (omega arith))
 
-pub copies-back : (a l b m s : ℕ) (w w₁ w₂ : List ℕ) → a + l ≤ s → b + m ≤ s → Reversed a s l w w₁ → Reversed b (s + l) m w₁ w₂ → Beside (words-back w a l) (words-back w b m) l m s w w₂
+pub copies-back : (a l b m s : ℕ) (w w₁ w₂ : List ℕ) → a + l ≤ s → b + m ≤ s → Reversed a s l w w₁ → Reversed b (s + l) m w₁ w₂
+    → Beside (words-back w a l) (words-back w b m) l m s w w₂
 copies-back a l b m s w w₁ w₂ p q x y =
-    written (words-back w a l) (words-back w b m) l m s w w₁ w₂ (record { same = x .same; low = x .low; high = x .high }) (record { same = y .same; low = y .low; high = y .high })
+    written (words-back w a l) (words-back w b m) l m s w w₁ w₂ (record { same = x .same; low = x .low; high = x .high })
+    (record { same = y .same; low = y .low; high = y .high })
     (λ k h. x .mid k h) (λ k h. y .mid k h ∙ x .low (b + (m - 1 - k)) (omega arith))
 
 -- ---- the part that begins at s
@@ -62,7 +72,8 @@ module _ (F G : ℕ → ℕ) (l m s M : ℕ) (w w' : List ℕ) (bs : Beside F G 
   beside-first f e h =
       let z : length (piece (midOf s M w') 0 l) ≡ l = piece-length (midOf s M w') 0 l (omega (arith, mid-length s M w' fits)) in
       ext-getD 0 (piece (midOf s M w') 0 l) f (z ∙ sym e)
-      (λ k b. piece-at (midOf s M w') 0 l k (omega arith) ∙ ap (λ (x : ℕ). getD (midOf s M w') x 0) (zero-add k) ∙ at-first k (omega arith) ∙ sym (h k (omega arith)))
+      (λ k b. piece-at (midOf s M w') 0 l k (omega arith) ∙ ap (λ (x : ℕ). getD (midOf s M w') x 0) (zero-add k) ∙ at-first k (omega arith)
+      ∙ sym (h k (omega arith)))
 
   pub beside-second : (g : List ℕ) → length g ≡ m → ((k : ℕ) → k < m → coef g k ≡ G k) → piece (midOf s M w') l m ≡ g
   beside-second g e h =

@@ -42,7 +42,8 @@ signed-twice n (suc k) x l = go (suc k % 2) refl (omega arith)
     go : (r : ℕ) → suc k % 2 ≡ r → r < 2 → signed n (suc k) (signed n (suc k) x) ≡ x
     go zero h b = signed-even n (suc k) (signed n (suc k) x) (signed-lt n (suc k) x l) h ∙ signed-even n (suc k) x l h
     go (suc zero) h b =
-        signed-odd n (suc k) (signed n (suc k) x) (signed-lt n (suc k) x l) h ∙ ap (λ (y : ℕ). (n - y) % n) (signed-odd n (suc k) x l h) ∙ negative-twice n x l
+        signed-odd n (suc k) (signed n (suc k) x) (signed-lt n (suc k) x l) h ∙ ap (λ (y : ℕ). (n - y) % n) (signed-odd n (suc k) x l h)
+        ∙ negative-twice n x l
     go (suc (suc r)) h b = absurd (omega arith)
 
 -- ---- the sign of d e, from the parities of d and e
