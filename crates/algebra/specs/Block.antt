@@ -1,36 +1,29 @@
--- Columns, a corner, and block triangular matrices.
-use mathlib.Core.Path.{_≡_, refl, sym, _∙_, ap, ap₂, fun-ext, subst}
-use mathlib.Core.Logic.{_≢_}
-use Prim.Native.Nat.{ℕ, zero, suc, _<_, _≤_, _+_ as _+ℕ_}
-use native.Mathlib.Nat.{suc-add, zero-add as nat-zero-add}
+-- Block triangular matrices: where the block right of the first m rows' first m columns is 0, or the block below it, the determinant is the
+-- product of two.
+--
+--   corner, corner-row   the first column is 0 below the corner; the first row is 0 beside it
+--   pad m v         the first m entries of v, then zeros
+--   low m a         the rows and columns from m on
+--   det-block-lower      the top right block is 0
+--   det-block-upper      the bottom left block is 0
+--
+-- Letters: a, w are matrices; v a row; m, p the sizes of the blocks.
+use mathlib.Core.Path.{_≡_, refl, sym, _∙_, ap, ap₂, fun-ext}
+use Prim.Native.Nat.{ℕ, zero, suc, _<_, _≤_}
 use native.Mathlib.Omega.{arith}
-use Rattle.algebra.specs.Det.{comb, minor, det, det-cong}
-use Rattle.algebra.specs.Form.{Form, Linear, pull, det-form, e, unique, det-transpose}
-use Rattle.algebra.specs.Index.{ins, skip}
-use Rattle.algebra.specs.Plain.{equal}
-use Rattle.algebra.specs.Product.{over, under, over-self}
-use Rattle.algebra.specs.Ring.{CRing, add-zero, add-neg, add-cancel, mul-zero, mul-neg}
-use Rattle.algebra.specs.Sum.{alt, alt-zero, neg-zero, zero-mul}
-
--- m + p, by recursion on m
-abbrev pub up : ℕ → ℕ → ℕ
-up zero p = p
-up (suc m) p = suc (up m p)
-
-pub up-is : (m p : ℕ) → up m p ≡ m +ℕ p
-up-is zero p = sym (nat-zero-add p)
-up-is (suc m) p = ap suc (up-is m p) ∙ sym (suc-add m p)
+use Rattle.algebra.specs.Determinant.{comb, det-cong, det, minor}
+use Rattle.algebra.specs.Form.{det-form, det-transpose, e, Linear, pull, unique}
+use Rattle.algebra.specs.MatrixProduct.{under, over-self, over}
+use Rattle.algebra.specs.Ring.{CRing, add-zero, mul-zero, neg-zero, zero-mul}
+use Rattle.algebra.specs.Stack.{up-is, up}
+use Rattle.algebra.specs.Sum.{alt-zero}
 
 module _ {R : Type 0} (𝓡 : CRing R) where
-  open CRing 𝓡 using (add as _+_, mul as _*_, neg as -_, nil as 𝟘, unit as 𝟙, add-assoc, add-comm, zero-add, neg-add, mul-assoc, mul-comm, one-mul, mul-add)
+  open CRing 𝓡 using (add as _+_, mul as _*_, neg as -_, nil as 𝟘, zero-add, one-mul)
 
   infixl 65 _+_
   infixl 70 _*_
   infix 75 -_
-  -- two equal columns
-  pub equal-columns : (n i k : ℕ) → i < k → k < n → (a : ℕ → ℕ → R) → ((r : ℕ) → r < n → a r i ≡ a r k) → det 𝓡 n a ≡ 𝟘
-  equal-columns n i k l p a h = sym (det-transpose 𝓡 n a) ∙ equal 𝓡 (det-form 𝓡 n) i k l p (λ r c. a c r) h
-
   -- the first column is 0 below the corner; the first row is 0 beside it
   pub corner : (n : ℕ) (a : ℕ → ℕ → R) → ((i : ℕ) → i < n → a (suc i) 0 ≡ 𝟘) → det 𝓡 (suc n) a ≡ a 0 0 * det 𝓡 n (λ r c. a (suc r) (suc c))
   unfolding det
@@ -39,7 +32,8 @@ module _ {R : Type 0} (𝓡 : CRing R) where
       (alt-zero 𝓡 n _ (λ i l. ap (λ x. x * det 𝓡 n (minor 𝓡 (suc i) a)) (h i l) ∙ zero-mul 𝓡 _))
       ∙ simp (neg-zero 𝓡, add-zero 𝓡)
 
-  pub corner-row : (n : ℕ) (a : ℕ → ℕ → R) → ((j : ℕ) → j < n → a 0 (suc j) ≡ 𝟘) → det 𝓡 (suc n) a ≡ a 0 0 * det 𝓡 n (λ r c. a (suc r) (suc c))
+  pub corner-row : (n : ℕ) (a : ℕ → ℕ → R) → ((j : ℕ) → j < n → a 0 (suc j) ≡ 𝟘)
+      → det 𝓡 (suc n) a ≡ a 0 0 * det 𝓡 n (λ r c. a (suc r) (suc c))
   corner-row n a h =
       sym (det-transpose 𝓡 (suc n) a) ∙ corner n (λ r c. a c r) h ∙ ap (λ x. a 0 0 * x) (det-transpose 𝓡 n (λ r c. a (suc r) (suc c)))
 
@@ -72,6 +66,10 @@ module _ {R : Type 0} (𝓡 : CRing R) where
   low zero w = w
   low (suc m) w = low m (λ r c. w (suc r) (suc c))
 
+  pub low-is : (n : ℕ) (w : ℕ → ℕ → R) (r c : ℕ) → low n w r c ≡ w (up n r) (up n c)
+  low-is zero w r c = refl
+  low-is (suc n) w r c = low-is n (λ r c. w (suc r) (suc c)) r c
+
   pad-zero : (m : ℕ) (c : ℕ) → pad m (λ i. 𝟘) c ≡ 𝟘
   pad-zero zero c = refl
   pad-zero (suc m) zero = refl
@@ -91,8 +89,9 @@ module _ {R : Type 0} (𝓡 : CRing R) where
   pad-self (suc m) (suc n) v h (suc c) l = pad-self m n (λ i. v (suc i)) (λ c p q. h (suc c) (omega arith) (omega arith)) c (omega arith)
 
   -- the top right block is 0
-  pub block : (m p : ℕ) (a : ℕ → ℕ → R) → ((r c : ℕ) → r < m → m ≤ c → c < up m p → a r c ≡ 𝟘) → det 𝓡 (up m p) a ≡ det 𝓡 m a * det 𝓡 p (low m a)
-  block m p a h =
+  pub det-block-lower : (m p : ℕ) (a : ℕ → ℕ → R) → ((r c : ℕ) → r < m → m ≤ c → c < up m p → a r c ≡ 𝟘)
+      → det 𝓡 (up m p) a ≡ det 𝓡 m a * det 𝓡 p (low m a)
+  det-block-lower m p a h =
       det-cong 𝓡 (up m p) a (over 𝓡 m (λ r. pad m (a r)) a)
       (λ r c x y. sym (over-self 𝓡 m (λ r. pad m (a r)) a c (λ r l. pad-self m (up m p) (a r) (λ c u v. h r c l u v) c y) r))
       ∙ unique 𝓡 m (pull 𝓡 (under 𝓡 (det-form 𝓡 (up m p)) m (omega (arith, up-is m p)) a) (pad-linear m (up m p))) a
@@ -103,7 +102,8 @@ module _ {R : Type 0} (𝓡 : CRing R) where
   low-flip (suc m) a = low-flip m (λ r c. a (suc r) (suc c))
 
   -- the bottom left block is 0
-  pub block-up : (m p : ℕ) (a : ℕ → ℕ → R) → ((r c : ℕ) → c < m → m ≤ r → r < up m p → a r c ≡ 𝟘) → det 𝓡 (up m p) a ≡ det 𝓡 m a * det 𝓡 p (low m a)
-  block-up m p a h =
-      sym (det-transpose 𝓡 (up m p) a) ∙ block m p (λ r c. a c r) (λ r c. h c r)
+  pub det-block-upper : (m p : ℕ) (a : ℕ → ℕ → R) → ((r c : ℕ) → c < m → m ≤ r → r < up m p → a r c ≡ 𝟘)
+      → det 𝓡 (up m p) a ≡ det 𝓡 m a * det 𝓡 p (low m a)
+  det-block-upper m p a h =
+      sym (det-transpose 𝓡 (up m p) a) ∙ det-block-lower m p (λ r c. a c r) (λ r c. h c r)
       ∙ ap₂ _*_ (det-transpose 𝓡 m a) (ap (det 𝓡 p) (low-flip m a) ∙ det-transpose 𝓡 p (low m a))

@@ -1,14 +1,26 @@
--- Forms of m rows and n columns: linear in each row, 0 where two neighbours are equal.
-use mathlib.Core.Path.{_≡_, refl, sym, _∙_, ap, ap₂, fun-ext, subst}
-use Prim.Native.Nat.{ℕ, zero, suc, _<_, _≤_}
+-- Alternating forms and their uniqueness: a form of n rows and n columns is the determinant times its value at the unit matrix. Every later
+-- theorem on determinants builds a form and applies this. From it: expansion along the first row, and the determinant of the transposed
+-- matrix.
+--
+--   Form m n D      D reads m rows of n columns, is linear in each row, and 0 where two neighbouring rows are equal
+--   Linear n n′ g   g maps rows of n entries linearly to rows of n′
+--   pull, fix-top   forms made from forms: along a linear map of rows; with the top row fixed
+--   swap, sink      rows that change places; the top row moved down
+--   e j             the rows of the unit matrix
+--   rdet            the expansion along the first row
+--   unique          D a = det a · D e
+--
+-- Letters: D is a form; F says that it is one; m is the number of rows, n of columns; a, b are matrices, u, v, w rows.
+use mathlib.Core.Path.{_≡_, refl, sym, _∙_, ap, ap₂, fun-ext}
+use Prim.Native.Nat.{ℕ, zero, suc, _<_}
 use native.Mathlib.Omega.{arith}
-use Rattle.algebra.specs.Det.{comb, minor, det, det-cong, det-lin, det-alt, det-upper, prod}
-use Rattle.algebra.specs.Index.{skip, View, here, there, view, skip-lt, skip-lt⁻, ins, ins-at, ins-skip, ins-eta, ins-map, ins-comm}
-use Rattle.algebra.specs.Ring.{CRing, add-zero, add-neg, add-left-comm, mul-left-comm, add-mul, add-cancel, mul-zero, mul-neg, neg-neg, neg-mul, neg-of-add, add-neg-cancel, neg-add-cancel}
-use Rattle.algebra.specs.Sum.{sum, sum-cong, sum-zero, mul-sum, sum-mul, sgn, alt, alt-cong, alt-sum, neg-zero, zero-mul, mul-one}
+use Rattle.algebra.specs.Determinant.{det-alt, det-upper, det, det-cong, prod, comb, det-lin}
+use Rattle.algebra.specs.Index.{ins, skip, ins-eta, View, here, there, view, skip-lt⁻, ins-at, ins-skip, ins-map, ins-comm}
+use Rattle.algebra.specs.Ring.{CRing, add-zero, add-neg, add-cancel, mul-zero, mul-one}
+use Rattle.algebra.specs.Sum.{sum, sum-cong, alt, sgn, alt-cong, alt-sum, sum-zero, sum-mul, sgn-assoc}
 
 module _ {R : Type 0} (𝓡 : CRing R) where
-  open CRing 𝓡 using (add as _+_, mul as _*_, neg as -_, nil as 𝟘, unit as 𝟙, add-assoc, add-comm, zero-add, neg-add, mul-assoc, mul-comm, one-mul, mul-add)
+  open CRing 𝓡 using (add as _+_, mul as _*_, neg as -_, nil as 𝟘, unit as 𝟙, add-comm, zero-add, neg-add, one-mul)
 
   infixl 65 _+_
   infixl 70 _*_
@@ -60,10 +72,12 @@ module _ {R : Type 0} (𝓡 : CRing R) where
       add-cancel 𝓡 (G v u) (G u v) (- G v u)
       (add-comm (G v u) (G u v) ∙ (simp (l, r, z, one-mul, add-zero 𝓡, zero-add) at (z (comb 𝓡 𝟙 u v))) ∙ sym (add-neg 𝓡 (G v u)))
 
-  pub swap : {m n : ℕ} {D : (ℕ → ℕ → R) → R} → Form m n D → (k : ℕ) → suc k < m → (u v : ℕ → R) (b : ℕ → ℕ → R) → D (ins k u (ins k v b)) ≡ - D (ins k v (ins k u b))
+  pub swap : {m n : ℕ} {D : (ℕ → ℕ → R) → R} → Form m n D → (k : ℕ) → suc k < m → (u v : ℕ → R) (b : ℕ → ℕ → R)
+      → D (ins k u (ins k v b)) ≡ - D (ins k v (ins k u b))
   swap {m} {n} {D} F k l u v b =
       bilinear (λ u v. D (ins k u (ins k v b))) (λ c v u w. F .lin k (omega arith) c v u (ins k w b))
-      (λ c v u w. ap D (over w (comb 𝓡 c v u)) ∙ F .lin (suc k) l c v u (ins k w b) ∙ ap₂ (λ x y. c * D x + D y) (sym (over w v)) (sym (over w u)))
+      (λ c v u w. ap D (over w (comb 𝓡 c v u)) ∙ F .lin (suc k) l c v u (ins k w b)
+      ∙ ap₂ (λ x y. c * D x + D y) (sym (over w v)) (sym (over w u)))
       (λ v. F .two k l v b) u v
     where
       over : (x y : ℕ → R) → ins k x (ins k y b) ≡ ins (suc k) y (ins k x b)
@@ -74,12 +88,14 @@ module _ {R : Type 0} (𝓡 : CRing R) where
   top a = sym (ins-eta 0 a)
 
   -- the top row goes down j places
-  pub sink : {m n : ℕ} {D : (ℕ → ℕ → R) → R} → Form (suc m) n D → (j : ℕ) → j < suc m → (v : ℕ → R) (b : ℕ → ℕ → R) → D (ins 0 v b) ≡ sgn 𝓡 j (D (ins j v b))
+  pub sink : {m n : ℕ} {D : (ℕ → ℕ → R) → R} → Form (suc m) n D → (j : ℕ) → j < suc m → (v : ℕ → R) (b : ℕ → ℕ → R)
+      → D (ins 0 v b) ≡ sgn 𝓡 j (D (ins j v b))
   sink F zero l v b = refl
   sink {m = zero} F (suc j) l v b = absurd (omega arith)
   sink {m = suc m} {D = D} F (suc j) l v b =
       ap (λ x. D (ins 0 v x)) (top b) ∙ swap F 0 (omega arith) v (b 0) (λ r. b (suc r))
-      ∙ ap (λ x. - x) (sink (fix-top F (b 0)) j (omega arith) v (λ r. b (suc r)) ∙ ap (λ x. sgn 𝓡 j (D x)) (fun-ext (elim [ zero ↦ refl | suc r ↦ refl ])))
+      ∙ ap (λ x. - x) (sink (fix-top F (b 0)) j (omega arith) v (λ r. b (suc r))
+      ∙ ap (λ x. sgn 𝓡 j (D x)) (fun-ext (elim [ zero ↦ refl | suc r ↦ refl ])))
 
   -- multiples of the top row are added to the others
   pub add-top : {m n : ℕ} {D : (ℕ → ℕ → R) → R} → Form (suc m) n D → (p : ℕ → R) (c : ℕ → R) (b : ℕ → ℕ → R)
@@ -89,7 +105,8 @@ module _ {R : Type 0} (𝓡 : CRing R) where
       let t : ℕ → ℕ → R = λ r. comb 𝓡 (c (suc r)) p (b (suc r)) in
       ap (λ x. D (ins 0 p x)) (top b) ∙ swap F 0 (omega arith) p (b 0) (λ r. b (suc r))
       ∙ ap (λ x. - x) (add-top (fix-top F (b 0)) p (λ r. c (suc r)) (λ r. b (suc r))) ∙ sym (swap F 0 (omega arith) p (b 0) t)
-      ∙ sym (zero-add (D (ins 0 p (ins 0 (b 0) t)))) ∙ ap (λ x. x + D (ins 0 p (ins 0 (b 0) t))) (sym (mul-zero 𝓡 (c 0)) ∙ ap (λ x. c 0 * x) (sym (F .two 0 (omega arith) p t)))
+      ∙ sym (zero-add (D (ins 0 p (ins 0 (b 0) t)))) ∙ ap (λ x. x + D (ins 0 p (ins 0 (b 0) t)))
+      (sym (mul-zero 𝓡 (c 0)) ∙ ap (λ x. c 0 * x) (sym (F .two 0 (omega arith) p t)))
       ∙ sym ((fix-top F p) .lin 0 (omega arith) (c 0) p (b 0) t) ∙ ap (λ x. D (ins 0 p x)) (sym (top (λ r. comb 𝓡 (c r) p (b r))))
 
   -- the rows of the unit matrix
@@ -131,16 +148,10 @@ module _ {R : Type 0} (𝓡 : CRing R) where
       → (n : ℕ) (v : ℕ → R) (w : ℕ → ℕ → R) → G (λ x. sum 𝓡 n (λ j. v j * w j x)) ≡ sum 𝓡 n (λ j. v j * G (w j))
   spread G l zero v w =
       let z : ℕ → R = λ x. 𝟘 in
-      add-cancel 𝓡 (G z) (G z) 𝟘 (ap (λ x. x + G z) (sym (one-mul (G z))) ∙ sym (l 𝟙 z z) ∙ ap G (fun-ext (λ x. simp (one-mul, add-zero 𝓡))) ∙ sym (add-zero 𝓡 (G z)))
-  spread G l (suc n) v w = l (v 0) (w 0) (λ x. sum 𝓡 n (λ j. v (suc j) * w (suc j) x)) ∙ ap (λ y. v 0 * G (w 0) + y) (spread G l n (λ i. v (suc i)) (λ i. w (suc i)))
-
-  pub sgn-mul : (j : ℕ) (x y : R) → x * sgn 𝓡 j y ≡ sgn 𝓡 j (x * y)
-  sgn-mul zero x y = refl
-  sgn-mul (suc j) x y = mul-neg 𝓡 x (sgn 𝓡 j y) ∙ ap (λ z. - z) (sgn-mul j x y)
-
-  sgn-assoc : (j : ℕ) (x y z : R) → x * (y * sgn 𝓡 j z) ≡ sgn 𝓡 j (x * y) * z
-  sgn-assoc j x y z =
-      sym (mul-assoc x y (sgn 𝓡 j z)) ∙ sgn-mul j (x * y) z ∙ ap (sgn 𝓡 j) (mul-comm (x * y) z) ∙ sym (sgn-mul j z (x * y)) ∙ mul-comm z (sgn 𝓡 j (x * y))
+      add-cancel 𝓡 (G z) (G z) 𝟘 (ap (λ x. x + G z) (sym (one-mul (G z))) ∙ sym (l 𝟙 z z) ∙ ap G (fun-ext (λ x. simp (one-mul, add-zero 𝓡)))
+      ∙ sym (add-zero 𝓡 (G z)))
+  spread G l (suc n) v w = l (v 0) (w 0) (λ x. sum 𝓡 n (λ j. v (suc j) * w (suc j) x))
+      ∙ ap (λ y. v 0 * G (w 0) + y) (spread G l n (λ i. v (suc i)) (λ i. w (suc i)))
 
   -- a column of zeros put in at j
   gap : (j n : ℕ) → j < suc n → Linear n (suc n) (ins j 𝟘)
@@ -188,9 +199,11 @@ module _ {R : Type 0} (𝓡 : CRing R) where
       let t : ℕ → ℕ → R = λ r. a (suc r) in
       let q : ℕ → R = λ j. a 0 j * rdet n (λ r c. a (suc r) (skip j c)) in
       ap D (top a)
-      ∙ F .cong _ (ins 0 (λ x. sum 𝓡 (suc n) (λ j. a 0 j * e j x)) t) (elim [ zero ↦ λ c x y. basis (suc n) (a 0) c y | suc r ↦ λ c x y. refl ])
+      ∙ F .cong _ (ins 0 (λ x. sum 𝓡 (suc n) (λ j. a 0 j * e j x)) t)
+      (elim [ zero ↦ λ c x y. basis (suc n) (a 0) c y | suc r ↦ λ c x y. refl ])
       ∙ spread (λ v. D (ins 0 v t)) (λ c v u. F .lin 0 (omega arith) c v u t) (suc n) (a 0) e
-      ∙ sum-cong 𝓡 (suc n) _ (λ j. sgn 𝓡 j (q j) * D e) (λ j l. ap (λ x. a 0 j * x) (expand (λ D′ F′. row-unique n {D = D′} F′) F j l t) ∙ sgn-assoc j (a 0 j) (rdet n (λ r c. t r (skip j c))) (D e))
+      ∙ sum-cong 𝓡 (suc n) _ (λ j. sgn 𝓡 j (q j) * D e) (λ j l. ap (λ x. a 0 j * x) (expand (λ D′ F′. row-unique n {D = D′} F′) F j l t)
+      ∙ sgn-assoc 𝓡 j (a 0 j) (rdet n (λ r c. t r (skip j c))) (D e))
       ∙ sym (sum-mul 𝓡 (suc n) (D e) (λ j. sgn 𝓡 j (q j))) ∙ ap (λ x. x * D e) (sym (alt-sum 𝓡 (suc n) q))
 
   pub e-low : (r c : ℕ) → c < r → e r c ≡ 𝟘
@@ -210,7 +223,7 @@ module _ {R : Type 0} (𝓡 : CRing R) where
   pub det-rdet : (n : ℕ) (a : ℕ → ℕ → R) → det 𝓡 n a ≡ rdet n a
   det-rdet n a = row-unique n (det-form n) a ∙ ap (λ x. rdet n a * x) (det-e n) ∙ mul-one 𝓡 (rdet n a)
 
-  -- UNIQUENESS
+  -- UNIQUENESS of the alternating form
   pub unique : (n : ℕ) {D : (ℕ → ℕ → R) → R} → Form n n D → (a : ℕ → ℕ → R) → D a ≡ det 𝓡 n a * D e
   unique n {D} F a = row-unique n F a ∙ ap (λ x. x * D e) (sym (det-rdet n a))
 

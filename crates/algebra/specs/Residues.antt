@@ -1,11 +1,25 @@
--- Z/(m+1): the numbers below m+1, with the operations modulo m+1.
-use mathlib.Core.Path.{_≡_, refl, sym, _∙_, ap}
-use Prim.Native.Nat.{ℕ, zero, suc, _+_, _*_, _-_, _%_, _<_, _≤_, Fin}
-use native.Mathlib.Nat.{mod-lt, mod-add-mod, add-mod-mod, mod-mod, mod-self, mod-eq-of-lt, zero-lt-suc, add-assoc, add-comm, mul-assoc, mul-comm, mul-add, one-mul, le-of-lt, sub-add-cancel}
+-- The ring Z/(m + 1): the numbers below m + 1, with the operations modulo m + 1.
+--
+--   mul-mod, mul-mod-l, mul-mod-r   a product modulo n depends on its factors modulo n
+--   Res m, toRes m a                the residues, and the residue of a
+--   Res-ring m                      their ring
+--
+-- Letters: a, b, c are numbers or residues; n a modulus; m a modulus less 1.
+use mathlib.Core.Path.{_≡_, sym, _∙_, ap, ap₂}
+use Prim.Native.Nat.{ℕ, suc, _%_, _+_, _*_, _/_, _-_, Fin}
 use native.Mathlib.Decide.{Fin·val-path}
+use native.Mathlib.Nat.{mod-add-mod, add-mod-mod, add-mul-mod-self-left, div-add-mod, mod-lt, mod-mod, mod-self, mod-eq-of-lt, zero-lt-suc, add-assoc, add-comm, mul-assoc, mul-comm, mul-add, one-mul, le-of-lt, sub-add-cancel}
 use native.Mathlib.Omega.{arith}
-use Rattle.algebra.specs.Modular.{mul-mod}
 use Rattle.algebra.specs.Ring.{CRing}
+
+spread : (n q r s t : ℕ) → (n * q + r) * (n * s + t) ≡ r * t + n * (q * (n * s + t) + r * s)
+spread n q r s t = omega arith
+
+-- a product modulo n depends on its factors modulo n
+pub mul-mod : (a b n : ℕ) → (a * b) % n ≡ ((a % n) * (b % n)) % n
+mul-mod a b n =
+    ap (λ x. x % n) (ap₂ _*_ (sym (div-add-mod a n)) (sym (div-add-mod b n)) ∙ spread n (a / n) (a % n) (b / n) (b % n))
+    ∙ add-mul-mod-self-left ((a % n) * (b % n)) n ((a / n) * (n * (b / n) + b % n) + (a % n) * (b / n))
 
 pub mul-mod-l : (a b n : ℕ) → (a % n * b) % n ≡ (a * b) % n
 mul-mod-l a b n = mul-mod (a % n) b n ∙ ap (λ x. (x * (b % n)) % n) (mod-mod a n) ∙ sym (mul-mod a b n)

@@ -1,4 +1,12 @@
-use mathlib.Core.Path.{_≡_, refl, sym, _∙_, ap}
+-- Commutative rings as a flat record of operations and laws, what follows from the laws, and maps between rings. Every theorem of this
+-- crate takes its ring 𝓡 first.
+--
+--   CRing R         a commutative ring on the type R
+--   pw x n          x to the n-th power
+--   Hom 𝓡 𝓢 φ      φ is a map of rings
+--
+-- Letters: a, b, c, x are elements of R; 𝟘 and 𝟙 are the ring's zero and one.
+use mathlib.Core.Path.{_≡_, refl, sym, _∙_, ap, ap₂}
 use Prim.Native.Nat.{ℕ, zero, suc}
 
 pub record CRing (R : Type 0) : Type 0 where
@@ -17,7 +25,21 @@ pub record CRing (R : Type 0) : Type 0 where
   pub mul-add : (a b c : R) → mul a (add b c) ≡ add (mul a b) (mul a c)
 
 module _ {R : Type 0} (𝓡 : CRing R) where
-  open CRing 𝓡 using (add as _+_, mul as _*_, neg as -_, nil as 𝟘, unit as 𝟙, add-assoc, add-comm, zero-add, neg-add, mul-assoc, mul-comm, one-mul, mul-add)
+  open CRing 𝓡 using (
+    add as _+_,
+    mul as _*_,
+    neg as -_,
+    nil as 𝟘,
+    unit as 𝟙,
+    add-assoc,
+    add-comm,
+    zero-add,
+    neg-add,
+    mul-assoc,
+    mul-comm,
+    one-mul,
+    mul-add,
+  )
 
   infixl 65 _+_
   infixl 70 _*_
@@ -38,13 +60,15 @@ module _ {R : Type 0} (𝓡 : CRing R) where
   add-mul a b c = mul-comm (a + b) c ∙ mul-add c a b ∙ simp mul-comm
 
   pub add-cancel : (a b c : R) → a + b ≡ a + c → b ≡ c
-  add-cancel a b c h = sym (zero-add b) ∙ ap (λ x. x + b) (sym (neg-add a)) ∙ add-assoc (- a) a b ∙ ap (λ x. (- a) + x) h ∙ sym (add-assoc (- a) a c) ∙ ap (λ x. x + c) (neg-add a) ∙ zero-add c
+  add-cancel a b c h = sym (zero-add b) ∙ ap (λ x. x + b) (sym (neg-add a)) ∙ add-assoc (- a) a b ∙ ap (λ x. (- a) + x) h
+      ∙ sym (add-assoc (- a) a c) ∙ ap (λ x. x + c) (neg-add a) ∙ zero-add c
 
   pub mul-zero : (a : R) → a * 𝟘 ≡ 𝟘
   mul-zero a = add-cancel (a * 𝟘) (a * 𝟘) 𝟘 (sym (mul-add a 𝟘 𝟘) ∙ ap (λ x. a * x) (zero-add 𝟘) ∙ sym (add-zero (a * 𝟘)))
 
   pub mul-neg : (a b : R) → a * (- b) ≡ - (a * b)
-  mul-neg a b = add-cancel (a * b) (a * (- b)) (- (a * b)) (sym (mul-add a b (- b)) ∙ ap (λ x. a * x) (add-neg b) ∙ mul-zero a ∙ sym (add-neg (a * b)))
+  mul-neg a b = add-cancel (a * b) (a * (- b)) (- (a * b)) (sym (mul-add a b (- b)) ∙ ap (λ x. a * x) (add-neg b) ∙ mul-zero a
+      ∙ sym (add-neg (a * b)))
 
   pub neg-neg : (a : R) → - (- a) ≡ a
   neg-neg a = add-cancel (- a) (- (- a)) a (add-neg (- a) ∙ sym (neg-add a))
@@ -53,10 +77,36 @@ module _ {R : Type 0} (𝓡 : CRing R) where
   neg-mul a b = mul-comm (- a) b ∙ mul-neg b a ∙ ap (λ x. - x) (mul-comm b a)
 
   pub neg-of-add : (a b : R) → - (a + b) ≡ (- a) + (- b)
-  neg-of-add a b = add-cancel (a + b) (- (a + b)) ((- a) + (- b)) (add-neg (a + b) ∙ sym (simp (add-assoc, add-left-comm b (- a) (- b), add-neg b, add-zero, add-neg a)))
+  neg-of-add a b = add-cancel (a + b) (- (a + b)) ((- a) + (- b))
+      (add-neg (a + b) ∙ sym (simp (add-assoc, add-left-comm b (- a) (- b), add-neg b, add-zero, add-neg a)))
 
   pub add-neg-cancel : (a b : R) → a + ((- a) + b) ≡ b
   add-neg-cancel a b = sym (add-assoc a (- a) b) ∙ ap (λ x. x + b) (add-neg a) ∙ zero-add b
 
   pub neg-add-cancel : (a b : R) → (- a) + (a + b) ≡ b
   neg-add-cancel a b = sym (add-assoc (- a) a b) ∙ ap (λ x. x + b) (neg-add a) ∙ zero-add b
+
+  pub neg-zero : - 𝟘 ≡ 𝟘
+  neg-zero = sym (add-zero (- 𝟘)) ∙ neg-add 𝟘
+
+  pub zero-mul : (a : R) → 𝟘 * a ≡ 𝟘
+  zero-mul a = mul-comm 𝟘 a ∙ mul-zero a
+
+  pub mul-one : (a : R) → a * 𝟙 ≡ a
+  mul-one a = mul-comm a 𝟙 ∙ one-mul a
+
+  abbrev pub pw : R → ℕ → R
+  pw x zero = 𝟙
+  pw x (suc n) = x * pw x n
+
+  pub pw-one : (x : R) → x ≡ 𝟙 → (k : ℕ) → pw x k ≡ 𝟙
+  pw-one x h zero = refl
+  pw-one x h (suc k) = ap₂ _*_ h (pw-one x h k) ∙ one-mul 𝟙
+
+-- a map of rings
+pub record Hom {R S : Type 0} (𝓡 : CRing R) (𝓢 : CRing S) (φ : R → S) : Type 0 where
+  pub h-add : (a b : R) → φ (𝓡 .add a b) ≡ 𝓢 .add (φ a) (φ b)
+  pub h-mul : (a b : R) → φ (𝓡 .mul a b) ≡ 𝓢 .mul (φ a) (φ b)
+  pub h-neg : (a : R) → φ (𝓡 .neg a) ≡ 𝓢 .neg (φ a)
+  pub h-zero : φ (𝓡 .nil) ≡ 𝓢 .nil
+  pub h-one : φ (𝓡 .unit) ≡ 𝓢 .unit

@@ -1,3 +1,4 @@
-pub mod Residues
+pub mod Checks
 pub mod Polynomials
+pub mod Residues
 pub mod Resultants

@@ -42,7 +42,7 @@ abbrev pub residue : ℕ → ℤ → ℕ
 residue n (pos a) = a % n
 residue n (negsuc a) = (n - suc a % n) % n
 
--- "the resultant is the Sylvester determinant in the SENT degrees modulo n"
+-- the determinant of the Sylvester matrix, as a residue
 unfoldable pub resultant : ℕ → List ℕ → List ℕ → ℕ
 resultant n f g = residue n (determinant (deg f + deg g) (sylvester f g))
 

@@ -5,12 +5,12 @@
 --   chinese-same          congruent modulo n₁ and modulo n₂, hence modulo n₁ n₂
 --   joined-exists, joined-unique
 use mathlib.Core.Path.{_≡_, sym, _∙_}
-use Prim.Native.Nat.{ℕ, zero, suc, _+_, _-_, _*_, _/_, _%_, _^_, _<_, _≤_, _∣_}
-use native.Mathlib.Nat.{mod-lt, mod-eq-of-lt, zero-mod, zero-mul, one-mul, mul-comm, add-zero, mul-pos, dvd-mul-left, dvd-mul-right, add-sub-of-le}
+use Prim.Native.Nat.{ℕ, _+_, _-_, _*_, _%_, _<_, _≤_}
+use native.Mathlib.Nat.{mod-lt, mod-eq-of-lt, mod-mod-of-dvd, le-of-lt, zero-mod, zero-mul, one-mul, mul-comm, add-zero, mul-pos, dvd-mul-left, dvd-mul-right, add-sub-of-le}
 use native.Mathlib.Decide.{decLe}
 use native.Mathlib.Omega.{arith}
-use Rattle.definitions.specs.Residues.{Inverse, IsUnit, Coprime}
-use Rattle.numbers.specs.Congruence.{Cong, c-refl, c-sym, c-trans, c-eq, c-add, c-mul, c-mod, c-dvd, c-zero, dvd-c, dvd-difference, c-difference}
+use Rattle.definitions.specs.Residues.{Coprime}
+use Rattle.numbers.specs.Congruence.{Cong, c-refl, c-sym, c-trans, c-eq, c-add, c-mul, c-mod, c-dvd, c-zero, dvd-difference, c-difference}
 use Rattle.numbers.specs.Coprimality.{coprime-product}
 use Rattle.numbers.specs.Units.{unit-of-coprime}
 
@@ -27,10 +27,10 @@ pub record Joined (n₁ n₂ x y r : ℕ) : Type 0 where
 -- s n₂ is 1 modulo n₁
 pub idempotent-of : {n₁ n₂ : ℕ} (s : ℕ) → 1 ≤ n₁ → 1 ≤ n₂ → Cong n₁ (s * n₂) 1 → Idempotent n₁ n₂ ((s * n₂) % (n₁ * n₂))
 idempotent-of {n₁} {n₂} s l₁ l₂ c = record {
-      below = mod-lt (s * n₂) (mul-pos l₁ l₂);
-      one = c-trans (c-dvd (dvd-mul-right n₁ n₂) (c-mod (s * n₂))) c .same;
-      none = c-trans (c-dvd (dvd-mul-left n₂ n₁) (c-mod (s * n₂))) (c-zero (dvd-mul-left n₂ s)) .same ∙ zero-mod n₂
-    }
+  below = mod-lt (s * n₂) (mul-pos l₁ l₂);
+  one = c-trans (c-dvd (dvd-mul-right n₁ n₂) (c-mod (s * n₂))) c .same;
+  none = c-trans (c-dvd (dvd-mul-left n₂ n₁) (c-mod (s * n₂))) (c-zero (dvd-mul-left n₂ s)) .same ∙ zero-mod n₂;
+}
 
 pub idempotent-exists : {n₁ n₂ : ℕ} → 1 ≤ n₁ → 1 ≤ n₂ → Coprime n₁ n₂ → (e : ℕ) × Idempotent n₁ n₂ e
 idempotent-exists {n₁} {n₂} l₁ l₂ c =
@@ -45,25 +45,28 @@ joined-of {n₁} {n₂} {e} x y l₁ l₂ b i =
     let d : ℕ = (x + (n - y)) % n in
     -- y + d is x modulo n
     let back : Cong n (y + d) x =
-        c-trans (c-add (c-refl {a = y}) (c-mod (x + (n - y))))
-        (c-trans (c-eq {b = x + n * 1} (turn n (n - y) (add-sub-of-le b))) (c-trans (c-add (c-refl {a = x}) (c-zero (dvd-mul-right n 1))) (c-eq (add-zero x)))) in
+    c-trans (c-add (c-refl {a = y}) (c-mod (x + (n - y))))
+    (c-trans (c-eq {b = x + n * 1} (turn n (n - y) (add-sub-of-le b))) (c-trans (c-add (c-refl {a = x}) (c-zero (dvd-mul-right n 1))) (c-eq (add-zero x)))) in
     record {
       below = mod-lt (y + e * d) (mul-pos l₁ l₂);
       first = c-trans (c-dvd (dvd-mul-right n₁ n₂) (c-mod (y + e * d)))
-        (c-trans (c-add (c-refl {a = y}) (c-trans (c-mul (record { same = i .one }) (c-refl {a = d})) (c-eq (one-mul d))))
-        (c-dvd (dvd-mul-right n₁ n₂) back)) .same;
+          (c-trans (c-add (c-refl {a = y}) (c-trans (c-mul (record { same = i .one }) (c-refl {a = d})) (c-eq (one-mul d))))
+          (c-dvd (dvd-mul-right n₁ n₂) back)) .same;
       second = c-trans (c-dvd (dvd-mul-left n₂ n₁) (c-mod (y + e * d)))
-        (c-trans (c-add (c-refl {a = y}) (c-trans (c-mul (record { same = i .none ∙ sym (zero-mod n₂) }) (c-refl {a = d})) (c-eq (zero-mul d))))
-        (c-eq (add-zero y))) .same
+          (c-trans (c-add (c-refl {a = y}) (c-trans (c-mul (record { same = i .none ∙ sym (zero-mod n₂) }) (c-refl {a = d})) (c-eq (zero-mul d))))
+          (c-eq (add-zero y))) .same;
     }
   where
     turn : (n z : ℕ) → y + z ≡ n → y + (x + z) ≡ x + n * 1
     turn n z h = omega arith
 
-pub joined-exists : {n₁ n₂ : ℕ} → 1 ≤ n₁ → 1 ≤ n₂ → Coprime n₁ n₂ → (x y : ℕ) → y ≤ n₁ * n₂ → (r : ℕ) × Joined n₁ n₂ x y r
-joined-exists {n₁} {n₂} l₁ l₂ c x y b =
+pub joined-exists : {n₁ n₂ : ℕ} → 1 ≤ n₁ → 1 ≤ n₂ → Coprime n₁ n₂ → (x y : ℕ) → (r : ℕ) × Joined n₁ n₂ x y r
+joined-exists {n₁} {n₂} l₁ l₂ c x y =
+    let n : ℕ = n₁ * n₂ in
+    let z : ℕ = y % n in
     let e = idempotent-exists l₁ l₂ c in
-    ((y + e .0 * ((x + (n₁ * n₂ - y)) % (n₁ * n₂))) % (n₁ * n₂), joined-of x y l₁ l₂ b (e .1))
+    let j = joined-of x z l₁ l₂ (le-of-lt (mod-lt y (mul-pos l₁ l₂))) (e .1) in
+    ((z + e .0 * ((x + (n - z)) % n)) % n, record { below = j .below; first = j .first; second = j .second ∙ mod-mod-of-dvd n₂ y (dvd-mul-left n₂ n₁) })
 
 pub chinese-same : {n₁ n₂ x y : ℕ} → 1 ≤ n₁ → 1 ≤ n₂ → Coprime n₁ n₂ → Cong n₁ x y → Cong n₂ x y → Cong (n₁ * n₂) x y
 chinese-same {n₁} {n₂} {x} {y} l₁ l₂ c p q = pick (decLe x y)

@@ -4,7 +4,7 @@
 --   ring          the ruleset by which `simp` compares sums of products
 use mathlib.Core.Path.{_≡_, refl, sym, ap, subst, _∙_}
 use Prim.Native.Nat.{ℕ, zero, suc, _+_, _-_, _*_, _/_, _%_, _^_, _<_, _≤_, _∣_}
-use native.Mathlib.Nat.{mod-lt, mod-mod, add-mod, mod-self, zero-mod, mul-add-mod-self-left, mul-mod-right, div-add-mod, add-zero, zero-add, add-sub-of-le, add-assoc, add-comm, add-left-comm, mul-comm, mul-assoc, mul-left-comm, add-mul, mul-add, pow-zero, pow-suc, mod-mod-of-dvd, mod-eq-zero-of-dvd, dvd-of-mod-eq-zero, mul-div-cancel'}
+use native.Mathlib.Nat.{mod-lt, mod-mod, add-mod, mod-self, zero-mod, mul-add-mod-self-left, div-add-mod, add-zero, zero-add, add-sub-of-le, add-assoc, add-comm, add-left-comm, mul-comm, mul-assoc, mul-left-comm, add-mul, mul-add, pow-zero, pow-suc, mod-mod-of-dvd, mod-eq-zero-of-dvd, dvd-of-mod-eq-zero, mul-div-cancel'}
 use native.Mathlib.Omega.{arith}
 
 -- the laws of + and *, by which `simp` brings both sides of an equation to one form
@@ -48,9 +48,9 @@ pub c-neg : (n c : ℕ) → 0 < n → Cong n (c + (n - c % n)) 0
 c-neg n c h =
     record {
       same = ap (λ (x : ℕ). x % n) (split (n * (c / n)) (c % n) (div-add-mod c n) (mod-lt c h))
-      ∙ mul-add-mod-self-left n (c / n) n
-      ∙ mod-self n
-      ∙ sym (zero-mod n)
+          ∙ mul-add-mod-self-left n (c / n) n
+          ∙ mod-self n
+          ∙ sym (zero-mod n);
     }
   where
     split : (p r : ℕ) → p + r ≡ c → r < n → c + (n - r) ≡ p + n

@@ -3,12 +3,11 @@
 --   coprime-divides     a divisor of a w, coprime to a, divides w
 --   coprime-product     two coprime divisors of z: their product divides z
 --   coprime-times       coprime to a and to b, hence to a b
-use mathlib.Core.Path.{_≡_, refl, sym, ap, subst, _∙_}
-use Prim.Native.Nat.{ℕ, zero, suc, _+_, _-_, _*_, _/_, _%_, _^_, _<_, _≤_, _∣_}
+use mathlib.Core.Path.{_≡_, sym, subst, _∙_}
+use Prim.Native.Nat.{ℕ, zero, suc, _*_, _/_, _^_, _≤_, _∣_}
 use native.Mathlib.Nat.{dvd-trans, mul-dvd-mul-right, mul-div-cancel', mul-comm, mul-zero, one-mul, pow-zero, pow-suc, dvd-one, pos-of-dvd-of-pos}
-use native.Mathlib.Omega.{arith}
-use Rattle.definitions.specs.Residues.{Inverse, IsUnit, Coprime}
-use Rattle.numbers.specs.Congruence.{Cong, c-refl, c-sym, c-trans, c-eq, c-mul, c-zero, dvd-c, ring}
+use Rattle.definitions.specs.Residues.{Coprime}
+use Rattle.numbers.specs.Congruence.{c-refl, c-sym, c-trans, c-eq, c-mul, c-zero, dvd-c, ring}
 use Rattle.numbers.specs.Units.{unit-of-coprime}
 
 pub coprime-sym : {a b : ℕ} → Coprime a b → Coprime b a
@@ -39,8 +38,8 @@ coprime-product {a} {b} {z} l c p q =
 
 pub coprime-times : {n a b : ℕ} → 1 ≤ n → Coprime n a → Coprime n b → Coprime n (a * b)
 coprime-times {n} {a} {b} l p q = record {
-      only = λ k x y. q .only k x (coprime-divides b (pos-of-dvd-of-pos x l) (record { only = λ j u v. p .only j (dvd-trans j u x) v }) y)
-    }
+  only = λ k x y. q .only k x (coprime-divides b (pos-of-dvd-of-pos x l) (record { only = λ j u v. p .only j (dvd-trans j u x) v }) y);
+}
 
 pub coprime-power : {n a : ℕ} → 1 ≤ n → Coprime n a → (k : ℕ) → Coprime n (a ^ k)
 coprime-power {n} {a} l c zero = subst (Coprime n) (sym (pow-zero a)) (coprime-sym (coprime-one n))

@@ -4,7 +4,7 @@
 --   GcdCofactor n a g s   g is that of n and a, and s a is g modulo n; s is from 0 to n
 --   Same a b x y          a and b have the common divisors that x and y have
 --   gcd-exists, gcd-unique, bezout-exists
-use mathlib.Core.Path.{_≡_, refl, sym, ap, subst, _∙_}
+use mathlib.Core.Path.{_≡_, sym, subst, _∙_}
 use mathlib.Core.Logic.{⊎-elim}
 use Prim.Native.Nat.{ℕ, zero, suc, _+_, _-_, _*_, _/_, _%_, _<_, _≤_, _∣_}
 use native.Mathlib.Nat.{dvd-mod-iff, dvd-refl, dvd-zero, dvd-antisymm, mod-lt, mod-self, zero-mod, zero-mul, one-mul, div-add-mod, eq-zero-or-pos, le-of-lt}
@@ -33,7 +33,7 @@ pub same-step : {a b x y : ℕ} → Same a b x y → Same a b y (x % y)
 same-step {a} {b} {x} {y} s =
     record {
       down = λ d p q. s .down d (dvd-mod-iff d {m = x} {n = y} p .0 q) p;
-      up = λ d p q. (s .up d p q .1, dvd-mod-iff d {m = x} {n = y} (s .up d p q .1) .1 (s .up d p q .0))
+      up = λ d p q. (s .up d p q .1, dvd-mod-iff d {m = x} {n = y} (s .up d p q .1) .1 (s .up d p q .0));
     }
 
 pub same-end : {a b x y : ℕ} → Same a b x y → y ≡ 0 → IsGcd a b x
@@ -42,7 +42,7 @@ same-end {a} {b} {x} {y} s e =
     record {
       left = s .down x (dvd-refl x) none .0;
       right = s .down x (dvd-refl x) none .1;
-      most = λ d p q. s .up d p q .0
+      most = λ d p q. s .up d p q .0;
     }
 
 -- ---- the greatest common divisor exists and is one
@@ -60,9 +60,9 @@ multiple-step {n} {a} {x} {y} {s} {t} h p r =
     let q : ℕ = x / y in
     record {
       is = c-cancel (q * y) h
-        (c-trans (c-add (c-refl {a = (s + (n - (q * t) % n)) % n * a}) (c-mul (c-refl {a = q}) (c-sym (r .is))))
-        (c-trans (c-eq {b = ((s + (n - (q * t) % n)) % n + q * t) * a} (simp ring))
-        (c-trans (c-mul (c-sub (q * t) h) (c-refl {a = a})) (c-trans (p .is) (c-eq (sym ((simp ring) ∙ div-add-mod x y)))))))
+          (c-trans (c-add (c-refl {a = (s + (n - (q * t) % n)) % n * a}) (c-mul (c-refl {a = q}) (c-sym (r .is))))
+          (c-trans (c-eq {b = ((s + (n - (q * t) % n)) % n + q * t) * a} (simp ring))
+          (c-trans (c-mul (c-sub (q * t) h) (c-refl {a = a})) (c-trans (p .is) (c-eq (sym ((simp ring) ∙ div-add-mod x y)))))));
     }
 
 pub record HasCofactor (n a : ℕ) : Type 0 where
@@ -73,10 +73,10 @@ pub record HasCofactor (n a : ℕ) : Type 0 where
 module _ (n a : ℕ) (pos : 0 < n) where
   last : (x y s : ℕ) → Same n a x y → Multiple n a s x → y ≡ 0 → HasCofactor n a
   last x y s e p z = record {
-        g = x;
-        s = s % n;
-        is = record { gcd = same-end e z; at-most = le-of-lt (mod-lt s pos); bezout = c-trans (c-mul (c-mod s) c-refl) (p .is) .same }
-      }
+    g = x;
+    s = s % n;
+    is = record { gcd = same-end e z; at-most = le-of-lt (mod-lt s pos); bezout = c-trans (c-mul (c-mod s) c-refl) (p .is) .same };
+  }
 
   turns : (c x y s t : ℕ) → y < c → Same n a x y → Multiple n a s x → Multiple n a t y → HasCofactor n a
   turns zero x y s t l e p q = absurd (omega arith)

@@ -6,14 +6,14 @@
 --   Splits n a          a splits n into some two factors
 --   one-kind            a is a unit, nilpotent or splitting, and never two of these
 --   splitting-unique    the two factors are fixed
-use mathlib.Core.Path.{_≡_, refl, sym, ap, subst, _∙_}
+use mathlib.Core.Path.{_≡_, sym, ap, subst, _∙_}
 use mathlib.Core.Logic.{_⊎_, inl, inr}
-use Prim.Native.Nat.{ℕ, zero, suc, _+_, _-_, _*_, _/_, _%_, _^_, _<_, _≤_, _∣_}
+use Prim.Native.Nat.{ℕ, zero, suc, _*_, _/_, _^_, _<_, _≤_, _∣_}
 use native.Mathlib.Nat.{dvd-refl, dvd-trans, mul-dvd-mul, mod-eq-zero-of-dvd, div-mul-cancel, mul-div-cancel, mul-div-cancel', pow-suc, pow-zero, mul-assoc, mul-one, mul-comm, one-mul, zero-mul, pos-of-ne-zero, pos-of-dvd-of-pos, lt-of-lt-of-le, le-mul-of-pos-right, dvd-mul-right, dvd-mul-left, dvd-of-mod-eq-zero, dvd-antisymm, div-lt-self, eq-of-mul-eq-mul-left, le-of-lt}
 use native.Mathlib.Decide.{decLt, ℕ-discrete}
 use native.Mathlib.Omega.{arith}
 use Rattle.definitions.specs.Residues.{IsUnit, IsNilpotent, Coprime, Splitting}
-use Rattle.numbers.specs.Congruence.{Cong, c-dvd, c-trans, c-eq}
+use Rattle.numbers.specs.Congruence.{c-dvd, c-trans, c-eq}
 use Rattle.numbers.specs.Divisors.{IsGcd, GcdCofactor, HasCofactor, bezout-exists, gcd-exists}
 use Rattle.numbers.specs.Units.{cofactor-inverse, unit-of-coprime, coprime-of-gcd, coprime-of-unit, unit-dvd, unit-divides-power}
 use Rattle.numbers.specs.Coprimality.{coprime-sym, coprime-dvd, coprime-divides, coprime-power}
@@ -40,7 +40,7 @@ parts-start {n} {a} {g} {s} {h} l e ne f =
       above = let z : 0 < g = pos-of-dvd-of-pos (e .gcd .left) l in omega arith;
       positive = quotient-positive g l (e .gcd .left);
       divides = subst (λ (x : ℕ). g ∣ x) (sym (pow-suc a 0 ∙ ap (λ (x : ℕ). x * a) (pow-zero a) ∙ one-mul a)) (e .gcd .right);
-      gcd = f
+      gcd = f;
     }
 
 pub parts-step : {n a m h h' : ℕ} → Parts n a m h → 1 < h → IsGcd (m / h) a h' → Parts n a (m / h) h'
@@ -53,15 +53,15 @@ parts-step {n} {a} {m} {h} {h'} q l f =
       above = let z : 0 < h = omega arith in lt-of-lt-of-le (q .above) (le-mul-of-pos-right (q .p) z);
       positive = quotient-positive h (q .positive) d;
       divides = subst (λ (x : ℕ). q .p * h ∣ x) (sym (pow-suc a (q .k))) (mul-dvd-mul (q .p) h (q .divides) (q .gcd .right));
-      gcd = f
+      gcd = f;
     }
 
 -- nothing of n is left: a power of a is a multiple of n
 pub parts-nilpotent : {n a m h : ℕ} → Parts n a m h → m ≡ 1 → IsNilpotent n a
 parts-nilpotent {n} {a} {m} q e = record {
-      exponent = q .k;
-      power = mod-eq-zero-of-dvd n (subst (λ (x : ℕ). x ∣ a ^ q .k) (sym (mul-one (q .p)) ∙ ap (λ (x : ℕ). q .p * x) (sym e) ∙ q .product) (q .divides))
-    }
+  exponent = q .k;
+  power = mod-eq-zero-of-dvd n (subst (λ (x : ℕ). x ∣ a ^ q .k) (sym (mul-one (q .p)) ∙ ap (λ (x : ℕ). q .p * x) (sym e) ∙ q .product) (q .divides));
+}
 
 -- m is left, and has nothing in common with a
 pub parts-splitting : {n a m h : ℕ} → Parts n a m h → h ≤ 1 → (m ≡ 1 → ⊥) → Splitting n a (n / m) m
@@ -78,10 +78,10 @@ parts-splitting {n} {a} {m} {h} q l ne =
       above₂ = more;
       coprime = record {
         only = λ d dp dm. unit-divides-power d a (unit .inverse) (q .k)
-          (c-dvd dm (c-trans (c-eq (mul-comm (unit .inverse) a)) (record { same = unit .is .one }))) (dvd-trans d dp (q .divides))
+            (c-dvd dm (c-trans (c-eq (mul-comm (unit .inverse) a)) (record { same = unit .is .one }))) (dvd-trans d dp (q .divides));
       };
       nilpotent = record { exponent = q .k; power = mod-eq-zero-of-dvd (q .p) (q .divides) };
-      unit = unit
+      unit = unit;
     })
 
 -- ---- no two kinds at once
@@ -160,8 +160,8 @@ pub record ExactlyOne (A B C : Type 0) : Type 0 where
 -- "every residue is one of three"
 pub one-kind : (n a : ℕ) → 2 ≤ n → ExactlyOne (IsUnit n a) (IsNilpotent n a) (Splits n a)
 one-kind n a l = record {
-      one = kind-exists n a l;
-      not-ab = unit-not-nilpotent l;
-      not-ac = λ u x. unit-not-splitting u (x .is);
-      not-bc = λ y x. nilpotent-not-splitting y (x .is)
-    }
+  one = kind-exists n a l;
+  not-ab = unit-not-nilpotent l;
+  not-ac = λ u x. unit-not-splitting u (x .is);
+  not-bc = λ y x. nilpotent-not-splitting y (x .is);
+}

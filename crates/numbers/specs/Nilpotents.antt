@@ -3,10 +3,9 @@
 --   InRadical n a      each prime that divides n divides a
 --   nilpotent-radical, radical-nilpotent     the two are one
 --   nilpotent-power    (a ^ K n) % n is 0
-use mathlib.Core.Path.{_≡_, refl, sym, ap, subst, _∙_}
-use Prim.Native.Nat.{ℕ, zero, suc, _+_, _-_, _*_, _/_, _%_, _^_, _≤_, _<_, _∣_}
-use native.Mathlib.Nat.{dvd-trans, dvd-refl, dvd-zero, dvd-add, dvd-mul-left, dvd-mul-right, dvd-mul-left-of-dvd, dvd-mod-iff, mod-eq-zero-of-dvd, dvd-of-mod-eq-zero, mul-comm, mul-dvd-mul, mul-le-mul, pow-suc, pow-zero, one-dvd, add-sub-of-le, le-of-eq}
-use native.Mathlib.Omega.{arith}
+use mathlib.Core.Path.{_≡_, sym, ap, subst, _∙_}
+use Prim.Native.Nat.{ℕ, suc, _+_, _-_, _*_, _%_, _^_, _≤_, _∣_}
+use native.Mathlib.Nat.{dvd-trans, dvd-zero, dvd-add, dvd-mul-right, dvd-mul-left-of-dvd, dvd-mod-iff, mod-eq-zero-of-dvd, dvd-of-mod-eq-zero, mul-comm, mul-dvd-mul, mul-le-mul, pow-suc, pow-zero, one-dvd, add-sub-of-le, le-of-eq}
 use lib.Pow.{pow-add}
 use Rattle.definitions.specs.Residues.{K, IsNilpotent}
 use Rattle.numbers.specs.Logarithm.{K-largest}
@@ -50,7 +49,7 @@ reaches {n} {a} pos h =
       k = suc (x .k);
       few = subst (λ (y : ℕ). y ≤ p * m) (mul-comm 2 (2 ^ x .k) ∙ sym (pow-suc 2 (x .k))) (mul-le-mul (pr .above) (x .few));
       divides = subst (λ (y : ℕ). p * m ∣ y) (mul-comm a (a ^ x .k) ∙ sym (pow-suc a (x .k)))
-        (mul-dvd-mul p m (h .at p pr (dvd-trans p (dvd-mul-right p m) v)) (x .divides))
+          (mul-dvd-mul p m (h .at p pr (dvd-trans p (dvd-mul-right p m) v)) (x .divides));
     })
     (record { k = 0; few = le-of-eq (pow-zero 2); divides = one-dvd (a ^ 0) })
 

@@ -6,9 +6,9 @@
 --   prime-inverse      what p does not divide has an inverse modulo p
 --   prime-divides      p divides a factor if it divides a product
 --   prime-root         p divides a if it divides a power of a
-use mathlib.Core.Path.{_≡_, refl, sym, ap, subst, _∙_}
+use mathlib.Core.Path.{_≡_, sym, subst, _∙_}
 use mathlib.Core.Logic.{_⊎_, inl, inr, ⊎-elim}
-use Prim.Native.Nat.{ℕ, zero, suc, _+_, _-_, _*_, _/_, _%_, _^_, _≤_, _<_, _∣_}
+use Prim.Native.Nat.{ℕ, zero, suc, _+_, _-_, _*_, _/_, _^_, _≤_, _<_, _∣_}
 use native.Mathlib.Nat.{dvd-refl, dvd-trans, le-of-dvd, pos-of-dvd-of-pos, mul-div-cancel', mul-comm, mul-dvd-mul, mul-le-mul-right, one-dvd, mul-zero, mul-one, eq-or-lt-of-le, le-antisymm}
 use native.Mathlib.Decide.{decDvd, ℕ-discrete}
 use native.Mathlib.Omega.{arith}
@@ -31,19 +31,19 @@ record NoneBelow (n k : ℕ) : Type 0 where
 
 look : (n k : ℕ) → 1 < k → NoneBelow n k → (NoneBelow n (suc k) → PrimeOf n) → Dec (k ∣ n) → PrimeOf n
 look n k l h ih (yes v) = record {
-      p = k;
-      prime = record { above = l; only = λ d b u. le-antisymm (le-of-dvd (omega arith) u) (h .none d b (dvd-trans d u v)) };
-      divides = v
-    }
+  p = k;
+  prime = record { above = l; only = λ d b u. le-antisymm (le-of-dvd (omega arith) u) (h .none d b (dvd-trans d u v)) };
+  divides = v;
+}
 look n k l h ih (no v) =
     ih (record { none = λ d b u. ⊎-elim (λ e. absurd (v (subst (λ (x : ℕ). x ∣ n) (sym e) u))) (λ q. q) (eq-or-lt-of-le (h .none d b u)) })
 
 least : (n c k : ℕ) → k + c ≡ n → 1 < k → NoneBelow n k → PrimeOf n
 least n zero k e l h = record {
-      p = n;
-      prime = record { above = omega arith; only = λ d b v. le-antisymm (le-of-dvd (omega arith) v) (omega (arith, h .none d b v)) };
-      divides = dvd-refl n
-    }
+  p = n;
+  prime = record { above = omega arith; only = λ d b v. le-antisymm (le-of-dvd (omega arith) v) (omega (arith, h .none d b v)) };
+  divides = dvd-refl n;
+}
 least n (suc c) k e l h = look n k l h (least n c (suc k) (omega arith) (omega arith)) (decDvd k n)
 
 -- the least divisor above 1 is a prime

@@ -1,8 +1,8 @@
 -- Units modulo n: the inverse is one; a is a unit exactly when it has no divisor in common with n.
-use mathlib.Core.Path.{_≡_, refl, sym, ap, subst, _∙_}
+use mathlib.Core.Path.{_≡_, sym, ap, subst, _∙_}
 use mathlib.Core.Logic.{⊎-elim}
-use Prim.Native.Nat.{ℕ, zero, suc, _+_, _-_, _*_, _/_, _%_, _^_, _<_, _≤_, _∣_}
-use native.Mathlib.Nat.{mod-eq-of-lt, mod-mod, mod-lt, mul-mod-right, mul-comm, mul-assoc, mul-one, one-mul, mul-zero, eq-or-lt-of-le, pow-suc, pow-zero, dvd-one, dvd-trans, dvd-mul-right}
+use Prim.Native.Nat.{ℕ, zero, suc, _*_, _%_, _^_, _≤_, _∣_}
+use native.Mathlib.Nat.{mod-eq-of-lt, mod-lt, mul-mod-right, mul-comm, mul-one, one-mul, mul-zero, eq-or-lt-of-le, pow-suc, pow-zero, dvd-one, dvd-trans, dvd-mul-right}
 use native.Mathlib.Omega.{arith}
 use Rattle.definitions.specs.Residues.{Inverse, IsUnit, Coprime}
 use Rattle.numbers.specs.Congruence.{Cong, c-refl, c-sym, c-trans, c-eq, c-mul, c-mod, c-dvd, c-zero, dvd-c, ring}
@@ -14,7 +14,7 @@ cofactor-inverse {n} {a} {g} {s} l c e =
     let one : (s * a) % n ≡ 1 % n = c .bezout ∙ ap (λ (x : ℕ). x % n) e in
     record {
       below = ⊎-elim (λ z. absurd (none one z)) (λ b. b) (eq-or-lt-of-le (c .at-most));
-      one = ap (λ (x : ℕ). x % n) (mul-comm a s) ∙ one
+      one = ap (λ (x : ℕ). x % n) (mul-comm a s) ∙ one;
     }
   where
     none : (s * a) % n ≡ 1 % n → s ≡ n → ⊥
@@ -28,17 +28,17 @@ pub inverse-unique : {n a i j : ℕ} → Inverse n a i → Inverse n a j → i �
 inverse-unique {n} {a} {i} {j} p q =
     sym (mod-eq-of-lt (p .below))
     ∙ c-trans (c-eq (sym (mul-one i)))
-      (c-trans (c-mul c-refl (c-sym (record { same = q .one })))
-      (c-trans (c-eq {b = a * i * j} (simp ring))
-      (c-trans (c-mul (record { same = p .one }) c-refl) (c-eq (one-mul j))))) .same
+    (c-trans (c-mul c-refl (c-sym (record { same = q .one })))
+    (c-trans (c-eq {b = a * i * j} (simp ring))
+    (c-trans (c-mul (record { same = p .one }) c-refl) (c-eq (one-mul j))))) .same
     ∙ mod-eq-of-lt (q .below)
 
 -- s a is 1 modulo n: the residue of s is the inverse
 pub unit-of : {n a : ℕ} (s : ℕ) → 1 ≤ n → Cong n (s * a) 1 → IsUnit n a
 unit-of {n} {a} s l c = record {
-      inverse = s % n;
-      is = record { below = mod-lt s l; one = c-trans (c-mul c-refl (c-mod s)) (c-trans (c-eq (mul-comm a s)) c) .same }
-    }
+  inverse = s % n;
+  is = record { below = mod-lt s l; one = c-trans (c-mul c-refl (c-mod s)) (c-trans (c-eq (mul-comm a s)) c) .same };
+}
 
 -- what is a unit modulo n is one modulo each divisor of n
 pub unit-dvd : {m n a : ℕ} → 1 ≤ m → m ∣ n → IsUnit n a → IsUnit m a

@@ -1,17 +1,12 @@
 -- Joining two residues of coprime moduli: what the words of the two functions come to.
-use mathlib.Core.Path.{_≡_, sym, ap, _∙_}
-use Prim.Native.Nat.{ℕ, _+_, _-_, _*_, _%_, _<_, _≤_, _∣_}
-use native.Mathlib.Nat.{mod-eq-of-lt, mul-le-mul-right, le-trans, mul-pos, mul-comm, le-mul-of-pos-right}
+use mathlib.Core.Path.{_≡_, ap, _∙_}
+use Prim.Native.Nat.{ℕ, _+_, _-_, _*_, _%_, _<_, _≤_}
+use native.Mathlib.Nat.{mod-eq-of-lt, le-trans, mul-comm, le-mul-of-pos-right}
 use native.Mathlib.Omega.{arith}
 use Rattle.definitions.specs.Residues.{Coprime}
-use Rattle.numbers.specs.Congruence.{Cong}
-use Rattle.numbers.specs.Divisors.{IsGcd, GcdCofactor}
+use Rattle.numbers.specs.Divisors.{GcdCofactor}
 use Rattle.numbers.specs.Units.{gcd-of-coprime}
-use Rattle.numbers.specs.Chinese.{Idempotent, Joined, idempotent-of, joined-of}
-
--- a cofactor times the other modulus does not pass the product
-pub cofactor-times : {n₁ n₂ g s : ℕ} → GcdCofactor n₁ n₂ g s → s * n₂ ≤ n₁ * n₂
-cofactor-times {n₁} {n₂} c = mul-le-mul-right n₂ (c .at-most)
+use Rattle.numbers.specs.Chinese.{idempotent-of, joined-of}
 
 pub idempotent-ends : {n₁ n₂ g s : ℕ} → 1 ≤ n₁ → 1 ≤ n₂ → Coprime n₁ n₂ → GcdCofactor n₁ n₂ g s
     → ((s * n₂) % (n₁ * n₂) < n₁ * n₂) × (((s * n₂) % (n₁ * n₂) % n₁ ≡ 1 % n₁) × ((s * n₂) % (n₁ * n₂) % n₂ ≡ 0))

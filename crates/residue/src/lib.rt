@@ -88,7 +88,11 @@ pub fn gcd_with_cofactors(n: u32, a: u32, b: u32) -> Cofactors
     let f = bezout::cofactor(e.g, b);
     let c = arithmetic::reduce(n, multiple(f.s, b, e.g, f.g));
     let s = arithmetic::mul_mod(n, e.s, arithmetic::sub_mod(n, 1, c));
-    Cofactors { g: f.g, s, t: f.s % n }
+    Cofactors {
+        g: f.g,
+        s,
+        t: f.s % n,
+    }
 }
 
 // A modulus and its K. n has 64 bits, so that the record serves wider words too.

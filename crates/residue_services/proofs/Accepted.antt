@@ -1,12 +1,12 @@
 -- What is known once no refusal applies, and the promise of a service in its two cases.
-use mathlib.Core.Path.{_≡_, refl, sym, subst, _∙_}
+use mathlib.Core.Path.{_≡_, refl, sym, subst}
 use mathlib.Core.Bool.{Bool, true, false, not, cond}
-use mathlib.Core.List.{List, [], _∷_}
+use mathlib.Core.List.{[], _∷_}
 use Prim.Native.Nat.{ℕ, zero, suc, _≤_, _<_}
 use native.Mathlib.Omega.{arith}
 use lib.Dec.{T, ltb, ltb→lt, nltb→le}
 use Rattle.definitions.specs.Residues.{GcdWithCofactors}
-use Rattle.refusals.specs.Refusals.{bad-modulus, answered}
+use Rattle.refusals.specs.Refusals.{answered}
 use Rattle.residue.specs.declared.Kind.{Kind}
 use Rattle.residue.specs.declared.Kind.the-variants.{Unit as Unit', Nilpotent, Splits}
 use Rattle.residue.specs.Kinds.{KindOf}

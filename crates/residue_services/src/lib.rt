@@ -8,7 +8,6 @@ ghost use mathlib.Core.Path.{_≡_};
 ghost use Prim.Native.Nat.{ℕ, _+_, _-_, _*_, _%_, _^_};
 ghost use Rattle.refusals.specs.Refusals.{answered};
 ghost use Rattle.residue_services.specs.Services.{refusal-residue, refusal-residues, GcdPromised, number-of, values-of, KindPromised};
-
 use refusals::Answer;
 use residue::Kind;
 
@@ -64,7 +63,10 @@ pub fn sum(n: u32, a: u32, b: u32) -> Answer
     if status != 0 {
         return Answer { value: 0, status };
     }
-    Answer { value: arithmetic::add_mod(n, a, b), status }
+    Answer {
+        value: arithmetic::add_mod(n, a, b),
+        status,
+    }
 }
 
 // a - b modulo n: the residue that with b makes a.
@@ -75,7 +77,10 @@ pub fn difference(n: u32, a: u32, b: u32) -> Answer
     if status != 0 {
         return Answer { value: 0, status };
     }
-    Answer { value: arithmetic::sub_mod(n, a, b), status }
+    Answer {
+        value: arithmetic::sub_mod(n, a, b),
+        status,
+    }
 }
 
 // a b modulo n.
@@ -86,7 +91,10 @@ pub fn product(n: u32, a: u32, b: u32) -> Answer
     if status != 0 {
         return Answer { value: 0, status };
     }
-    Answer { value: arithmetic::mul_mod(n, a, b), status }
+    Answer {
+        value: arithmetic::mul_mod(n, a, b),
+        status,
+    }
 }
 
 // a to the power k modulo n; the 0-th power is 1.
@@ -97,7 +105,10 @@ pub fn power(n: u32, a: u32, k: usize) -> Answer
     if status != 0 {
         return Answer { value: 0, status };
     }
-    Answer { value: arithmetic::power(n, a, k), status }
+    Answer {
+        value: arithmetic::power(n, a, k),
+        status,
+    }
 }
 
 // "g = gcd(a, b, n) from 1 to n, with residues s and t so that s times a plus t times b is g modulo n."
@@ -106,10 +117,20 @@ pub fn gcd_with_cofactors(n: u32, a: u32, b: u32) -> GcdAnswer
 {
     let status = refusal_residues(n, a, b);
     if status != 0 {
-        return GcdAnswer { g: 0, s: 0, t: 0, status };
+        return GcdAnswer {
+            g: 0,
+            s: 0,
+            t: 0,
+            status,
+        };
     }
     let c = residue::gcd_with_cofactors(n, a, b);
-    GcdAnswer { g: c.g, s: c.s, t: c.t, status }
+    GcdAnswer {
+        g: c.g,
+        s: c.s,
+        t: c.t,
+        status,
+    }
 }
 
 // "unit with its inverse, nilpotent, or splitting with two factors"

@@ -1,78 +1,138 @@
--- The resultants of the twelve rows, computed.
+-- The worked examples of document 01, checked against the definitions, and values from outside: K and L, the kinds of residues, division,
+-- unit times monic, inverse, true degree, the row that is not starred, and products and resultants that another program gave.
 use mathlib.Core.Path.{_≡_, refl}
-use mathlib.Core.List.{List, [], _∷_}
-use Prim.Native.Nat.{ℕ}
-use Rattle.definitions.specs.Polynomials.{product}
+use mathlib.Core.List.{[], _∷_}
+use Prim.Native.Nat.{zero, suc}
+use native.Mathlib.Nat.{dvd-sub, eq-one-of-dvd-one}
+use native.Mathlib.Omega.{arith}
+use Rattle.definitions.specs.Polynomials.{product, L, extent, true-degree, Division, UnitTimesMonic, InverseOf}
+use Rattle.definitions.specs.Residues.{K, halvings, Inverse, IsNilpotent, Splitting}
 use Rattle.definitions.specs.Resultants.{determinant, resultant}
+use Rattle.theory.specs.Computed.{below-by, multiplied-by, divided-by, inverse-by}
+use Rattle.theory.specs.StarredRows.{Holds, sound}
 
-r1 : resultant 7 (1 ∷ 1 ∷ []) (2 ∷ 1 ∷ []) ≡ 1
+-- "K is the largest whole number with 2^K <= n", at 12 and at the largest modulus
+k-of-12 : K 12 ≡ 3
+unfolding K halvings
+k-of-12 = refl
+
+k-of-largest : K 4294967295 ≡ 31
+unfolding K halvings
+k-of-largest = refl
+
+-- "Cofactor length L = K times the larger sent degree, plus 1"
+length-of-cofactors : L 12 1 2 ≡ 7
+unfolding K halvings
+length-of-cofactors = refl
+
+longest-cofactor : L 4294967295 48 48 ≡ 1489
+unfolding K halvings
+longest-cofactor = refl
+
+-- "Modulo 12: 5 unit, 6 nilpotent, 2 splits into 4 and 3."
+unit-5 : Inverse 12 5 5
+unit-5 = record { below = omega arith; one = refl }
+
+nilpotent-6 : IsNilpotent 12 6
+nilpotent-6 = record { exponent = 2; power = refl }
+
+splits-2 : Splitting 12 2 4 3
+splits-2 = record {
+  product = refl;
+  above₁ = omega arith;
+  above₂ = omega arith;
+  coprime = record { only = λ k p q. eq-one-of-dvd-one (dvd-sub k p q) };
+  nilpotent = record { exponent = 2; power = refl };
+  unit = record { inverse = 2; is = record { below = omega arith; one = refl } };
+}
+
+-- "1,0,1 divided by 1,5 modulo 12: quotient 11,5, remainder 2."
+division-12 : Division 12 (1 ∷ 0 ∷ 1 ∷ []) (1 ∷ 5 ∷ []) (11 ∷ 5 ∷ []) (2 ∷ [])
+division-12 = record {
+  length-q = refl;
+  length-r = refl;
+  residues-q = below-by 12 (11 ∷ 5 ∷ []) tt;
+  residues-r = below-by 12 (2 ∷ []) tt;
+  short = λ l. absurd (omega arith);
+  equation = divided-by 12 (1 ∷ 0 ∷ 1 ∷ []) (1 ∷ 5 ∷ []) (11 ∷ 5 ∷ []) (2 ∷ []) tt;
+}
+
+-- "Modulo 4: 3,1,2 is 3,2 times 1,1", the parts filled up to three words
+factors-4 : UnitTimesMonic 4 (3 ∷ 1 ∷ 2 ∷ []) 1 (3 ∷ 2 ∷ 0 ∷ []) (1 ∷ 1 ∷ 0 ∷ [])
+factors-4 = record {
+  length-u = refl;
+  length-h = refl;
+  residues-u = below-by 4 (3 ∷ 2 ∷ 0 ∷ []) tt;
+  residues-h = below-by 4 (1 ∷ 1 ∷ 0 ∷ []) tt;
+  unit = record {
+    unit = record { inverse = 3; is = record { below = omega arith; one = refl } };
+    nilpotent = elim [
+      | zero ↦ λ l. absurd (omega arith)
+      | suc zero ↦ λ l. record { exponent = 2; power = refl }
+      | suc (suc zero) ↦ λ l. record { exponent = 1; power = refl }
+      | suc (suc (suc k)) ↦ λ l. record { exponent = 1; power = refl }
+    ];
+  };
+  monic = record {
+    lead = refl;
+    above = elim [
+      | zero ↦ λ l. absurd (omega arith)
+      | suc zero ↦ λ l. absurd (omega arith)
+      | suc (suc zero) ↦ λ l. refl
+      | suc (suc (suc k)) ↦ λ l. refl
+    ];
+  };
+  equation = multiplied-by 4 (3 ∷ 1 ∷ 2 ∷ []) (3 ∷ 2 ∷ 0 ∷ []) (1 ∷ 1 ∷ 0 ∷ []) tt;
+}
+
+-- "Modulo 8 the inverse of 1,2 is 1,6,4", filled up to K d + 1 = 4 words
+inverse-8 : InverseOf 8 (1 ∷ 2 ∷ []) (1 ∷ 6 ∷ 4 ∷ 0 ∷ [])
+unfolding K halvings
+inverse-8 = record {
+  length-w = refl;
+  residues-w = below-by 8 (1 ∷ 6 ∷ 4 ∷ 0 ∷ []) tt;
+  equation = inverse-by 8 (1 ∷ 2 ∷ []) (1 ∷ 6 ∷ 4 ∷ 0 ∷ []) tt;
+}
+
+-- "the place of the highest nonzero coefficient, and 0 for the zero polynomial"
+degree-below-zeros : true-degree (2 ∷ 1 ∷ 0 ∷ []) ≡ 1
+unfolding extent
+degree-below-zeros = refl
+
+degree-over-zeros : true-degree (1 ∷ 0 ∷ 3 ∷ 0 ∷ 0 ∷ []) ≡ 2
+unfolding extent
+degree-over-zeros = refl
+
+degree-of-zero : true-degree (0 ∷ 0 ∷ []) ≡ 0
+unfolding extent
+degree-of-zero = refl
+
+-- the row that is not starred
+largest-modulus : Holds (record { n = 4294967295; f = 4294967294 ∷ []; g = 0 ∷ 1 ∷ []; value = 4294967294; D = 1 })
 unfolding resultant determinant
-r1 = refl
+largest-modulus = sound _ (record { u = 4294967294 ∷ []; v = []; w = 0 ∷ 1 ∷ []; a = []; b = [] }) tt
 
-r2 : resultant 7 (2 ∷ 1 ∷ []) (1 ∷ 1 ∷ []) ≡ 6
+-- "A content of f taken out as a factor of D though the top word of g is no unit: modulo 4, f = 2 and g = 1,2 would give 2, and D is 1."
+content-stays : Holds (record { n = 4; f = 2 ∷ []; g = 1 ∷ 2 ∷ []; value = 2; D = 1 })
 unfolding resultant determinant
-r2 = refl
+content-stays = sound _ (record { u = []; v = 1 ∷ 2 ∷ []; w = 0 ∷ 1 ∷ []; a = []; b = [] }) tt
 
-r3 : resultant 12 (3 ∷ 2 ∷ []) (1 ∷ 4 ∷ []) ≡ 2
+-- a product whose top word is 0, and resultants that another program gave
+product-12 : product 12 (3 ∷ 2 ∷ []) (5 ∷ 4 ∷ 0 ∷ []) ≡ 3 ∷ 10 ∷ 8 ∷ 0 ∷ []
+product-12 = refl
+
+resultant-of-product : resultant 12 (3 ∷ 10 ∷ 8 ∷ 0 ∷ []) (7 ∷ 5 ∷ 9 ∷ []) ≡ 3
 unfolding resultant determinant
-r3 = refl
+resultant-of-product = refl
 
-r4 : resultant 4 (1 ∷ 2 ∷ []) (3 ∷ 2 ∷ []) ≡ 0
+resultant-of-first : resultant 12 (3 ∷ 2 ∷ []) (7 ∷ 5 ∷ 9 ∷ []) ≡ 7
 unfolding resultant determinant
-r4 = refl
+resultant-of-first = refl
 
-r5 : resultant 6 (2 ∷ []) (4 ∷ []) ≡ 1
+resultant-of-second : resultant 12 (5 ∷ 4 ∷ 0 ∷ []) (7 ∷ 5 ∷ 9 ∷ []) ≡ 9
 unfolding resultant determinant
-r5 = refl
+resultant-of-second = refl
 
-r6 : resultant 9 (3 ∷ []) (1 ∷ 0 ∷ 1 ∷ []) ≡ 0
+seven-rows : resultant 1000003 (3 ∷ 2 ∷ 8 ∷ 1 ∷ 5 ∷ []) (1 ∷ 4 ∷ 9 ∷ 6 ∷ []) ≡ 79963
 unfolding resultant determinant
-r6 = refl
-
-r7 : resultant 5 (2 ∷ 1 ∷ 0 ∷ []) (1 ∷ 1 ∷ []) ≡ 1
-unfolding resultant determinant
-r7 = refl
-
-r8 : resultant 5 (2 ∷ 1 ∷ []) (1 ∷ 1 ∷ []) ≡ 4
-unfolding resultant determinant
-r8 = refl
-
-r9 : resultant 5 (1 ∷ 0 ∷ []) (2 ∷ 0 ∷ []) ≡ 0
-unfolding resultant determinant
-r9 = refl
-
-r10 : resultant 10 (0 ∷ 0 ∷ []) (0 ∷ []) ≡ 0
-unfolding resultant determinant
-r10 = refl
-
-r11 : resultant 6 (5 ∷ 0 ∷ 1 ∷ []) (3 ∷ 1 ∷ []) ≡ 2
-unfolding resultant determinant
-r11 = refl
-
-r12 : resultant 4294967295 (4294967294 ∷ []) (0 ∷ 1 ∷ []) ≡ 4294967294
-unfolding resultant determinant
-r12 = refl
-
--- 3,2 times 1,1 modulo 4
-p1 : product 4 (3 ∷ 2 ∷ []) (1 ∷ 1 ∷ []) ≡ 3 ∷ 1 ∷ 2 ∷ []
-p1 = refl
-
--- a product whose top word is 0, and a larger matrix, against another program's determinants
-p2 : product 12 (3 ∷ 2 ∷ []) (5 ∷ 4 ∷ 0 ∷ []) ≡ 3 ∷ 10 ∷ 8 ∷ 0 ∷ []
-p2 = refl
-
-r13 : resultant 12 (product 12 (3 ∷ 2 ∷ []) (5 ∷ 4 ∷ 0 ∷ [])) (7 ∷ 5 ∷ 9 ∷ []) ≡ 3
-unfolding resultant determinant
-r13 = refl
-
-r14 : resultant 12 (3 ∷ 2 ∷ []) (7 ∷ 5 ∷ 9 ∷ []) ≡ 7
-unfolding resultant determinant
-r14 = refl
-
-r15 : resultant 12 (5 ∷ 4 ∷ 0 ∷ []) (7 ∷ 5 ∷ 9 ∷ []) ≡ 9
-unfolding resultant determinant
-r15 = refl
-
-r16 : resultant 1000003 (3 ∷ 2 ∷ 8 ∷ 1 ∷ 5 ∷ []) (1 ∷ 4 ∷ 9 ∷ 6 ∷ []) ≡ 79963
-unfolding resultant determinant
-r16 = refl
+seven-rows = refl

@@ -1,6 +1,8 @@
 pub mod Certificates
+pub mod Computed
 pub mod Examples
 pub mod PointThree
+pub mod PolynomialLaws
 pub mod ReachedLaws
 pub mod ReachedSteps
 pub mod ReducedLaws

@@ -1,77 +1,50 @@
--- Point 3 as one claim about seven answers; the resultant through a content and through coprime moduli.
-use mathlib.Core.Path.{_≡_, refl, sym, _∙_, ap, ap₂, subst}
-use mathlib.Core.List.{List, [], _∷_}
-use Prim.Native.Nat.{ℕ, zero, suc, _<_, _≤_, _%_, _^_, _∣_, _+_, _*_, _-_}
-use native.Mathlib.Nat.{mod-mod, mod-eq-of-lt, pow-succ', mul-pos, dvd-refl, dvd-mul-left, dvd-mul-right}
-use native.Mathlib.Omega.{arith}
-use Rattle.definitions.specs.Polynomials.{coef, deg, product}
-use Rattle.definitions.specs.Resultants.{resultant, Reached, Reduced}
+-- Point 3, the law of products, as one claim about seven answers modulo one n: the product of f and g, then the resultant and the reduced
+-- resultant of that product, of f and of g, each as first polynomial with h as second. It is about any seven answers that are what the
+-- definitions say, so about whatever functions give them.
+--
+--   SevenAnswers     what the product, the resultant and the reduced resultant promise of the seven answers
+--   LawOfProducts    what then holds between them
+--   point-three      the theorem
+--
+-- Letters: p is the product; r, rf, rg are the resultants of p, f, g with h; D, Df, Dg their reduced resultants.
+use mathlib.Core.Path.{_≡_, sym, _∙_, ap, ap₂, subst}
+use mathlib.Core.List.{List}
+use Prim.Native.Nat.{ℕ, _≤_, _%_, _∣_, _*_}
+use Rattle.definitions.specs.Polynomials.{product}
+use Rattle.definitions.specs.Resultants.{resultant, Reduced}
 use Rattle.theory.specs.ReachedLaws.{reduced-product}
-use Rattle.theory.specs.ReachedSteps.{plus-mod, times-mod, lift-mod, Times}
-use Rattle.theory.specs.ResultantLaws.{resultant-scale-first, resultant-mod}
-use Rattle.theory.specs.Words.{law-of-products}
+use Rattle.theory.specs.ResultantLaws.{law-of-products}
 
--- POINT 3
-pub seven : (n : ℕ) → 1 ≤ n → (f g h p : List ℕ) (r rf rg D Df Dg : ℕ) → p ≡ product n f g → r ≡ resultant n p h → rf ≡ resultant n f h → rg ≡ resultant n g h
-    → Reduced n p h D → Reduced n f h Df → Reduced n g h Dg → (r ≡ (rf * rg) % n) × (Df ∣ D) × (Dg ∣ D) × (D ∣ Df * Dg)
-seven n l f g h p r rf rg D Df Dg hp hr hf hg x y z =
-    let d = reduced-product n l f g h D Df Dg (subst (λ (q : List ℕ). Reduced n q h D) hp x) y z in (
-      hr ∙ ap (λ (q : List ℕ). resultant n q h) hp ∙ law-of-products n l f g h ∙ ap₂ (λ a b. (a * b) % n) (sym hf) (sym hg),
-      d .0,
-      d .1,
-      d .2,
-    )
+-- "They are the product of f and g, then the resultant and the D of that product, of f and of g, each as first polynomial with h as
+-- second."
+pub record SevenAnswers (n : ℕ) (f g h p : List ℕ) (r rf rg D Df Dg : ℕ) : Type 0 where
+  pub product-of : p ≡ product n f g
+  pub resultant-of-product : r ≡ resultant n p h
+  pub resultant-of-first : rf ≡ resultant n f h
+  pub resultant-of-second : rg ≡ resultant n g h
+  pub reduced-of-product : Reduced n p h D
+  pub reduced-of-first : Reduced n f h Df
+  pub reduced-of-second : Reduced n g h Dg
 
--- f is c f′ modulo c n, and deg g ≥ 1: the resultant of f′ and g modulo n is enough
-pub resultant-content : (c n : ℕ) → 1 ≤ c → 1 ≤ n → (f f′ g : List ℕ) (e : ℕ) → deg f ≡ deg f′ → deg g ≡ suc e → Times (c * n) c f f′
-    → resultant (c * n) f g ≡ (c ^ deg g * resultant n f′ g) % (c * n)
-resultant-content c n p q f f′ g e hf hg t =
-    scale (c * n) (mul-pos p q) t
-    ∙ ap (λ (x : ℕ). (c ^ x * resultant (c * n) f′ g) % (c * n)) hg
-    ∙ turn (resultant (c * n) f′ g)
-    ∙ lift-mod c n _ _ p q (times-mod n (c ^ e) (resultant (c * n) f′ g) (resultant n f′ g) less)
-    ∙ sym (turn (resultant n f′ g)) ∙ ap (λ (x : ℕ). (c ^ x * resultant n f′ g) % (c * n)) (sym hg)
-  where
-    scale : (k : ℕ) → 1 ≤ k → Times k c f f′ → resultant k f g ≡ (c ^ deg g * resultant k f′ g) % k
-    scale zero l t = absurd (omega arith)
-    scale (suc k) l t = resultant-scale-first k c f f′ g hf t
+-- "The resultants are compared as residues from 0 to n - 1, the three D as whole numbers."
+pub record LawOfProducts (n r rf rg D Df Dg : ℕ) : Type 0 where
+  pub resultants : r ≡ (rf * rg) % n
+  pub multiple-of-first : Df ∣ D
+  pub multiple-of-second : Dg ∣ D
+  pub divides-product : D ∣ Df * Dg
 
-    less : resultant (c * n) f′ g % n ≡ resultant n f′ g % n
-    less = sym (mod-mod (resultant (c * n) f′ g) n) ∙ ap (λ x. x % n) (resultant-mod n (c * n) q (mul-pos p q) (dvd-mul-left n c) f′ g)
-
-    assoc : (c s x : ℕ) → c * s * x ≡ c * (s * x)
-    assoc c s x = omega arith
-
-    turn : (x : ℕ) → (c ^ suc e * x) % (c * n) ≡ (c * (c ^ e * x)) % (c * n)
-    turn x = ap (λ y. y % (c * n)) (ap (λ y. y * x) (pow-succ' c e) ∙ assoc c (c ^ e) x)
-
--- the Chinese remainder: a n₁ + b n₂ is 1 modulo n₁ n₂
-pub joined : (n₁ n₂ a b : ℕ) → 1 ≤ n₁ → 1 ≤ n₂ → (a * n₁ + b * n₂) % (n₁ * n₂) ≡ 1 % (n₁ * n₂) → (x y : ℕ) → x % n₁ ≡ y % n₁ → x % n₂ ≡ y % n₂ → x % (n₁ * n₂) ≡ y % (n₁ * n₂)
-joined n₁ n₂ a b p₁ p₂ bez x y h₁ h₂ =
-    sym (whole x)
-    ∙ plus-mod (n₁ * n₂) _ _ _ _ (times-mod (n₁ * n₂) a (n₁ * x) (n₁ * y) (lift-mod n₁ n₂ x y p₁ p₂ h₂))
-    (times-mod (n₁ * n₂) b (n₂ * x) (n₂ * y) (ap (λ (z : ℕ). (n₂ * x) % z) (comm n₁ n₂) ∙ lift-mod n₂ n₁ x y p₂ p₁ h₁ ∙ ap (λ (z : ℕ). (n₂ * y) % z) (comm n₂ n₁)))
-    ∙ whole y
-  where
-    comm : (u v : ℕ) → u * v ≡ v * u
-    comm u v = omega arith
-
-    turn : (z : ℕ) → a * (n₁ * z) + b * (n₂ * z) ≡ z * (a * n₁ + b * n₂)
-    turn z = omega arith
-
-    one : (z : ℕ) → z * 1 ≡ z
-    one z = omega arith
-
-    whole : (z : ℕ) → (a * (n₁ * z) + b * (n₂ * z)) % (n₁ * n₂) ≡ z % (n₁ * n₂)
-    whole z = ap (λ w. w % (n₁ * n₂)) (turn z) ∙ times-mod (n₁ * n₂) z (a * n₁ + b * n₂) 1 bez ∙ ap (λ w. w % (n₁ * n₂)) (one z)
-
-pub resultant-joined : (n₁ n₂ a b : ℕ) → 1 ≤ n₁ → 1 ≤ n₂ → (a * n₁ + b * n₂) % (n₁ * n₂) ≡ 1 % (n₁ * n₂) → (f g : List ℕ) (x : ℕ) → x < n₁ * n₂
-    → x % n₁ ≡ resultant n₁ f g → x % n₂ ≡ resultant n₂ f g → x ≡ resultant (n₁ * n₂) f g
-resultant-joined n₁ n₂ a b p₁ p₂ bez f g x l h₁ h₂ =
-    sym (mod-eq-of-lt l)
-    ∙ joined n₁ n₂ a b p₁ p₂ bez x (resultant (n₁ * n₂) f g) (h₁ ∙ sym (resultant-mod n₁ (n₁ * n₂) p₁ (mul-pos p₁ p₂) (dvd-mul-right n₁ n₂) f g))
-    (h₂ ∙ sym (resultant-mod n₂ (n₁ * n₂) p₂ (mul-pos p₁ p₂) (dvd-mul-left n₂ n₁) f g))
-    ∙ resultant-mod (n₁ * n₂) (n₁ * n₂) (mul-pos p₁ p₂) (mul-pos p₁ p₂) (self (n₁ * n₂)) f g
-  where
-    self : (k : ℕ) → k ∣ k
-    self k = dvd-refl k
+-- POINT 3: the resultant of the product is the product of the resultants modulo n, for all words and every n, zero top words and divisors
+-- of zero included; D of the product is a multiple of the D of each factor and divides their ordinary product.
+pub point-three : (n : ℕ) → 1 ≤ n → (f g h p : List ℕ) (r rf rg D Df Dg : ℕ) → SevenAnswers n f g h p r rf rg D Df Dg
+    → LawOfProducts n r rf rg D Df Dg
+point-three n l f g h p r rf rg D Df Dg a =
+    let d = reduced-product n l f g h D Df Dg (subst (λ (q : List ℕ). Reduced n q h D) (a .product-of) (a .reduced-of-product))
+    (a .reduced-of-first) (a .reduced-of-second) in
+    record {
+      resultants =
+          a .resultant-of-product ∙ ap (λ (q : List ℕ). resultant n q h) (a .product-of) ∙ law-of-products n l f g h
+          ∙ ap₂ (λ x y. (x * y) % n) (sym (a .resultant-of-first)) (sym (a .resultant-of-second));
+      multiple-of-first = d .0;
+      multiple-of-second = d .1;
+      divides-product = d .2;
+    }

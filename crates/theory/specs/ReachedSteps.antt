@@ -1,20 +1,29 @@
--- What changes the polynomials or the modulus and keeps the constants reached: contents, unit factors, remainders, coprime moduli.
+-- What changes polynomials and modulus and keeps the constants reached: a common content (D1), and a content of the second where the first
+-- is monic (D4). With the laws of remainders and of sums of products that these rest on.
+--
+--   plus-mod, times-mod              sums and products of equal remainders
+--   mul-mod-mul, lift-mod, drop-mod  remainders modulo n and modulo c n
+--   convolve-mod, convolve-scale, convolve-add-left    sums of products
+--   coef-whole, coef-beyond          a tabulated list; beyond the words
+--   Times n c f f′                   f is c f′ modulo n
+--   content-divides, content-down, content-up    D1
+--   monic-divides, monic-down, monic-up          D4
+--
+-- Letters: c is a content, C a constant; h is monic of degree t, r = c r′; u, v are multipliers; k is a place.
 use mathlib.Core.Path.{_≡_, refl, sym, _∙_, ap, ap₂, fun-ext, subst}
-use mathlib.Core.List.{List, [], _∷_}
+use mathlib.Core.List.{List}
 use Prim.Native.Nat.{ℕ, zero, suc, _<_, _≤_, _%_, _/_, _∣_, _+_, _*_, _-_}
-use native.Mathlib.Nat.{zero-div, mod-lt, mod-mod, mod-eq-of-lt, add-mod, zero-lt-suc, div-add-mod, add-mul-mod-self-left, mod-mod-of-dvd, mul-mod-right, dvd-refl, dvd-trans, dvd-add, dvd-mod-iff, dvd-mul-left, dvd-mul-right, dvd-mul-left-of-dvd, dvd-mul-right-of-dvd, mul-dvd-mul, dvd-of-mod-eq-zero, mod-eq-zero-of-dvd, mul-div-cancel', mul-le-mul, mul-pos, le-of-dvd, eq-of-mul-eq-mul-left}
 use native.Mathlib.Decide.{Fin·val-path, decLt}
+use native.Mathlib.Nat.{zero-div, mod-lt, mod-eq-of-lt, add-mod, zero-lt-suc, div-add-mod, add-mul-mod-self-left, mod-mod-of-dvd, mul-mod-right, dvd-mod-iff, dvd-mul-right, dvd-of-mod-eq-zero, mul-div-cancel', mul-le-mul, mul-pos, eq-of-mul-eq-mul-left}
 use native.Mathlib.Omega.{arith}
-use lib.ListN.{length, getD, List·getD-eq-default}
-use Rattle.definitions.specs.Polynomials.{coef, deg, total, convolve, tabulate, constant}
-use Rattle.definitions.specs.Resultants.{Combination, Reached, Reduced}
-use Rattle.algebra.specs.Ideal.{Combines, unit-in, unit-out, rest-in, rest-out}
-use Rattle.algebra.specs.Residues.{Res, toRes, Res-ring, mul-mod-l, mul-mod-r}
-use Rattle.algebra.specs.Resultant.{conv}
-use Rattle.algebra.specs.Ring.{CRing, add-neg, neg-neg}
-use Rattle.algebra.specs.Series.{series, Short, const, monic-zero, monic-rest}
-use Rattle.algebra.specs.Sum.{neg-zero}
-use Rattle.theory.specs.ReachedLaws.{reached-same, words-short, words-finite, to-ring, from-ring, only-any, all-any}
+use lib.ListN.{length, List·getD-eq-default}
+use Rattle.definitions.specs.Polynomials.{coef, total, convolve, tabulate, constant}
+use Rattle.definitions.specs.Resultants.{Reached}
+use Rattle.algebra.specs.Division.{monic-zero, monic-rest}
+use Rattle.algebra.specs.Residues.{Res, toRes, Res-ring, mul-mod-r}
+use Rattle.algebra.specs.Ring.{add-neg, neg-neg, neg-zero}
+use Rattle.algebra.specs.Series.{conv, Short, const}
+use Rattle.theory.specs.ReachedLaws.{words-short}
 use Rattle.theory.specs.Words.{words, convolve-is, coef-tabulate, length-tabulate, total-cong}
 
 -- remainders
@@ -45,10 +54,12 @@ pub drop-mod : (c n s t : ℕ) → 1 ≤ c → 1 ≤ n → (c * s) % (c * n) ≡
 drop-mod c n s t p q h = eq-of-mul-eq-mul-left c p (s % n) (t % n) (sym (mul-mod-mul c s n p q) ∙ h ∙ mul-mod-mul c t n p q)
 
 -- sums of products
-pub convolve-mod : (n : ℕ) → 1 ≤ n → (p p′ q q′ : ℕ → ℕ) → ((k : ℕ) → p k % n ≡ p′ k % n) → ((k : ℕ) → q k % n ≡ q′ k % n) → (k : ℕ) → convolve p q k % n ≡ convolve p′ q′ k % n
+pub convolve-mod : (n : ℕ) → 1 ≤ n → (p p′ q q′ : ℕ → ℕ) → ((k : ℕ) → p k % n ≡ p′ k % n) → ((k : ℕ) → q k % n ≡ q′ k % n) → (k : ℕ)
+    → convolve p q k % n ≡ convolve p′ q′ k % n
 convolve-mod zero l p p′ q q′ h g k = absurd (omega arith)
 convolve-mod (suc m) l p p′ q q′ h g k =
-    ap (λ (x : Res m). x .0) (convolve-is m p q k ∙ ap₂ (λ (a b : ℕ → Res m). conv (Res-ring m) a b k) (fun-ext (λ i. Fin·val-path (h i))) (fun-ext (λ i. Fin·val-path (g i))) ∙ sym (convolve-is m p′ q′ k))
+    ap (λ (x : Res m). x .0) (convolve-is m p q k ∙ ap₂ (λ (a b : ℕ → Res m). conv (Res-ring m) a b k) (fun-ext (λ i. Fin·val-path (h i)))
+    (fun-ext (λ i. Fin·val-path (g i))) ∙ sym (convolve-is m p′ q′ k))
 
 total-scale : (n c : ℕ) (F : ℕ → ℕ) → total n (λ i. c * F i) ≡ c * total n F
 total-scale zero c F = omega arith
@@ -71,12 +82,13 @@ convolve-scale-left c p q k = total-cong (suc k) _ _ (λ i l. turn (p i) c (q (k
     turn p c q = omega arith
 
 pub convolve-add-left : (a b q : ℕ → ℕ) (k : ℕ) → convolve (λ i. a i + b i) q k ≡ convolve a q k + convolve b q k
-convolve-add-left a b q k = total-cong (suc k) _ _ (λ i l. turn (a i) (b i) (q (k - i))) ∙ total-add (suc k) (λ i. a i * q (k - i)) (λ i. b i * q (k - i))
+convolve-add-left a b q k = total-cong (suc k) _ _ (λ i l. turn (a i) (b i) (q (k - i)))
+    ∙ total-add (suc k) (λ i. a i * q (k - i)) (λ i. b i * q (k - i))
   where
     turn : (a b q : ℕ) → (a + b) * q ≡ a * q + b * q
     turn a b q = omega arith
 
--- a tabulate as coefficients, where the rest is 0
+-- a tabulated list as coefficients, where the rest is 0
 pub coef-whole : (n : ℕ) (F : ℕ → ℕ) → ((k : ℕ) → n ≤ k → F k ≡ 0) → (k : ℕ) → coef (tabulate n F) k ≡ F k
 coef-whole n F z k = go (decLt k n)
   where
@@ -95,8 +107,10 @@ constant-scale c d (suc k) = omega arith
 pub record Times (n c : ℕ) (f f′ : List ℕ) : Type 0 where
   pub at : (k : ℕ) → coef f k % n ≡ (c * coef f′ k) % n
 
-convolve-times : (n c : ℕ) → 1 ≤ n → (u f f′ : List ℕ) → Times n c f f′ → (k : ℕ) → convolve (coef u) (coef f) k % n ≡ (c * convolve (coef u) (coef f′) k) % n
-convolve-times n c l u f f′ t k = convolve-mod n l (coef u) (coef u) (coef f) (λ i. c * coef f′ i) (λ i. refl) (t .at) k ∙ ap (λ x. x % n) (convolve-scale c (coef u) (coef f′) k)
+convolve-times : (n c : ℕ) → 1 ≤ n → (u f f′ : List ℕ) → Times n c f f′ → (k : ℕ)
+    → convolve (coef u) (coef f) k % n ≡ (c * convolve (coef u) (coef f′) k) % n
+convolve-times n c l u f f′ t k = convolve-mod n l (coef u) (coef u) (coef f) (λ i. c * coef f′ i) (λ i. refl) (t .at) k
+    ∙ ap (λ x. x % n) (convolve-scale c (coef u) (coef f′) k)
 
 module _ (c n : ℕ) (c-pos : 1 ≤ c) (n-pos : 1 ≤ n) where
   cn-pos : 1 ≤ c * n
@@ -104,7 +118,8 @@ module _ (c n : ℕ) (c-pos : 1 ≤ c) (n-pos : 1 ≤ n) where
 
   -- D1
   module _ (f f′ g g′ : List ℕ) (tf : Times (c * n) c f f′) (tg : Times (c * n) c g g′) where
-    both : (u v : List ℕ) (k : ℕ) → (convolve (coef u) (coef f) k + convolve (coef v) (coef g) k) % (c * n) ≡ (c * (convolve (coef u) (coef f′) k + convolve (coef v) (coef g′) k)) % (c * n)
+    both : (u v : List ℕ) (k : ℕ) → (convolve (coef u) (coef f) k + convolve (coef v) (coef g) k) % (c * n) ≡
+        (c * (convolve (coef u) (coef f′) k + convolve (coef v) (coef g′) k)) % (c * n)
     both u v k =
         plus-mod (c * n) _ _ _ _ (convolve-times (c * n) c cn-pos u f f′ tf k) (convolve-times (c * n) c cn-pos v g g′ tg k)
         ∙ ap (λ x. x % (c * n)) (turn (convolve (coef u) (coef f′) k) (convolve (coef v) (coef g′) k))
@@ -115,24 +130,32 @@ module _ (c n : ℕ) (c-pos : 1 ≤ c) (n-pos : 1 ≤ n) where
     pub content-divides : (C : ℕ) → Reached (c * n) f g C → c ∣ C
     content-divides C r =
         dvd-mod-iff c {m = C} {n = c * n} (dvd-mul-right c n) .0
-        (subst (λ (x : ℕ). c ∣ x) (sym (mul-mod-mul c _ n c-pos n-pos) ∙ sym (both (r .u) (r .v) 0) ∙ r .combination .sum 0) (dvd-mul-right c _))
+        (subst (λ (x : ℕ). c ∣ x) (sym (mul-mod-mul c _ n c-pos n-pos) ∙ sym (both (r .u) (r .v) 0) ∙ r .combination .sum 0)
+        (dvd-mul-right c _))
 
     pub content-down : (C : ℕ) → Reached (c * n) f g (c * C) → Reached n f′ g′ C
     content-down C r = record {
       u = r .u;
       v = r .v;
-      combination = record { sum = λ k. drop-mod c n _ _ c-pos n-pos (sym (both (r .u) (r .v) k) ∙ r .combination .sum k ∙ ap (λ x. x % (c * n)) (constant-scale c C k)) };
+      combination = record {
+        sum = λ k. drop-mod c n _ _ c-pos n-pos
+            (sym (both (r .u) (r .v) k) ∙ r .combination .sum k ∙ ap (λ x. x % (c * n)) (constant-scale c C k));
+      };
     }
 
     pub content-up : (C : ℕ) → Reached n f′ g′ C → Reached (c * n) f g (c * C)
     content-up C r = record {
       u = r .u;
       v = r .v;
-      combination = record { sum = λ k. both (r .u) (r .v) k ∙ lift-mod c n _ _ c-pos n-pos (r .combination .sum k) ∙ ap (λ x. x % (c * n)) (sym (constant-scale c C k)) };
+      combination = record {
+        sum = λ k. both (r .u) (r .v) k ∙ lift-mod c n _ _ c-pos n-pos (r .combination .sum k)
+            ∙ ap (λ x. x % (c * n)) (sym (constant-scale c C k));
+      };
     }
 
   -- D4: h monic of degree t ≥ 1, r is c r′
-  module _ (h r r′ : List ℕ) (t : ℕ) (t-pos : 1 ≤ t) (top : coef h t % (c * n) ≡ 1 % (c * n)) (above : (k : ℕ) → t < k → coef h k % (c * n) ≡ 0) (tr : Times (c * n) c r r′) where
+  module _ (h r r′ : List ℕ) (t : ℕ) (t-pos : 1 ≤ t) (top : coef h t % (c * n) ≡ 1 % (c * n))
+      (above : (k : ℕ) → t < k → coef h k % (c * n) ≡ 0) (tr : Times (c * n) c r r′) where
     down : (x y : ℕ) → x % (c * n) ≡ y % (c * n) → x % c ≡ y % c
     down x y e = sym (mod-mod-of-dvd c x (dvd-mul-right c n)) ∙ ap (λ z. z % c) e ∙ mod-mod-of-dvd c y (dvd-mul-right c n)
 
@@ -140,7 +163,8 @@ module _ (c n : ℕ) (c-pos : 1 ≤ c) (n-pos : 1 ≤ n) where
     lone : (C : ℕ) (x : Reached (c * n) h r C) (k : ℕ) → convolve (coef (x .u)) (coef h) k % c ≡ constant C k % c
     lone C x k =
         ap (λ y. y % c) (nought (convolve (coef (x .u)) (coef h) k))
-        ∙ plus-mod c _ _ 0 (convolve (coef (x .v)) (coef r) k) refl (sym (down _ _ (convolve-times (c * n) c cn-pos (x .v) r r′ tr k) ∙ mul-mod-right c _ ∙ sym (zero-mod c c-pos)))
+        ∙ plus-mod c _ _ 0 (convolve (coef (x .v)) (coef r) k) refl
+        (sym (down _ _ (convolve-times (c * n) c cn-pos (x .v) r r′ tr k) ∙ mul-mod-right c _ ∙ sym (zero-mod c c-pos)))
         ∙ down _ _ (x .combination .sum k)
       where
         nought : (y : ℕ) → y ≡ y + 0
@@ -152,7 +176,9 @@ module _ (c n : ℕ) (c-pos : 1 ≤ c) (n-pos : 1 ≤ n) where
     ruled : (m : ℕ) → suc m ≡ c → (C : ℕ) (x : Reached (c * n) h r C) → ((k : ℕ) → words m (x .u) k ≡ toRes m 0) × (toRes m C ≡ toRes m 0)
     ruled m e C x = (
       monic-zero (Res-ring m) (length (x .u)) t (words m (x .u)) (words m h) rest (words-short m (x .u)) monic short-h short-rest eq,
-      sym (neg-neg (Res-ring m) (toRes m C)) ∙ ap (Res-ring m .neg) (monic-rest (Res-ring m) (length (x .u)) t (words m (x .u)) (words m h) rest (words-short m (x .u)) monic short-h short-rest eq 0) ∙ neg-zero (Res-ring m),
+      sym (neg-neg (Res-ring m) (toRes m C)) ∙ ap (Res-ring m .neg)
+          (monic-rest (Res-ring m) (length (x .u)) t (words m (x .u)) (words m h) rest (words-short m (x .u)) monic short-h short-rest eq 0)
+          ∙ neg-zero (Res-ring m),
     )
       where
         rest : ℕ → Res m
@@ -197,7 +223,10 @@ module _ (c n : ℕ) (c-pos : 1 ≤ c) (n-pos : 1 ≤ n) where
     monic-down C x = record {
       u = tabulate (length (x .u)) (λ k. coef (x .u) k / c);
       v = x .v;
-      combination = record { sum = λ k. drop-mod c n _ _ c-pos n-pos (sym (reversed k) ∙ x .combination .sum k ∙ ap (λ y. y % (c * n)) (constant-scale c C k)) };
+      combination = record {
+        sum = λ k. drop-mod c n _ _ c-pos n-pos
+            (sym (reversed k) ∙ x .combination .sum k ∙ ap (λ y. y % (c * n)) (constant-scale c C k));
+      };
     }
       where
         u′ : List ℕ
@@ -208,11 +237,14 @@ module _ (c n : ℕ) (c-pos : 1 ≤ c) (n-pos : 1 ≤ n) where
 
         whole : (k : ℕ) → coef (x .u) k ≡ c * coef u′ k
         whole k =
-            sym (ap (λ y. c * y) (less k) ∙ mul-div-cancel' c (of-zero (pred-of .0) (coef (x .u) k) (pred-of .1) (ruled (pred-of .0) (pred-of .1) (c * C) x .0 k)))
+            sym (ap (λ y. c * y) (less k) ∙ mul-div-cancel' c
+            (of-zero (pred-of .0) (coef (x .u) k) (pred-of .1) (ruled (pred-of .0) (pred-of .1) (c * C) x .0 k)))
 
-        reversed : (k : ℕ) → (convolve (coef (x .u)) (coef h) k + convolve (coef (x .v)) (coef r) k) % (c * n) ≡ (c * (convolve (coef u′) (coef h) k + convolve (coef (x .v)) (coef r′) k)) % (c * n)
+        reversed : (k : ℕ) → (convolve (coef (x .u)) (coef h) k + convolve (coef (x .v)) (coef r) k) % (c * n) ≡
+            (c * (convolve (coef u′) (coef h) k + convolve (coef (x .v)) (coef r′) k)) % (c * n)
         reversed k =
-            plus-mod (c * n) _ _ _ _ (ap (λ y. y % (c * n)) (ap (λ (a : ℕ → ℕ). convolve a (coef h) k) (fun-ext whole) ∙ convolve-scale-left c (coef u′) (coef h) k)) (convolve-times (c * n) c cn-pos (x .v) r r′ tr k)
+            plus-mod (c * n) _ _ _ _ (ap (λ y. y % (c * n)) (ap (λ (a : ℕ → ℕ). convolve a (coef h) k) (fun-ext whole)
+            ∙ convolve-scale-left c (coef u′) (coef h) k)) (convolve-times (c * n) c cn-pos (x .v) r r′ tr k)
             ∙ ap (λ y. y % (c * n)) (turn (convolve (coef u′) (coef h) k) (convolve (coef (x .v)) (coef r′) k))
           where
             turn : (x y : ℕ) → c * x + c * y ≡ c * (x + y)
@@ -222,10 +254,13 @@ module _ (c n : ℕ) (c-pos : 1 ≤ c) (n-pos : 1 ≤ n) where
     monic-up C x = record {
       u = tabulate (length (x .u)) (λ k. c * coef (x .u) k);
       v = x .v;
-      combination = record { sum = λ k.
-          plus-mod (c * n) _ _ _ _ (ap (λ y. y % (c * n)) (ap (λ (a : ℕ → ℕ). convolve a (coef h) k) (fun-ext whole) ∙ convolve-scale-left c (coef (x .u)) (coef h) k)) (convolve-times (c * n) c cn-pos (x .v) r r′ tr k)
-          ∙ ap (λ y. y % (c * n)) (turn (convolve (coef (x .u)) (coef h) k) (convolve (coef (x .v)) (coef r′) k))
-          ∙ lift-mod c n _ _ c-pos n-pos (x .combination .sum k) ∙ ap (λ y. y % (c * n)) (sym (constant-scale c C k)) };
+      combination = record {
+        sum = λ k.
+            plus-mod (c * n) _ _ _ _ (ap (λ y. y % (c * n)) (ap (λ (a : ℕ → ℕ). convolve a (coef h) k) (fun-ext whole)
+            ∙ convolve-scale-left c (coef (x .u)) (coef h) k)) (convolve-times (c * n) c cn-pos (x .v) r r′ tr k)
+            ∙ ap (λ y. y % (c * n)) (turn (convolve (coef (x .u)) (coef h) k) (convolve (coef (x .v)) (coef r′) k))
+            ∙ lift-mod c n _ _ c-pos n-pos (x .combination .sum k) ∙ ap (λ y. y % (c * n)) (sym (constant-scale c C k));
+      };
     }
       where
         whole : (k : ℕ) → coef (tabulate (length (x .u)) (λ k. c * coef (x .u) k)) k ≡ c * coef (x .u) k

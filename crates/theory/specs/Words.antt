@@ -1,30 +1,37 @@
--- The resultant in sent degrees, over any ring, the constant first; modulo n; the words' resultant is the ring's.
+-- From words to the ring: the definitions' determinant, resultant and sums of products are those of the algebra over Z/(m + 1), so that its
+-- theorems speak of words.
+--
+--   words m f           the coefficients of f as residues modulo m + 1
+--   coef-tabulate, length-tabulate    the words of a tabulated list
+--   determinant-is, sylvester-is, resultant-is    determinant, Sylvester's matrix and resultant
+--   convolve-is, multiplied-is, divided-is        products, f = a b, and g = q f + r
+--   words-product       the product word list
+--   words-cong          words count modulo n only
+--
+-- Letters: m is n less 1; f, g, q, r, a, b are word lists, p, q sequences of numbers; d, e are sent degrees; k is a place.
 use mathlib.Core.Path.{_≡_, refl, sym, _∙_, ap, ap₂, fun-ext, subst}
-use mathlib.Core.Logic.{_≢_}
 use mathlib.Core.List.{List, [], _∷_}
 use mathlib.Core.Bool.{Bool, true, false, not, cond}
-use Prim.Native.Nat.{ℕ, zero, suc, _<_, _≤_, _%_, pred, _+_ as _+ℕ_, _*_ as _*ℕ_, _-_ as _-ℕ_}
-use native.Mathlib.Nat.{mod-eq-of-lt, add-mul-mod-self-left, mod-mod, mod-lt, zero-lt-suc}
+use Prim.Native.Nat.{ℕ, zero, suc, _<_, _≤_, _%_, _+_ as _+ℕ_, _*_ as _*ℕ_, _-_ as _-ℕ_}
 use native.Mathlib.Decide.{Fin·val-path, decLe}
+use native.Mathlib.Nat.{mod-mod}
 use native.Mathlib.Omega.{arith}
-use lib.ListN.{length, getD, List·getD-eq-default}
 use lib.Dec.{T, leb, ltb, leb→le, nleb→lt, ltb→lt, nltb→le}
 use lib.IntN.{ℤ, pos, negsuc, negℤ, _+ℤ_, _*ℤ_}
-use Rattle.definitions.specs.Polynomials.{coef, deg, total, convolve, tabulate, product}
+use lib.ListN.{length, List·getD-eq-default}
+use Rattle.definitions.specs.Polynomials.{coef, deg, total, convolve, tabulate, product, Divided, Multiplied}
 use Rattle.definitions.specs.Resultants.{entry, sylvester, alternating, beside, determinant, residue, resultant}
-use Rattle.algebra.specs.Block.{up, up-is}
-use Rattle.algebra.specs.Det.{det, minor}
-use Rattle.algebra.specs.Domain.{reduce, reduce-hom}
-use Rattle.algebra.specs.Euclid.{res-mod}
-use Rattle.algebra.specs.Integers.{ℤ-ring}
+use Rattle.algebra.specs.Determinant.{det, minor}
 use Rattle.algebra.specs.Index.{skip}
-use Rattle.algebra.specs.SentResultant.{Rs, rv-hom, Rs-mul}
+use Rattle.algebra.specs.Integers.{ℤ-ring}
+use Rattle.algebra.specs.Reduction.{reduce, reduce-hom}
+use Rattle.algebra.specs.Residues.{Res, toRes, Res-ring}
+use Rattle.algebra.specs.Resultant.{res-mod, shift, shift-low, res, shift-at}
+use Rattle.algebra.specs.Reverse.{rv-hom, rv, rv-at, rv-out}
+use Rattle.algebra.specs.SentLaws.{Rs}
+use Rattle.algebra.specs.Series.{conv, conv-out}
+use Rattle.algebra.specs.Stack.{up, up-is, stack, stack-top}
 use Rattle.algebra.specs.Sum.{alt}
-use Rattle.algebra.specs.Residues.{Res, toRes, Res-ring, mul-mod-l, mul-mod-r}
-use Rattle.algebra.specs.Resultant.{stack, shift, shift-low, conv, res, res-mul-ℤ}
-use Rattle.algebra.specs.Reverse.{rv, rv-at, rv-out, rv-cong, shift-at, conv-rv, conv-out}
-use Rattle.algebra.specs.Ring.{CRing}
-use Rattle.algebra.specs.Rows.{Hom}
 
 pub coef-out : (f : List ℕ) (k : ℕ) → deg f < k → coef f k ≡ 0
 coef-out [] zero l = absurd (omega arith)
@@ -58,7 +65,8 @@ entry-is d f i j = go (leb i j) refl (leb j (i +ℕ d)) refl
     go true h true g =
         let p = leb→le i j (subst T (sym h) tt) in
         let q = leb→le j (i +ℕ d) (subst T (sym g) tt) in
-        sym (shift-at ℤ-ring i (rv ℤ-ring d (whole f)) j (j -ℕ i) (omega arith) ∙ rv-at ℤ-ring d (whole f) (j -ℕ i) (i +ℕ d -ℕ j) (omega arith))
+        sym (shift-at ℤ-ring i (rv ℤ-ring d (whole f)) j (j -ℕ i) (omega arith)
+        ∙ rv-at ℤ-ring d (whole f) (j -ℕ i) (i +ℕ d -ℕ j) (omega arith))
     go true h false g =
         let p = leb→le i j (subst T (sym h) tt) in
         let q = nleb→lt j (i +ℕ d) (subst (λ t. T (not t)) (sym g) tt) in
@@ -69,18 +77,13 @@ entry-is d f i j = go (leb i j) refl (leb j (i +ℕ d)) refl
 stack-cond : (e : ℕ) (a b : ℕ → ℕ → ℤ) (r c : ℕ) → cond (ltb r e) (a r c) (b (r -ℕ e) c) ≡ stack e a b r c
 stack-cond e a b r c = go (ltb r e) refl
   where
-    top : (e : ℕ) (a b : ℕ → ℕ → ℤ) (r : ℕ) → r < e → stack e a b r c ≡ a r c
-    top zero a b r l = absurd (omega arith)
-    top (suc e) a b zero l = refl
-    top (suc e) a b (suc r) l = top e (λ i. a (suc i)) b r (omega arith)
-
     rest : (e : ℕ) (a b : ℕ → ℕ → ℤ) (r s : ℕ) → e +ℕ s ≡ r → stack e a b r c ≡ b s c
     rest zero a b r s h = ap (λ (k : ℕ). b k c) (omega arith)
     rest (suc e) a b zero s h = absurd (omega arith)
     rest (suc e) a b (suc r) s h = rest e (λ i. a (suc i)) b r s (omega arith)
 
     go : (t : Bool) → ltb r e ≡ t → cond t (a r c) (b (r -ℕ e) c) ≡ stack e a b r c
-    go true h = sym (top e a b r (ltb→lt r e (subst T (sym h) tt)))
+    go true h = sym (ap (λ (v : ℕ → ℤ). v c) (stack-top e a b r (ltb→lt r e (subst T (sym h) tt))))
     go false h = let l = nltb→le r e (subst (λ t. T (not t)) (sym h) tt) in sym (rest e a b r (r -ℕ e) (omega arith))
 
 beside-is : (i r : ℕ) → beside i r ≡ skip i r
@@ -120,7 +123,8 @@ resultant-is m f g =
     residue-reduce m (determinant (deg f +ℕ deg g) (sylvester f g))
     ∙ ap (λ (z : Res m). z .0) (ap (reduce m) (sylvester-is f g)
     ∙ res-mod m (deg g) (deg f) (rv ℤ-ring (deg f) (whole f)) (rv ℤ-ring (deg g) (whole g))
-    ∙ ap₂ (res (Res-ring m) (deg g) (deg f)) (fun-ext (rv-hom ℤ-ring (Res-ring m) (reduce m) (reduce-hom m) (deg f) (whole f))) (fun-ext (rv-hom ℤ-ring (Res-ring m) (reduce m) (reduce-hom m) (deg g) (whole g))))
+    ∙ ap₂ (res (Res-ring m) (deg g) (deg f)) (fun-ext (rv-hom ℤ-ring (Res-ring m) (reduce m) (reduce-hom m) (deg f) (whole f)))
+    (fun-ext (rv-hom ℤ-ring (Res-ring m) (reduce m) (reduce-hom m) (deg g) (whole g))))
 
 pub total-cong : (n : ℕ) (F G : ℕ → ℕ) → ((i : ℕ) → i < n → F i ≡ G i) → total n F ≡ total n G
 total-cong zero F G h = refl
@@ -145,6 +149,20 @@ convolve-is m p q (suc k) =
     ap (toRes m) (convolve-suc p q k) ∙ reduce-hom m .h-add (pos (p 0 *ℕ q (suc k))) (pos (convolve (λ i. p (suc i)) q k))
     ∙ ap₂ (Res-ring m .add) (reduce-hom m .h-mul (pos (p 0)) (pos (q (suc k)))) (convolve-is m (λ i. p (suc i)) q k)
 
+-- equations between words are equations of series
+pub multiplied-is : (m : ℕ) (f a b : List ℕ) → Multiplied (suc m) f a b → words m f ≡ conv (Res-ring m) (words m a) (words m b)
+multiplied-is m f a b h = fun-ext (λ k. Fin·val-path (h .at k) ∙ convolve-is m (coef a) (coef b) k)
+
+pub divided-is : (m : ℕ) (g f q r : List ℕ) → Divided (suc m) g f q r
+    → words m g ≡ (λ k. Res-ring m .add (conv (Res-ring m) (words m q) (words m f) k) (words m r k))
+divided-is m g f q r h =
+    fun-ext (λ k. sym (Fin·val-path (h .at k)) ∙ reduce-hom m .h-add (pos (convolve (coef q) (coef f) k)) (pos (coef r k))
+    ∙ ap (λ (x : Res m). Res-ring m .add x (words m r k)) (convolve-is m (coef q) (coef f) k))
+
+-- words count modulo n only
+pub words-cong : (m : ℕ) (f f′ : List ℕ) → ((k : ℕ) → coef f k % suc m ≡ coef f′ k % suc m) → words m f ≡ words m f′
+words-cong m f f′ h = fun-ext (λ k. Fin·val-path (h k))
+
 pub words-out : (m : ℕ) (f : List ℕ) (k : ℕ) → deg f < k → words m f k ≡ toRes m 0
 words-out m f k l = ap (toRes m) (coef-out f k l)
 
@@ -161,12 +179,3 @@ words-product m f g k = go (decLe k (deg f +ℕ deg g))
     go (no l) =
         words-out m (product (suc m) f g) k (omega (arith, deg-product (suc m) f g))
         ∙ sym (conv-out (Res-ring m) (deg f) (deg g) (words m f) (words m g) (words-out m f) (words-out m g) k (omega arith))
-
--- THE LAW OF PRODUCTS for the words' resultant
-pub law-of-products : (n : ℕ) → 1 ≤ n → (f g h : List ℕ) → resultant n (product n f g) h ≡ (resultant n f h *ℕ resultant n g h) % n
-law-of-products zero l f g h = absurd (omega arith)
-law-of-products (suc m) l f g h =
-    resultant-is m (product (suc m) f g) h
-    ∙ ap (λ (z : Res m). z .0) (ap₂ (λ (d : ℕ) (u : ℕ → Res m). Rs (Res-ring m) d (deg h) u (words m h)) (deg-product (suc m) f g) (fun-ext (words-product m f g))
-    ∙ Rs-mul m (deg f) (deg g) (deg h) (words m f) (words m g) (words m h) (words-out m f) (words-out m g))
-    ∙ ap₂ (λ x y. (x *ℕ y) % suc m) (sym (resultant-is m f h)) (sym (resultant-is m g h))

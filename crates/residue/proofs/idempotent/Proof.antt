@@ -1,6 +1,6 @@
 use native.Mathlib.Omega.{arith}
-use native.Mathlib.Nat.{mul-pos}
-use Rattle.residue.proofs.Joining.{idempotent-ends, cofactor-times}
+use native.Mathlib.Nat.{mul-pos, mul-le-mul-right}
+use Rattle.residue.proofs.Joining.{idempotent-ends}
 use borrow.Author.Needs.{needs}
 use Rattle.residue.proofs.idempotent.Statement.{statement}
 use Rattle.residue.proofs.idempotent.Tie as tie
@@ -14,7 +14,7 @@ cofactor-requires c κs = search needs
 
 -- src/lib.rt:47:6
 mul-result : tie.Need-mul-result
-mul-result c = let l = cofactor-times (c .before .cofactor .ensures) in omega arith
+mul-result c = omega (arith, mul-le-mul-right (c .before .before .args .n2) (c .before .cofactor .ensures .at-most))
 
 -- src/lib.rt:47:19
 mul-result-2 : tie.Need-mul-result-2
