@@ -16,9 +16,8 @@ use lib.ListN.{length, getD}
 use Rattle.definitions.specs.Polynomials.{coef, deg}
 use Rattle.definitions.specs.Resultants.{resultant}
 use Rattle.numbers.specs.Congruence.{c-refl, c-mul, c-mod}
-use Rattle.theory.specs.PointThree.{resultant-content}
 use Rattle.theory.specs.ReachedSteps.{coef-beyond}
-use Rattle.theory.specs.ResultantLaws.{resultant-cong, resultant-scale-first}
+use Rattle.theory.specs.ResultantLaws.{resultant-cong, resultant-content, resultant-scale-first}
 use borrow.Rule.Slice.PartMut.{midOf}
 use Rattle.windows.specs.Window.{piece, Moved, quotient-by, reduced-by, Below, Content}
 use Rattle.windows.proofs.Leaf.{lt-or-le, piece-at, piece-length}
