@@ -5,24 +5,24 @@
 --   divisor-asked  f with a unit for its leading word
 --   next-asked     what the next attempt, at r and f, asks
 --   times-next     the value, from that of the next attempt
-use mathlib.Core.Path.{_≡_, refl, sym, ap, ap₂, subst, _∙_, fun-ext}
+use mathlib.Core.Path.{_≡_, sym, ap, ap₂, subst, _∙_, fun-ext}
 use mathlib.Core.List.{List}
 use Prim.Native.Nat.{ℕ, zero, suc, pred, _+_, _-_, _*_, _%_, _^_, _≤_, _<_}
 use native.Mathlib.Omega.{arith}
 use native.Mathlib.Nat.{mod-lt}
 use lib.ListN.{length, getD}
-use Rattle.numbers.specs.Congruence.{Cong, c-refl, c-mul, c-mod}
-use Rattle.definitions.specs.Polynomials.{coef, deg, convolve, tabulate, Divided}
+use Rattle.numbers.specs.Congruence.{c-refl, c-mul, c-mod}
+use Rattle.definitions.specs.Polynomials.{coef, deg, convolve, tabulate}
 use Rattle.definitions.specs.Resultants.{resultant}
 use Rattle.theory.specs.Words.{length-tabulate}
 use Rattle.theory.specs.ReachedSteps.{coef-whole}
 use Rattle.theory.specs.ResultantLaws.{resultant-divide, resultant-const-first}
-use Rattle.windows.specs.Window.{piece, Below, Around, Apart}
+use Rattle.windows.specs.Window.{piece}
 use Rattle.windows.proofs.Leaf.{piece-at, piece-length, piece-same, apart-at}
 use Rattle.division.specs.Remainders.{Pair, Remainder}
 use Rattle.steps.proofs.Degrees.{deg-of}
 use Rattle.numbers.specs.Divisors.{GcdCofactor}
-use Rattle.attempt.specs.Rooms.{room, room-next}
+use Rattle.attempt.specs.Rooms.{room-next}
 use Rattle.attempt.specs.Stages.{Placed, Divisor}
 
 -- g = q f + r with r of d words
@@ -79,26 +79,34 @@ at-constant (suc m) a d b e s r w pl z h =
     let g : List ℕ = piece w b (e + 1) in
     let lf : length f ≡ d + 1 = piece-length w a (d + 1) (omega arith) in
     let lg : length g ≡ e + 1 = piece-length w b (e + 1) (omega arith) in
-    let word : coef f 0 ≡ getD w (a + d) 0 = piece-at w a (d + 1) 0 (omega arith) ∙ ap (λ (x : ℕ). getD w (a + x) 0) (sym z) in
-    (h ∙ sym (resultant-const-first m f g (deg-of f d lf ∙ z) ∙ ap₂ (λ (x y : ℕ). (x ^ y) % suc m) word (deg-of g e lg)), subst (λ (x : ℕ). x < suc m) (sym h) (mod-lt _ (omega arith)))
+    let word : coef f 0 ≡ getD w (a + d) 0 = piece-at w a (d + 1) 0 (omega arith) ∙ ap (λ (x : ℕ). getD w (a + x) 0) (sym z) in (
+      h ∙ sym (resultant-const-first m f g (deg-of f d lf ∙ z)
+          ∙ ap₂ (λ (x y : ℕ). (x ^ y) % suc m) word (deg-of g e lg)),
+      subst (λ (x : ℕ). x < suc m) (sym h) (mod-lt _ (omega arith)),
+    )
 
 -- a leading word whose common divisor with n is 1
-pub divisor-asked : (n a d b e s g i : ℕ) (w : List ℕ) → Placed n a d b e s w → (d ≡ 0 → ⊥) → GcdCofactor n (getD w (a + d) 0) g i → g ≡ 1 → Divisor n a d b e s i w
+pub divisor-asked : (n a d b e s g i : ℕ) (w : List ℕ) → Placed n a d b e s w → (d ≡ 0 → ⊥) → GcdCofactor n (getD w (a + d) 0) g i → g ≡ 1
+    → Divisor n a d b e s i w
 divisor-asked n a d b e s g i w pl nz c h = record {
-      two = pl .two;
-      one = omega arith;
-      near = pl .near;
-      first = pl .first;
-      second = pl .second;
-      fits = omega (arith, pl .fits, room-next d e (omega arith) (pl .near));
-      pair = pl .pair;
-      inverse = c .bezout ∙ ap (λ (x : ℕ). x % n) h
-    }
+  two = pl .two;
+  one = omega arith;
+  near = pl .near;
+  first = pl .first;
+  second = pl .second;
+  fits = omega (arith, pl .fits, room-next d e (omega arith) (pl .near));
+  pair = pl .pair;
+  inverse = c .bezout ∙ ap (λ (x : ℕ). x % n) h;
+}
 
 -- what the division asks
 pub divide-asked : (n a d b e s i : ℕ) (w : List ℕ) → Divisor n a d b e s i w
-    → ((1 ≤ n) × ((1 ≤ d) × ((d ≤ e + 1) × ((a + d < length w) × (b + e < length w))))) × ((Pair n a d b e w) × ((i * getD w (a + d) 0) % n ≡ 1 % n))
-divide-asked n a d b e s i w dv = ((omega (arith, dv .two), (dv .one, (omega (arith, dv .near), (omega arith, omega arith)))), (dv .pair, dv .inverse))
+    → ((1 ≤ n) × ((1 ≤ d) × ((d ≤ e + 1) × ((a + d < length w) × (b + e < length w))))) ×
+    ((Pair n a d b e w) × ((i * getD w (a + d) 0) % n ≡ 1 % n))
+divide-asked n a d b e s i w dv = (
+  (omega (arith, dv .two), (dv .one, (omega (arith, dv .near), (omega arith, omega arith)))),
+  (dv .pair, dv .inverse),
+)
 
 module _ (n a d b e s i : ℕ) (w w₁ : List ℕ) (dv : Divisor n a d b e s i w) (rem : Remainder n a d b e w w₁) where
   ia : a + d < length w
@@ -114,29 +122,32 @@ module _ (n a d b e s i : ℕ) (w w₁ : List ℕ) (dv : Divisor n a d b e s i w
   -- what the next attempt asks
   pub next-asked : Placed n b (d - 1) a d s w₁
   next-asked = record {
-      two = dv .two;
-      near = omega arith;
-      first = omega arith;
-      second = dv .first;
-      fits = omega (arith, rem .around .same);
-      pair = record {
-        first = record { at = λ k l. rem .below .at k (omega arith) };
-        second = record { at = λ k l. subst (λ (x : ℕ). x < n) (sym (apart-at (dv .pair .apart) (rem .around) k l)) (dv .pair .first .at k l) };
-        apart = record { ok = λ i j p q h. dv .pair .apart .ok j i q (omega arith) (sym h) }
-      }
-    }
+    two = dv .two;
+    near = omega arith;
+    first = omega arith;
+    second = dv .first;
+    fits = omega (arith, rem .around .same);
+    pair = record {
+      first = record { at = λ k l. rem .below .at k (omega arith) };
+      second = record { at = λ k l. subst (λ (x : ℕ). x < n) (sym (apart-at (dv .pair .apart) (rem .around) k l)) (dv .pair .first .at k l) };
+      apart = record { ok = λ i j p q h. dv .pair .apart .ok j i q (omega arith) (sym h) };
+    };
+  }
 
   -- the law, between the words before and after the division
   law-next : resultant n (piece w a (d + 1)) (piece w b (e + 1)) ≡ (getD w (a + d) 0 ^ (e + 1 - d) * resultant n (piece w₁ b (d - 1 + 1)) (piece w₁ a (d + 1))) % n
   law-next =
       let z : d ≡ d - 1 + 1 = omega arith in
       let f : List ℕ = piece w a (d + 1) in
-      reduce-by n d e (omega arith) (dv .one) (dv .near) f (piece w b (e + 1)) (piece w₁ b d) (piece-length w a (d + 1) (omega (arith, ia))) (piece-length w b (e + 1) (omega (arith, ib)))
+      reduce-by n d e (omega arith) (dv .one) (dv .near) f (piece w b (e + 1)) (piece w₁ b d) (piece-length w a (d + 1) (omega (arith, ia)))
+      (piece-length w b (e + 1) (omega (arith, ib)))
       (piece-length w₁ b d (omega (arith, rem .around .same, ib))) (rem .q) (rem .top) (rem .at)
-      ∙ ap₂ (λ (x y : ℕ). (x ^ (e + 1 - d) * y) % n) (piece-at w a (d + 1) d (omega arith)) (ap₂ (λ (x : ℕ) (y : List ℕ). resultant n (piece w₁ b x) y) z (sym kept))
+      ∙ ap₂ (λ (x y : ℕ). (x ^ (e + 1 - d) * y) % n) (piece-at w a (d + 1) d (omega arith))
+      (ap₂ (λ (x : ℕ) (y : List ℕ). resultant n (piece w₁ b x) y) z (sym kept))
 
   -- the value, from that of the next attempt
   pub times-next : (p : ℕ) → p ≡ (getD w (a + d) 0 ^ (e + 1 - d)) % n
       → (p * resultant n (piece w₁ b (d - 1 + 1)) (piece w₁ a (d + 1))) % n ≡ resultant n (piece w a (d + 1)) (piece w b (e + 1))
   times-next p hp =
-      ap (λ (x : ℕ). (x * resultant n (piece w₁ b (d - 1 + 1)) (piece w₁ a (d + 1))) % n) hp ∙ c-mul (c-mod (getD w (a + d) 0 ^ (e + 1 - d))) c-refl .same ∙ sym law-next
+      ap (λ (x : ℕ). (x * resultant n (piece w₁ b (d - 1 + 1)) (piece w₁ a (d + 1))) % n) hp
+      ∙ c-mul (c-mod (getD w (a + d) 0 ^ (e + 1 - d))) c-refl .same ∙ sym law-next

@@ -3,7 +3,7 @@
 --   room d e     enough for a copy of both, for the unit and the monic factor of f, and for the attempts at those
 --   place d e t  where such an attempt begins: above g, f, the monic factor of degree t and the unit factor
 use mathlib.Core.Path.{_≡_, sym, subst}
-use Prim.Native.Nat.{ℕ, zero, suc, _+_, _-_, _*_, _≤_, _<_}
+use Prim.Native.Nat.{ℕ, zero, suc, _+_, _-_, _*_, _≤_}
 use native.Mathlib.Omega.{arith}
 
 abbrev pub room : ℕ → ℕ → ℕ
@@ -40,7 +40,8 @@ room-copied d e one l = subst (λ (x : ℕ). e + 1 + (x + 1) + room (d - 1) x �
 pub room-factor : (d e t j : ℕ) → t ≤ d → 1 ≤ j → j ≤ d → place d e t + (j + 1 + (e + 1) + room (j - 1) j) ≤ room d e
 room-factor d e t j lt one lj =
     subst (λ (x : ℕ). place d e t + (x + 1 + (e + 1) + room (j - 1) x) ≤ room d e) (sym back)
-    (subst (λ (x : ℕ). place x e t + (j - 1 + 1 + 1 + (e + 1) + room (j - 1) (j - 1 + 1)) ≤ room x e) (sym more) (less (j - 1) (d - j) e t (omega arith)))
+    (subst (λ (x : ℕ). place x e t + (j - 1 + 1 + 1 + (e + 1) + room (j - 1) (j - 1 + 1)) ≤ room x e) (sym more)
+    (less (j - 1) (d - j) e t (omega arith)))
   where
     back : j ≡ j - 1 + 1
     back = omega arith

@@ -1,6 +1,11 @@
-// One attempt at a resultant modulo n: it ends in the value, or in a split of n. 
+// One attempt at a resultant modulo n: it ends in the value, or in a split of n. The degree d of f, at most that of g, falls.
+//
+//   euclid                  the attempt; it divides while each leading word is a unit, with no copies
+//   step                    one division
+//   by_content, primitive   a leading word that is no unit: the content, and the highest coefficient that is not nilpotent
+//   factors                 f as a unit polynomial times a monic one; monic_part and unit_part are the attempts at the two
 ghost use mathlib.Core.Path.{_≡_};
-ghost use Prim.Native.Nat.{ℕ, _+_, _-_, _*_, _/_, _%_, _^_, _<_, _≤_, _∣_};
+ghost use Prim.Native.Nat.{_+_, _-_, _/_, _<_, _≤_};
 ghost use lib.ListN.{length, getD};
 ghost use Rattle.definitions.specs.Residues.{IsUnit};
 ghost use Rattle.definitions.specs.Resultants.{resultant};
@@ -8,7 +13,6 @@ ghost use Rattle.windows.specs.Window.{piece};
 ghost use Rattle.steps.specs.Answers.{AnswerOf};
 ghost use Rattle.steps.specs.Layouts.{Primitive};
 ghost use Rattle.factor.specs.Factors.{LeadingUnit};
-ghost use Rattle.attempt.specs.Rooms.{room, place};
 ghost use Rattle.attempt.specs.Stages.{Placed, Divisor, Stacked, Part, Kept};
 use steps::Attempt;
 

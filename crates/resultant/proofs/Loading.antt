@@ -11,11 +11,11 @@ use Prim.Native.Nat.{ℕ, zero, suc, pred, _+_, _-_, _*_, _%_, _≤_, _<_}
 use native.Mathlib.Omega.{arith}
 use native.Mathlib.Nat.{mod-lt, mod-mod, mul-le-mul}
 use lib.ListN.{length, getD}
-use Rattle.definitions.specs.Polynomials.{coef, deg}
+use Rattle.definitions.specs.Polynomials.{coef}
 use Rattle.definitions.specs.Resultants.{resultant}
 use Rattle.theory.specs.ReachedSteps.{coef-beyond}
 use Rattle.theory.specs.ResultantLaws.{signed, resultant-cong, resultant-swap}
-use Rattle.windows.specs.Window.{piece, Loaded, Below}
+use Rattle.windows.specs.Window.{piece, Loaded}
 use Rattle.windows.proofs.Leaf.{lt-or-le, piece-at, piece-length}
 use Rattle.steps.specs.Answers.{AnswerOf}
 use Rattle.steps.specs.declared.Attempt.{Attempt}
@@ -36,7 +36,11 @@ served-same h s = record { least-f = s .least-f; most-f = s .most-f; least-g = s
 
 pub ordered-asked : (n : ℕ) (f g w : List ℕ) → 2 ≤ n → Served f g w → length f ≤ length g
     → ((2 ≤ n) × ((1 ≤ length f) × (length f ≤ length g))) × (length f + length g + room (length f - 1) (length g - 1) ≤ length w)
-ordered-asked n f g w two s l = ((two, (s .least-f, l)), working-enough (length f) (length g) (length w) (s .least-f) (s .most-f) (s .least-g) (s .most-g) (s .working))
+ordered-asked n f g w two s l = (
+  (two, (s .least-f, l)),
+  working-enough (length f) (length g) (length w) (s .least-f) (s .most-f)
+      (s .least-g) (s .most-g) (s .working),
+)
 
 pub swapped-asked : (n : ℕ) (f g w : List ℕ) → 2 ≤ n → Served f g w → length g < length f
     → ((2 ≤ n) × ((1 ≤ length g) × (length g ≤ length f))) × (length g + length f + room (length g - 1) (length f - 1) ≤ length w)
@@ -45,7 +49,6 @@ swapped-asked n f g w two s l =
 
 module _ (n : ℕ) (f g w w₁ w₂ : List ℕ) (two : 2 ≤ n) (one : 1 ≤ length f) (near : length f ≤ length g)
     (fits : length f + length g + room (length f - 1) (length g - 1) ≤ length w) (lf : Loaded n 0 f w w₁) (lg : Loaded n (length f) g w₁ w₂) where
-
   first : (k : ℕ) → k < length f → getD w₂ (0 + k) 0 ≡ coef f k % n
   first k l = lg .low (0 + k) (omega arith) ∙ lf .mid k l
 
@@ -57,17 +60,17 @@ module _ (n : ℕ) (f g w w₁ w₂ : List ℕ) (two : 2 ≤ n) (one : 1 ≤ len
 
   pub placed-asked : Placed n 0 (length f - 1) (length f) (length g - 1) (length f + length g) w₂
   placed-asked = record {
-      two = two;
-      near = omega arith;
-      first = omega arith;
-      second = omega arith;
-      fits = omega (arith, lf .same, lg .same);
-      pair = record {
-        first = record { at = λ k l. subst (λ (x : ℕ). x < n) (sym (first k (omega arith))) (mod-lt (coef f k) (omega arith)) };
-        second = record { at = λ k l. subst (λ (x : ℕ). x < n) (sym (lg .mid k (omega arith))) (mod-lt (coef g k) (omega arith)) };
-        apart = record { ok = λ i j p q h. omega arith }
-      }
-    }
+    two = two;
+    near = omega arith;
+    first = omega arith;
+    second = omega arith;
+    fits = omega (arith, lf .same, lg .same);
+    pair = record {
+      first = record { at = λ k l. subst (λ (x : ℕ). x < n) (sym (first k (omega arith))) (mod-lt (coef f k) (omega arith)) };
+      second = record { at = λ k l. subst (λ (x : ℕ). x < n) (sym (lg .mid k (omega arith))) (mod-lt (coef g k) (omega arith)) };
+      apart = record { ok = λ i j p q h. omega arith };
+    };
+  }
 
   -- f and g as they stand in the buffer
   F : List ℕ
@@ -99,9 +102,11 @@ module _ (n : ℕ) (f g w w₁ w₂ : List ℕ) (two : 2 ≤ n) (one : 1 ≤ len
   same-resultant : (m : ℕ) → n ≡ m → resultant m F G ≡ resultant m f g
   same-resultant zero h = absurd (omega arith)
   same-resultant (suc m) h =
-      resultant-cong m F f G g (ap pred length-F) (ap pred length-G) (λ k. subst (λ (x : ℕ). coef F k % x ≡ coef f k % x) h (same-F k)) (λ k. subst (λ (x : ℕ). coef G k % x ≡ coef g k % x) h (same-G k))
+      resultant-cong m F f G g (ap pred length-F) (ap pred length-G) (λ k. subst (λ (x : ℕ). coef F k % x ≡ coef f k % x) h (same-F k))
+      (λ k. subst (λ (x : ℕ). coef G k % x ≡ coef g k % x) h (same-G k))
 
-  pub loaded-answer : (r : Attempt) → AnswerOf n (resultant n (piece w₂ 0 (length f - 1 + 1)) (piece w₂ (length f) (length g - 1 + 1))) r → AnswerOf n (resultant n f g) r
+  pub loaded-answer : (r : Attempt) → AnswerOf n (resultant n (piece w₂ 0 (length f - 1 + 1)) (piece w₂ (length f) (length g - 1 + 1))) r
+      → AnswerOf n (resultant n f g) r
   unfolding F G
   loaded-answer r = subst (λ (x : ℕ). AnswerOf n x r) (same-resultant n refl)
 
@@ -111,4 +116,5 @@ swapped-sign zero f g w two s = absurd (omega arith)
 swapped-sign (suc m) f g w two s =
     let lf : length f ≡ length f - 1 + 1 = omega (arith, s .least-f) in
     let lg : length g ≡ length g - 1 + 1 = omega (arith, s .least-g) in
-    ap (λ (x : ℕ). signed (suc m) x (resultant (suc m) g f)) (sym (ap₂ (λ (x y : ℕ). x * y) (deg-of f (length f - 1) lf) (deg-of g (length g - 1) lg))) ∙ sym (resultant-swap m f g)
+    ap (λ (x : ℕ). signed (suc m) x (resultant (suc m) g f))
+    (sym (ap₂ (λ (x y : ℕ). x * y) (deg-of f (length f - 1) lf) (deg-of g (length g - 1) lg))) ∙ sym (resultant-swap m f g)

@@ -4,7 +4,7 @@
 //   once     one attempt, in either order of f and g
 //   ordered  one attempt where f has no more words than g
 ghost use mathlib.Core.Path.{_≡_};
-ghost use Prim.Native.Nat.{ℕ, _+_, _-_, _*_, _<_, _≤_};
+ghost use Prim.Native.Nat.{_+_, _-_, _<_, _≤_};
 ghost use lib.ListN.{length};
 ghost use Rattle.definitions.specs.Resultants.{resultant};
 ghost use Rattle.steps.specs.Answers.{AnswerOf};

@@ -3,7 +3,7 @@
 --   split-own          a split of m is one of the product of its factors
 --   no-unit, no-power  a factor of a split of a divisor of n is neither a unit nor nilpotent modulo n
 use mathlib.Core.Path.{_≡_, refl, sym, subst}
-use Prim.Native.Nat.{ℕ, _*_, _%_, _^_, _<_, _∣_}
+use Prim.Native.Nat.{ℕ, _*_, _∣_}
 use native.Mathlib.Omega.{arith}
 use native.Mathlib.Nat.{dvd-refl, dvd-trans, dvd-mul-right, dvd-mul-left, dvd-of-mod-eq-zero}
 use Rattle.definitions.specs.Residues.{Inverse, IsNilpotent, Splitting}
@@ -24,7 +24,7 @@ module _ (n p q : ℕ) (s : SplitOf (p * q) p q) (h : p * q ∣ n) where
   pub no-power : IsNilpotent n p → ⊥
   no-power z =
       let e : q ≡ 1 = coprime-power (omega (arith, s .above₂)) (coprime-sym (s .coprime)) (z .exponent) .only q (dvd-refl q)
-          (dvd-trans q (dvd-mul-left q p) (dvd-trans (p * q) h (dvd-of-mod-eq-zero n (z .power)))) in
+      (dvd-trans q (dvd-mul-left q p) (dvd-trans (p * q) h (dvd-of-mod-eq-zero n (z .power)))) in
       omega (arith, s .above₂)
 
 pub split-of : {n a p q : ℕ} → Splitting n a p q → SplitOf n p q

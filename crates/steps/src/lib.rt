@@ -6,7 +6,7 @@
 //   lift_split                     a split of the modulus from one of a divisor of it
 //   times, times_sign, lifted        an answer turned into another
 ghost use mathlib.Core.Path.{_≡_};
-ghost use Prim.Native.Nat.{ℕ, _+_, _-_, _*_, _/_, _%_, _<_, _≤_, _∣_};
+ghost use Prim.Native.Nat.{_+_, _-_, _*_, _/_, _%_, _<_, _≤_, _∣_};
 ghost use lib.ListN.{length};
 ghost use Rattle.theory.specs.ResultantLaws.{signed};
 ghost use Rattle.factor.specs.Factors.{SplitOf};

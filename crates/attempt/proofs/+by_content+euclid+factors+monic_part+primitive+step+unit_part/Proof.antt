@@ -1,6 +1,7 @@
 use Rattle.definitions.specs.Resultants.{resultant}
 use Rattle.windows.specs.Window.{piece}
 use borrow.Rule.Slice.PartMut.{midOf, putMid}
+use Rattle.steps.proofs.SideBySide.{onward}
 use Rattle.steps.proofs.Contents.{content-positive, content-whole, content-times}
 use Rattle.steps.proofs.Turned.{followed}
 use Rattle.steps.specs.Answers.{AnswerOf}
@@ -14,8 +15,8 @@ use lib.ListN.{length}
 use mathlib.Core.List.{List}
 use borrow.Author.Needs.{needs}
 use native.Mathlib.Omega.{arith}
-use mathlib.Core.Path.{_≡_, refl, sym, ap, subst, _∙_}
-use Prim.Native.Nat.{ℕ, _+_, _-_, _*_, _/_, _%_, _≤_, _<_}
+use mathlib.Core.Path.{refl, subst}
+use Prim.Native.Nat.{ℕ, _+_, _-_, _*_, _/_, _<_}
 use borrow.Fn.Kinds.{In}
 use borrow.Fn.PlainCycle.{Measures, is, falls, and}
 use Rattle.attempt.proofs.by_content.Reads as by-content
@@ -219,9 +220,14 @@ by-content-lifted-requires : (t : ℕ) → by-content-lts.Need-lifted-requires (
   times-reads.Asked,
   times-reads.Learnt,
 ) (by-content-at t) by-content.Post
-by-content-lifted-requires t c κs = let s = c .before .before .before .before .before .before .before .before .before .before .args in
-    (c .before .before .before .before .before .before .before .before .before .before .pre .1 .two, record { m = s .n / c .before .before .before .before .before .before .before .clear-content .result; divides = cleared-divides (s .n) (c .before .before .before .before .before .before .before .clear-content .result) (s .d) (s .e) (s .w .now) (c .before .before .before .before .before .before .before .clear-content .last .0) (c .before .before .before .before .before .before .before .clear-content .ensures);
-      answer = record { x = resultant (s .n / c .before .before .before .before .before .before .before .clear-content .result) (piece (c .before .before .before .before .before .before .before .clear-content .last .0) (s .e + 1) (s .d + 1)) (piece (c .before .before .before .before .before .before .before .clear-content .last .0) 0 (s .e + 1)); is = c .before .before .primitive .ensures } })
+by-content-lifted-requires t c κs = let s = c .before .before .before .before .before .before .before .before .before .before .args in (
+  c .before .before .before .before .before .before .before .before .before .before .pre .1 .two,
+  record {
+    m = s .n / c .before .before .before .before .before .before .before .clear-content .result;
+    divides = cleared-divides (s .n) (c .before .before .before .before .before .before .before .clear-content .result) (s .d) (s .e) (s .w .now) (c .before .before .before .before .before .before .before .clear-content .last .0) (c .before .before .before .before .before .before .before .clear-content .ensures);
+    answer = record { x = resultant (s .n / c .before .before .before .before .before .before .before .clear-content .result) (piece (c .before .before .before .before .before .before .before .clear-content .last .0) (s .e + 1) (s .d + 1)) (piece (c .before .before .before .before .before .before .before .clear-content .last .0) 0 (s .e + 1)); is = c .before .before .primitive .ensures };
+  },
+)
 
 -- src/lib.rt:54:21
 by-content-power-requires : (t : ℕ) → by-content-lts.Need-power-requires (
@@ -750,9 +756,13 @@ factors-monic-part-requires : (t : ℕ) → factors-lts.Need-monic-part-requires
 ) (factors-at t) factors.Post
 factors-monic-part-requires t c κs = let s = c .before .before .before .before .before .before .args in
     let p = c .before .before .before .before .before .before .pre .1 .0 in
-    let u = c .before .before .before .unit-times-monic in
-    (omega (arith, c .before .before .before .before .before .before .pre .0, p .1), (monic-part (s .n) (s .d) (s .e) (s .t) (s .w .now) (u .last .0) (p .0) (p .1) (u .kept .0) (u .ensures),
-    monic-lead (s .n) (s .d) (s .e) (s .t) (s .w .now) (u .last .0) (p .0) (p .1) (u .kept .0) (u .ensures)))
+    let u = c .before .before .before .unit-times-monic in (
+      omega (arith, c .before .before .before .before .before .before .pre .0, p .1),
+      (
+        monic-part (s .n) (s .d) (s .e) (s .t) (s .w .now) (u .last .0) (p .0) (p .1) (u .kept .0) (u .ensures),
+        monic-lead (s .n) (s .d) (s .e) (s .t) (s .w .now) (u .last .0) (p .0) (p .1) (u .kept .0) (u .ensures),
+      ),
+    )
 
 -- src/lib.rt:92:24
 factors-enum-known-y : (t : ℕ) → factors-lts.Need-enum-known-y (
@@ -794,9 +804,13 @@ factors-unit-part-requires : (t : ℕ) → factors-lts.Need-unit-part-requires (
 factors-unit-part-requires t c κs = let s = c .before .before .before .before .before .before .before .before .before .before .before .before .before .args in
     let p = c .before .before .before .before .before .before .before .before .before .before .before .before .before .pre .1 .0 in
     let u = c .before .before .before .before .before .before .before .before .before .before .unit-times-monic in
-    let h = c .before .before .before .before .before .before .monic-part in
-    (omega (arith, c .before .before .before .before .before .before .before .before .before .before .before .before .before .pre .0, p .1), (unit-part (s .n) (s .d) (s .e) (s .t) (s .w .now) (u .last .0) (p .0) (p .1) (u .kept .0) (u .ensures) (h .last .0) (h .ensures .1),
-    (omega (arith, p .1), unit-constant (s .n) (s .d) (s .e) (s .t) (s .w .now) (u .last .0) (p .0) (p .1) (u .kept .0) (u .ensures) (h .last .0) (h .ensures .1))))
+    let h = c .before .before .before .before .before .before .monic-part in (
+      omega (arith, c .before .before .before .before .before .before .before .before .before .before .before .before .before .pre .0, p .1),
+      (
+        unit-part (s .n) (s .d) (s .e) (s .t) (s .w .now) (u .last .0) (p .0) (p .1) (u .kept .0) (u .ensures) (h .last .0) (h .ensures .1),
+        (omega (arith, p .1), unit-constant (s .n) (s .d) (s .e) (s .t) (s .w .now) (u .last .0) (p .0) (p .1) (u .kept .0) (u .ensures) (h .last .0) (h .ensures .1)),
+      ),
+    )
 
 -- src/lib.rt:92:30
 factors-times-requires : (t : ℕ) → factors-lts.Need-times-requires (
@@ -995,9 +1009,10 @@ monic-part-returns-2 : (t : ℕ) → monic-part-lts.Need-returns-2 (
   step.Post,
 ) (monic-part-at t) monic-part.Post
 monic-part-returns-2 t c = let s = c .before .before .before .before .before .before .before .before .before .before .args in
-    let w1 = c .before .before .before .before .before .before .copy-pair .last .0 in
-    (monic-answer (s .n) (s .a) (s .t) (s .e) (s .x) (s .w .now) w1 (c .before .before .before .before .before .before .before .before .before .before .pre .1 .0) (c .before .before .before .before .before .before .copy-pair .ensures) (c .before .before .step .result) (c .before .before .step .ensures),
-    monic-kept (s .n) (s .a) (s .t) (s .e) (s .x) (s .w .now) w1 (c .before .before .before .before .before .before .before .before .before .before .pre .1 .0) (c .before .before .before .before .before .before .copy-pair .ensures) (c .before .before .step .last .0) (c .before .before .step .kept .0))
+    let w1 = c .before .before .before .before .before .before .copy-pair .last .0 in (
+      monic-answer (s .n) (s .a) (s .t) (s .e) (s .x) (s .w .now) w1 (c .before .before .before .before .before .before .before .before .before .before .pre .1 .0) (c .before .before .before .before .before .before .copy-pair .ensures) (c .before .before .step .result) (c .before .before .step .ensures),
+      monic-kept (s .n) (s .a) (s .t) (s .e) (s .x) (s .w .now) w1 (c .before .before .before .before .before .before .before .before .before .before .pre .1 .0) (c .before .before .before .before .before .before .copy-pair .ensures) (c .before .before .step .last .0) (c .before .before .step .kept .0),
+    )
 
 -- src/lib.rt:63:13
 primitive-add-a : (t : ℕ) → primitive-lts.Need-add-a (
@@ -1576,7 +1591,7 @@ unit-part-times-sign-requires : (t : ℕ) → unit-part-lts.Need-times-sign-requ
 ) (unit-part-at t) unit-part.Post
 unit-part-times-sign-requires t c κs = let s = c .before .before .before .before .before .before .before .before .before .before .before .args in
     let w1 = c .before .before .before .before .before .before .copy-pair-reversed .last .0 in
-    let u : List ℕ = midOf (s .x) (length w1 - s .x) w1 in
+    let u : List ℕ = onward w1 (s .x) in
     record { x = resultant (s .n) (piece u 0 (s .k + 1)) (piece u (s .k + 1) (s .e + 1)); is = c .before .before .step .ensures }
 
 -- src/lib.rt:113:1

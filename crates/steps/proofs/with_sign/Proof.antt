@@ -1,6 +1,6 @@
 use Rattle.steps.proofs.Signs.{sign-first, sign-second, sign-both}
 use native.Mathlib.Omega.{arith}
-use mathlib.Core.Path.{_≡_, _∙_}
+use mathlib.Core.Path.{_∙_}
 use borrow.Author.Needs.{needs}
 use Rattle.steps.proofs.with_sign.Statement.{statement}
 use Rattle.steps.proofs.with_sign.Tie as tie
