@@ -1,0 +1,317 @@
+#!/usr/bin/env python3
+"""polynomial_figures.py > crates/polynomial_trial/stdout: the expected output of the polynomial trial, with whole numbers of any size and
+by other methods than the engine's: products by convolution, quotients by long division from the top, unit and monic part by lifting
+them from the radical of n, inverses by the geometric series."""
+from math import gcd
+
+P = 4294967291
+K = lambda n: n.bit_length() - 1
+
+
+def primes(n):
+    out, p = [], 2
+    while p * p <= n:
+        if n % p == 0:
+            out.append(p)
+            while n % p == 0:
+                n //= p
+        p += 1
+    return out + ([n] if n > 1 else [])
+
+
+def radical(n):
+    r = 1
+    for p in primes(n):
+        r *= p
+    return r
+
+
+RADICAL = {}
+
+
+def nilpotent(n, a):
+    if n not in RADICAL:
+        RADICAL[n] = radical(n)
+    return a % RADICAL[n] == 0
+
+
+def unit(n, a):
+    return gcd(n, a) == 1
+
+
+def mul(n, f, g):
+    out = [0] * (len(f) + len(g) - 1)
+    for i, a in enumerate(f):
+        for j, b in enumerate(g):
+            out[i + j] += a * b
+    return [x % n for x in out]
+
+
+def divide(n, f, g):
+    """Quotient and remainder of f by g, whose top word is a unit, by long division."""
+    r, e, i = list(f), len(g) - 1, pow(g[-1], -1, n)
+    q = [0] * max(1, len(f) - e)
+    for s in range(len(f) - e - 1, -1, -1):
+        c = r[e + s] * i % n
+        q[s] = c
+        for j, b in enumerate(g):
+            r[s + j] = (r[s + j] - c * b) % n
+    return q, (r + [0] * e)[:e]
+
+
+def lead(n, f):
+    t = len(f) - 1
+    while t > 0 and nilpotent(n, f[t]):
+        t -= 1
+    return t
+
+
+def inverse(n, f):
+    """1 / (c (1 + v)) = c^-1 (1 - v + v^2 - ..), where v has nilpotent words."""
+    c = pow(f[0], -1, n)
+    v = [0] + [-x * c % n for x in f[1:]]
+    out, term = [1], [1]
+    for _ in range(K(n) + 1):
+        term = mul(n, term, v)
+        while len(term) > 1 and term[-1] == 0:
+            term.pop()
+        if term == [0]:
+            break
+        out += [0] * (len(term) - len(out))
+        for j, x in enumerate(term):
+            out[j] = (out[j] + x) % n
+    return [x * c % n for x in out]
+
+
+def factors(n, f, t):
+    """f = u h by lifting: modulo the radical u is f_t and h is f / f_t; a step takes what is missing to h, and divides again."""
+    u, h = [f[t]], [x * pow(f[t], -1, n) % n for x in f[:t + 1]]
+    for _ in range(40):
+        full = mul(n, u, h)
+        full += [0] * (len(f) - len(full))
+        e = [(a - b) % n for a, b in zip(f + [0] * (len(full) - len(f)), full)]
+        while len(e) > 1 and e[-1] == 0:
+            e.pop()
+        if e == [0]:
+            return u, h
+        # h + dh with dh = e / u modulo h, and u + the exact quotient of f by the new h
+        iu = inverse(n, u)
+        _, dh = divide(n, mul(n, e, iu), h)
+        h = [(a + b) % n for a, b in zip(h, dh + [0] * (len(h) - len(dh)))]
+        u, _ = divide(n, f, h)
+        while len(u) > 1 and u[-1] == 0:
+            u.pop()
+    raise ValueError('no factors')
+
+
+# ---- the services
+
+def refusal(n, polys, product=False):
+    if n < 2:
+        return 1
+    if any(not 1 <= len(f) <= 49 for f in polys):
+        return 2
+    if product and len(polys[0]) + len(polys[1]) - 2 > 48:
+        return 2
+    if any(x >= n for f in polys for x in f):
+        return 3
+    return 0
+
+
+def put(w, x):
+    w[:len(x)] = x
+
+
+def product(n, f, g, a):
+    s = refusal(n, [f, g], True)
+    if s:
+        return 0, s
+    p = mul(n, f, g)
+    if len(a) < len(p):
+        return 0, 6
+    put(a, p)
+    return 0, 0
+
+
+def division(n, f, g, a, b):
+    s = refusal(n, [f, g])
+    if s:
+        return 0, s
+    if not unit(n, g[-1]):
+        return 0, 4
+    q, r = divide(n, f, g)
+    if len(a) < len(q) or len(b) < len(r):
+        return 0, 6
+    put(a, q)
+    put(b, r)
+    return 0, 0
+
+
+def unit_times_monic(n, f, a, b, work):
+    s = refusal(n, [f])
+    if s:
+        return 0, s
+    t = lead(n, f)
+    if not unit(n, f[t]):
+        return 0, 5
+    if len(a) < len(f) or len(b) < len(f):
+        return 0, 6
+    if len(work) < 8192:
+        return 0, 7
+    u, h = factors(n, f, t)
+    assert mul(n, u, h)[:len(f)] == (f + [0] * len(f))[:len(mul(n, u, h)[:len(f)])]
+    assert h[t] == 1 and unit(n, u[0]) and all(nilpotent(n, x) for x in u[1:])
+    put(a, u + [0] * (len(f) - len(u)))
+    put(b, h + [0] * (len(f) - len(h)))
+    work[:] = [0] * len(work)
+    return t, 0
+
+
+def inverse_service(n, f, a, work):
+    s = refusal(n, [f])
+    if s:
+        return 0, s
+    if not unit(n, f[0]) or any(not nilpotent(n, x) for x in f[1:]):
+        return 0, 5
+    m = K(n) * (len(f) - 1) + 1
+    if len(a) < m:
+        return 0, 6
+    if len(work) < 8192:
+        return 0, 7
+    w = inverse(n, f)
+    put(a, w + [0] * (m - len(w)))
+    work[:] = [0] * len(work)
+    return 0, 0
+
+
+def degree(f):
+    return max([k for k, x in enumerate(f) if x] + [0])
+
+
+def true_degree(n, f):
+    s = refusal(n, [f])
+    return (0, s) if s else (degree(f), 0)
+
+
+def leading(n, f):
+    return [] if refusal(n, [f]) else f[:degree(f) + 1]
+
+
+def apply(service, n, f, g, a, b, work):
+    if service == 0:
+        return product(n, f, g, a)
+    if service == 1:
+        return division(n, f, g, a, b)
+    if service == 2:
+        return unit_times_monic(n, f, a, b, work)
+    if service == 3:
+        return inverse_service(n, f, a, work)
+    return true_degree(n, f)
+
+
+# ---- the trial
+
+def mix(h, x):
+    return (x + 1000003 * h) % P
+
+
+def mix_words(h, s):
+    for x in s:
+        h = (x + 1000003 * h) % P
+    return h
+
+
+def draw(x):
+    return (12345 + 1103515245 * x) % P
+
+
+def word(n, kind, x):
+    return x % n if kind == 0 else 6 * x % n if kind == 1 else (1 + 6 * x) % n
+
+
+def kind_at(pattern, k, t, x):
+    if pattern == 0:
+        return x % 3
+    if pattern == 1:
+        return 0 if k < t else 2 if k == t else 1
+    return 2 if k == 0 else 1
+
+
+def fill(n, l, t, pattern, x):
+    f = []
+    for k in range(l):
+        z = draw(x)
+        x = draw(z)
+        f.append(word(n, kind_at(pattern, k, t, z // 1024), x))
+    return f, x
+
+
+def length_of(x):
+    return 50 if x % 17 == 0 else 49 if x % 19 == 0 else x // 32 % 26 + 1
+
+
+def needed(service, n, l, m):
+    if service == 0:
+        return l + m - 1
+    if service == 1:
+        return max(l - m, 0) + 1
+    return l if service == 2 else K(n) * (l - 1) + 1
+
+
+def trial(service, n, x, h):
+    x1 = draw(x)
+    x2 = draw(x1)
+    l, m = length_of(x1), length_of(x2)
+    f, x3 = fill(n, l, x2 % l, x2 // 7 % 3, x2)
+    g, x4 = fill(n, m, m - 1, 1, x3)
+    if x4 % 12 == 0:
+        f[0] = n
+    a, b, work = [7] * 2048, [8] * 64, [9] * 8192
+    cut = needed(service, n, l, m) + x4 // 64 % 4 - 1
+    end = 8191 if x4 % 11 == 0 else 8192
+    first, room = a[:cut], work[:end]
+    value, status = apply(service, n, f, g, first, b, room)
+    a[:cut], work[:end] = first, room
+    h = mix_words(mix(mix(h, value), status), leading(n, f))
+    return x4, mix_words(mix_words(mix_words(h, a), b), work), status
+
+
+SEEN = {}
+
+
+def line(n):
+    out = [n]
+    for service in range(5):
+        x, h = mix(service + 1, n), 0
+        for _ in range(40):
+            x, h, s = trial(service, n, x, h)
+            SEEN[(service, s)] = SEEN.get((service, s), 0) + 1
+        out.append(h)
+    print(*out)
+
+
+def example(service, n, f, g, k, l, end):
+    a, b, work = [0] * k, [0] * l, [0] * end
+    print(*(list(apply(service, n, f, g, a, b, work)) + a + b))
+
+
+def main():
+    example(1, 12, [1, 0, 1], [1, 5], 2, 1, 0)
+    example(2, 4, [3, 1, 2], [1], 3, 3, 8192)
+    example(3, 8, [1, 2], [1], 4, 0, 8192)
+    example(0, 12, [1, 4], [1, 3], 3, 0, 0)
+    example(1, 12, [5, 7], [1, 0, 1], 1, 2, 0)
+    example(1, 12, [5, 7], [1, 2], 1, 2, 0)
+    example(2, 12, [1, 2], [1], 2, 2, 8192)
+    example(2, 4, [3, 1, 2], [1], 3, 3, 8191)
+    example(3, 8, [1, 2], [1], 3, 0, 8192)
+    example(4, 5, [0, 3, 0], [1], 0, 0, 0)
+    example(4, 5, [0, 0, 0], [1], 0, 0, 0)
+    for l in (49, 50):
+        example(0, 4294967295, [4294967294] * l, [2], 64, 0, 0)
+    for n in (4, 8, 12, 36, 2 ** 31, 3 ** 20, 2 ** 32 - 1):
+        line(n)
+
+
+if __name__ == '__main__':
+    main()
