@@ -15,15 +15,9 @@ use native.Mathlib.Nat.{mod-lt, mod-mod, mul-div-cancel', pos-of-dvd-of-pos, pow
 use lib.ListN.{length, getD}
 use Rattle.definitions.specs.Polynomials.{coef, deg}
 use Rattle.definitions.specs.Resultants.{resultant}
-<<<<<<< HEAD
-use Rattle.numbers.specs.Congruence.{Cong, c-refl, c-mul, c-mod}
-use Rattle.theory.specs.ResultantLaws.{resultant-content, resultant-cong, resultant-scale-first}
-use Rattle.theory.specs.ReachedSteps.{Times, coef-beyond}
-=======
 use Rattle.numbers.specs.Congruence.{c-refl, c-mul, c-mod}
 use Rattle.theory.specs.ReachedSteps.{coef-beyond}
 use Rattle.theory.specs.ResultantLaws.{resultant-cong, resultant-content, resultant-scale-first}
->>>>>>> resultant
 use borrow.Rule.Slice.PartMut.{midOf}
 use Rattle.windows.specs.Window.{piece, Moved, quotient-by, reduced-by, Below, Content}
 use Rattle.windows.proofs.Leaf.{lt-or-le, piece-at, piece-length}
