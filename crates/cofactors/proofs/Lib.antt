@@ -1,2 +1,3 @@
 pub mod Quotients
 pub mod Preparing
+pub mod Finishing

@@ -3,7 +3,7 @@
 --
 --   Certified n len f g u v D    D is the reduced resultant of f and g, u f + v g = D, the cofactors have at most len words
 --   Answers n len f g u v r      r is such a D; or two coprime divisors of n
---   OverFirst, RestAt, Prepared, ExactQuotient, FactoredAt     what the parts of the core promise of the words
+--   OverFirst, RestAt, Prepared, ExactQuotient, Finished, FactoredAt     what the parts of the core promise of the words
 use mathlib.Core.Path.{_≡_}
 use mathlib.Core.List.{List, []}
 use Prim.Native.Nat.{ℕ, suc, _+_, _-_, _*_, _/_, _%_, _<_, _≤_, _∣_}
@@ -63,6 +63,15 @@ pub record ExactQuotient (n e q t c : ℕ) (w w' : List ℕ) : Type 0 where
   pub start : (k : ℕ) → coef s k % n ≡ constant c k % n
   pub product : Divided n s (piece w 0 (e + 1)) (piece w (q + (t + 1)) t) r
   pub divided : Divided n r (piece w q (t + 1)) (piece w' (q + 2 * (t + 1) + t) (e + 1)) (piece w' (q + 2 * (t + 1)) t)
+
+-- x and y are cofactors of c for f = U H and G, where the t words at q + (t + 1) complete to c
+pub record Finished (n e q t k c : ℕ) (w x y : List ℕ) : Type 0 where
+  pub combination : (f : List ℕ) → Multiplied n f (piece w (e + 1) (k + 1)) (piece w q (t + 1)) → Completes n (piece w q (t + 1)) (piece w 0 (e + 1)) (piece w (q + (t + 1)) t) c
+    → Combination n f (piece w 0 (e + 1)) x y c
+  pub below-x : (i : ℕ) → coef x i < n
+  pub below-y : (i : ℕ) → coef y i < n
+  pub short-x : (i : ℕ) → (K n - 1) * k + (e + 1) ≤ i → coef x i ≡ 0
+  pub short-y : (i : ℕ) → t ≤ i → coef y i ≡ 0
 
 -- the place of H
 abbrev pub monic-place : ℕ → ℕ → ℕ
