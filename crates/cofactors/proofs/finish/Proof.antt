@@ -1,3 +1,10 @@
+use Rattle.cofactors.proofs.Finishing.{finish-unit, finish-room, finished}
+use Rattle.clearing.proofs.UnitSteps.{part-piece}
+use Rattle.windows.specs.Window.{piece, Loaded}
+use native.Mathlib.Omega.{arith}
+use mathlib.Core.Path.{_≡_, refl, sym, ap, subst, _∙_}
+use mathlib.Core.List.{List}
+use Prim.Native.Nat.{ℕ, _+_, _*_, _-_, _%_, _≤_, _<_}
 use borrow.Author.Needs.{needs}
 use Rattle.cofactors.proofs.finish.Statement.{statement}
 use Rattle.cofactors.proofs.finish.Tie as tie
@@ -107,7 +114,12 @@ add-over-first-4 c = search needs
 
 -- src/lib.rt:87:5
 over-first-requires : tie.Need-over-first-requires
-over-first-requires c κs = ?
+over-first-requires c κs = let s = c .before .before .before .before .before .before .before .before .before .before .before .before .before .before .before .before .before .before .before .before .before .before .before in
+    let p = s .pre .0 in
+    let h = s .pre .1 .1 in
+    let x = s .pre .1 .0 in
+    ((p .0, (omega arith, (omega arith, (finish-room _ _ _ _ _ _ _ _ _ (p .0) (p .1 .0) (p .1 .1 .0) (p .1 .1 .1) (h .1 .0) (h .1 .1 .1) (c .before .before .before .before .before .before .before .before .before .before .before .before .before .before .before .before .before .before .exact-quotient .ensures) (c .before .before .before .before .before .before .before .before .before .before .before .before .before .before .copy .ensures), x .0)))),
+    finish-unit _ _ _ _ _ _ _ _ _ (p .0) (p .1 .0) (p .1 .1 .0) (p .1 .1 .1) (h .1 .0) (h .1 .1 .1) (c .before .before .before .before .before .before .before .before .before .before .before .before .before .before .before .before .before .before .exact-quotient .ensures) (c .before .before .before .before .before .before .before .before .before .before .before .before .before .before .copy .ensures))
 
 -- src/lib.rt:74:1
 same-length : tie.Need-same-length
@@ -123,7 +135,15 @@ same-length-3 c = search needs
 
 -- src/lib.rt:74:1
 returns : tie.Need-returns
-returns c = ?
+returns c = let s = c .before .before .before .before .before .before .before .before .before .before .before .before .before .before .before .before .before .before .before .before .before .before .before .before .before .before .before .before in
+    let p = s .pre .0 in
+    let h = s .pre .1 .1 in
+    let a = s .args .q + (s .args .t + 1) in
+    let z : a + s .args .t - a ≡ s .args .t = omega arith in
+    let ld = subst (λ (f : List ℕ). Loaded (s .args .n) 0 f (c .before .before .before .before .before .before .before .before .before .before .before .before .before .before .before .wipe .last .0) (c .before .before .before .before .before .before .before .before .before .load .last .0)) (part-piece (c .before .before .before .before .before .before .before .before .before .before .before .before .before .before .before .before .before .before .before .copy .last .0) a (s .args .t) _ z) (c .before .before .before .before .before .before .before .before .before .load .ensures) in
+    (finished _ _ _ _ _ _ _ _ _ (p .0) (p .1 .0) (p .1 .1 .0) (p .1 .1 .1) (h .1 .0) (h .1 .1 .1) (c .before .before .before .before .before .before .before .before .before .before .before .before .before .before .before .before .before .before .before .before .before .before .before .exact-quotient .ensures) (c .before .before .before .before .before .before .before .before .before .before .before .before .before .before .before .before .before .before .before .copy .ensures) (s .args .y .now) _ _
+      (subst (λ (x : List ℕ). Loaded (s .args .n) 0 (piece (c .before .before .before .before .before .before .before .before .before .before .before .before .before .before .before .before .before .before .before .copy .last .0) a (s .args .t)) x (c .before .before .before .before .before .before .before .before .before .load .last .0)) (c .before .before .before .before .before .before .before .before .before .before .before .before .before .before .before .wipe .ensures) ld) (c .before .before .before .before .over-first .ensures .0),
+    c .before .before .before .before .over-first .ensures .1 ∙ c .before .before .before .before .before .before .before .before .before .before .before .before .before .before .before .before .before .before .before .copy .ensures .same ∙ c .before .before .before .before .before .before .before .before .before .before .before .before .before .before .before .before .before .before .before .before .before .before .before .exact-quotient .ensures .around .same)
 
 pub finish-spec : {M : Type 1} → statement M
 finish-spec =
