@@ -73,6 +73,8 @@ module _ (n e q t k c : ℕ) (w w₁ w₂ : List ℕ) (two : 2 ≤ n) (one : 1 �
 
     pub finished : Finished n e q t k c w x y
     finished = record {
+          j = of .j;
+          inverse = subst (λ (f : List ℕ). NegatedInverse n f (of .j)) same-u (of .inverse);
           combination = λ f mf cm.
             combination-same n (omega arith) f f (piece w 0 (e + 1)) (piece w 0 (e + 1)) x x (piece w (q + (t + 1)) t) y c (λ i. refl) (λ i. refl) (λ i. refl)
             (λ i. sym (ap (λ (z : ℕ). z % n) (word i) ∙ mod-mod _ n))

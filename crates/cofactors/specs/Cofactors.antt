@@ -66,6 +66,8 @@ pub record ExactQuotient (n e q t c : ℕ) (w w' : List ℕ) : Type 0 where
 
 -- x and y are cofactors of c for f = U H and G, where the t words at q + (t + 1) complete to c
 pub record Finished (n e q t k c : ℕ) (w x y : List ℕ) : Type 0 where
+  pub j : List ℕ
+  pub inverse : NegatedInverse n (piece w (e + 1) (k + 1)) j
   pub combination : (f : List ℕ) → Multiplied n f (piece w (e + 1) (k + 1)) (piece w q (t + 1)) → Completes n (piece w q (t + 1)) (piece w 0 (e + 1)) (piece w (q + (t + 1)) t) c
     → Combination n f (piece w 0 (e + 1)) x y c
   pub below-x : (i : ℕ) → coef x i < n
