@@ -247,7 +247,7 @@ module _ (p : ℕ) where
       turn h q y = by-ring (series (Res-ring p)) (h ∷ q ∷ y ∷ []) (search quote depth 20) (search quote depth 20) refl
 
   -- b completes to c: the quotient z of c - b g by the monic h is exact, f is u h, and x is z over u
-  step-last : (t c : ℕ) (f g h u j b e z r x o s : List ℕ) → Monic (suc p) t h → Completes (suc p) h g b c → ((k : ℕ) → coef s k ≡ constant c k) → Divided (suc p) s g b e
+  step-last : (t c : ℕ) (f g h u j b e z r x o s : List ℕ) → Monic (suc p) t h → Completes (suc p) h g b c → ((k : ℕ) → coef s k % suc p ≡ constant c k % suc p) → Divided (suc p) s g b e
       → Divided (suc p) e h z r → ((k : ℕ) → t ≤ k → coef r k ≡ 0) → Multiplied (suc p) f u h → NegatedInverse (suc p) u j → ((k : ℕ) → coef o k ≡ 0) → Divided (suc p) o z j x
       → Combination (suc p) f g x b c
   step-last t c f g h u j b e z r x o s m l is-c de dz short mf nj none dx = record {
@@ -284,7 +284,7 @@ module _ (p : ℕ) where
       whole : Z * H + words p r + B * G ≡ const (Res-ring p) (toRes p c)
       whole =
           ap (λ (v : ℕ → Res p). v + B * G) (divided e h z r dz) ∙ series (Res-ring p) .add-comm (words p e) (B * G)
-          ∙ divided s g b e de ∙ fun-ext (λ k. ap (toRes p) (is-c k)) ∙ constant-is c
+          ∙ divided s g b e de ∙ same (coef s) (constant c) is-c ∙ constant-is c
 
       ex : Z * H + B * G ≡ const (Res-ring p) (toRes p c)
       ex = exact (Res-ring p) t {r = words p r} (Fin·val-path (m .lead)) (record { out = λ k q. Fin·val-path (m .above k (omega arith) ∙ sym (mod-eq-of-lt (zero-lt-suc p))) })
@@ -373,7 +373,7 @@ leads-second zero l = absurd (omega arith)
 leads-second (suc n) l = step-second n
 
 -- u f + v g = c from the multiplier v alone: u is (c - v g) / h over the unit factor of f = a h
-pub completed : (n : ℕ) → 1 ≤ n → (t c : ℕ) (f g h a j v e z r u o s : List ℕ) → Monic n t h → Completes n h g v c → ((k : ℕ) → coef s k ≡ constant c k) → Divided n s g v e
+pub completed : (n : ℕ) → 1 ≤ n → (t c : ℕ) (f g h a j v e z r u o s : List ℕ) → Monic n t h → Completes n h g v c → ((k : ℕ) → coef s k % n ≡ constant c k % n) → Divided n s g v e
     → Divided n e h z r → ((k : ℕ) → t ≤ k → coef r k ≡ 0) → Multiplied n f a h → NegatedInverse n a j → ((k : ℕ) → coef o k ≡ 0) → Divided n o z j u
     → Combination n f g u v c
 completed zero l = absurd (omega arith)

@@ -4,7 +4,7 @@ use mathlib.Core.List.{List, []}
 use mathlib.Core.Logic.{⊎-elim}
 use Prim.Native.Nat.{ℕ, zero, suc, _+_, _-_, _*_, _/_, _%_, _≤_, _<_, _∣_}
 use native.Mathlib.Omega.{arith}
-use native.Mathlib.Nat.{mod-lt, mod-mod, mul-zero, mul-assoc, mul-pos, mul-one, mul-le-mul-left, mul-div-cancel', pos-of-dvd-of-pos, dvd-trans, zero-add, dvd-mul-left}
+use native.Mathlib.Nat.{mod-lt, mod-mod, mul-zero, mul-assoc, mul-pos, mul-one, mul-le-mul-left, dvd-trans, dvd-mul-left}
 use lib.ListN.{length, getD}
 use Rattle.definitions.specs.Residues.{IsUnit, Inverse}
 use Rattle.definitions.specs.Polynomials.{coef, constant}
@@ -63,17 +63,14 @@ stage-words n ν t pa a pb c c' al be l w e s = subst (λ (x : ℕ). Stage n ν 
 
 -- after the clearing
 module _ (n ν t pa a pb al be l c s l' : ℕ) (w w₁ : List ℕ) (st : Stage n ν t pa a pb a al be l w) (cl : Cleared n ν t pa a pb al be c s l' w w₁) where
-  pub content-positive : 0 < c
-  content-positive = pos-of-dvd-of-pos (cl .divides) (omega (arith, st .above))
-
   whole : c * (ν / c) ≡ ν
-  whole = mul-div-cancel' c (cl .divides)
+  whole = sym (cl .change .whole)
 
   pub quotient-small : ν / c ≤ ν
-  quotient-small = omega (arith, small c (ν / c) content-positive, whole)
+  quotient-small = omega (arith, more c (ν / c) (cl .positive), whole)
     where
-      small : (c x : ℕ) → 0 < c → x ≤ c * x
-      small c x h = omega (arith, mul-le-mul-left x h)
+      more : (c x : ℕ) → 1 ≤ c → x ≤ c * x
+      more c x h = omega (arith, mul-le-mul-left x h)
 
   pub cleared-splitter : (p q : ℕ) → Splitter (ν / c) p q → Splitter ν p q
   cleared-splitter p q x = record {
@@ -96,12 +93,12 @@ module _ (n ν t pa a pb al be l c s l' : ℕ) (w w₁ : List ℕ) (st : Stage n
 
     pub cleared-solved : Solved n ν t pa a pb a al be (c * D) w w'
     cleared-solved = record {
-          reduced = cl .reduced D (sv .reduced);
+          reduced = cl .change .reduced D (sv .reduced);
           below = sv .below;
           completes = λ g m p e x y.
             subst (Completes n (piece w 0 (t + 1)) g (piece w' (t + 1) t)) (mul-assoc m c D)
             (subst (λ (h : List ℕ). Completes n h g (piece w' (t + 1) t) (m * c * D)) same-h
-            (sv .completes g (m * c) (mul-pos p content-positive) (e ∙ ap (λ (z : ℕ). m * z) (sym whole) ∙ sym (mul-assoc m c (ν / c)))
-            (subst (λ (h : List ℕ). Leads n (m * c) h g (piece w₁ al (2 * (t + 1))) (piece w₁ pa (a + 1))) (sym same-h) (cl .first g m p e x))
-            (subst (λ (h : List ℕ). Leads n (m * c) h g (piece w₁ be (2 * (t + 1))) (piece w₁ pb (s + 1))) (sym same-h) (cl .second g m p e y))))
+            (sv .completes g (m * c) (mul-pos p (cl .positive)) (e ∙ ap (λ (z : ℕ). m * z) (sym whole) ∙ sym (mul-assoc m c (ν / c)))
+            (subst (λ (h : List ℕ). Leads n (m * c) h g (piece w₁ al (2 * (t + 1))) (piece w₁ pa (a + 1))) (sym same-h) (cl .change .first g m p e x))
+            (subst (λ (h : List ℕ). Leads n (m * c) h g (piece w₁ be (2 * (t + 1))) (piece w₁ pb (s + 1))) (sym same-h) (cl .change .second g m p e y))))
         }

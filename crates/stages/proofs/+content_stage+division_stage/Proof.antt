@@ -1,5 +1,5 @@
 use Rattle.stages.proofs.Steps.{step-answers}
-use Rattle.stages.proofs.Endings.{unit-kept, unit-solved, leading-inverse, leading-unit, stage-words, content-positive, quotient-small, cleared-splitter, product-most, cleared-solved}
+use Rattle.stages.proofs.Endings.{unit-kept, unit-solved, leading-inverse, leading-unit, stage-words, quotient-small, cleared-splitter, product-most, cleared-solved}
 use Rattle.stages.proofs.Steps.{step-pair, step-monic, step-factors, step-stage, step-kept, step-solved}
 use Rattle.clearing.proofs.Regions.{kept-trans}
 use Rattle.clearing.specs.States.{Stage, Clears, Kept}
@@ -310,7 +310,7 @@ content-stage-div-division-stage t c = let s = c .before .before .before .before
     let x = c .before .before .before .before .before .before .clear-contents .ensures in
     let v = c .before .before .c .given in
     let cl = subst (Clears (s .args .n) (s .args .v) (s .args .t) (s .args .pa) (s .args .a) (s .args .pb) (s .args .al) (s .args .be) (s .args .w .now) (c .before .before .before .before .before .before .clear-contents .last .0)) (v .1) (x .0) in
-    content-positive _ _ _ _ _ _ _ _ _ _ _ _ _ _ (s .pre .1) cl
+    cl .positive
 
 -- src/lib.rt:86:42
 content-stage-division-stage-requires-2 :
