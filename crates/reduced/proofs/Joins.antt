@@ -121,6 +121,12 @@ module _ (n p q : ℕ) (s : SplitOf n p q) where
       spread : (x y m : ℕ) → (x + y) * (m + 1) ≡ x * m + x + y * (m + 1)
       spread x y m = omega arith
 
+  pub product-below : (f g : List ℕ) (D₁ D₂ : ℕ) → Reduced p f g D₁ → Reduced q f g D₂ → D₁ * D₂ ≤ n
+  product-below f g D₁ D₂ x y = subst (λ (z : ℕ). D₁ * D₂ ≤ z) (s .product) (mul-le-mul (x .most) (y .most))
+
+  pub factors-split : SplitOf (p * q) p q
+  factors-split = record { product = refl; above₁ = s .above₁; above₂ = s .above₂; coprime = s .coprime }
+
 -- ---- scalars
 
 -- r is 1 modulo p and 0 modulo q: r y modulo p q
@@ -167,9 +173,6 @@ bezout-of p q a b c =
 
 module _ (n p q d e D₁ D₂ : ℕ) (f g u₁ v₁ u₂ v₂ u v w w₁ w₂ : List ℕ) (sp : SplitOf n p q) (c₁ : Certified p (L p d e) f g u₁ v₁ D₁) (c₂ : Certified q (L q d e) f g u₂ v₂ D₂)
     (sv : Saved p (L p d e) u₁ v₁ w w₁) (same : (k : ℕ) → k < 2 * L p d e → getD w₂ k 0 ≡ getD w₁ k 0) (mg : Merged p q (L p d e) D₁ D₂ w₂ u₂ u v₂ v) where
-  pub product-fits : D₁ * D₂ ≤ n
-  product-fits = subst (λ (x : ℕ). D₁ * D₂ ≤ x) (sp .product) (mul-le-mul (c₁ .reduced .most) (c₂ .reduced .most))
-
   -- what was saved is the first pair of cofactors
   saved-u : (k : ℕ) → coef (piece w₂ 0 (L p d e)) k ≡ coef u₁ k
   saved-u k = ⊎-elim
