@@ -44,7 +44,7 @@ pub record AnsweredReduced (n : ℕ) (f g : List ℕ) (D : ℕ) : Type 0 where
   pub work' : List ℕ
   pub call : ReducedAnswer n f g u u' v v' work work' D 0
 
-take-front : (x y : List ℕ) → take (length x) (x ++ y) ≡ x
+pub take-front : (x y : List ℕ) → take (length x) (x ++ y) ≡ x
 take-front [] y = refl
 take-front (a ∷ x) y = ap (λ (z : List ℕ). a ∷ z) (take-front x y)
 

@@ -121,7 +121,7 @@ fn mix(u: &mut [u32], s: &[u32], n: u32, a: u32, b: u32)
 }
 
 // The words of a cofactor modulo p, for polynomials of a and b words.
-fn cofactor_length(p: u32, a: usize, b: usize) -> usize
+pub fn cofactor_length(p: u32, a: usize, b: usize) -> usize
     requires { ⌜ (1 ≤ a) × ((1 ≤ b) × (L p (a - 1) (b - 1) < 18446744073709551616)) ⌝ }
     ensures { λ r. ⌜ r ≡ L p (a - 1) (b - 1) ⌝ }
 {
