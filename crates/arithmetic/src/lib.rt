@@ -2,6 +2,7 @@
 //
 //   reduce          x modulo n, x of 64 bits
 //   add_mod, sub_mod, mul_mod, mul_add_mod
+//   negate          -a, with no division
 //   sum_two         x + c a + m b by one division
 //   power           x to the power k
 ghost use mathlib.Core.Path.{_≡_};
@@ -36,6 +37,17 @@ pub fn sub_mod(n: u32, a: u32, b: u32) -> u32
     ensures { λ r. ⌜ r ≡ (a + (n - b)) % n ⌝ }
 {
     reduce(n, (a as u64) + ((n - b) as u64))
+}
+
+// -a, for a at most n. No division.
+pub fn negate(n: u32, a: u32) -> u32
+    requires { ⌜ (1 ≤ n) × (a ≤ n) ⌝ }
+    ensures { λ r. ⌜ r ≡ (n - a) % n ⌝ }
+{
+    if a == 0 {
+        return 0;
+    }
+    n - a
 }
 
 // a + m b. A product is taken away by m = n - c.

@@ -1,7 +1,10 @@
 -- Congruence modulo n, as a record so that its numbers are inferred; and its laws.
-use mathlib.Core.Path.{_≡_, refl, sym, ap, _∙_}
-use Prim.Native.Nat.{ℕ, zero, suc, _+_, _-_, _*_, _/_, _%_, _^_, _<_, _≤_}
-use native.Mathlib.Nat.{mod-lt, mod-mod, add-mod, mod-self, zero-mod, mul-add-mod-self-left, mul-mod-right, div-add-mod, add-zero, add-assoc, add-comm, add-left-comm, mul-comm, mul-assoc, mul-left-comm, add-mul, mul-add, pow-zero, pow-suc}
+--
+--   Cong n a b    a is b modulo n
+--   ring          the ruleset by which `simp` compares sums of products
+use mathlib.Core.Path.{_≡_, refl, sym, ap, subst, _∙_}
+use Prim.Native.Nat.{ℕ, zero, suc, _+_, _-_, _*_, _/_, _%_, _^_, _<_, _≤_, _∣_}
+use native.Mathlib.Nat.{mod-lt, mod-mod, add-mod, mod-self, zero-mod, mul-add-mod-self-left, div-add-mod, add-zero, zero-add, add-sub-of-le, add-assoc, add-comm, add-left-comm, mul-comm, mul-assoc, mul-left-comm, add-mul, mul-add, pow-zero, pow-suc, mod-mod-of-dvd, mod-eq-zero-of-dvd, dvd-of-mod-eq-zero, mul-div-cancel'}
 use native.Mathlib.Omega.{arith}
 
 -- the laws of + and *, by which `simp` brings both sides of an equation to one form
@@ -45,9 +48,9 @@ pub c-neg : (n c : ℕ) → 0 < n → Cong n (c + (n - c % n)) 0
 c-neg n c h =
     record {
       same = ap (λ (x : ℕ). x % n) (split (n * (c / n)) (c % n) (div-add-mod c n) (mod-lt c h))
-      ∙ mul-add-mod-self-left n (c / n) n
-      ∙ mod-self n
-      ∙ sym (zero-mod n)
+          ∙ mul-add-mod-self-left n (c / n) n
+          ∙ mod-self n
+          ∙ sym (zero-mod n);
     }
   where
     split : (p r : ℕ) → p + r ≡ c → r < n → c + (n - r) ≡ p + n
@@ -72,3 +75,36 @@ pub c-pow : {n x y : ℕ} → Cong n x y → (k : ℕ) → Cong n (x ^ k) (y ^ k
 c-pow {n} {x} {y} c zero = c-eq (pow-zero x ∙ sym (pow-zero y))
 c-pow {n} {x} {y} c (suc k) = c-trans (c-eq (pow-suc x k)) (c-trans (c-mul (c-pow c k) c) (c-eq (sym (pow-suc y k))))
 
+-- ---- under a change of the modulus
+
+-- modulo n, hence modulo its divisor m
+pub c-dvd : {m n a b : ℕ} → m ∣ n → Cong n a b → Cong m a b
+c-dvd {m} {n} {a} {b} d c = record { same = sym (mod-mod-of-dvd m a d) ∙ ap (λ (x : ℕ). x % m) (c .same) ∙ mod-mod-of-dvd m b d }
+
+-- to be 0 modulo m is to be divided by m
+pub c-zero : {m a : ℕ} → m ∣ a → Cong m a 0
+c-zero {m} {a} d = record { same = mod-eq-zero-of-dvd m d ∙ sym (zero-mod m) }
+
+pub dvd-c : {m a : ℕ} → Cong m a 0 → m ∣ a
+dvd-c {m} {a} c = dvd-of-mod-eq-zero m (c .same ∙ zero-mod m)
+
+-- to be congruent is to differ by a multiple of n
+pub dvd-difference : {n x y : ℕ} → 0 < n → x ≤ y → Cong n x y → n ∣ y - x
+dvd-difference {n} {x} {y} pos l c = dvd-c (c-cancel x pos (c-trans (c-eq {b = y} (omega arith)) (c-trans (c-sym c) (c-eq (sym (zero-add x))))))
+
+pub c-difference : {n x y : ℕ} → x ≤ y → n ∣ y - x → Cong n x y
+c-difference {n} {x} {y} l d =
+    c-trans (c-eq (sym (add-zero x))) (c-trans (c-add (c-refl {a = x}) (c-sym (c-zero d))) (c-eq (add-sub-of-le l)))
+
+times : (p m a : ℕ) → Cong (p * m) (a * m) (a % p * m)
+times p m a =
+    c-trans (c-eq {b = p * m * (a / p) + a % p * m} (ap (λ (x : ℕ). x * m) (sym (div-add-mod a p)) ∙ (simp ring)))
+    (record { same = mul-add-mod-self-left (p * m) (a / p) (a % p * m) })
+
+-- modulo p, hence modulo p m after a multiplication by a multiple of m
+pub c-times : {p a b : ℕ} (m : ℕ) → Cong p a b → (x : ℕ) → m ∣ x → Cong (p * m) (a * x) (b * x)
+c-times {p} {a} {b} m c x d =
+    let e : m * (x / m) ≡ x = mul-div-cancel' m d in
+    let s : Cong (p * m) (a * m) (b * m) = c-trans (times p m a) (c-trans (c-eq (ap (λ (y : ℕ). y * m) (c .same))) (c-sym (times p m b))) in
+    subst (λ (y : ℕ). Cong (p * m) (a * y) (b * y)) e
+    (c-trans (c-eq (sym (mul-assoc a m (x / m)))) (c-trans (c-mul s c-refl) (c-eq (mul-assoc b m (x / m)))))

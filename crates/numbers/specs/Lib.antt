@@ -1,2 +1,10 @@
 pub mod Congruence
 pub mod Divisors
+pub mod Units
+pub mod Coprimality
+pub mod Chinese
+pub mod Logarithm
+pub mod Primes
+pub mod Nilpotents
+pub mod Kinds
+pub mod Cofactors

@@ -1,3 +1,4 @@
+pub mod Contents
 pub mod Leaf
 pub mod Lift
 pub mod Pairs

@@ -1,8 +1,14 @@
 -- Words in windows of one buffer. Assumes nothing: these are definitions.
+--
+--   piece w a l                               the l words from a on, a polynomial
+--   Below, Around, Outside, Apart, Clear      residues, frames, and windows that do not meet
+--   Moved, Paired, Written, Reversed, Loaded  what a leaf writes, and that it writes nothing else
+--   Zeros, Content                            what a leaf reads
 use mathlib.Core.Path.{_≡_}
 use mathlib.Core.List.{List}
-use Prim.Native.Nat.{ℕ, zero, suc, _+_, _-_, _*_, _%_, _<_, _≤_}
+use Prim.Native.Nat.{ℕ, zero, suc, _+_, _-_, _*_, _/_, _%_, _<_, _≤_, _∣_}
 use lib.ListN.{length, getD, take, drop}
+use Rattle.definitions.specs.Polynomials.{coef}
 
 -- the l words from a on: a polynomial
 unfoldable pub piece : List ℕ → ℕ → ℕ → List ℕ
@@ -64,3 +70,39 @@ pub record Zeros (s : List ℕ) (r : ℕ) : Type 0 where
   pub most : r ≤ length s
   pub zero : (k : ℕ) → k < r → getD s k 0 ≡ 0
   pub next : r < length s → getD s r 0 ≡ 0 → ⊥
+
+abbrev pub quotient-by : ℕ → ℕ → ℕ → ℕ
+quotient-by c x y = y / c
+
+abbrev pub reduced-by : ℕ → ℕ → ℕ → ℕ
+reduced-by n x y = y % n
+
+abbrev pub zeroed : ℕ → ℕ → ℕ
+zeroed x y = 0
+
+-- len words from dst on are F 0, F 1, …
+pub record Written (F : ℕ → ℕ) (dst len : ℕ) (w w' : List ℕ) : Type 0 where
+  pub same : length w' ≡ length w
+  pub low : (k : ℕ) → k < dst → getD w' k 0 ≡ getD w k 0
+  pub mid : (i : ℕ) → i < len → getD w' (dst + i) 0 ≡ F i
+  pub high : (k : ℕ) → dst + len ≤ k → getD w' k 0 ≡ getD w k 0
+
+-- len words from dst on are those from src on, the last first
+pub record Reversed (src dst len : ℕ) (w w' : List ℕ) : Type 0 where
+  pub same : length w' ≡ length w
+  pub low : (k : ℕ) → k < dst → getD w' k 0 ≡ getD w k 0
+  pub mid : (i : ℕ) → i < len → getD w' (dst + i) 0 ≡ getD w (src + (len - 1 - i)) 0
+  pub high : (k : ℕ) → dst + len ≤ k → getD w' k 0 ≡ getD w k 0
+
+-- the words from a on are those of f modulo n
+pub record Loaded (n a : ℕ) (f w w' : List ℕ) : Type 0 where
+  pub same : length w' ≡ length w
+  pub low : (k : ℕ) → k < a → getD w' k 0 ≡ getD w k 0
+  pub mid : (i : ℕ) → i < length f → getD w' (a + i) 0 ≡ getD f i 0 % n
+  pub high : (k : ℕ) → a + length f ≤ k → getD w' k 0 ≡ getD w k 0
+
+-- c is the greatest common divisor of n and of every coefficient of f
+pub record Content (n : ℕ) (f : List ℕ) (c : ℕ) : Type 0 where
+  pub divides-n : c ∣ n
+  pub divides : (k : ℕ) → k < length f → c ∣ coef f k
+  pub greatest : (x : ℕ) → x ∣ n → ((k : ℕ) → k < length f → x ∣ coef f k) → x ∣ c

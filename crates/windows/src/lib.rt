@@ -1,8 +1,13 @@
 // Leaves over windows of one lent buffer: places src and dst of one slice, len words each.
+//
+//   add_scaled, add_pair, scale, copy, copy_reversed    words made of those of another window
+//   divide_words, reduce_words, clear, wipe             words made of themselves, or zeros
+//   residue, load                                       words of a lent polynomial, as residues
+//   zeros, content                                      what a polynomial's words have in front, and in common
 ghost use mathlib.Core.Path.{_≡_};
 ghost use Prim.Native.Nat.{ℕ, _+_, _-_, _*_, _%_, _<_, _≤_};
-ghost use lib.ListN.{length, getD};
-ghost use Rattle.windows.specs.Window.{Moved, Clear, addMul, mulBy, second, Paired, Apart, Below, Zeros};
+ghost use lib.ListN.{length, getD, replicate};
+ghost use Rattle.windows.specs.Window.{Moved, Clear, addMul, mulBy, second, quotient-by, reduced-by, zeroed, Paired, Apart, Below, Zeros, Content, Reversed, Loaded};
 
 // w[dst + j] += c * w[src + j], for j < len.
 pub fn add_scaled(w: &mut [u32], n: u32, c: u32, src: usize, dst: usize, len: usize)
@@ -69,6 +74,106 @@ pub fn add_pair(w: &mut [u32], n: u32, c: u32, m: u32, src: usize, dst: usize, l
         let z = w[src + j];
         w[dst + j] = arithmetic::sum_two(n, w[dst + j], c, y, m, z);
         y = z;
+        j += 1;
+    }
+}
+
+// The greatest common divisor of n and of every word of s.
+pub fn content(s: &[u32], n: u32) -> u32
+    requires { ⌜ 1 ≤ n ⌝ }
+    ensures { λ r. ⌜ Content n (now (s .entry)) r ⌝ }
+{
+    let mut c = n;
+    let mut j: usize = 0;
+    while j < s.len() {
+        if c == 1 {
+            return 1;
+        }
+        c = bezout::gcd(s[j], c);
+        j += 1;
+    }
+    c
+}
+
+// w[at + j] = w[at + j] / c, the whole part, for j < len.
+pub fn divide_words(w: &mut [u32], c: u32, at: usize, len: usize)
+    requires { ⌜ (1 ≤ c) × (at + len ≤ length (now w)) ⌝ }
+    ensures { λ _. ⌜ Moved (quotient-by c) at at len (now (w .entry)) (now (w .exit)) ⌝ }
+{
+    let mut j: usize = 0;
+    while j < len {
+        w[at + j] = w[at + j] / c;
+        j += 1;
+    }
+}
+
+// w[at + j] = w[at + j] % n, for j < len.
+pub fn reduce_words(w: &mut [u32], n: u32, at: usize, len: usize)
+    requires { ⌜ (1 ≤ n) × (at + len ≤ length (now w)) ⌝ }
+    ensures { λ _. ⌜ Moved (reduced-by n) at at len (now (w .entry)) (now (w .exit)) ⌝ }
+{
+    let mut j: usize = 0;
+    while j < len {
+        w[at + j] = w[at + j] % n;
+        j += 1;
+    }
+}
+
+// w[dst + j] = w[src + (len - 1 - j)], for j < len.
+pub fn copy_reversed(w: &mut [u32], src: usize, dst: usize, len: usize)
+    requires { ⌜ (src + len ≤ length (now w)) × (dst + len ≤ length (now w)) ⌝ }
+    requires { ⌜ Apart src len dst len ⌝ }
+    ensures { λ _. ⌜ Reversed src dst len (now (w .entry)) (now (w .exit)) ⌝ }
+{
+    let mut j: usize = 0;
+    while j < len {
+        w[dst + j] = w[src + (len - 1 - j)];
+        j += 1;
+    }
+}
+
+// w[at + j] = 0, for j < len.
+pub fn clear(w: &mut [u32], at: usize, len: usize)
+    requires { ⌜ at + len ≤ length (now w) ⌝ }
+    ensures { λ _. ⌜ Moved zeroed at at len (now (w .entry)) (now (w .exit)) ⌝ }
+{
+    let mut j: usize = 0;
+    while j < len {
+        w[at + j] = 0;
+        j += 1;
+    }
+}
+
+// Zero in every word.
+pub fn wipe(w: &mut [u32])
+    ensures { λ _. ⌜ now (w .exit) ≡ replicate (length (now (w .entry))) 0 ⌝ }
+{
+    let mut j: usize = 0;
+    while j < w.len() {
+        w[j] = 0;
+        j += 1;
+    }
+}
+
+// x modulo n; a residue costs no division.
+pub fn residue(x: u32, n: u32) -> u32
+    requires { ⌜ 1 ≤ n ⌝ }
+    ensures { λ r. ⌜ r ≡ x % n ⌝ }
+{
+    if x < n {
+        return x;
+    }
+    x % n
+}
+
+// w[at + j] = f[j] % n, for each word of f.
+pub fn load(w: &mut [u32], at: usize, f: &[u32], n: u32)
+    requires { ⌜ (1 ≤ n) × (at + length (now f) ≤ length (now w)) ⌝ }
+    ensures { λ _. ⌜ Loaded n at (now (f .entry)) (now (w .entry)) (now (w .exit)) ⌝ }
+{
+    let mut j: usize = 0;
+    while j < f.len() {
+        w[at + j] = residue(f[j], n);
         j += 1;
     }
 }

@@ -1,8 +1,8 @@
-use Rattle.arithmetic.proofs.Widths.{below, sum-below}
+use Rattle.arithmetic.proofs.Widths.{below}
 use Rattle.arithmetic.proofs.Widths.{room, over}
 use native.Mathlib.Omega.{arith}
-use mathlib.Core.Path.{_≡_, refl, sym, ap, _∙_}
-use Prim.Native.Nat.{ℕ, _+_, _*_, _-_, _%_}
+use mathlib.Core.Path.{_≡_, ap, _∙_}
+use Prim.Native.Nat.{ℕ, _+_, _*_, _%_}
 use borrow.Author.Needs.{needs}
 use Rattle.arithmetic.proofs.sum_two.Statement.{statement}
 use Rattle.arithmetic.proofs.sum_two.Tie as tie

@@ -2,7 +2,6 @@ use borrow.Author.Needs.{needs}
 use Rattle.bezout.proofs.Signs.{Signed, signed-start, signed-step, signed-even, signed-odd, u-less}
 use native.Mathlib.Omega.{arith}
 use native.Mathlib.Nat.{mod-lt, pos-of-ne-zero}
-use Prim.Native.Nat.{ℕ, _+_, _*_, _/_, _≤_}
 use Rattle.bezout.proofs.cofactor.Statement.{statement}
 use Rattle.bezout.proofs.cofactor.Tie as tie
 use Rattle.bezout.proofs.cofactor.Reads as reads

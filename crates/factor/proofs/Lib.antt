@@ -1,0 +1,6 @@
+pub mod Approaches
+pub mod Leads
+pub mod Rounds
+pub mod SeriesLaws
+pub mod SeriesTurns
+pub mod Uniqueness

@@ -1,0 +1,41 @@
+use mathlib.Core.Path.{_≡_, refl, sym, ap, _∙_}
+use Prim.Native.Nat.{ℕ}
+use Rattle.definitions.specs.Polynomials.{coef, convolve, tabulate}
+use Rattle.polynomial.specs.Stages.{difference}
+use Rattle.polynomial.proofs.Quotients.{divided}
+use borrow.Author.Needs.{needs}
+use Rattle.polynomial.proofs.divide.Statement.{statement}
+use Rattle.polynomial.proofs.divide.Tie as tie
+use Rattle.polynomial.proofs.divide.Reads as reads
+use Rattle.polynomial.proofs.divide.Lts as lts
+use Rattle.polynomial.proofs.quotient_words.Reads as quotient-words-reads
+use Rattle.polynomial.proofs.remainder_words.Reads as remainder-words-reads
+
+-- src/lib.rt:137:5
+quotient-words-requires : tie.Need-quotient-words-requires
+quotient-words-requires c κs = search needs
+
+-- src/lib.rt:138:5
+remainder-words-requires : tie.Need-remainder-words-requires
+remainder-words-requires c κs = search needs
+
+-- src/lib.rt:132:1
+same-length : tie.Need-same-length
+same-length c = search needs
+
+-- src/lib.rt:132:1
+same-length-2 : tie.Need-same-length-2
+same-length-2 c = search needs
+
+-- src/lib.rt:132:1
+returns : tie.Need-returns
+returns c = let s = c .before .before .before .before .before .before .before .before .before .before .before .before .before in
+    let q = c .before .before .before .before .before .before .before .quotient-words in
+    let r = c .before .before .remainder-words in
+    divided (s .args .n) (s .args .f .now) (s .args .g .now) (q .last .1 .1 .1 .1 .0) (r .last .1 .1 .1 .1 .0) (s .pre .0 .0) (s .pre .0 .1 .1 .0) (q .ensures)
+    (r .ensures ∙ ap (λ (l : ℕ). tabulate l (λ (k : ℕ). difference (s .args .n) (coef (s .args .f .now) k) (convolve (coef (q .last .1 .1 .1 .1 .0)) (coef (s .args .g .now)) k))) (s .pre .1 .0))
+
+pub divide-spec : {M : Type 1} → statement M
+divide-spec =
+    tie.close
+    (tie.spec quotient-words-requires remainder-words-requires same-length same-length-2 returns)

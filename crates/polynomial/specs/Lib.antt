@@ -1,0 +1,4 @@
+pub mod Counts
+pub mod Services
+pub mod Stages
+pub mod UnitTests
