@@ -8,6 +8,7 @@ use lib.Dec.{eqb}
 use borrow.Author.Tests.{eqb-true}
 use Rattle.reader.specs.Lines.{has-newline, lengthen, finished, unfinished, last-line, lines, Answers, none, then}
 use Rattle.frames.specs.Frames.{AnswerOf}
+use Rattle.frames.specs.FrameLaws.{answer-unique}
 
 -- neither of two tests
 pub or-neither : (a b : Bool) → (a || b) ≡ false → (a ≡ false) × (b ≡ false)
@@ -129,3 +130,8 @@ answers-append {ms =
 
 pub answers-one : {s a : List ℕ} → AnswerOf s a → Answers (s ∷ []) a
 answers-one {s} {a} p = subst (λ (x : List ℕ). Answers (s ∷ []) x) (append-nil a) (then p none)
+
+-- lines have one answer each
+pub answers-unique : {ls : List (List ℕ)} {a b : List ℕ} → Answers ls a → Answers ls b → a ≡ b
+answers-unique none none = refl
+answers-unique (then p ps) (then q qs) = ap₂ _++_ (answer-unique p q) (answers-unique ps qs)
