@@ -35,9 +35,8 @@ pub handed : (count : ℕ) (w : List ℕ) → take (count - 0) (w ++ []) ≡ tak
 handed count w = let e : count - 0 ≡ count = omega arith in ap₂ take e (append-nil w)
 
 outcome-same : {k k' n n' r v : ℕ} {f f' g g' : List ℕ} → k ≡ k' → n ≡ n' → f ≡ f' → g ≡ g' → Outcome k n f g r v → Outcome k' n' f' g' r v
-outcome-same {r =
-    r} {v = v} a b c d p = subst (λ (x : ℕ × (ℕ × (List ℕ × List ℕ))). Outcome (x .0) (x .1 .0) (x .1 .1 .0) (x .1 .1 .1) r v) (λ i.
-    (a i, (b i, (c i, d i)))) p
+outcome-same {r = r} {v = v} a b c d p =
+    subst (λ (x : ℕ × (ℕ × (List ℕ × List ℕ))). Outcome (x .0) (x .1 .0) (x .1 .1 .0) (x .1 .1 .1) r v) (λ i. (a i, (b i, (c i, d i)))) p
 
 pub wrote-answered : (s : List ℕ) (at : ℕ) {o o' w w' : List ℕ} {k n d e : ℕ} {m : List ℕ} {b : Bool} (x : List ℕ) (r v : ℕ)
     → Fields s k n d e → WordsRead s (d + 1 + (e + 1)) m b → b ≡ true
