@@ -38,8 +38,8 @@ pub finished-none : (s : List ℕ) → has-newline s ≡ false → finished s �
 unfolding finished has-newline
 finished-none [] h = refl
 finished-none (c ∷ s) h =
-    let k = or-neither (eqb c 10) (has-newline s) h in ap₂ (λ (b : Bool) (x : List (List ℕ)). cond b ([] ∷ finished s) (lengthen c x))
-    (k .0) (finished-none s (k .1))
+    let k = or-neither (eqb c 10) (has-newline s) h in
+    ap₂ (λ (b : Bool) (x : List (List ℕ)). cond b ([] ∷ finished s) (lengthen c x)) (k .0) (finished-none s (k .1))
 
 pub unfinished-all : (s : List ℕ) → has-newline s ≡ false → unfinished s ≡ s
 unfolding unfinished
@@ -124,9 +124,8 @@ unfinished-single t = go (cut t)
 
 pub answers-append : {ls ms : List (List ℕ)} {a b : List ℕ} → Answers ls a → Answers ms b → Answers (ls ++ ms) (a ++ b)
 answers-append none q = q
-answers-append {ms =
-    ms} {b = b} (then {s = s} {a = a} {b = c} {ls = ls} p ps) q = subst (λ (x : List ℕ). Answers (s ∷ ls ++ ms) x) (sym
-    (append-assoc a c b)) (then p (answers-append ps q))
+answers-append {ms = ms} {b = b} (then {s = s} {a = a} {b = c} {ls = ls} p ps) q =
+    subst (λ (x : List ℕ). Answers (s ∷ ls ++ ms) x) (sym (append-assoc a c b)) (then p (answers-append ps q))
 
 pub answers-one : {s a : List ℕ} → AnswerOf s a → Answers (s ∷ []) a
 answers-one {s} {a} p = subst (λ (x : List ℕ). Answers (s ∷ []) x) (append-nil a) (then p none)
