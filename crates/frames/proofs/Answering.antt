@@ -9,7 +9,8 @@ use lib.Seq.{take-all}
 use Rattle.engine.specs.Services.{left}
 use Rattle.frames.specs.declared.Head.{Head}
 use Rattle.frames.specs.declared.Head.the-variants.{Frame, Other}
-use Rattle.frames.specs.Frames.{kind-of, modulus-of, first-degree, count-of, words-of, frame-words, first-polynomial, second-polynomial}
+use Rattle.frames.specs.Frames.{kind-of, modulus-of, first-degree, count-of, words-of, frame-words}
+use Rattle.frames.specs.Frames.{first-polynomial, second-polynomial}
 use Rattle.frames.specs.Frames.{is-frame, refusal-of, Outcome, Served, answer-line, refused, answered, Wrote}
 use Rattle.frames.specs.Heads.{Fields, HeadOf, WordsRead}
 
