@@ -86,10 +86,11 @@ fields s k n d e hk one two hn hd he short fit = record {
       simp (
         le-leb (length s) 798 short,
         ap (λ (x : ℕ). eqb x 1 || eqb x 2) (sym (hk .1)) ∙ known-kind k one two,
-        eq-eqb (length s)
-            (14 + 8 * count-of s) (fit ∙ ap₂ (λ (x y : ℕ). 14 + 8 * (x + 1 + (y + 1))) (hd .1) (he .1)),
+        eq-eqb (length s) (14 + 8 * count-of s) (fit ∙ ap₂ (λ (x y : ℕ). 14 + 8 * (x + 1 + (y + 1))) (hd .1) (he .1)),
         and-true,
       )
-      (after-digits 0 2 2 s (omega arith) (hk .0) ∙ after-digits 2 8 10 s (omega arith) (hn .0) ∙ after-digits 10 2 12 s (omega arith)
-      (hd .0) ∙ after-digits 12 2 14 s (omega arith) (he .0));
+      (after-digits 0 2 2 s (omega arith) (hk .0)
+      ∙ after-digits 2 8 10 s (omega arith) (hn .0)
+      ∙ after-digits 10 2 12 s (omega arith) (hd .0)
+      ∙ after-digits 12 2 14 s (omega arith) (he .0));
 }

@@ -2,3 +2,4 @@ pub mod Heads
 pub mod Putting
 pub mod WordsRead
 pub mod Answering
+pub mod Serving

@@ -9,13 +9,14 @@
 --   answer-line k r v                                             the line that says so
 --   AnswerOf s a                                                  a is the answer line of the line s
 use mathlib.Core.Path.{_≡_}
-use mathlib.Core.Bool.{Bool, true, false, _&&_, _||_}
+use mathlib.Core.Bool.{Bool, true, false, cond, _&&_, _||_}
 use mathlib.Core.List.{List, [], _∷_, _++_}
 use Prim.Native.Nat.{ℕ, zero, suc, _+_, _*_}
 use lib.ListN.{length, take, drop}
 use lib.Dec.{leb, eqb}
 use Rattle.definitions.specs.Resultants.{resultant, Reduced}
 use Rattle.refusals.specs.Refusals.{refusal-two}
+use Rattle.engine.specs.Services.{left}
 use Rattle.hexadecimal.specs.Hexadecimal.{all-digits, number-of, digits-of}
 
 -- "kind (2 digits, 01 resultant, 02 reduced resultant), n (8), d (2), e (2)"
@@ -62,11 +63,13 @@ Value (suc (suc k)) n f g v = Reduced n f g v
 -- The refusals 1, 2 and 3, as of the services; "Each returns its number and value 0".
 pub record Outcome (k n : ℕ) (f g : List ℕ) (r v : ℕ) : Type 0 where
   pub status : r ≡ refusal-two n f g
+  pub value : r ≡ 0 → Value k n f g v
   pub refused : (r ≡ 0 → ⊥) → v ≡ 0
 
--- A job was served, with the working words w before and w' after.
+-- A job was served: w and w' are the working words before and after.
 pub record Served (k n : ℕ) (f g : List ℕ) (r v : ℕ) (w w' : List ℕ) : Type 0 where
   pub outcome : Outcome k n f g r v
+  pub work : w' ≡ left r w
 
 -- "kind as sent (ff after refusal 8), status (00 or the refusal number, 2 digits), value (8 digits), newline"
 unfoldable pub answer-line : ℕ → ℕ → ℕ → List ℕ
@@ -78,9 +81,18 @@ pub data AnswerOf (s : List ℕ) : List ℕ → Type 0 where
   answered : (r v : ℕ) → is-frame s ≡ true → Outcome (kind-of s) (modulus-of s) (first-polynomial s) (second-polynomial s) r v
       → AnswerOf s (answer-line (kind-of s) r v)
 
+-- the status of the job of a frame s
+abbrev pub refusal-of : List ℕ → ℕ
+refusal-of s = refusal-two (modulus-of s) (first-polynomial s) (second-polynomial s)
+
+-- the working words w after the line s: as a service leaves them, and as they were where none is called
+abbrev pub left-after : List ℕ → List ℕ → List ℕ
+left-after s w = cond (is-frame s) (left (refusal-of s) w) w
+
 -- A line was answered: its answer stands in the buffer o' from place at on, and the rest of it is as it was in o. w and w' are
 -- the working words before and after.
 pub record Wrote (s : List ℕ) (at : ℕ) (o o' w w' : List ℕ) : Type 0 where
   pub line : List ℕ
   pub is : AnswerOf s line
   pub put : o' ≡ take at o ++ (line ++ drop (at + 13) o)
+  pub work : w' ≡ left-after s w

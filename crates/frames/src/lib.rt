@@ -86,18 +86,28 @@ pub fn write_line(out: &mut [u8], at: usize, kind: u32, status: u32, value: u32)
     out[at + 12] = 10;
 }
 
-// Serves the job of a frame's words: the first polynomial is the first d + 1 of them, the second is the part from place d + 1 onward.
+// Room for a cofactor: K is at most 31 and a degree at most 48. Of zeros only the count is told.
+fn cofactor_words() -> [u32; 1489]
+    ensures { λ r. ⌜ 1489 ≡ length r ⌝ }
+{
+    [0; 1489]
+}
+
+// Serves the job of a frame's words: the first polynomial is the first d + 1 of them, the second is the part from place d + 1
+// onward. The cofactors of D are not asked for.
 fn serve(kind: u32, n: u32, words: &[u32], d: usize, work: &mut [u32]) -> Answer
-    requires { ⌜ (d + 1 ≤ length (now words)) × (8192 ≤ length (now work)) ⌝ }
+    requires { ⌜ (1 ≤ kind) × ((d + 1 ≤ length (now words)) × (8192 ≤ length (now work))) ⌝ }
     ensures { λ r. ⌜ Served kind n (take (d + 1) (now (words .entry))) (drop (d + 1) (now (words .entry)))
         (r .status) (r .value) (now (work .entry)) (now (work .exit)) ⌝ }
 {
     let f = &words[0..d + 1];
     let g = &words[d + 1..];
-    Answer {
-        value: 0,
-        status: refusals::refusal_two(n, f, g),
+    if kind == 1 {
+        return engine::jingcobu_resultant(n, f, g, work);
     }
+    let mut u = cofactor_words();
+    let mut v = cofactor_words();
+    engine::jingcobu_reduced_resultant(n, f, g, &mut u, &mut v, work)
 }
 
 // Writes the answer to the line s from place `at` on.

@@ -40,8 +40,8 @@ spelling-step {t} {i} {x} v h e l p =
     let c = getD t i 0 in
     let e₁ : take (i + 1) t ≡ take i t ++ c ∷ [] = rw (add-one i) (take-suc t i 0 h) in
     record {
-      good = ap all-digits e₁ ∙ all-digits-append (take i t) (c ∷ []) ∙ ap₂ (λ (a b : Bool). a && (b && true)) (p .good)
-          (ap (λ (y : ℕ). ltb y 16) e ∙ lt-ltb v 16 l);
+      good = ap all-digits e₁ ∙ all-digits-append (take i t) (c ∷ [])
+          ∙ ap₂ (λ (a b : Bool). a && (b && true)) (p .good) (ap (λ (y : ℕ). ltb y 16) e ∙ lt-ltb v 16 l);
       value = ap number-of e₁ ∙ number-snoc (take i t) c ∙ ap₂ (λ (a b : ℕ). a * 16 + b) (p .value) e;
     }
 
@@ -90,8 +90,7 @@ pub writing-none : (k x at : ℕ) (w₀ : List ℕ) → Writing k x at w₀ k x 
 writing-none k x at w₀ = record { same = refl; low = refl; high = refl }
 
 pub writing-step : {k x at i y : ℕ} {w₀ w : List ℕ} (c : ℕ) → 0 < i → at + i ≤ length w → c ≡ character-of (y % 16)
-    → Writing k x at w₀ i y w
-    → Writing k x at w₀ (i - 1) (y / 16) (set w (at + (i - 1)) c)
+    → Writing k x at w₀ i y w → Writing k x at w₀ (i - 1) (y / 16) (set w (at + (i - 1)) c)
 unfolding digits-of
 writing-step {k} {x} {at} {i} {y} {w₀} {w} c h l e p =
     let j = i - 1 in
@@ -100,14 +99,13 @@ writing-step {k} {x} {at} {i} {y} {w₀} {w} c h l e p =
     let e₂ : at + i ≡ suc q = omega arith in
     let w' = set w q c in
     let lq : q < length w' = omega (arith, length-set w q c) in
-    let d : drop q w' ≡ c ∷ drop (at + i) w =
-    drop-cons w' q 0 lq
-    ∙ ap₂ (λ (a : ℕ) (b : List ℕ). a ∷ b) (getD-set-same w q c 0 (omega arith))
-    (drop-set-lt (suc q) w q c (omega arith) ∙ ap (λ (a : ℕ). drop a w) (sym e₂)) in
+    let after : drop (suc q) w' ≡ drop (at + i) w = drop-set-lt (suc q) w q c (omega arith) ∙ ap (λ (a : ℕ). drop a w) (sym e₂) in
+    let own : getD w' q 0 ≡ c = getD-set-same w q c 0 (omega arith) in
+    let d : drop q w' ≡ c ∷ drop (at + i) w = drop-cons w' q 0 lq ∙ ap₂ (λ (a : ℕ) (b : List ℕ). a ∷ b) own after in
     record {
       same = length-set w q c ∙ p .same;
-      low = take-set-le q w q c (omega arith) ∙ sym (take-take q (at + i) w (omega arith)) ∙ ap (take q) (p .low) ∙ take-take q (at + i)
-          w₀ (omega arith);
+      low = take-set-le q w q c (omega arith) ∙ sym (take-take q (at + i) w (omega arith)) ∙ ap (take q) (p .low)
+          ∙ take-take q (at + i) w₀ (omega arith);
       high = ap (λ (a : List ℕ). digits-of j (y / 16) ++ a) (d ∙ ap (λ (a : ℕ). a ∷ drop (at + i) w) e)
           ∙ sym (append-assoc (digits-of j (y / 16)) (character-of (y % 16) ∷ []) (drop (at + i) w))
           ∙ ap (λ (a : ℕ). digits-of a y ++ drop (at + i) w) (sym e₁)

@@ -19,16 +19,20 @@ right-at : (xs : List ℕ) (i k : ℕ) → right i xs ≡ true → k < length xs
 unfolding right
 right-at [] i k t h = absurd (omega arith)
 right-at (x ∷ xs) i zero t h =
-    let e : i ≡ i + 0 = omega arith in eqb-true x (48 + digit-of i) (and-both (eqb x (48 + digit-of i)) (right (suc i) xs) t .0) ∙ ap
-    (λ (y : ℕ). 48 + digit-of y) e
+    let e : i ≡ i + 0 = omega arith in
+    let b = and-both (eqb x (48 + digit-of i)) (right (suc i) xs) t in
+    eqb-true x (48 + digit-of i) (b .0) ∙ ap (λ (y : ℕ). 48 + digit-of y) e
 right-at (x ∷ xs) i (suc k) t h =
     let e : suc i + k ≡ i + suc k = omega arith in
-    right-at xs (suc i) k (and-both (eqb x (48 + digit-of i)) (right (suc i) xs) t .1) (omega arith) ∙ ap (λ (y : ℕ). 48 + digit-of y) e
+    let b = and-both (eqb x (48 + digit-of i)) (right (suc i) xs) t in
+    right-at xs (suc i) k (b .1) (omega arith) ∙ ap (λ (y : ℕ). 48 + digit-of y) e
 
 abbrev pub values : List ℕ
-values = 48 ∷ 49 ∷ 50 ∷ 51 ∷ 52 ∷ 53 ∷ 54 ∷ 55 ∷ 56 ∷ 57 ∷ 64 ∷ 64 ∷ 64 ∷ 64 ∷ 64 ∷ 64 ∷ 64 ∷ 64 ∷ 64 ∷ 64 ∷ 64 ∷ 64 ∷ 64 ∷ 64 ∷ 64 ∷ 64 ∷
-    64 ∷ 64 ∷ 64
-    ∷ 64 ∷ 64 ∷ 64 ∷ 64 ∷ 64 ∷ 64 ∷ 64 ∷ 64 ∷ 64 ∷ 64 ∷ 64 ∷ 64 ∷ 64 ∷ 64 ∷ 64 ∷ 64 ∷ 64 ∷ 64 ∷ 64 ∷ 64 ∷ 58 ∷ 59 ∷ 60 ∷ 61 ∷ 62 ∷ 63 ∷ []
+values =
+    48 ∷ 49 ∷ 50 ∷ 51 ∷ 52 ∷ 53 ∷ 54 ∷ 55 ∷ 56 ∷ 57
+    ∷ 64 ∷ 64 ∷ 64 ∷ 64 ∷ 64 ∷ 64 ∷ 64 ∷ 64 ∷ 64 ∷ 64 ∷ 64 ∷ 64 ∷ 64 ∷ 64 ∷ 64 ∷ 64 ∷ 64 ∷ 64 ∷ 64 ∷ 64
+    ∷ 64 ∷ 64 ∷ 64 ∷ 64 ∷ 64 ∷ 64 ∷ 64 ∷ 64 ∷ 64 ∷ 64 ∷ 64 ∷ 64 ∷ 64 ∷ 64 ∷ 64 ∷ 64 ∷ 64 ∷ 64 ∷ 64
+    ∷ 58 ∷ 59 ∷ 60 ∷ 61 ∷ 62 ∷ 63 ∷ []
 
 values-right : right 48 values ≡ true
 unfolding right
@@ -36,7 +40,8 @@ values-right = refl
 
 pub value-at : (c : ℕ) → 48 ≤ c → c ≤ 102 → getD values (c - 48) 0 ≡ 48 + digit-of c
 value-at c h l =
-    let e : 48 + (c - 48) ≡ c = omega arith in right-at values 48 (c - 48) values-right (omega arith) ∙ ap (λ (y : ℕ). 48 + digit-of y) e
+    let e : 48 + (c - 48) ≡ c = omega arith in
+    right-at values 48 (c - 48) values-right (omega arith) ∙ ap (λ (y : ℕ). 48 + digit-of y) e
 
 pub digit-low : (c : ℕ) → c < 48 → 16 ≡ digit-of c
 digit-low c h = simp (lt-ltb c 48 h)

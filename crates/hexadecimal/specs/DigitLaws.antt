@@ -31,8 +31,8 @@ pub all-digits-append : (s t : List ℕ) → all-digits (s ++ t) ≡ (all-digits
 unfolding all-digits
 all-digits-append [] t = refl
 all-digits-append (c ∷ s) t =
-    ap (λ (b : Bool). ltb (digit-of c) 16 && b) (all-digits-append s t) ∙ sym
-    (and-assoc (ltb (digit-of c) 16) (all-digits s) (all-digits t))
+    ap (λ (b : Bool). ltb (digit-of c) 16 && b) (all-digits-append s t)
+    ∙ sym (and-assoc (ltb (digit-of c) 16) (all-digits s) (all-digits t))
 
 -- a character of a part that is no digit is one of the whole
 pub all-digits-part : (a k : ℕ) (s : List ℕ) → all-digits (take k (drop a s)) ≡ false → all-digits s ≡ false
@@ -93,17 +93,17 @@ digit-character x h = elim (decLt x 10) [ yes l ↦ low l | no l ↦ high (omega
           le-ltb (87 + x) 48 (omega arith),
           le-ltb (87 + x) 58 (omega arith),
           le-ltb (87 + x) 97 (omega arith),
-          lt-ltb
-              (87 + x) 103 (omega arith),
+          lt-ltb (87 + x) 103 (omega arith),
         ) (omega arith)
 
 pub digits-are-digits : (k x : ℕ) → all-digits (digits-of k x) ≡ true
 unfolding digits-of all-digits
 digits-are-digits zero x = refl
 digits-are-digits (suc k) x =
+    let e : ltb (digit-of (character-of (x % 16))) 16 ≡ true =
+    ap (λ (y : ℕ). ltb y 16) (digit-character (x % 16) (omega arith)) ∙ lt-ltb (x % 16) 16 (omega arith) in
     all-digits-append (digits-of k (x / 16)) (character-of (x % 16) ∷ [])
-    ∙ ap₂ _&&_ (digits-are-digits k (x / 16)) (ap (λ (y : ℕ). ltb y 16 && true) (digit-character (x % 16) (omega arith)) ∙ ap
-    (λ (b : Bool). b && true) (lt-ltb (x % 16) 16 (omega arith)))
+    ∙ ap₂ (λ (a b : Bool). a && (b && true)) (digits-are-digits k (x / 16)) e
 
 pub number-digits : (k x : ℕ) → x < 16 ^ k → number-of (digits-of k x) ≡ x
 unfolding digits-of spelled

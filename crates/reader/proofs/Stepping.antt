@@ -84,14 +84,15 @@ module _ {s p : List ℕ} {i h w : ℕ} {b o₀ o : List ℕ} (g : Going s p i h
       let part = take (j - i) (drop i p) in
       let line = g .rest ++ part in
       let more = drop (j + 1) p in
-      let c : g .rest ++ drop i p ≡ line ++ 10 ∷ more =
-      ap (λ (x : List ℕ). g .rest ++ x) (cut-at p i j (n .least) l (n .at l)) ∙ sym (append-assoc (g .rest) part (10 ∷ more)) in
+      let cut = cut-at p i j (n .least) l (n .at l) in
+      let c : g .rest ++ drop i p ≡ line ++ 10 ∷ more = ap (λ (x : List ℕ). g .rest ++ x) cut ∙ sym (append-assoc (g .rest) part (10 ∷ more)) in
       let single : has-newline line ≡ false = none-in-either (g .rest) part (g .held .single) (n .before) in
       record {
         done = g .done ++ line ∷ [];
         rest = [];
-        ended = g .ended ∙ ap (λ (x : List ℕ). g .done ++ finished x) c ∙ ap (λ (x : List (List ℕ)). g .done ++ x)
-            (finished-line line more single)
+        ended = g .ended
+            ∙ ap (λ (x : List ℕ). g .done ++ finished x) c
+            ∙ ap (λ (x : List (List ℕ)). g .done ++ x) (finished-line line more single)
             ∙ sym (append-assoc (g .done) (line ∷ []) (finished more));
         left = g .left ∙ ap unfinished c ∙ unfinished-line line more;
         held = held-none b';
@@ -102,11 +103,12 @@ module _ {s p : List ℕ} {i h w : ℕ} {b o₀ o : List ℕ} (g : Going s p i h
   -- what is left of the piece has no newline
   going-last : {h' : ℕ} {b' : List ℕ} → Held (g .rest ++ drop i p) h' b' → Stepped s p h' b' w o₀ o
   going-last {h'} {b'} k =
+      let more = g .rest ++ drop i p in
+      let all : finished (s ++ p) ≡ g .done =
+      g .ended ∙ ap (λ (x : List (List ℕ)). g .done ++ x) (finished-none more (k .single)) ∙ append-nil (g .done) in
       record {
-        held = subst (λ (x : List ℕ). Held x h' b') (sym (g .left ∙ unfinished-all (g .rest ++ drop i p) (k .single))) k;
-        answers = subst (λ (x : List (List ℕ)). Answers x (take w o))
-            (sym (g .ended ∙ ap (λ (x : List (List ℕ)). g .done ++ x) (finished-none (g .rest ++ drop i p) (k .single)) ∙ append-nil
-            (g .done))) (g .answers);
+        held = subst (λ (x : List ℕ). Held x h' b') (sym (g .left ∙ unfinished-all more (k .single))) k;
+        answers = subst (λ (x : List (List ℕ)). Answers x (take w o)) (sym all) (g .answers);
         rest = g .after;
       }
 

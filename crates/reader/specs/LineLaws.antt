@@ -8,6 +8,7 @@ use lib.Dec.{eqb}
 use borrow.Author.Tests.{eqb-true}
 use Rattle.reader.specs.Lines.{has-newline, lengthen, finished, unfinished, last-line, lines, Answers, none, then}
 use Rattle.frames.specs.Frames.{AnswerOf}
+use Rattle.frames.specs.FrameLaws.{answer-unique}
 
 -- neither of two tests
 pub or-neither : (a b : Bool) → (a || b) ≡ false → (a ≡ false) × (b ≡ false)
@@ -37,8 +38,8 @@ pub finished-none : (s : List ℕ) → has-newline s ≡ false → finished s �
 unfolding finished has-newline
 finished-none [] h = refl
 finished-none (c ∷ s) h =
-    let k = or-neither (eqb c 10) (has-newline s) h in ap₂ (λ (b : Bool) (x : List (List ℕ)). cond b ([] ∷ finished s) (lengthen c x))
-    (k .0) (finished-none s (k .1))
+    let k = or-neither (eqb c 10) (has-newline s) h in
+    ap₂ (λ (b : Bool) (x : List (List ℕ)). cond b ([] ∷ finished s) (lengthen c x)) (k .0) (finished-none s (k .1))
 
 pub unfinished-all : (s : List ℕ) → has-newline s ≡ false → unfinished s ≡ s
 unfolding unfinished
@@ -123,9 +124,13 @@ unfinished-single t = go (cut t)
 
 pub answers-append : {ls ms : List (List ℕ)} {a b : List ℕ} → Answers ls a → Answers ms b → Answers (ls ++ ms) (a ++ b)
 answers-append none q = q
-answers-append {ms =
-    ms} {b = b} (then {s = s} {a = a} {b = c} {ls = ls} p ps) q = subst (λ (x : List ℕ). Answers (s ∷ ls ++ ms) x) (sym
-    (append-assoc a c b)) (then p (answers-append ps q))
+answers-append {ms = ms} {b = b} (then {s = s} {a = a} {b = c} {ls = ls} p ps) q =
+    subst (λ (x : List ℕ). Answers (s ∷ ls ++ ms) x) (sym (append-assoc a c b)) (then p (answers-append ps q))
 
 pub answers-one : {s a : List ℕ} → AnswerOf s a → Answers (s ∷ []) a
 answers-one {s} {a} p = subst (λ (x : List ℕ). Answers (s ∷ []) x) (append-nil a) (then p none)
+
+-- lines have one answer each
+pub answers-unique : {ls : List (List ℕ)} {a b : List ℕ} → Answers ls a → Answers ls b → a ≡ b
+answers-unique none none = refl
+answers-unique (then p ps) (then q qs) = ap₂ _++_ (answer-unique p q) (answers-unique ps qs)

@@ -5,7 +5,7 @@ use mathlib.Core.List.{List, [], _++_, append-assoc, append-nil}
 use Prim.Native.Nat.{ℕ}
 use lib.ListN.{take}
 use Rattle.reader.specs.Lines.{has-newline, unfinished, last-line, lines, Answers}
-use Rattle.reader.specs.LineLaws.{finished-none, unfinished-all, lines-append, answers-append}
+use Rattle.reader.specs.LineLaws.{finished-none, unfinished-all, lines-append, answers-append, answers-unique}
 use Rattle.reader.specs.Pieces.{Held, Written, end, piece, joined}
 
 -- a text without a newline has at most one line
@@ -31,3 +31,7 @@ written-answers s k (piece {w = w} {o' = o'} {p = p} {a = a} {ps = ps} e more) =
 -- "One frame a line", "A last line without a final newline counts as a line", "Empty input gives empty output": the whole input.
 pub whole : {b a : List ℕ} (ps : List (List ℕ)) → Written 0 b ps a → Answers (lines (joined ps)) a
 whole {b} ps r = written-answers [] (held-none b) r
+
+-- However an input is cut, the same is written.
+pub cut-alike : {b c a d : List ℕ} (ps qs : List (List ℕ)) → joined ps ≡ joined qs → Written 0 b ps a → Written 0 c qs d → a ≡ d
+cut-alike {a = a} ps qs e r s = answers-unique (subst (λ (t : List ℕ). Answers (lines t) a) e (whole ps r)) (whole qs s)

@@ -24,6 +24,7 @@ same-length c = search needs
 returns : tie.Need-returns
 returns c =
     let at-enum-told = c .before .before .before .before in
+    let at-enum-told = at-enum-told in
     let at-read-head = at-enum-told .before .before in
     let start = at-read-head .before .before .before .before in
     wrote-refused (start .args .s .now) (start .args .at)
@@ -33,6 +34,7 @@ returns c =
 add-count : tie.Need-add-count
 add-count c =
     let at-read-head = c .before .before .before in
+    let at-read-head = at-read-head in
     let start = at-read-head .before .before .before .before in
     let h = head-fields (start .args .s .now) (c .before .kind .given .0 .0) (c .before .kind .given .0 .1 .0)
     (c .before .kind .given .0 .1 .1 .0) (c .before .kind .given .0 .1 .1 .1 .0) (c .before .kind .given .1)
@@ -42,6 +44,7 @@ add-count c =
 add-count-2 : tie.Need-add-count-2
 add-count-2 c =
     let at-read-head = c .before .before .before in
+    let at-read-head = at-read-head in
     let start = at-read-head .before .before .before .before in
     let h = head-fields (start .args .s .now) (c .before .kind .given .0 .0) (c .before .kind .given .0 .1 .0)
     (c .before .kind .given .0 .1 .1 .0) (c .before .kind .given .0 .1 .1 .1 .0) (c .before .kind .given .1)
@@ -51,6 +54,7 @@ add-count-2 c =
 add-count-3 : tie.Need-add-count-3
 add-count-3 c =
     let at-read-head = c .before .before .before in
+    let at-read-head = at-read-head in
     let start = at-read-head .before .before .before .before in
     let h = head-fields (start .args .s .now) (c .before .kind .given .0 .0) (c .before .kind .given .0 .1 .0)
     (c .before .kind .given .0 .1 .1 .0) (c .before .kind .given .0 .1 .1 .1 .0) (c .before .kind .given .1)
@@ -69,6 +73,7 @@ part-words-end c = search needs
 read-words-requires : tie.Need-read-words-requires
 read-words-requires c κs =
     let at-read-head = c .before .before .before .before in
+    let at-read-head = at-read-head in
     let start = at-read-head .before .before .before .before in
     let h = head-fields (start .args .s .now) (c .before .before .kind .given .0 .0) (c .before .before .kind .given .0 .1 .0)
     (c .before .before .kind .given .0 .1 .1 .0) (c .before .before .kind .given .0 .1 .1 .1 .0) (c .before .before .kind .given .1)
@@ -84,6 +89,7 @@ same-length-2 c = search needs
 returns-2 : tie.Need-returns-2
 returns-2 c =
     let at-if1 = c .before .before .before .before in
+    let at-if1 = at-if1 in
     let at-read-words = at-if1 .before .before in
     let at-kind = at-read-words .before .before .before in
     let at-read-head = at-kind .before .before in
@@ -102,6 +108,7 @@ part-serve-start c = search needs
 part-serve-end : tie.Need-part-serve-end
 part-serve-end c =
     let at-read-words = c .before .before .before in
+    let at-read-words = at-read-words in
     let at-kind = at-read-words .before .before .before in
     let at-read-head = at-kind .before .before in
     let start = at-read-head .before .before .before .before in
@@ -112,7 +119,14 @@ part-serve-end c =
     (at-read-words .read-words .kept .1 .0) (count-most h)
 
 serve-requires : tie.Need-serve-requires
-serve-requires c κs = search needs
+serve-requires c κs =
+    let at-kind = c .before .before .before .before .before .before .before .before in
+    let at-read-head = at-kind .before .before in
+    let start = at-read-head .before .before .before .before in
+    let h = head-fields (start .args .s .now) (at-kind .kind .given .0 .0) (at-kind .kind .given .0 .1 .0)
+    (at-kind .kind .given .0 .1 .1 .0) (at-kind .kind .given .0 .1 .1 .1 .0) (at-kind .kind .given .1) (at-read-head .read-head .ensures)
+    in
+    (h .known .0, (search needs, search needs))
 
 write-line-requires-3 : tie.Need-write-line-requires-3
 write-line-requires-3 c κs = search needs
@@ -126,6 +140,7 @@ same-length-4 c = search needs
 returns-3 : tie.Need-returns-3
 returns-3 c =
     let at-serve = c .before .before .before .before .before .before in
+    let at-serve = at-serve in
     let at-if1 = at-serve .before .before .before .before in
     let at-read-words = at-if1 .before .before in
     let at-kind = at-read-words .before .before .before in

@@ -41,8 +41,7 @@ returns-5 c =
     let at-kind = c .before .before .before in
     let at-number = at-kind .before .before in
     let start = at-number .before .before .before .before in
-    let k =
-    (number-read (take 2 (start .args .s .now)) (at-kind .kind .given .0 .0) (at-kind .kind .given .1) (at-number .number .ensures)) in
+    let k = number-read (take 2 (start .args .s .now)) (at-kind .kind .given .0 .0) (at-kind .kind .given .1) (at-number .number .ensures) in
     other-kind (start .args .s .now) (λ h. omega (arith, k .1)) (λ h. omega (arith, k .1))
 
 number-requires-2 : tie.Need-number-requires-2
@@ -88,7 +87,8 @@ enum-told-4 c = search needs
 returns-8 : tie.Need-returns-8
 returns-8 c =
     let at-half = c .before .before .before .before .before .before .before .before .before .before in
-    let start = at-half .before .before .before .before .before .before .before .before .before .before in
+    let at-half = at-half .before .before .before .before .before in
+    let start = at-half .before .before .before .before .before in
     part-not-digits (start .args .s .now) 12 2
     (other-read (take 2 (drop 12 (start .args .s .now))) (c .enum-told4 .given .1) (c .before .before .number4 .ensures))
 
@@ -118,10 +118,9 @@ returns-9 c =
     let at-number4 = c .before .before .before .before in
     let at-d = at-number4 .before .before in
     let at-number3 = at-d .before .before in
-    let start = at-number3 .before .before .before .before .before .before .before .before .before .before .before .before .before .before
-    in
-    let x =
-    (number-read (take 2 (drop 10 (start .args .s .now))) (at-d .d .given .0 .0) (at-d .d .given .1) (at-number3 .number3 .ensures)) in
+    let at-half = at-number3 .before .before .before .before .before .before .before in
+    let start = at-half .before .before .before .before .before .before .before in
+    let x = number-read (take 2 (drop 10 (start .args .s .now))) (at-d .d .given .0 .0) (at-d .d .given .1) (at-number3 .number3 .ensures) in
     let y = (number-read (take 2 (drop 12 (start .args .s .now))) (c .before .before .e .given .0 .0) (c .before .before .e .given .1)
     (at-number4 .number4 .ensures)) in
     other-length (start .args .s .now) (λ h. omega (arith, x .1, y .1))

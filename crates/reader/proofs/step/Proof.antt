@@ -101,7 +101,8 @@ loop-again c =
       },
       λ s k.
           let g = at-loop .loop .inv .1 s k in
-          going-step g (at-close .close .last .1 .0) found (omega arith) (omega arith) (at-close .close .ensures (g .rest) (g .held) (found .before)),
+          let wrote = at-close .close .ensures (g .rest) (g .held) (found .before) in
+          going-step g (at-close .close .last .1 .0) found (omega arith) (omega arith) wrote,
     )
 
 same-length-3 : tie.Need-same-length-3 Inv-loop μ-loop
