@@ -46,13 +46,13 @@ static void fill(uint32_t n, int d)
     }
 }
 
-/* words that are multiples of random divisors of n: most of them zero divisors */
+/* each word a random residue times up to three primes of n: most of them zero divisors */
 static void fill_divisors(uint32_t n, const uint32_t *primes, int count, int d)
 {
     for (int p = 0; p < POOL; p++)
         for (int k = 0; k <= d; k++)
             for (int side = 0; side < 2; side++) {
-                uint64_t x = 1 + draw() % 1000;
+                uint64_t x = draw() % n;
                 int many = draw() % 4;
                 for (int j = 0; j < many; j++) x = x * primes[draw() % count] % n;
                 if (k == d && x == 0) x = primes[0];
