@@ -28,9 +28,12 @@ pub extern "C" fn jingcobu_reduced_resultant(n: u32, f: &[u32], g: &[u32], u: &m
     ensures { λ r. ⌜ ReducedAnswer n (now (f .entry)) (now (g .entry)) (now (u .entry)) (now (u .exit)) (now (v .entry)) (now (v .exit))
       (now (work .entry)) (now (work .exit)) (r .value) (r .status) ⌝ }
 {
-    let status = refusals::refusal_two(n, f, g);
-    if status != 0 {
-        return Answer { value: 0, status };
+    let refusal = refusals::refusal_two(n, f, g);
+    if refusal != 0 {
+        return Answer {
+            value: 0,
+            status: refusal,
+        };
     }
     let l = reduced::cofactor_length(n, f.len(), g.len());
     if u.len() < l {
@@ -42,7 +45,10 @@ pub extern "C" fn jingcobu_reduced_resultant(n: u32, f: &[u32], g: &[u32], u: &m
     if work.len() < 8192 {
         return Answer { value: 0, status: 7 };
     }
-    let value = reduced::run(&mut u[0..l], &mut v[0..l], work, n, f, g);
+    let found = reduced::run(&mut u[0..l], &mut v[0..l], work, n, f, g);
     windows::wipe(work);
-    Answer { value, status: 0 }
+    Answer {
+        value: found,
+        status: 0,
+    }
 }
