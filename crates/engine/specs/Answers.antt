@@ -4,7 +4,6 @@
 --   ProductAnswer            all that is promised of a call of the product
 --   AnsweredProduct, AnsweredResultant, AnsweredReduced    a call, on whatever buffers, that answered
 --   law-of-the-answers       POINT 3
---   resultant-served, reduced-served, product-served       where the words are served and the buffers are long enough, a call answers
 use mathlib.Core.Path.{_≡_, refl, sym, _∙_, ap, ap₂, subst}
 use mathlib.Core.Bool.{Bool, true, false, cond}
 use mathlib.Core.List.{List, [], _∷_, _++_}
