@@ -232,7 +232,15 @@ fn try_call(n: u32, f: &[u32], g: &[u32], u: &mut [u32], v: &mut [u32], work: &m
 }
 
 // The cofactors of the answer d: l is their length L. No product of one of them and of f or g has more than l + 48 words.
-fn try_cofactors(n: u32, f: &[u32], g: &[u32], l: usize, u: &mut [u32], v: &mut [u32], d: u32) -> Tried
+fn try_cofactors(
+    n: u32,
+    f: &[u32],
+    g: &[u32],
+    l: usize,
+    u: &mut [u32],
+    v: &mut [u32],
+    d: u32,
+) -> Tried
     requires { ⌜ 1 ≤ n ⌝ }
 {
     if l > 1537 {
@@ -252,7 +260,15 @@ fn try_cofactors(n: u32, f: &[u32], g: &[u32], l: usize, u: &mut [u32], v: &mut 
     Tried::Value(d)
 }
 
-fn try_reduced(n: u32, f: &[u32], g: &[u32], l: usize, u: &mut [u32], v: &mut [u32], work: &mut [u32]) -> Tried
+fn try_reduced(
+    n: u32,
+    f: &[u32],
+    g: &[u32],
+    l: usize,
+    u: &mut [u32],
+    v: &mut [u32],
+    work: &mut [u32],
+) -> Tried
     requires { ⌜ 1 ≤ n ⌝ }
 {
     match try_call(n, f, g, u, v, work) {
@@ -291,7 +307,7 @@ fn write_numbers(r: u32, dashes: bool, d: u32) {
     io::write_all(STDOUT_FILENO, b"\n");
 }
 
-// The pair f, g modulo n; the larger of its degrees, and whether the plain evaluator serves it.
+// The modulus of a pair, the larger of its degrees, and whether the plain evaluator serves it.
 struct Job {
     n: u32,
     larger: usize,
@@ -344,12 +360,29 @@ fn try_frame(s: &[u8], words: &mut [u32], u: &mut [u32], v: &mut [u32], work: &m
     read_words(s, words);
     let larger = max(d, e);
     let is_small = d + e < 9;
-    try_pair(Job { n, larger, is_small }, &words[0..d + 1], &words[d + 1..d + e + 2], u, v, work);
+    try_pair(
+        Job {
+            n,
+            larger,
+            is_small,
+        },
+        &words[0..d + 1],
+        &words[d + 1..d + e + 2],
+        u,
+        v,
+        work,
+    );
     true
 }
 
 // One line of the input; whether it was a frame.
-fn try_line(line: &mut [u8], words: &mut [u32], u: &mut [u32], v: &mut [u32], work: &mut [u32]) -> bool
+fn try_line(
+    line: &mut [u8],
+    words: &mut [u32],
+    u: &mut [u32],
+    v: &mut [u32],
+    work: &mut [u32],
+) -> bool
     requires { ⌜ 98 ≤ length (now words) ⌝ }
 {
     let l = next_line(line);

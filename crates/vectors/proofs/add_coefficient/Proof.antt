@@ -15,43 +15,33 @@ Inv-loop n x a b k s₀ i₀ s i = Unit {0}
 abbrev μ-loop : tie.MeasureT-loop
 μ-loop n x a b k s₀ i₀ s i = length a - i
 
--- src/main.rt:130:5
 loop-holds : tie.Need-loop-holds Inv-loop μ-loop
 loop-holds c = search needs
 
--- src/main.rt:132:13
 returns : tie.Need-returns Inv-loop μ-loop
 returns c = search needs
 
--- src/main.rt:134:43
 mul-mul-add-mod : tie.Need-mul-mul-add-mod Inv-loop μ-loop
 mul-mul-add-mod c = search needs
 
--- src/main.rt:134:43
 shared-slice-read-mul-add-mod : tie.Need-shared-slice-read-mul-add-mod Inv-loop μ-loop
 shared-slice-read-mul-add-mod c = search needs
 
--- src/main.rt:134:49
 coefficient-requires : tie.Need-coefficient-requires Inv-loop μ-loop
 coefficient-requires c κs = search needs
 
--- src/main.rt:134:9
 mul-add-mod-requires : tie.Need-mul-add-mod-requires Inv-loop μ-loop
 mul-add-mod-requires c κs = search needs
 
--- src/main.rt:135:9
 add-i : tie.Need-add-i Inv-loop μ-loop
 add-i c = search needs
 
--- src/main.rt:130:5
 loop-less : tie.Need-loop-less Inv-loop μ-loop
 loop-less c = search needs
 
--- src/main.rt:130:5
 loop-again : tie.Need-loop-again Inv-loop μ-loop
 loop-again c = search needs
 
--- src/main.rt:125:1
 returns-2 : tie.Need-returns-2 Inv-loop μ-loop
 returns-2 c = search needs
 

@@ -13,43 +13,33 @@ Inv-loop n f g u v c count k₀ k = Unit {0}
 abbrev μ-loop : tie.MeasureT-loop
 μ-loop n f g u v c count k₀ k = count - k
 
--- src/main.rt:161:5
 loop-holds : tie.Need-loop-holds Inv-loop μ-loop
 loop-holds c = search needs
 
--- src/main.rt:162:13
 add-coefficient-requires : tie.Need-add-coefficient-requires Inv-loop μ-loop
 add-coefficient-requires c κs = search needs
 
--- src/main.rt:163:13
 add-coefficient-requires-2 : tie.Need-add-coefficient-requires-2 Inv-loop μ-loop
 add-coefficient-requires-2 c κs = search needs
 
--- src/main.rt:164:26
 rem-constant : tie.Need-rem-constant Inv-loop μ-loop
 rem-constant c = search needs
 
--- src/main.rt:164:17
 constant-requires : tie.Need-constant-requires Inv-loop μ-loop
 constant-requires c κs = search needs
 
--- src/main.rt:165:13
 returns : tie.Need-returns Inv-loop μ-loop
 returns c = search needs
 
--- src/main.rt:167:9
 add-k : tie.Need-add-k Inv-loop μ-loop
 add-k c = search needs
 
--- src/main.rt:161:5
 loop-less : tie.Need-loop-less Inv-loop μ-loop
 loop-less c = search needs
 
--- src/main.rt:161:5
 loop-again : tie.Need-loop-again Inv-loop μ-loop
 loop-again c = search needs
 
--- src/main.rt:157:1
 returns-2 : tie.Need-returns-2 Inv-loop μ-loop
 returns-2 c = search needs
 

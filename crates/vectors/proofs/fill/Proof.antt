@@ -13,35 +13,27 @@ Inv-loop w₀ at x i₀ w i = length w ≡ length w₀
 abbrev μ-loop : tie.MeasureT-loop
 μ-loop w₀ at x i₀ w i = length w₀ - i
 
--- src/main.rt:98:5
 loop-holds : tie.Need-loop-holds Inv-loop μ-loop
 loop-holds c = search needs
 
--- src/main.rt:99:9
 mul-w : tie.Need-mul-w Inv-loop μ-loop
 mul-w c = search needs
 
--- src/main.rt:99:9
 slice-write-w : tie.Need-slice-write-w Inv-loop μ-loop
 slice-write-w c = search needs
 
--- src/main.rt:100:9
 add-i : tie.Need-add-i Inv-loop μ-loop
 add-i c = search needs
 
--- src/main.rt:98:5
 loop-less : tie.Need-loop-less Inv-loop μ-loop
 loop-less c = search needs
 
--- src/main.rt:98:5
 loop-again : tie.Need-loop-again Inv-loop μ-loop
 loop-again c = search needs
 
--- src/main.rt:96:1
 same-length : tie.Need-same-length Inv-loop μ-loop
 same-length c = search needs
 
--- src/main.rt:96:1
 returns : tie.Need-returns Inv-loop μ-loop
 returns c = search needs
 
