@@ -7,41 +7,54 @@
 use hexadecimal::Reading;
 use libc::STDIN_FILENO;
 use libc::STDOUT_FILENO;
-ghost use Prim.Native.Nat.{_+_, _≤_};
+ghost use Prim.Native.Nat.{_+_, _≤_, _<_};
+ghost use mathlib.Core.Path.{_≡_};
 ghost use lib.ListN.{length};
 
 // What stands in the lent words before a call.
 const MARK: u32 = 2882400001;
 
-// The next character of the input, or 256 at its end.
-fn next() -> u32 {
-    let mut b = [0u8; 1];
-    let got = libc::read(STDIN_FILENO, &mut b);
-    if got < 1 {
-        return 256;
-    }
-    b[0] as u32
+// The words of a frame, a cofactor with words to spare, and the working words with words to spare. The contracts give only the
+// lengths.
+fn frame_room() -> [u32; 98]
+    ensures { λ r. ⌜ 98 ≡ length r ⌝ }
+{
+    [0; 98]
 }
 
-// The characters up to the next newline or the input's end; those that find no room are passed over.
+fn cofactor_room() -> [u32; 1600]
+    ensures { λ r. ⌜ 1600 ≡ length r ⌝ }
+{
+    [0; 1600]
+}
+
+fn working_room() -> [u32; 8300]
+    ensures { λ r. ⌜ 8300 ≡ length r ⌝ }
+{
+    [0; 8300]
+}
+
+// Reads a character to place k; false at the input's end.
+fn read_to(line: &mut [u8], k: usize) -> bool
+    requires { ⌜ k < length (now line) ⌝ }
+{
+    let got = libc::read(STDIN_FILENO, &mut line[k..k + 1]);
+    got > 0
+}
+
+// The characters up to the next newline, the input's end or the end of the room; answers how many they are.
 fn next_line(line: &mut [u8]) -> usize
     ensures { λ r. ⌜ r ≤ length (now (line .exit)) ⌝ }
 {
     let mut k: usize = 0;
-    let mut turns = u64::MAX;
-    while turns > 0 {
-        turns -= 1;
-        let c = next();
-        if c > 255 {
+    while k < line.len() {
+        if !read_to(line, k) {
             return k;
         }
-        if c == 10 {
+        if line[k] == 10 {
             return k;
         }
-        if k < line.len() {
-            line[k] = (c % 256) as u8;
-            k += 1;
-        }
+        k += 1;
     }
     k
 }
@@ -63,11 +76,11 @@ fn number(s: &[u8], at: usize, count: usize) -> u32 {
     }
 }
 
-// The words of a frame.
-fn words_of(s: &[u8], words: &mut [u32]) {
+// The words of a frame: at most 98.
+fn read_words(s: &[u8], words: &mut [u32]) {
     let mut i: usize = 0;
     while i < words.len() {
-        if i > 200 {
+        if i > 97 {
             return;
         }
         words[i] = number(s, 14 + 8 * i, 8);
@@ -75,17 +88,18 @@ fn words_of(s: &[u8], words: &mut [u32]) {
     }
 }
 
-fn mark(w: &mut [u32]) {
-    let mut i: usize = 0;
+// x in each word of w from place `at` on.
+fn fill(w: &mut [u32], at: usize, x: u32) {
+    let mut i = at;
     while i < w.len() {
-        w[i] = MARK;
+        w[i] = x;
         i += 1;
     }
 }
 
-// Whether each word of w is x.
-fn all_are(w: &[u32], x: u32) -> bool {
-    let mut i: usize = 0;
+// Whether each word of w from place `at` on is x.
+fn all_are(w: &[u32], at: usize, x: u32) -> bool {
+    let mut i = at;
     while i < w.len() {
         if w[i] != x {
             return false;
@@ -95,8 +109,16 @@ fn all_are(w: &[u32], x: u32) -> bool {
     true
 }
 
-// The word k of a product, added to x.
-fn add_word(n: u32, x: u32, a: &[u32], b: &[u32], k: usize) -> u32
+// Coefficient k of f: 0 beyond its words.
+fn coefficient(f: &[u32], k: usize) -> u32 {
+    if k < f.len() {
+        return f[k];
+    }
+    0
+}
+
+// x and coefficient k of a b, added.
+fn add_coefficient(n: u32, x: u32, a: &[u32], b: &[u32], k: usize) -> u32
     requires { ⌜ 1 ≤ n ⌝ }
 {
     let mut s = x;
@@ -105,57 +127,60 @@ fn add_word(n: u32, x: u32, a: &[u32], b: &[u32], k: usize) -> u32
         if i > k {
             return s;
         }
-        if k - i < b.len() {
-            s = arithmetic::mul_add_mod(n, s, a[i], b[k - i]);
-        }
+        s = arithmetic::mul_add_mod(n, s, a[i], coefficient(b, k - i));
         i += 1;
     }
     s
 }
 
-// Whether u f + v g is the constant c, in the words that u has.
-fn combines(n: u32, f: &[u32], g: &[u32], u: &[u32], v: &[u32], c: u32) -> bool
+// Coefficient k of the constant c.
+fn constant(c: u32, k: usize) -> u32 {
+    if k == 0 {
+        return c;
+    }
+    0
+}
+
+// Whether u f + v g and the constant c agree modulo n in the first count coefficients.
+fn combines(n: u32, f: &[u32], g: &[u32], u: &[u32], v: &[u32], c: u32, count: usize) -> bool
     requires { ⌜ 1 ≤ n ⌝ }
 {
     let mut k: usize = 0;
-    while k < u.len() {
-        let x = add_word(n, 0, f, u, k);
-        let y = add_word(n, x, g, v, k);
-        if k == 0 {
-            if y != c % n {
-                return false;
-            }
-        } else {
-            if y != 0 {
-                return false;
-            }
+    while k < count {
+        let x = add_coefficient(n, 0, f, u, k);
+        let y = add_coefficient(n, x, g, v, k);
+        if y != constant(c % n, k) {
+            return false;
         }
         k += 1;
     }
     true
 }
 
-// L, or more than any buffer here has.
-fn cofactor_words(n: u32, d: usize, e: usize) -> usize {
-    let mut k: usize = 0;
+// L: the larger degree once for each halving of n, and 1.
+fn cofactor_words(n: u32, larger: usize) -> usize
+    requires { ⌜ larger ≤ 48 ⌝ }
+{
+    let mut l: usize = 1;
     let mut m = n;
     while 1 < m {
-        m = m / 2;
-        k += 1;
-        if k > 32 {
-            return 4096;
+        if l > 4096 {
+            return l;
         }
+        l += larger;
+        m = m / 2;
     }
-    if d > 48 {
-        return 4096;
+    l
+}
+
+fn max(a: usize, b: usize) -> usize
+    requires { ⌜ (a ≤ 48) × (b ≤ 48) ⌝ }
+    ensures { λ r. ⌜ r ≤ 48 ⌝ }
+{
+    if a < b {
+        return b;
     }
-    if e > 48 {
-        return 4096;
-    }
-    if d < e {
-        return k * e + 1;
-    }
-    k * d + 1
+    a
 }
 
 // A number of a service, or the place where it went wrong.
@@ -164,144 +189,224 @@ enum Tried {
     Wrong(u32),
 }
 
-fn try_resultant(n: u32, f: &[u32], g: &[u32], work: &mut [u32]) -> Tried {
-    mark(work);
+// Whether the plain evaluator answers x.
+fn evaluates_to(n: u32, f: &[u32], g: &[u32], x: u32) -> bool {
+    let b = evaluator::evaluate(n, f, g);
+    if b.status != 0 {
+        return false;
+    }
+    b.value == x
+}
+
+fn try_resultant(n: u32, f: &[u32], g: &[u32], is_small: bool, work: &mut [u32]) -> Tried {
+    fill(work, 0, MARK);
     let a = engine::jingcobu_resultant(n, f, g, work);
     if a.status != 0 {
         return Tried::Wrong(1);
     }
-    if !all_are(work, 0) {
+    if !all_are(work, 0, 0) {
         return Tried::Wrong(2);
     }
-    if f.len() + g.len() > 10 {
+    if !is_small {
         return Tried::Value(a.value);
     }
-    let b = evaluator::evaluate(n, f, g);
-    if b.value != a.value {
+    if !evaluates_to(n, f, g, a.value) {
         return Tried::Wrong(3);
     }
     Tried::Value(a.value)
 }
 
-fn try_reduced(n: u32, f: &[u32], g: &[u32], u: &mut [u32], v: &mut [u32], work: &mut [u32]) -> Tried {
-    mark(work);
-    mark(u);
-    mark(v);
+// D, from a call with marked words.
+fn try_call(n: u32, f: &[u32], g: &[u32], u: &mut [u32], v: &mut [u32], work: &mut [u32]) -> Tried {
+    fill(work, 0, MARK);
+    fill(u, 0, MARK);
+    fill(v, 0, MARK);
     let a = engine::jingcobu_reduced_resultant(n, f, g, u, v, work);
     if a.status != 0 {
         return Tried::Wrong(4);
     }
-    if !all_are(work, 0) {
+    if !all_are(work, 0, 0) {
         return Tried::Wrong(5);
-    }
-    let l = cofactor_words(n, f.len() - 1, g.len() - 1);
-    if l > u.len() {
-        return Tried::Wrong(6);
-    }
-    if l > v.len() {
-        return Tried::Wrong(6);
-    }
-    if !all_are(&u[l..], MARK) {
-        return Tried::Wrong(7);
-    }
-    if !all_are(&v[l..], MARK) {
-        return Tried::Wrong(7);
-    }
-    clear(u, l);
-    clear(v, l);
-    if !combines(n, f, g, u, v, a.value) {
-        return Tried::Wrong(8);
     }
     Tried::Value(a.value)
 }
 
-// Zeros from place l on.
-fn clear(w: &mut [u32], l: usize) {
-    let mut i = l;
-    while i < w.len() {
-        w[i] = 0;
-        i += 1;
+// The cofactors of the answer d: l is their length L. No product of one of them and of f or g has more than l + 48 words.
+fn try_cofactors(
+    n: u32,
+    f: &[u32],
+    g: &[u32],
+    l: usize,
+    u: &mut [u32],
+    v: &mut [u32],
+    d: u32,
+) -> Tried
+    requires { ⌜ 1 ≤ n ⌝ }
+{
+    if l > 1537 {
+        return Tried::Wrong(6);
     }
+    if !all_are(u, l, MARK) {
+        return Tried::Wrong(7);
+    }
+    if !all_are(v, l, MARK) {
+        return Tried::Wrong(7);
+    }
+    fill(u, l, 0);
+    fill(v, l, 0);
+    if !combines(n, f, g, u, v, d, l + 48) {
+        return Tried::Wrong(8);
+    }
+    Tried::Value(d)
+}
+
+fn try_reduced(
+    n: u32,
+    f: &[u32],
+    g: &[u32],
+    l: usize,
+    u: &mut [u32],
+    v: &mut [u32],
+    work: &mut [u32],
+) -> Tried
+    requires { ⌜ 1 ≤ n ⌝ }
+{
+    match try_call(n, f, g, u, v, work) {
+        Tried::Value(d) => try_cofactors(n, f, g, l, u, v, d),
+        Tried::Wrong(place) => Tried::Wrong(place),
+    }
+}
+
+// Eight digits.
+fn write_word(x: u32) {
+    let mut out = io::buffer();
+    hexadecimal::write(&mut out, 0, 8, x);
+    io::write_all(STDOUT_FILENO, &out[0..8]);
 }
 
 // "failed" with the place, in the line of a pair.
 fn write_failure(place: u32) {
-    let mut out = [102u8, 97, 105, 108, 101, 100, 32, 0, 0, 10];
-    hexadecimal::write(&mut out[0..10], 7, 2, place);
-    io::write_all(STDOUT_FILENO, &out[0..10]);
+    io::write_all(STDOUT_FILENO, b"failed ");
+    write_word(place);
+    io::write_all(STDOUT_FILENO, b"\n");
+}
+
+fn write_word_or_dashes(dashes: bool, x: u32) {
+    if dashes {
+        io::write_all(STDOUT_FILENO, b"--------");
+        return;
+    }
+    write_word(x);
 }
 
 // The line of a pair: the resultant, and D or dashes.
 fn write_numbers(r: u32, dashes: bool, d: u32) {
-    let mut out = [45u8; 18];
-    hexadecimal::write(&mut out[0..18], 0, 8, r);
-    out[8] = 32;
-    out[17] = 10;
-    if !dashes {
-        hexadecimal::write(&mut out[0..18], 9, 8, d);
-    }
-    io::write_all(STDOUT_FILENO, &out[0..18]);
+    write_word(r);
+    io::write_all(STDOUT_FILENO, b" ");
+    write_word_or_dashes(dashes, d);
+    io::write_all(STDOUT_FILENO, b"\n");
 }
 
-fn try_pair(n: u32, f: &[u32], g: &[u32], u: &mut [u32], v: &mut [u32], work: &mut [u32]) {
-    if n == 0 {
-        return;
-    }
-    let r;
-    match try_resultant(n, f, g, work) {
-        Tried::Value(x) => {
-            r = x;
-        }
-        Tried::Wrong(p) => {
-            write_failure(p);
-            return;
-        }
-    }
-    match try_reduced(n, f, g, u, v, work) {
+// The modulus of a pair, the larger of its degrees, and whether the plain evaluator serves it.
+struct Job {
+    n: u32,
+    larger: usize,
+    is_small: bool,
+}
+
+fn finish_pair(r: u32, j: Job, f: &[u32], g: &[u32], u: &mut [u32], v: &mut [u32], work: &mut [u32])
+    requires { ⌜ (1 ≤ j .n) × (j .larger ≤ 48) ⌝ }
+{
+    let l = cofactor_words(j.n, j.larger);
+    match try_reduced(j.n, f, g, l, u, v, work) {
         Tried::Value(d) => {
-            write_numbers(r, f.len() > 6 || g.len() > 6, d);
+            write_numbers(r, j.larger > 5, d);
         }
-        Tried::Wrong(p) => {
-            write_failure(p);
+        Tried::Wrong(place) => {
+            write_failure(place);
         }
     }
 }
 
-// One line of the input; whether it was a frame.
-fn try_line(line: &mut [u8], words: &mut [u32], u: &mut [u32], v: &mut [u32], work: &mut [u32]) -> bool {
-    let l = next_line(line);
-    if l < 14 {
+fn try_pair(j: Job, f: &[u32], g: &[u32], u: &mut [u32], v: &mut [u32], work: &mut [u32])
+    requires { ⌜ (1 ≤ j .n) × (j .larger ≤ 48) ⌝ }
+{
+    match try_resultant(j.n, f, g, j.is_small, work) {
+        Tried::Value(r) => {
+            finish_pair(r, j, f, g, u, v, work);
+        }
+        Tried::Wrong(place) => {
+            write_failure(place);
+        }
+    }
+}
+
+// The frame s, whose words are to stand in `words`; whether it was one.
+fn try_frame(s: &[u8], words: &mut [u32], u: &mut [u32], v: &mut [u32], work: &mut [u32]) -> bool
+    requires { ⌜ 98 ≤ length (now words) ⌝ }
+{
+    let n = number(s, 2, 8);
+    if n < 2 {
         return false;
     }
-    let s = &line[0..l];
-    let n = number(s, 2, 8);
     let d = number(s, 10, 2) as usize;
-    let e = number(s, 12, 2) as usize;
     if d > 48 {
         return false;
     }
+    let e = number(s, 12, 2) as usize;
     if e > 48 {
         return false;
     }
-    if words.len() < 98 {
-        return false;
-    }
-    words_of(s, words);
-    try_pair(n, &words[0..d + 1], &words[d + 1..d + e + 2], u, v, work);
+    read_words(s, words);
+    let larger = max(d, e);
+    let is_small = d + e < 9;
+    try_pair(
+        Job {
+            n,
+            larger,
+            is_small,
+        },
+        &words[0..d + 1],
+        &words[d + 1..d + e + 2],
+        u,
+        v,
+        work,
+    );
     true
 }
 
-fn main() {
-    let mut line = io::buffer();
-    let mut words = [0u32; 98];
-    let mut u = [0u32; 1600];
-    let mut v = [0u32; 1600];
-    let mut work = [0u32; 8300];
-    let mut turns: u32 = 100000;
+// One line of the input; whether it was a frame.
+fn try_line(
+    line: &mut [u8],
+    words: &mut [u32],
+    u: &mut [u32],
+    v: &mut [u32],
+    work: &mut [u32],
+) -> bool
+    requires { ⌜ 98 ≤ length (now words) ⌝ }
+{
+    let l = next_line(line);
+    try_frame(&line[0..l], words, u, v, work)
+}
+
+// A proved loop has to end, and nothing says that an input does: it counts its turns down from a number that no run uses up.
+fn run(line: &mut [u8], words: &mut [u32], u: &mut [u32], v: &mut [u32], work: &mut [u32])
+    requires { ⌜ 98 ≤ length (now words) ⌝ }
+{
+    let mut turns = u64::MAX;
     while turns > 0 {
-        if !try_line(&mut line[0..4096], &mut words[0..98], &mut u[0..1600], &mut v[0..1600], &mut work[0..8300]) {
+        if !try_line(line, words, u, v, work) {
             return;
         }
         turns -= 1;
     }
+}
+
+fn main() {
+    let mut line = io::buffer();
+    let mut words = frame_room();
+    let mut u = cofactor_room();
+    let mut v = cofactor_room();
+    let mut work = working_room();
+    run(&mut line, &mut words, &mut u, &mut v, &mut work);
 }
