@@ -1,6 +1,6 @@
 // One word of a product of polynomials.
 //
-//   add_product     x + a b modulo m, by one comparison
+//   room_after      a sum of products modulo m, a term by one comparison
 //   first, end      the range of places whose words meet in word k
 //   product_word    word k of f g
 ghost use mathlib.Core.Path.{_≡_};
@@ -8,17 +8,18 @@ ghost use Prim.Native.Nat.{ℕ, min, _+_, _-_, _*_, _%_, _<_, _≤_};
 ghost use lib.ListN.{length};
 ghost use Rattle.definitions.specs.Polynomials.{coef, convolve, Residues};
 
-// x + a b modulo m. The sum may pass 64 bits, so it is compared before it is made.
-pub fn add_product(m: u64, x: u64, a: u32, b: u32) -> u64
-    requires { ⌜ (x < m) × (a * b ≤ m) ⌝ }
-    ensures { λ r. ⌜ r ≡ (x + a * b) % m ⌝ }
+// What a sum x modulo m leaves of m is h, from 1 to m; once a b is added to x it leaves this. Held so, a term costs one comparison
+// and nothing passes 64 bits.
+pub fn room_after(m: u64, h: u64, a: u32, b: u32) -> u64
+    requires { ⌜ (h ≤ m) × ((1 ≤ h) × (a * b ≤ m)) ⌝ }
+    ensures { λ r. ⌜ r ≡ m - (m - h + a * b) % m ⌝ }
 {
     let p = (a as u64) * (b as u64);
-    let h = m - x;
+    let c = m - p;
     if p >= h {
-        return p - h;
+        return h + c;
     }
-    x + p
+    h - p
 }
 
 // The first place of f whose word meets one of g, of len words, in word k.
@@ -42,7 +43,7 @@ pub fn end(k: usize, len: usize) -> usize
     len
 }
 
-// Word k of the product of f and g. The sum is kept below n 2^32, and reduced once.
+// Word k of the product of f and g. The sum is kept modulo n 2^32, and reduced once.
 pub fn product_word(n: u32, f: &[u32], g: &[u32], k: usize) -> u32
     requires { ⌜ (1 ≤ n) × Residues n (now g) ⌝ }
     ensures { λ r. ⌜ r ≡ convolve (coef (now (f .entry))) (coef (now (g .entry))) k % n ⌝ }
@@ -53,10 +54,10 @@ pub fn product_word(n: u32, f: &[u32], g: &[u32], k: usize) -> u32
     let m = (n as u64) * 4294967296;
     let last = end(k, f.len());
     let mut i = first(k, g.len());
-    let mut x: u64 = 0;
+    let mut h = m;
     while i < last {
-        x = add_product(m, x, f[i], g[k - i]);
+        h = room_after(m, h, f[i], g[k - i]);
         i += 1;
     }
-    arithmetic::reduce(n, x)
+    arithmetic::reduce(n, m - h)
 }
