@@ -1,0 +1,88 @@
+-- The words of Sylvester's matrix, and the resultant as its determinant.
+--
+--   degrees                                     d + e, as the code takes it
+--   entry-before, entry-after, entry-within     a row of f: before its words, after them, and within them
+--   sylvester-first, sylvester-second           the rows of f and the rows of g
+--   filled-residues                             the words are residues where those of f and g are
+--   evaluated                                   the determinant of the matrix is the resultant
+use mathlib.Core.Path.{_≡_, sym, _∙_, ap, ap₂, subst}
+use mathlib.Core.Bool.{Bool, true, false, cond}
+use mathlib.Core.List.{List}
+use Prim.Native.Nat.{ℕ, pred, _+_, _-_, _<_, _≤_}
+use native.Mathlib.Decide.{decLt}
+use native.Mathlib.Nat.{lt-of-lt-of-le}
+use native.Mathlib.Omega.{arith}
+use borrow.Author.Tests.{lt-ltb, le-ltb, le-leb, lt-leb}
+use lib.Dec.{ltb, leb}
+use lib.IntN.{pos, natAbs}
+use lib.ListN.{length, List·getD-eq-default}
+use Rattle.definitions.specs.Polynomials.{coef, deg, Residues}
+use Rattle.definitions.specs.Resultants.{entry, sylvester, resultant}
+use Rattle.matrices.specs.Elimination.{cell, ResidueCells}
+use Rattle.matrices.specs.LeadingMinors.{leading-minor, minor-sylvester}
+use Rattle.evaluator.specs.Sylvester.{Filled}
+
+-- the sent degree, and d + e, as the code takes them
+less-one : (l : ℕ) → l - 1 ≡ pred l
+less-one l = omega arith
+
+pub degrees : (f g : List ℕ) → length f - 1 + (length g - 1) ≡ deg f + deg g
+degrees f g = ap₂ _+_ (less-one (length f)) (less-one (length g))
+
+-- the three places of a column against row i of f, of sent degree d
+pub entry-before : (f : List ℕ) (i j : ℕ) → j < i → pos 0 ≡ entry (deg f) f i j
+entry-before f i j l =
+    sym (ap (λ (t : Bool). cond t (cond (leb j (i + deg f)) (pos (coef f (i + deg f - j))) (pos 0)) (pos 0)) (lt-leb i j l))
+
+pub entry-after : (f : List ℕ) (d i j : ℕ) → d ≡ length f - 1 → i ≤ j → i + d < j → pos 0 ≡ entry (deg f) f i j
+entry-after f d i j e l h =
+    sym (ap₂ (λ (s t : Bool). cond s (cond t (pos (coef f (i + deg f - j))) (pos 0)) (pos 0)) (le-leb i j l)
+    (lt-leb j (i + deg f) (subst (λ (x : ℕ). i + x < j) (e ∙ less-one (length f)) h)))
+
+pub entry-within : (f : List ℕ) (d i j : ℕ) → d ≡ length f - 1 → i ≤ j → j ≤ i + d → pos (coef f (i + d - j)) ≡ entry (deg f) f i j
+entry-within f d i j e l h =
+    ap (λ (x : ℕ). pos (coef f (i + x - j))) (e ∙ less-one (length f))
+    ∙ sym (ap₂ (λ (s t : Bool). cond s (cond t (pos (coef f (i + deg f - j))) (pos 0)) (pos 0)) (le-leb i j l)
+    (le-leb j (i + deg f) (subst (λ (x : ℕ). j ≤ i + x) (e ∙ less-one (length f)) h)))
+
+-- the two blocks of rows, e the sent degree of g
+pub sylvester-first : (f g : List ℕ) (e r c : ℕ) → e ≡ length g - 1 → r < e → entry (deg f) f r c ≡ sylvester f g r c
+sylvester-first f g e r c h l =
+    sym (ap (λ (t : Bool). cond t (entry (deg f) f r c) (entry (deg g) g (r - deg g) c))
+    (lt-ltb r (deg g) (subst (λ (x : ℕ). r < x) (h ∙ less-one (length g)) l)))
+
+pub sylvester-second : (f g : List ℕ) (e r c : ℕ) → e ≡ length g - 1 → e ≤ r → entry (deg g) g (r - e) c ≡ sylvester f g r c
+sylvester-second f g e r c h l =
+    ap (λ (x : ℕ). entry (deg g) g (r - x) c) (h ∙ less-one (length g))
+    ∙ sym (ap (λ (t : Bool). cond t (entry (deg f) f r c) (entry (deg g) g (r - deg g) c))
+    (le-ltb r (deg g) (subst (λ (x : ℕ). x ≤ r) (h ∙ less-one (length g)) l)))
+
+pub filled-residues : (n : ℕ) (f g : List ℕ) (m : List (List ℕ)) → 1 ≤ n → Residues n f → Residues n g → Filled f g m → ResidueCells n m
+filled-residues n f g m one hf hg h = record { at = λ r c p q. either (ltb r (deg g)) r c (h .at r c p q) }
+  where
+    below : (f : List ℕ) → Residues n f → (k : ℕ) → coef f k < n
+    below f b k = go (decLt k (length f))
+      where
+        go : Dec (k < length f) → coef f k < n
+        go (yes l) = b .at k l
+        go (no l) = subst (λ (x : ℕ). x < n) (sym (List·getD-eq-default f 0 {n = k} (omega arith))) one
+
+    row : (s t : Bool) (a x : ℕ) → a < n → pos x ≡ cond s (cond t (pos a) (pos 0)) (pos 0) → x < n
+    row true true a x l e = subst (λ (y : ℕ). y < n) (sym (ap natAbs e)) l
+    row true false a x l e = subst (λ (y : ℕ). y < n) (sym (ap natAbs e)) one
+    row false t a x l e = subst (λ (y : ℕ). y < n) (sym (ap natAbs e)) one
+
+    either : (t : Bool) (r c : ℕ) → pos (cell m r c) ≡ cond t (entry (deg f) f r c) (entry (deg g) g (r - deg g) c) → cell m r c < n
+    either true r c e = row (leb r c) (leb c (r + deg f)) (coef f (r + deg f - c)) (cell m r c) (below f hf (r + deg f - c)) e
+    either false r c e =
+        row (leb (r - deg g) c) (leb c (r - deg g + deg g)) (coef g (r - deg g + deg g - c)) (cell m r c)
+        (below g hg (r - deg g + deg g - c)) e
+
+pub evaluated : (n : ℕ) (f g : List ℕ) (m : List (List ℕ)) → length f - 1 + (length g - 1) ≤ 8 → Filled f g m
+    → leading-minor n (length f - 1 + (length g - 1)) (cell m) ≡ resultant n f g
+evaluated n f g m l h =
+    ap (λ (k : ℕ). leading-minor n k (cell m)) (degrees f g)
+    ∙ minor-sylvester n f g (cell m) (λ x c u v. h .at x c (inside x u) (inside c v))
+  where
+    inside : (x : ℕ) → x < deg f + deg g → x < 8
+    inside x u = lt-of-lt-of-le u (subst (λ (k : ℕ). k ≤ 8) (degrees f g) l)

@@ -1,0 +1,2 @@
+pub mod LeadingMinors
+pub mod Elimination
