@@ -40,15 +40,23 @@ static int below(uint32_t n, const uint32_t *f, size_t len)
     return 1;
 }
 
+static uint64_t add_within(uint64_t m, uint64_t x, uint64_t y)
+{
+    uint64_t h = m - x;
+    return y >= h ? y - h : x + y;
+}
+
 static uint32_t word(uint32_t n, const uint32_t *f, size_t fl, const uint32_t *g, size_t gl, size_t k)
 {
-    uint64_t m = (uint64_t) n << 32, x = 0;
-    size_t last = k < fl ? k + 1 : fl;
-    for (size_t i = k < gl ? 0 : k - (gl - 1); i < last; i++) {
-        uint64_t p = (uint64_t) f[i] * g[k - i], h = m - x;
-        x = p >= h ? p - h : x + p;
+    uint64_t m = (uint64_t) n << 32, x = 0, y = 0;
+    size_t last = k < fl ? k + 1 : fl, i = k < gl ? 0 : k - (gl - 1);
+    if (i >= last) return 0;
+    for (; i + 1 < last; i += 2) {
+        x = add_within(m, x, (uint64_t) f[i] * g[k - i]);
+        y = add_within(m, y, (uint64_t) f[i + 1] * g[k - i - 1]);
     }
-    return (uint32_t) (x % n);
+    if (i < last) x = add_within(m, x, (uint64_t) f[i] * g[k - i]);
+    return (uint32_t) (add_within(m, x, y) % n);
 }
 
 static __attribute__((noinline)) int c_product(uint32_t n, const uint32_t *f, size_t fl, const uint32_t *g, size_t gl, uint32_t *out, size_t ol)

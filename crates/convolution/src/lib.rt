@@ -1,6 +1,7 @@
 // One word of a product of polynomials.
 //
-//   room_after      a sum of products modulo m, a term by one comparison
+//   add_within      x + y modulo m, by one comparison
+//   add_product     x + a b modulo m
 //   first, end      the range of places whose words meet in word k
 //   product_word    word k of f g
 ghost use mathlib.Core.Path.{_≡_};
@@ -8,18 +9,24 @@ ghost use Prim.Native.Nat.{ℕ, min, _+_, _-_, _*_, _%_, _<_, _≤_};
 ghost use lib.ListN.{length};
 ghost use Rattle.definitions.specs.Polynomials.{coef, convolve, Residues};
 
-// What a sum x modulo m leaves of m is h, from 1 to m; once a b is added to x it leaves this. Held so, a term costs one comparison
-// and nothing passes 64 bits.
-pub fn room_after(m: u64, h: u64, a: u32, b: u32) -> u64
-    requires { ⌜ (h ≤ m) × ((1 ≤ h) × (a * b ≤ m)) ⌝ }
-    ensures { λ r. ⌜ r ≡ m - (m - h + a * b) % m ⌝ }
+// x + y modulo m. The sum may pass 64 bits, so it is compared before it is made.
+pub fn add_within(m: u64, x: u64, y: u64) -> u64
+    requires { ⌜ (x < m) × (y ≤ m) ⌝ }
+    ensures { λ r. ⌜ r ≡ (x + y) % m ⌝ }
 {
-    let p = (a as u64) * (b as u64);
-    let c = m - p;
-    if p >= h {
-        return h + c;
+    let h = m - x;
+    if y >= h {
+        return y - h;
     }
-    h - p
+    x + y
+}
+
+// x + a b modulo m.
+pub fn add_product(m: u64, x: u64, a: u32, b: u32) -> u64
+    requires { ⌜ (x < m) × (a * b ≤ m) ⌝ }
+    ensures { λ r. ⌜ r ≡ (x + a * b) % m ⌝ }
+{
+    add_within(m, x, (a as u64) * (b as u64))
 }
 
 // The first place of f whose word meets one of g, of len words, in word k.
@@ -43,7 +50,7 @@ pub fn end(k: usize, len: usize) -> usize
     len
 }
 
-// Word k of the product of f and g. The sum is kept modulo n 2^32, and reduced once.
+// Word k of the product of f and g. The sum is kept modulo n 2^32, in two halves that do not wait for each other, and reduced once.
 pub fn product_word(n: u32, f: &[u32], g: &[u32], k: usize) -> u32
     requires { ⌜ (1 ≤ n) × Residues n (now g) ⌝ }
     ensures { λ r. ⌜ r ≡ convolve (coef (now (f .entry))) (coef (now (g .entry))) k % n ⌝ }
@@ -54,10 +61,20 @@ pub fn product_word(n: u32, f: &[u32], g: &[u32], k: usize) -> u32
     let m = (n as u64) * 4294967296;
     let last = end(k, f.len());
     let mut i = first(k, g.len());
-    let mut h = m;
-    while i < last {
-        h = room_after(m, h, f[i], g[k - i]);
-        i += 1;
+    if i >= last {
+        return 0;
     }
-    arithmetic::reduce(n, m - h)
+    let mut x: u64 = 0;
+    let mut y: u64 = 0;
+    while i + 1 < last {
+        let j = i + 1;
+        x = add_product(m, x, f[i], g[k - i]);
+        y = add_product(m, y, f[j], g[k - j]);
+        i += 2;
+    }
+    if i < last {
+        x = add_product(m, x, f[i], g[k - i]);
+        return arithmetic::reduce(n, add_within(m, x, y));
+    }
+    arithmetic::reduce(n, add_within(m, x, y))
 }
