@@ -1,12 +1,12 @@
 -- What a turn of `product_word` keeps: x and y add to the sum of the terms before place i, modulo a multiple m of n.
-use mathlib.Core.Path.{_≡_, refl, sym, ap, ap₂, subst, _∙_}
+use mathlib.Core.Path.{_≡_, sym, ap, subst, _∙_}
 use mathlib.Core.List.{List}
-use Prim.Native.Nat.{ℕ, zero, suc, min, _+_, _-_, _*_, _%_, _<_, _≤_, _∣_}
+use Prim.Native.Nat.{ℕ, suc, min, _+_, _-_, _*_, _%_, _<_, _≤_, _∣_}
 use native.Mathlib.Nat.{mod-lt, zero-mul, mul-zero, mul-le-mul, le-of-lt, mod-eq-of-lt, add-mod-right}
 use native.Mathlib.Numerals.{add-one}
 use native.Mathlib.Omega.{arith}
-use lib.ListN.{length, getD, List·getD-eq-default}
-use Rattle.definitions.specs.Polynomials.{coef, total, convolve, Residues}
+use lib.ListN.{length, List·getD-eq-default}
+use Rattle.definitions.specs.Polynomials.{coef, total, convolve}
 use Rattle.numbers.specs.Congruence.{Cong, c-refl, c-trans, c-eq, c-add, c-mod, c-dvd}
 use Rattle.convolution.specs.Sums.{total-last, total-none, total-more}
 
@@ -33,22 +33,24 @@ unmet : (k i : ℕ) (f g : List ℕ) → i ≡ k + 1 - length g → total i (λ 
 unmet k i f g e = total-none i _ (λ j l. ap (λ (x : ℕ). coef f j * x) (beyond g (k - j) (omega arith)) ∙ mul-zero (coef f j))
 
 -- the terms from the end of f on are 0
-pub rest : (k i : ℕ) (f g : List ℕ) → i ≤ k + 1 → min (k + 1) (length f) ≤ i → convolve (coef f) (coef g) k ≡ total i (λ (j : ℕ). coef f j * coef g (k - j))
+pub rest : (k i : ℕ) (f g : List ℕ) → i ≤ k + 1 → min (k + 1) (length f) ≤ i → convolve (coef f) (coef g) k
+    ≡ total i (λ (j : ℕ). coef f j * coef g (k - j))
 rest k i f g b l =
     total-more i (suc k) (λ (j : ℕ). coef f j * coef g (k - j)) (omega arith)
     (λ j p q. ap (λ (z : ℕ). z * coef g (k - j)) (beyond f j (omega arith)) ∙ zero-mul (coef g (k - j)))
 
-pub summed-none : (k i : ℕ) (f g : List ℕ) → 1 ≤ length g → i ≡ k + 1 - length g → min (k + 1) (length f) ≤ i → convolve (coef f) (coef g) k ≡ 0
+pub summed-none : (k i : ℕ) (f g : List ℕ) → 1 ≤ length g → i ≡ k + 1 - length g → min (k + 1) (length f) ≤ i
+    → convolve (coef f) (coef g) k ≡ 0
 summed-none k i f g one e l = rest k i f g (omega arith) l ∙ unmet k i f g e
 
 pub summed-start : (k m i : ℕ) (f g : List ℕ) → 0 < m → 1 ≤ length g → i ≡ k + 1 - length g → Summed k m i 0 0 f g
 summed-start k m i f g pos one e = record {
-      most = omega arith;
-      least = omega arith;
-      below-x = pos;
-      below-y = pos;
-      sum = c-eq (sym (unmet k i f g e))
-    }
+  most = omega arith;
+  least = omega arith;
+  below-x = pos;
+  below-y = pos;
+  sum = c-eq (sym (unmet k i f g e));
+}
 
 last-term : (i : ℕ) (F : ℕ → ℕ) → total (i + 1) F ≡ total i F + F i
 last-term i F = ap (λ (j : ℕ). total j F) (add-one i) ∙ total-last i F
@@ -65,26 +67,29 @@ summed-step {k} {m} {i} {x} {y} {x'} {y'} {f} {g} pos l ex ey s =
       below-x = subst (λ (z : ℕ). z < m) (sym ex) (mod-lt _ pos);
       below-y = subst (λ (z : ℕ). z < m) (sym ey) (mod-lt _ pos);
       sum = c-trans (c-add (c-trans (c-eq ex) (c-mod (x + F i))) (c-trans (c-eq ey) (c-mod (y + F (i + 1)))))
-        (c-trans (c-eq (four x (F i) y (F (i + 1))))
-        (c-trans (c-add (c-add (s .sum) (c-refl {a = F i})) (c-refl {a = F (i + 1)}))
-        (c-eq (sym (ap (λ (j : ℕ). total j F) two ∙ last-term (i + 1) F ∙ ap (λ (z : ℕ). z + F (i + 1)) (last-term i F))))))
+          (c-trans (c-eq (four x (F i) y (F (i + 1))))
+          (c-trans (c-add (c-add (s .sum) (c-refl {a = F i})) (c-refl {a = F (i + 1)}))
+          (c-eq (sym (ap (λ (j : ℕ). total j F) two ∙ last-term (i + 1) F ∙ ap (λ (z : ℕ). z + F (i + 1)) (last-term i F))))));
     }
   where
     four : (a b c d : ℕ) → a + b + (c + d) ≡ a + c + b + d
     four a b c d = omega arith
 
 -- the last term of an odd number
-pub summed-last : {k m i x y x' r : ℕ} {f g : List ℕ} (n : ℕ) → n ∣ m → i < k + 1 → min (k + 1) (length f) ≤ i + 1 → x' ≡ (x + coef f i * coef g (k - i)) % m
+pub summed-last : {k m i x y x' r : ℕ} {f g : List ℕ} (n : ℕ) → n ∣ m → i < k + 1 → min (k + 1) (length f) ≤ i + 1 → x'
+    ≡ (x + coef f i * coef g (k - i)) % m
     → r ≡ (x' + y) % m → Summed k m i x y f g → r % n ≡ convolve (coef f) (coef g) k % n
 summed-last {k} {m} {i} {x} {y} {x'} {r} {f} {g} n d l b ex er s =
     let F : ℕ → ℕ = λ (j : ℕ). coef f j * coef g (k - j) in
     c-dvd d (c-trans (c-eq er) (c-trans (c-mod (x' + y)) (c-trans (c-add (c-trans (c-eq ex) (c-mod (x + F i))) (c-refl {a = y}))
-    (c-trans (c-eq (three x (F i) y)) (c-trans (c-add (s .sum) (c-refl {a = F i})) (c-eq (sym (last-term i F) ∙ sym (rest k (i + 1) f g (omega arith) b)))))))) .same
+    (c-trans (c-eq (three x (F i) y)) (c-trans (c-add (s .sum) (c-refl {a = F i}))
+    (c-eq (sym (last-term i F) ∙ sym (rest k (i + 1) f g (omega arith) b)))))))) .same
   where
     three : (a b c : ℕ) → a + b + c ≡ a + c + b
     three a b c = omega arith
 
-pub summed-end : {k m i x y r : ℕ} {f g : List ℕ} (n : ℕ) → n ∣ m → min (k + 1) (length f) ≤ i → r ≡ (x + y) % m → Summed k m i x y f g → r % n ≡ convolve (coef f) (coef g) k % n
+pub summed-end : {k m i x y r : ℕ} {f g : List ℕ} (n : ℕ) → n ∣ m → min (k + 1) (length f) ≤ i → r ≡ (x + y) % m → Summed k m i x y f g
+    → r % n ≡ convolve (coef f) (coef g) k % n
 summed-end {k} {m} {i} {x} {y} {r} {f} {g} n d b er s =
     c-dvd d (c-trans (c-eq er) (c-trans (c-mod (x + y)) (c-trans (s .sum) (c-eq (sym (rest k i f g (s .most) b)))))) .same
 

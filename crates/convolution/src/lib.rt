@@ -5,8 +5,7 @@
 //   first, end      the range of places whose words meet in word k
 //   product_word    word k of f g
 ghost use mathlib.Core.Path.{_≡_};
-ghost use Prim.Native.Nat.{ℕ, min, _+_, _-_, _*_, _%_, _<_, _≤_};
-ghost use lib.ListN.{length};
+ghost use Prim.Native.Nat.{min, _+_, _-_, _*_, _%_, _<_, _≤_};
 ghost use Rattle.definitions.specs.Polynomials.{coef, convolve, Residues};
 
 // x + y modulo m. The sum may pass 64 bits, so it is compared before it is made.

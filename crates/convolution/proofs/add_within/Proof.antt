@@ -1,7 +1,6 @@
-use mathlib.Core.Path.{_≡_, refl, sym, ap, _∙_}
-use Prim.Native.Nat.{ℕ, min, _+_, _-_, _*_, _%_, _≤_, _<_}
+use mathlib.Core.Path.{sym}
+use Prim.Native.Nat.{_-_}
 use native.Mathlib.Omega.{arith}
-use lib.ListN.{length, getD}
 use native.Mathlib.Nat.{mod-eq-of-lt}
 use Rattle.convolution.proofs.Terms.{over}
 use borrow.Author.Needs.{needs}

@@ -1,8 +1,8 @@
 use borrow.Author.Needs.{needs}
-use mathlib.Core.Path.{_≡_, refl, sym, ap, subst, _∙_}
-use Prim.Native.Nat.{ℕ, min, _+_, _-_, _*_, _%_, _≤_, _<_}
+use mathlib.Core.Path.{sym, ap, subst, _∙_}
+use Prim.Native.Nat.{ℕ, _+_, _-_, _*_, _%_, _≤_, _<_}
 use native.Mathlib.Omega.{arith}
-use lib.ListN.{length, getD}
+use lib.ListN.{getD}
 use native.Mathlib.Nat.{zero-mod, dvd-mul-right, mod-lt, le-of-lt}
 use Rattle.convolution.proofs.Terms.{Summed, summed-none, summed-start, summed-step, summed-last, summed-end, none, room}
 use Rattle.convolution.proofs.product_word.Statement.{statement}
@@ -41,7 +41,8 @@ first-requires c κs = search needs
 -- src/lib.rt:65:9
 returns-2 : tie.Need-returns-2 Inv-loop μ-loop
 returns-2 c = let s = c .before .before .before .before .before .before in
-    sym (ap (λ (x : ℕ). x % s .args .n) (summed-none (s .args .k) _ (s .args .f .now) (s .args .g .now) (omega arith) (c .before .first .ensures) (omega arith)) ∙ zero-mod (s .args .n))
+    sym (ap (λ (x : ℕ). x % s .args .n) (summed-none (s .args .k) _ (s .args .f .now) (s .args .g .now) (omega arith)
+    (c .before .first .ensures) (omega arith)) ∙ zero-mod (s .args .n))
 
 -- src/lib.rt:69:5
 loop-holds : tie.Need-loop-holds Inv-loop μ-loop
@@ -80,8 +81,11 @@ add-product-requires : tie.Need-add-product-requires Inv-loop μ-loop
 add-product-requires c κs = let s = c .before .before .before .before .before .before .before .before .before .before in
     let l = c .before .before .before .loop in
     let a : ℕ = getD (s .args .f .now) (l .i) 0 in
-    let small : a < 4294967296 = omega (arith, c .before .shared-slice-known3 .given (l .i)) in
-    (l .inv .1 .below-x, room (s .args .n) 4294967296 a (getD (s .args .g .now) (s .args .k - (l .i)) 0) small (s .pre .1 .at (s .args .k - (l .i)) (omega (arith, l .inv .1 .least))))
+    let small : a < 4294967296 = omega (arith, c .before .shared-slice-known3 .given (l .i)) in (
+      l .inv .1 .below-x,
+      room (s .args .n) 4294967296 a (getD (s .args .g .now) (s .args .k - (l .i)) 0) small
+          (s .pre .1 .at (s .args .k - (l .i)) (omega (arith, l .inv .1 .least))),
+    )
 
 -- src/lib.rt:72:31
 mul-add-product-3 : tie.Need-mul-add-product-3 Inv-loop μ-loop
@@ -105,11 +109,15 @@ shared-slice-read-add-product-4 c = search needs
 
 -- src/lib.rt:72:9
 add-product-requires-2 : tie.Need-add-product-requires-2 Inv-loop μ-loop
-add-product-requires-2 c κs = let s = c .before .before .before .before .before .before .before .before .before .before .before .before .before in
+add-product-requires-2 c κs = let s = c .before .before .before .before .before .before .before .before .before .before .before .before
+    .before in
     let l = c .before .before .before .before .before .before .loop in
     let a : ℕ = getD (s .args .f .now) (l .i + 1) 0 in
-    let small : a < 4294967296 = omega (arith, c .before .shared-slice-known5 .given (l .i + 1)) in
-    (l .inv .1 .below-y, room (s .args .n) 4294967296 a (getD (s .args .g .now) (s .args .k - (l .i + 1)) 0) small (s .pre .1 .at (s .args .k - (l .i + 1)) (omega (arith, l .inv .1 .least))))
+    let small : a < 4294967296 = omega (arith, c .before .shared-slice-known5 .given (l .i + 1)) in (
+      l .inv .1 .below-y,
+      room (s .args .n) 4294967296 a (getD (s .args .g .now) (s .args .k - (l .i + 1)) 0) small
+          (s .pre .1 .at (s .args .k - (l .i + 1)) (omega (arith, l .inv .1 .least))),
+    )
 
 -- src/lib.rt:73:9
 add-i : tie.Need-add-i Inv-loop μ-loop
@@ -121,7 +129,11 @@ loop-less c = search needs
 
 -- src/lib.rt:69:5
 loop-again : tie.Need-loop-again Inv-loop μ-loop
-loop-again c = (omega arith, summed-step (omega arith) (omega arith) (c .before .before .before .add-product .ensures) (c .add-product2 .ensures) (c .before .before .before .before .before .before .before .loop .inv .1))
+loop-again c = (
+  omega arith,
+  summed-step (omega arith) (omega arith) (c .before .before .before .add-product .ensures)
+      (c .add-product2 .ensures) (c .before .before .before .before .before .before .before .loop .inv .1),
+)
 
 -- src/lib.rt:76:31
 mul-add-product-5 : tie.Need-mul-add-product-5 Inv-loop μ-loop
@@ -148,13 +160,19 @@ add-product-requires-3 : tie.Need-add-product-requires-3 Inv-loop μ-loop
 add-product-requires-3 c κs = let s = c .before .before .before .before .before .before .before .before .before .before .before in
     let l = c .before .before .before .before .loop in
     let a : ℕ = getD (s .args .f .now) (l .i) 0 in
-    let small : a < 4294967296 = omega (arith, c .before .shared-slice-known7 .given (l .i)) in
-    (l .inv .1 .below-x, room (s .args .n) 4294967296 a (getD (s .args .g .now) (s .args .k - (l .i)) 0) small (s .pre .1 .at (s .args .k - (l .i)) (omega (arith, l .inv .1 .least))))
+    let small : a < 4294967296 = omega (arith, c .before .shared-slice-known7 .given (l .i)) in (
+      l .inv .1 .below-x,
+      room (s .args .n) 4294967296 a (getD (s .args .g .now) (s .args .k - (l .i)) 0) small
+          (s .pre .1 .at (s .args .k - (l .i)) (omega (arith, l .inv .1 .least))),
+    )
 
 -- src/lib.rt:77:38
 add-within-requires : tie.Need-add-within-requires Inv-loop μ-loop
-add-within-requires c κs = let s = c .before .before .before .before .before .before .before .before .before .before .before .before in
-    (subst (λ (z : ℕ). z < s .args .n * 4294967296) (sym (c .add-product3 .ensures)) (mod-lt _ (omega arith)), le-of-lt (c .before .before .before .before .before .loop .inv .1 .below-y))
+add-within-requires c κs = let s = c .before .before .before .before .before .before .before .before .before .before .before .before in (
+  subst (λ (z : ℕ). z < s .args .n * 4294967296) (sym (c .add-product3 .ensures))
+      (mod-lt _ (omega arith)),
+  le-of-lt (c .before .before .before .before .before .loop .inv .1 .below-y),
+)
 
 -- src/lib.rt:77:9
 reduce-requires : tie.Need-reduce-requires Inv-loop μ-loop
@@ -163,7 +181,9 @@ reduce-requires c κs = search needs
 -- src/lib.rt:77:9
 returns-3 : tie.Need-returns-3 Inv-loop μ-loop
 returns-3 c = let s = c .before .before .before .before .before .before .before .before .before .before .before .before .before .before in
-    c .reduce .ensures ∙ summed-last (s .args .n) (dvd-mul-right (s .args .n) 4294967296) (omega arith) (omega arith) (c .before .before .add-product3 .ensures) (c .before .add-within .ensures) (c .before .before .before .before .before .before .before .loop .inv .1)
+    c .reduce .ensures ∙ summed-last (s .args .n) (dvd-mul-right (s .args .n) 4294967296) (omega arith) (omega arith)
+    (c .before .before .add-product3 .ensures) (c .before .add-within .ensures)
+    (c .before .before .before .before .before .before .before .loop .inv .1)
 
 -- src/lib.rt:79:27
 add-within-requires-2 : tie.Need-add-within-requires-2 Inv-loop μ-loop
@@ -177,7 +197,8 @@ reduce-requires-2 c κs = search needs
 -- src/lib.rt:54:1
 returns-4 : tie.Need-returns-4 Inv-loop μ-loop
 returns-4 c = let s = c .before .before .before .before .before .before .before .before .before .before .before in
-    c .reduce2 .ensures ∙ summed-end (s .args .n) (dvd-mul-right (s .args .n) 4294967296) (omega arith) (c .before .add-within2 .ensures) (c .before .before .before .before .loop .inv .1)
+    c .reduce2 .ensures ∙ summed-end (s .args .n) (dvd-mul-right (s .args .n) 4294967296) (omega arith) (c .before .add-within2 .ensures)
+    (c .before .before .before .before .loop .inv .1)
 
 pub product-word-spec : {M : Type 1} → statement M
 product-word-spec =

@@ -1,7 +1,5 @@
-use mathlib.Core.Path.{_≡_, refl, sym, ap, subst, _∙_}
-use Prim.Native.Nat.{ℕ, _+_, _-_, _*_, _%_, _≤_, _<_}
+use Prim.Native.Nat.{_-_}
 use native.Mathlib.Omega.{arith}
-use lib.ListN.{length, getD}
 use Rattle.factor.proofs.Rounds.{ready, round}
 use borrow.Author.Needs.{needs}
 use Rattle.factor.proofs.divide_copy.Statement.{statement}
@@ -30,9 +28,11 @@ copy-requires c κs = search needs
 -- src/lib.rt:68:5
 divide-monic-requires : tie.Need-divide-monic-requires
 divide-monic-requires c κs = let s = c .before .before .before .before .before .before in
-    let m = c .before .before .before .copy .ensures in
-    ((s .pre .0 .0, (omega arith, (omega (arith, m .same), omega (arith, m .same)))),
-    ready (s .args .n) (s .args .d) (s .args .t) (s .args .w .now) (c .before .before .before .copy .last .0) (s .pre .0 .1 .0) (s .pre .0 .1 .1) m (s .pre .1 .0) (s .pre .1 .1 .0) (s .pre .1 .1 .1))
+    let m = c .before .before .before .copy .ensures in (
+      (s .pre .0 .0, (omega arith, (omega (arith, m .same), omega (arith, m .same)))),
+      ready (s .args .n) (s .args .d) (s .args .t) (s .args .w .now) (c .before .before .before .copy .last .0) (s .pre .0 .1 .0)
+          (s .pre .0 .1 .1) m (s .pre .1 .0) (s .pre .1 .1 .0) (s .pre .1 .1 .1),
+    )
 
 -- src/lib.rt:60:1
 same-length : tie.Need-same-length
@@ -41,7 +41,9 @@ same-length c = search needs
 -- src/lib.rt:60:1
 returns : tie.Need-returns
 returns c = let s = c .before .before .before .before .before .before .before .before .before in
-    round (s .args .n) (s .args .d) (s .args .t) (s .args .w .now) (c .before .before .before .before .before .before .copy .last .0) (s .pre .0 .1 .0) (s .pre .0 .1 .1) (c .before .before .before .before .before .before .copy .ensures) (c .before .before .divide-monic .last .0) (c .before .before .divide-monic .ensures)
+    round (s .args .n) (s .args .d) (s .args .t) (s .args .w .now) (c .before .before .before .before .before .before .copy .last .0)
+    (s .pre .0 .1 .0) (s .pre .0 .1 .1) (c .before .before .before .before .before .before .copy .ensures)
+    (c .before .before .divide-monic .last .0) (c .before .before .divide-monic .ensures)
 
 pub divide-copy-spec : {M : Type 1} → statement M
 divide-copy-spec =

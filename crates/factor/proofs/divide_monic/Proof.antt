@@ -1,8 +1,7 @@
 use borrow.Author.Needs.{needs}
-use mathlib.Core.Path.{_≡_, refl, sym, ap, subst, _∙_}
-use Prim.Native.Nat.{ℕ, _+_, _-_, _*_, _%_, _≤_, _<_}
+use mathlib.Core.Path.{_≡_}
+use Prim.Native.Nat.{_+_, _-_, _≤_}
 use native.Mathlib.Omega.{arith}
-use lib.ListN.{length, getD}
 use native.Mathlib.Nat.{le-of-lt}
 use Rattle.factor.proofs.Quotients.{Keeping, keeping-start, keeping-step, keeping-end}
 use Rattle.factor.proofs.divide_monic.Statement.{statement}
@@ -60,8 +59,13 @@ add-add-scaled c = search needs
 -- src/lib.rt:52:9
 add-scaled-requires : tie.Need-add-scaled-requires Inv-loop μ-loop
 add-scaled-requires c κs = let s = c .before .before .before .before .before in
-    let l = c .before .before .before .loop in
-    ((s .pre .0 .0, (omega arith, omega arith)), record { ok = λ i j p q h. s .pre .1 .0 .apart .ok i (l .s - 1 + j) (omega arith) (omega arith) (omega arith) })
+    let l = c .before .before .before .loop in (
+      (s .pre .0 .0, (omega arith, omega arith)),
+      record {
+        ok = λ i j p q h. s .pre .1 .0 .apart .ok i (l .s - 1 + j) (omega arith)
+            (omega arith) (omega arith);
+      },
+    )
 
 -- src/lib.rt:49:5
 loop-less : tie.Need-loop-less Inv-loop μ-loop
@@ -71,10 +75,11 @@ loop-less c = search needs
 loop-again : tie.Need-loop-again Inv-loop μ-loop
 loop-again c = let s = c .before .before .before .before .before .before .before .before in
     let l = c .before .before .before .before .before .before .loop in
-    let e : l .s ≡ l .s - 1 + 1 = omega arith in
-    (omega arith,
-    keeping-step _ _ _ _ _ (l .s - 1) (s .args .w .now) (l .w) (c .before .before .add-scaled .last .0) (omega arith) (omega arith)
-    (s .pre .1 .0 .apart) (s .pre .1 .1) (c .before .before .add-scaled .ensures) (rw e at (l .inv .1)))
+    let e : l .s ≡ l .s - 1 + 1 = omega arith in (
+      omega arith,
+      keeping-step _ _ _ _ _ (l .s - 1) (s .args .w .now) (l .w) (c .before .before .add-scaled .last .0) (omega arith) (omega arith)
+          (s .pre .1 .0 .apart) (s .pre .1 .1) (c .before .before .add-scaled .ensures) (rw e at (l .inv .1)),
+    )
 
 -- src/lib.rt:43:1
 same-length : tie.Need-same-length Inv-loop μ-loop
