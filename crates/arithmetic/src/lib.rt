@@ -73,11 +73,14 @@ pub fn sum_two(n: u32, x: u32, c: u32, a: u32, m: u32, b: u32) -> u32
     reduce(n, p + q)
 }
 
-// x to the power k, by squaring.
+// x to the power k, by squaring; a square, which the engine asks for most, at once.
 pub fn power(n: u32, x: u32, k: usize) -> u32
     requires { ⌜ 1 ≤ n ⌝ }
     ensures { λ r. ⌜ r ≡ (x ^ k) % n ⌝ }
 {
+    if k == 2 {
+        return mul_mod(n, x, x);
+    }
     let mut r = reduce(n, 1);
     let mut y = x;
     let mut j = k;

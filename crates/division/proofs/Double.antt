@@ -14,7 +14,7 @@ use Rattle.division.proofs.Turns.{Dividing, convolve-add, convolve-spot
 use Rattle.windows.specs.Window.{Paired, behind}
 
 -- c y + m z taken away and put back
-back-two : (n x c y m z : ℕ) → c < n → m < n → Cong n (c * y + m * z + (x + (n - c) * y + (n - m) * z) % n) x
+pub back-two : (n x c y m z : ℕ) → c < n → m < n → Cong n (c * y + m * z + (x + (n - c) * y + (n - m) * z) % n) x
 back-two n x c y m z hc hm =
     c-trans (c-add c-refl (c-mod (x + (n - c) * y + (n - m) * z)))
     (c-trans (c-eq (sums (n - c) (n - m) (omega arith) (omega arith)))
@@ -164,3 +164,8 @@ module _ (n a d b e s i c t m : ℕ) (w₀ w w' : List ℕ) (pos : 0 < n) (one :
             ∙ ap (λ (x : ℕ). convolve (dv .q) F k + x) (convolve-add (spot (suc s) c) (spot s m) F k ∙ ap₂ (λ (x y : ℕ). x + y) (convolve-spot (suc s) c F k) (convolve-spot s m F k))) ∙ add-assoc _ _ _))
           (c-trans (c-add c-refl (turn k)) (dv .at k))
       }
+
+  -- the two quotient words that were found
+  pub double-quotient : (j : ℕ) → double-step .q j ≡ dv .q j + (spot (suc s) c j + spot s m j)
+  unfolding double-step F Goal
+  double-quotient j = refl

@@ -43,6 +43,19 @@ spot-off zero m (suc i) l = refl
 spot-off (suc s) m zero l = refl
 spot-off (suc s) m (suc i) l = spot-off s m i (omega arith)
 
+pub spot-low : (s m i : ℕ) → i < s → spot s m i ≡ 0
+unfolding spot
+spot-low zero m i l = absurd (omega arith)
+spot-low (suc s) m zero l = refl
+spot-low (suc s) m (suc i) l = spot-low s m i (omega arith)
+
+pub spot-at : (s m i : ℕ) → i ≡ s → spot s m i ≡ m
+unfolding spot
+spot-at zero m zero e = refl
+spot-at zero m (suc i) e = absurd (omega arith)
+spot-at (suc s) m zero e = absurd (omega arith)
+spot-at (suc s) m (suc i) e = spot-at s m i (omega arith)
+
 -- F, s places higher
 pub risen : ℕ → (ℕ → ℕ) → ℕ → ℕ
 risen zero F k = F k
@@ -70,7 +83,7 @@ convolve-spot (suc s) m F (suc k) =
     convolve-suc (spot (suc s) m) F k ∙ ap₂ (λ (x y : ℕ). x + y) (zero-mul (F (suc k))) (convolve-spot s m F k) ∙ zero-add (m * risen s F k)
 
 -- x + (n - c) y, with c y more, is x
-back : (n x c y : ℕ) → c < n → Cong n (c * y + (x + (n - c) * y) % n) x
+pub back : (n x c y : ℕ) → c < n → Cong n (c * y + (x + (n - c) * y) % n) x
 back n x c y h =
     c-trans (c-add c-refl (c-mod (x + (n - c) * y)))
     (c-trans (c-eq (sums (n - c) (omega arith)))
@@ -96,6 +109,10 @@ dividing-start n a d b e s w h p = record {
       top = λ i l. refl;
       at = λ k. c-eq (ap₂ (λ (x y : ℕ). x + coef (piece w b y) k) (convolve-none (coef (piece w a (d + 1))) k) h ∙ zero-add _)
     }
+
+pub start-quotient : (n a d b e s : ℕ) (w : List ℕ) (h : d + s ≡ e + 1) (p : Below n b (e + 1) w) (j : ℕ) → dividing-start n a d b e s w h p .q j ≡ 0
+unfolding dividing-start
+start-quotient n a d b e s w h p j = refl
 
 module _ (n a d b e s i c : ℕ) (w₀ w w' : List ℕ) (pos : 0 < n) (within : d + s ≤ e) (apart : Apart a (d + 1) b (e + 1))
     (unit : (i * getD w₀ (a + d) 0) % n ≡ 1 % n) (is : c ≡ (i * getD w (b + (d + s)) 0) % n)
@@ -164,6 +181,11 @@ module _ (n a d b e s i c : ℕ) (w₀ w w' : List ℕ) (pos : 0 < n) (within : 
           c-trans (c-eq (ap (λ (x : ℕ). x + coef (piece w' b (d + s)) k) (convolve-add (dv .q) (spot s c) (coef (piece w₀ a (d + 1))) k ∙ ap (λ (x : ℕ). convolve (dv .q) (coef (piece w₀ a (d + 1))) k + x) (convolve-spot s c (coef (piece w₀ a (d + 1))) k)) ∙ add-assoc _ _ _))
           (c-trans (c-add c-refl (turn k)) (dv .at k))
       }
+
+  -- the quotient word that was found
+  pub dividing-quotient : (j : ℕ) → dividing-step .q j ≡ dv .q j + spot s c j
+  unfolding dividing-step F
+  dividing-quotient j = refl
 
 pub dividing-end : (n a d b e s : ℕ) (w₀ w : List ℕ) → s ≡ 0 → Dividing n a d b e s w₀ w → Remainder n a d b e w₀ w
 dividing-end n a d b e s w₀ w z dv =

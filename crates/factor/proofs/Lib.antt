@@ -1,6 +1,5 @@
 pub mod Approaches
 pub mod Leads
-pub mod Quotients
 pub mod Rounds
 pub mod SeriesLaws
 pub mod SeriesTurns

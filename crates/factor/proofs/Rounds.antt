@@ -1,26 +1,27 @@
 -- The rounds of `unit_times_monic`, on the words of its buffer: f at 0, H at d + 1, the room at d + 1 + (t + 1).
 --
---   ready, round            what `divide_copy` asks of the division, and what comes of it
+--   ready, round, round-one what `divide_copy` asks of the division, and what comes of it
 --   Held                    what the loop keeps of the buffer
 --   enter, again, leave     the loop's first turn, a turn, and its end
-use mathlib.Core.Path.{_≡_, sym, ap, ap₂, subst, _∙_}
+use mathlib.Core.Path.{_≡_, sym, ap, ap₂, subst, fun-ext, _∙_}
 use mathlib.Core.List.{List}
 use mathlib.Core.Logic.{_⊎_, inl, inr, ⊎-elim}
 use Prim.Native.Nat.{ℕ, zero, suc, _+_, _-_, _*_, _%_, _≤_, _<_}
 use native.Mathlib.Omega.{arith}
-use native.Mathlib.Nat.{mod-lt, mod-eq-of-lt, add-zero, mul-zero, le-of-dvd, eq-or-lt-of-le}
+use native.Mathlib.Nat.{mod-lt, mod-eq-of-lt, add-zero, one-mul, mul-zero, le-of-dvd, eq-or-lt-of-le}
 use lib.ListN.{length, getD, drop, length-drop}
 use lib.Seq.{length-take-le}
 use borrow.Rule.Slice.PartMut.{midOf}
 use Rattle.numbers.specs.Congruence.{Cong, c-trans, c-eq, c-mod}
 use Rattle.numbers.specs.Nilpotents.{InRadical, nilpotent-radical, radical-nilpotent}
-use Rattle.definitions.specs.Polynomials.{coef, convolve, Multiplied, UnitPolynomial}
+use Rattle.definitions.specs.Polynomials.{coef, convolve, constant, Multiplied, UnitPolynomial}
+use Rattle.convolution.specs.Sums.{convolve-comm, convolve-constant}
 use Rattle.windows.specs.Window.{piece, Moved, addMul, mulBy, second, Below, Around, Zeros}
 use Rattle.windows.proofs.Leaf.{lt-or-le, piece-at, piece-over}
 use Rattle.windows.proofs.Lift.{piece-low, piece-equal, around-none, around-trans, around-wide, moved-around, moved-copy, below-is}
 use Rattle.windows.proofs.Parts.{mid-at}
-use Rattle.division.specs.Remainders.{Pair}
-use Rattle.factor.specs.Factors.{Quotient, Given, Round, Factored}
+use Rattle.division.specs.Remainders.{Pair, Quotient}
+use Rattle.factor.specs.Factors.{Given, Round, Factored}
 use Rattle.factor.proofs.Uniqueness.{MonicAt, DividedBy}
 use Rattle.factor.proofs.Approaches.{Near, near-start, near-next, done, quotient-nilpotent, quotient-unit}
 
@@ -36,14 +37,14 @@ module _ (n d t : ℕ) (w w2 : List ℕ) (td : t ≤ d) (fits : d + 1 + (t + 1 +
 
   -- what the division asks
   pub ready : Below n 0 (d + 1) w → Below n (d + 1) (t + 1) w → getD w (d + 1 + t) 0 ≡ 1
-      → Pair n (d + 1) t (d + 1 + (t + 1)) d w2 × (getD w2 (d + 1 + t) 0 ≡ 1)
+      → Pair n (d + 1) t (d + 1 + (t + 1)) d w2 × ((1 * getD w2 (d + 1 + t) 0) % n ≡ 1 % n)
   ready b h lead = (
     record {
       first = below-is n (d + 1) (d + 1) (t + 1) w w2 (λ k l. mv .low (d + 1 + k) (omega arith)) h;
       second = below-is n 0 (d + 1 + (t + 1)) (d + 1) w w2 (λ k l. mv .mid k l) b;
       apart = record { ok = λ i j p q e. omega arith };
     },
-    mv .low (d + 1 + t) (omega arith) ∙ lead,
+    ap (λ (x : ℕ). x % n) (one-mul (getD w2 (d + 1 + t) 0) ∙ mv .low (d + 1 + t) (omega arith) ∙ lead),
   )
 
   pub round : (w3 : List ℕ) → Quotient n (d + 1) t (d + 1 + (t + 1)) d w2 w3 → Round n d t w w3
@@ -54,9 +55,33 @@ module _ (n d t : ℕ) (w w2 : List ℕ) (td : t ≤ d) (fits : d + 1 + (t + 1 +
       at = λ k.
           ap (λ (h : List ℕ). (convolve (coef (piece w3 (d + 1 + (t + 1) + t) (d + 1 - t)))
           (coef h) k + coef (piece w3 (d + 1 + (t + 1)) t) k) % n) (sym same-h)
-          ∙ dv .equation .at k ∙ ap (λ (f : List ℕ). coef f k % n) copied;
+          ∙ dv .divided .at k ∙ ap (λ (f : List ℕ). coef f k % n) copied;
     };
   }
+
+  -- H = 1: the copy is the quotient
+  pub round-one : t ≡ 0 → Below n 0 (d + 1) w → getD w (d + 1 + t) 0 ≡ 1 → Round n d t w w2
+  round-one z b lead = record {
+    around = moved-around mv;
+    below = below-is n 0 (d + 1 + (t + 1)) (d + 1) w w2 (λ k l. mv .mid k l) b;
+    equation = record {
+      at = λ k.
+          ap (λ (x : ℕ). x % n) (ap₂ _+_ (convolve-comm (coef (piece w2 (d + 1 + (t + 1) + t) (d + 1 - t)))
+          (coef (piece w (d + 1) (t + 1))) k
+          ∙ ap (λ (h : ℕ → ℕ). convolve h (coef (piece w2 (d + 1 + (t + 1) + t) (d + 1 - t))) k) (fun-ext one)
+          ∙ convolve-constant 1 (coef (piece w2 (d + 1 + (t + 1) + t) (d + 1 - t))) k ∙ one-mul _)
+          (piece-over w2 (d + 1 + (t + 1)) t k (omega arith))
+          ∙ add-zero _ ∙ ap (λ (f : List ℕ). coef f k) whole);
+    };
+  }
+    where
+      one : (j : ℕ) → coef (piece w (d + 1) (t + 1)) j ≡ constant 1 j
+      one zero = piece-at w (d + 1) (t + 1) 0 (omega arith) ∙ ap (λ (x : ℕ). getD w (d + 1 + x) 0) (sym z) ∙ lead
+      one (suc j) = piece-over w (d + 1) (t + 1) (suc j) (omega arith)
+
+      whole : piece w2 (d + 1 + (t + 1) + t) (d + 1 - t) ≡ piece w 0 (d + 1)
+      whole = ap₂ (piece w2) (let e : d + 1 + (t + 1) + t ≡ d + 1 + (t + 1) = omega arith in e)
+          (let e : d + 1 - t ≡ d + 1 = omega arith in e) ∙ copied
 
 -- ---- what the loop keeps of the buffer: f is F, H is monic and near
 

@@ -2,7 +2,6 @@
 --
 --   HighestOf n f r       r tells of the highest coefficient of f that is not nilpotent
 --   SplitOf n p q         n is p q, both above 1 and coprime
---   Quotient              remainder and quotient stand where the dividend stood
 --   Given, Round, Factored   unit times monic: what is asked, what a round leaves, what then stands in the buffer
 --   Series                the words of a power series with a given product
 use mathlib.Core.Path.{_≡_}
@@ -36,14 +35,6 @@ abbrev pub HighestOf : ℕ → List ℕ → Highest → Type 0
 HighestOf n f (UnitAt' t i) = LeadingUnit n t i f
 HighestOf n f (Splits p q) = SplitOf n p q
 HighestOf n f AllNilpotent = Nilpotents n f
-
--- ---- division by a monic polynomial: the divisor of degree d at a, the dividend of degree e at b
-
--- the remainder, d words at b, and then the quotient
-pub record Quotient (n a d b e : ℕ) (w w' : List ℕ) : Type 0 where
-  pub around : Around b (e + 1) w w'
-  pub below : Below n b (e + 1) w'
-  pub equation : Divided n (piece w b (e + 1)) (piece w a (d + 1)) (piece w' (b + d) (e + 1 - d)) (piece w' b d)
 
 -- ---- unit times monic: f of d + 1 words, H of t + 1 words, room for the division of f by H
 

@@ -1,7 +1,6 @@
 // Unit times monic, in windows of one buffer, and what it stands on.
 //
 //   highest_of          the highest coefficient that is not nilpotent
-//   divide_monic        division by a monic polynomial, the quotient kept
 //   divide_copy         a copy of f divided by H
 //   unit_times_monic    f = U H, U a unit polynomial, H monic
 //   series_word         one word of s U_0 / U as a power series
@@ -11,8 +10,7 @@ ghost use Prim.Native.Nat.{_+_, _-_, _*_, _%_, _<_, _≤_};
 ghost use lib.ListN.{length, getD};
 ghost use Rattle.definitions.specs.Polynomials.{coef};
 ghost use Rattle.windows.specs.Window.{piece, Below};
-ghost use Rattle.division.specs.Remainders.{Pair};
-ghost use Rattle.factor.specs.Factors.{HighestOf, Quotient, Round, Given, Factored, next-word, Series};
+ghost use Rattle.factor.specs.Factors.{HighestOf, Round, Given, Factored, next-word, Series};
 
 // A unit with its place and its inverse; a coefficient that splits n into two factors; or neither.
 pub enum Highest {
@@ -42,20 +40,6 @@ pub fn highest_of(s: &[u32], n: u32) -> Highest
     Highest::AllNilpotent
 }
 
-// The e + 1 words at b by the monic d + 1 words at a: the remainder, d words at b, and then the quotient.
-pub fn divide_monic(w: &mut [u32], n: u32, a: usize, d: usize, b: usize, e: usize)
-    requires { ⌜ (1 ≤ n) × ((d ≤ e + 1) × ((a + d < length (now w)) × (b + e < length (now w)))) ⌝ }
-    requires { ⌜ (Pair n a d b e (now w)) × (getD (now w) (a + d) 0 ≡ 1) ⌝ }
-    ensures { λ _. ⌜ Quotient n a d b e (now (w .entry)) (now (w .exit)) ⌝ }
-{
-    let mut s = e + 1 - d;
-    while 0 < s {
-        s -= 1;
-        let c = w[b + (d + s)];
-        windows::add_scaled(w, n, n - c, a, b + s, d);
-    }
-}
-
 // A copy of f divided by H: f of d + 1 words at 0, H of t + 1 words after it, and then d + 1 words for remainder and quotient.
 pub fn divide_copy(w: &mut [u32], n: u32, d: usize, t: usize)
     requires { ⌜ (1 ≤ n) × ((t ≤ d) × (d + 1 + (t + 1 + (d + 1)) ≤ length (now w))) ⌝ }
@@ -65,7 +49,10 @@ pub fn divide_copy(w: &mut [u32], n: u32, d: usize, t: usize)
     let h = d + 1;
     let v = h + (t + 1);
     windows::copy(w, 0, v, h);
-    divide_monic(w, n, h, t, v, d);
+    if t == 0 {
+        return;
+    }
+    division::divide_keeping(w, n, h, t, v, d, 1);
 }
 
 // f = U H, where coefficient t of f has the inverse i and those above it are nilpotent: f at 0, H after it, U in the upper words of

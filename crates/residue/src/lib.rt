@@ -18,8 +18,8 @@ pub enum Kind {
     Splits(u32, u32),
 }
 
-// What a is modulo n. What n has in common with a is divided out of it until nothing is left in common; the rest, m, is
-// the factor modulo which a is a unit.
+// What a is modulo n. A nilpotent residue shows by a high power at once. Otherwise what n has in common with a is divided out of it
+// until nothing is left in common; the rest, m, is the factor modulo which a is a unit.
 pub fn kind_of(n: u32, a: u32) -> Kind
     requires { ⌜ 2 ≤ n ⌝ }
     ensures { λ r. ⌜ KindOf n a r ⌝ }
@@ -27,6 +27,9 @@ pub fn kind_of(n: u32, a: u32) -> Kind
     let e = bezout::cofactor(n, a);
     if e.g == 1 {
         return Kind::Unit(e.s);
+    }
+    if arithmetic::power(n, a, 32) == 0 {
+        return Kind::Nilpotent;
     }
     let mut m = n / e.g;
     let mut h = bezout::gcd(m, a);

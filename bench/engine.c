@@ -1,0 +1,256 @@
+/* Times of the engine beside FLINT's and PARI's, in one run, over pools of different pairs, and where those two fail or answer
+ * another number. Each figure is the best of several passes over the pool, in microseconds a call. Build and run: make -C bench */
+#include <stdio.h>
+#include <stdlib.h>
+#include <string.h>
+#include <time.h>
+#include <sys/wait.h>
+#include <unistd.h>
+#include <flint/flint.h>
+#include <flint/nmod_poly.h>
+#include <flint/fmpz.h>
+#include <flint/fmpz_poly.h>
+#include "../include/jingcobu.h"
+
+#define POOL 100
+#define PASSES 15
+#define MOST 49
+#define COFACTOR 1489
+
+static uint32_t work[8192], u[COFACTOR], v[COFACTOR];
+static uint32_t first[POOL][MOST], second[POOL][MOST];
+static volatile uint32_t sink;
+
+static uint64_t state = 20261115;
+static uint32_t draw(void)
+{
+    state ^= state << 13; state ^= state >> 7; state ^= state << 17;
+    return (uint32_t) (state >> 16);
+}
+
+static double now(void)
+{
+    struct timespec t;
+    clock_gettime(CLOCK_MONOTONIC, &t);
+    return t.tv_sec * 1e6 + t.tv_nsec / 1e3;
+}
+
+static void fill(uint32_t n, int d)
+{
+    for (int p = 0; p < POOL; p++)
+        for (int k = 0; k <= d; k++) {
+            first[p][k] = draw() % n;
+            second[p][k] = draw() % n;
+        }
+    for (int p = 0; p < POOL; p++) {
+        if (first[p][d] == 0) first[p][d] = 1;
+        if (second[p][d] == 0) second[p][d] = 1;
+    }
+}
+
+/* each word a random residue times up to three primes of n: most of them zero divisors */
+static void fill_divisors(uint32_t n, const uint32_t *primes, int count, int d)
+{
+    for (int p = 0; p < POOL; p++)
+        for (int k = 0; k <= d; k++)
+            for (int side = 0; side < 2; side++) {
+                uint64_t x = draw() % n;
+                int many = draw() % 4;
+                for (int j = 0; j < many; j++) x = x * primes[draw() % count] % n;
+                if (k == d && x == 0) x = primes[0];
+                (side ? second : first)[p][k] = (uint32_t) x;
+            }
+}
+
+static double engine_resultant(uint32_t n, int d)
+{
+    double best = 1e30;
+    for (int pass = 0; pass < PASSES; pass++) {
+        double t = now();
+        for (int r = 0; r < 10; r++)
+            for (int p = 0; p < POOL; p++) sink = jingcobu_resultant(n, first[p], d + 1, second[p], d + 1, work, 8192).value;
+        t = (now() - t) / (10 * POOL);
+        if (t < best) best = t;
+    }
+    return best;
+}
+
+static double engine_reduced(uint32_t n, int d)
+{
+    double best = 1e30;
+    for (int pass = 0; pass < PASSES; pass++) {
+        double t = now();
+        for (int r = 0; r < 10; r++)
+            for (int p = 0; p < POOL; p++) sink = jingcobu_reduced_resultant(n, first[p], d + 1, second[p], d + 1, u, COFACTOR, v, COFACTOR, work, 8192).value;
+        t = (now() - t) / (10 * POOL);
+        if (t < best) best = t;
+    }
+    return best;
+}
+
+/* PARI, by its own clock, on the pool as it stands */
+static void pari(uint32_t n, int d, double ours)
+{
+    const char *script = "/tmp/jingcobu_bench.gp";
+    FILE *out = fopen(script, "w");
+    if (!out) return;
+    fprintf(out, "F=vector(%d);G=vector(%d);\n", POOL, POOL);
+    for (int p = 0; p < POOL; p++)
+        for (int side = 0; side < 2; side++) {
+            fprintf(out, "%c[%d]=Mod(1,%u)*Polrev([", side ? 'G' : 'F', p + 1, n);
+            for (int k = 0; k <= d; k++) fprintf(out, "%s%u", k ? "," : "", (side ? second : first)[p][k]);
+            fprintf(out, "]);\n");
+        }
+    fprintf(out, "b=10^9;for(s=1,5,t=getabstime();for(r=1,20,for(i=1,%d,polresultant(F[i],G[i])));b=min(b,getabstime()-t));print(b*1000./(20*%d));\n", POOL, POOL);
+    fclose(out);
+    FILE *in = popen("gp -q -f /tmp/jingcobu_bench.gp < /dev/null 2> /dev/null", "r");
+    double theirs = 0;
+    if (in && fscanf(in, "%lf", &theirs) == 1)
+        printf("n = %u, d = e = %2d: resultant %8.2f us, PARI polresultant            %8.2f us, ratio %.2f\n", n, d, ours, theirs, ours / theirs);
+    else
+        printf("n = %u: PARI (gp) did not answer\n", n);
+    if (in) pclose(in);
+    remove(script);
+}
+
+static void prime_modulus(uint32_t n, int d)
+{
+    static nmod_poly_t f[POOL], g[POOL];
+    nmod_poly_t h, s, t;
+    fill(n, d);
+    nmod_poly_init(h, n); nmod_poly_init(s, n); nmod_poly_init(t, n);
+    int wrong = 0;
+    for (int p = 0; p < POOL; p++) {
+        nmod_poly_init(f[p], n); nmod_poly_init(g[p], n);
+        for (int k = 0; k <= d; k++) {
+            nmod_poly_set_coeff_ui(f[p], k, first[p][k]);
+            nmod_poly_set_coeff_ui(g[p], k, second[p][k]);
+        }
+        if (nmod_poly_resultant(f[p], g[p]) != jingcobu_resultant(n, first[p], d + 1, second[p], d + 1, work, 8192).value) wrong++;
+    }
+    double ours = engine_resultant(n, d), best = 1e30;
+    for (int pass = 0; pass < PASSES; pass++) {
+        double c = now();
+        for (int r = 0; r < 10; r++)
+            for (int p = 0; p < POOL; p++) sink = (uint32_t) nmod_poly_resultant(f[p], g[p]);
+        c = (now() - c) / (10 * POOL);
+        if (c < best) best = c;
+    }
+    printf("n = %u, d = e = %2d: resultant %8.2f us, FLINT nmod_poly_resultant %8.2f us, ratio %.2f; different values: %d of %d\n", n, d, ours, best, ours / best, wrong, POOL);
+    pari(n, d, ours);
+    ours = engine_reduced(n, d); best = 1e30;
+    for (int pass = 0; pass < PASSES; pass++) {
+        double c = now();
+        for (int r = 0; r < 10; r++)
+            for (int p = 0; p < POOL; p++) { nmod_poly_xgcd(h, s, t, f[p], g[p]); sink = (uint32_t) h->length; }
+        c = (now() - c) / (10 * POOL);
+        if (c < best) best = c;
+    }
+    printf("n = %u, d = e = %2d: reduced   %8.2f us, FLINT nmod_poly_xgcd      %8.2f us, ratio %.2f\n", n, d, ours, best, ours / best);
+    for (int p = 0; p < POOL; p++) { nmod_poly_clear(f[p]); nmod_poly_clear(g[p]); }
+    nmod_poly_clear(h); nmod_poly_clear(s); nmod_poly_clear(t);
+}
+
+static int by_size(const void *a, const void *b)
+{
+    double x = *(const double *) a, y = *(const double *) b;
+    return x < y ? -1 : x > y;
+}
+
+static void composite(uint32_t n, const char *name, const uint32_t *primes, int count, int d)
+{
+    double ratio[POOL];
+    int wrong = 0;
+    fmpz_poly_t f, g;
+    fmpz_t r;
+    fill_divisors(n, primes, count, d);
+    fmpz_poly_init(f); fmpz_poly_init(g); fmpz_init(r);
+    for (int p = 0; p < POOL; p++) {
+        fmpz_poly_zero(f); fmpz_poly_zero(g);
+        for (int k = 0; k <= d; k++) {
+            fmpz_poly_set_coeff_ui(f, k, first[p][k]);
+            fmpz_poly_set_coeff_ui(g, k, second[p][k]);
+        }
+        double ours = 1e30, theirs = 1e30;
+        uint32_t value = 0, other = 0;
+        for (int pass = 0; pass < 5; pass++) {
+            double t = now();
+            value = jingcobu_resultant(n, first[p], d + 1, second[p], d + 1, work, 8192).value;
+            t = now() - t;
+            if (t < ours) ours = t;
+            t = now();
+            fmpz_poly_resultant(r, f, g);
+            other = (uint32_t) fmpz_fdiv_ui(r, n);
+            t = now() - t;
+            if (t < theirs) theirs = t;
+        }
+        if (value != other) wrong++;
+        ratio[p] = theirs / ours;
+    }
+    qsort(ratio, POOL, sizeof(double), by_size);
+    printf("n = %s, d = e = %d, zero divisors: FLINT fmpz_poly_resultant modulo n takes %.1f times our time in the median, %.1f at the least; different values: %d of %d\n",
+           name, d, ratio[POOL / 2], ratio[0], wrong, POOL);
+    fmpz_poly_clear(f); fmpz_poly_clear(g); fmpz_clear(r);
+}
+
+/* FLINT's nmod_poly_resultant in a process of its own: the number, or -1 where it did not come back with one */
+static long flint_resultant(uint32_t n, const uint32_t *f, int fl, const uint32_t *g, int gl)
+{
+    int ends[2];
+    uint64_t r = 0;
+    if (pipe(ends)) return -1;
+    fflush(stdout);
+    pid_t child = fork();
+    if (child == 0) {
+        nmod_poly_t a, b;
+        if (!freopen("/dev/null", "w", stderr) || !freopen("/dev/null", "w", stdout)) _exit(1);
+        nmod_poly_init(a, n); nmod_poly_init(b, n);
+        for (int k = 0; k < fl; k++) nmod_poly_set_coeff_ui(a, k, f[k]);
+        for (int k = 0; k < gl; k++) nmod_poly_set_coeff_ui(b, k, g[k]);
+        r = nmod_poly_resultant(a, b);
+        _exit(write(ends[1], &r, sizeof r) != sizeof r);
+    }
+    int status = 0;
+    close(ends[1]);
+    waitpid(child, &status, 0);
+    long got = read(ends[0], &r, sizeof r) == sizeof r && WIFEXITED(status) && WEXITSTATUS(status) == 0 ? (long) r : -1;
+    close(ends[0]);
+    return got;
+}
+
+static void where_others_fail(uint32_t n, const char *name, const uint32_t *primes, int count)
+{
+    int fails = 0, other = 0;
+    fill_divisors(n, primes, count, 6);
+    for (int p = 0; p < POOL; p++) {
+        long r = flint_resultant(n, first[p], 7, second[p], 7);
+        if (r < 0) fails++;
+        else if ((uint32_t) r != jingcobu_resultant(n, first[p], 7, second[p], 7, work, 8192).value) other++;
+    }
+    printf("n = %s, d = e = 6, zero divisors: FLINT nmod_poly_resultant fails at %d and answers another number at %d of %d pairs\n", name, fails, other, POOL);
+}
+
+static void zero_top(void)
+{
+    const uint32_t f[] = { 2, 1, 0 }, g[] = { 1, 1 };
+    printf("n = 5, f = 2,1,0, g = 1,1 (sent degrees 2 and 1): resultant %u, FLINT nmod_poly_resultant %ld\n",
+           jingcobu_resultant(5, f, 3, g, 2, work, 8192).value, flint_resultant(5, f, 3, g, 2));
+    fflush(stdout);
+    if (system("printf 'print(\"PARI polresultant there: \", lift(polresultant(Mod(1,5)*Polrev([2,1,0]),Mod(1,5)*Polrev([1,1]))))\\nprint(\"PARI polresultant of 3+2x and 1+4x modulo 12: \", iferr(lift(polresultant(Mod(1,12)*Polrev([3,2]),Mod(1,12)*Polrev([1,4]))),E,E), \" (the resultant is 2)\")\\n' | gp -q -f 2> /dev/null")) printf("PARI (gp) did not answer\n");
+}
+
+int main(void)
+{
+    const uint32_t two[] = { 2 }, three[] = { 3 }, many[] = { 2, 3, 5, 7, 11, 13, 17, 19, 23 }, six[] = { 2, 3 };
+    for (int d = 12; d <= 48; d *= 2) prime_modulus(4294967291u, d);
+    composite(2147483648u, "2^31", two, 1, 48);
+    composite(3486784401u, "3^20", three, 1, 48);
+    composite(223092870u, "223092870", many, 9, 48);
+    composite(2176782336u, "6^12", six, 2, 48);
+    where_others_fail(2147483648u, "2^31", two, 1);
+    where_others_fail(3486784401u, "3^20", three, 1);
+    where_others_fail(223092870u, "223092870", many, 9);
+    where_others_fail(2176782336u, "6^12", six, 2);
+    zero_top();
+    return 0;
+}

@@ -1,0 +1,4 @@
+pub mod Copies
+pub mod Products
+pub mod Leads
+pub mod Remaining

@@ -1,0 +1,7 @@
+pub mod Regions
+pub mod Overs
+pub mod Splitting
+pub mod Inverses
+pub mod UnitFactor
+pub mod ContentSteps
+pub mod UnitSteps

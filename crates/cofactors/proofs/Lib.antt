@@ -1,0 +1,4 @@
+pub mod Quotients
+pub mod Preparing
+pub mod Finishing
+pub mod Solving

@@ -1,0 +1,70 @@
+// The frame program: reads job frames from standard input, one a line, and writes an answer line for each to standard output.
+// It answers the lines that are complete before it reads again. Where a read fails it ends as at the end of the input; where a
+// write is not taken it stops.
+use libc::STDIN_FILENO;
+use libc::STDOUT_FILENO;
+ghost use Prim.Native.Nat.{_≤_};
+ghost use lib.ListN.{length};
+
+// What a read came to: an unfinished line is held, the input has ended, or a write was not taken.
+enum Turn {
+    Held(usize),
+    Ended,
+    Stopped,
+}
+
+// Reads once, answers the lines that end in what came, and holds the rest. A character can end a line, and a line's answer has
+// 13: so 4096 of the one need 53248 of the other.
+fn take_turn(held: usize, line: &mut [u8], out: &mut [u8]) -> Turn
+    requires { ⌜ (798 ≤ length (now line)) × (53248 ≤ length (now out)) ⌝ }
+{
+    let mut piece = io::buffer();
+    let got = libc::read(STDIN_FILENO, &mut piece);
+    let n = io::count(got, &piece);
+    if n == 0 {
+        return Turn::Ended;
+    }
+    let p = reader::step(held, line, &piece[0..n], out);
+    let written = p.written;
+    if io::write_all(STDOUT_FILENO, &out[0..written]) {
+        return Turn::Held(p.held);
+    }
+    Turn::Stopped
+}
+
+// Answers the last line, if it has no newline.
+fn end(held: usize, line: &[u8], out: &mut [u8])
+    requires { ⌜ (798 ≤ length (now line)) × (13 ≤ length (now out)) ⌝ }
+{
+    let written = reader::finish(held, line, out);
+    io::write_all(STDOUT_FILENO, &out[0..written]);
+}
+
+// A proved loop has to end, and nothing says that an input does: it counts its turns down from a number that no run uses up.
+fn run(line: &mut [u8], out: &mut [u8])
+    requires { ⌜ (798 ≤ length (now line)) × (53248 ≤ length (now out)) ⌝ }
+{
+    let mut held: usize = 0;
+    let mut turns = u64::MAX;
+    while turns > 0 {
+        match take_turn(held, line, out) {
+            Turn::Held(h) => {
+                held = h;
+            }
+            Turn::Ended => {
+                end(held, line, out);
+                return;
+            }
+            Turn::Stopped => {
+                return;
+            }
+        }
+        turns -= 1;
+    }
+}
+
+fn main() {
+    let mut line = io::buffer();
+    let mut out = io::large_buffer();
+    run(&mut line, &mut out);
+}

@@ -1,0 +1,5 @@
+pub mod Heads
+pub mod Putting
+pub mod WordsRead
+pub mod Answering
+pub mod Serving

@@ -1,0 +1,98 @@
+use borrow.Author.Needs.{needs}
+use mathlib.Core.Path.{_≡_}
+use Prim.Native.Nat.{_+_, _*_, _-_, _≤_}
+use lib.ListN.{length, take, drop}
+use Rattle.frames.proofs.Heads.{number-read, other-read}
+use Rattle.frames.proofs.WordsRead.{Words, words-none, words-step, words-stop, words-end}
+use Rattle.frames.proofs.read_words.Statement.{statement}
+use Rattle.frames.proofs.read_words.Tie as tie
+
+abbrev Inv-loop : tie.InvT-loop
+Inv-loop s words₀ count i₀ words i = (i ≤ count) × ((length words ≡ length words₀) × Words (drop 14 s) i words)
+
+abbrev μ-loop : tie.MeasureT-loop
+μ-loop s words₀ count i₀ words i = count - i
+
+loop-holds : tie.Need-loop-holds Inv-loop μ-loop
+loop-holds c = (search needs, (search needs, words-none _ _))
+
+mul-number : tie.Need-mul-number Inv-loop μ-loop
+mul-number c = search needs
+
+add-number : tie.Need-add-number Inv-loop μ-loop
+add-number c = search needs
+
+number-requires : tie.Need-number-requires Inv-loop μ-loop
+number-requires c κs = search needs
+
+enum-known-x : tie.Need-enum-known-x Inv-loop μ-loop
+enum-known-x c = search needs
+
+enum-told : tie.Need-enum-told Inv-loop μ-loop
+enum-told c = search needs
+
+same-length : tie.Need-same-length Inv-loop μ-loop
+same-length c = search needs
+
+returns : tie.Need-returns Inv-loop μ-loop
+returns c =
+    let at-loop = c .before .before .before .before in
+    let start = at-loop .before .before .before in
+    words-stop (start .args .s .now) (start .args .count) (at-loop .loop .i) (at-loop .loop .words) (other-read
+    (take 8 (drop (14 + 8 * at-loop .loop .i) (start .args .s .now))) (c .enum-told .given .1) (c .before .before .number .ensures))
+
+mul-words : tie.Need-mul-words Inv-loop μ-loop
+mul-words c = search needs
+
+slice-write-words : tie.Need-slice-write-words Inv-loop μ-loop
+slice-write-words c = search needs
+
+add-i : tie.Need-add-i Inv-loop μ-loop
+add-i c = search needs
+
+loop-less : tie.Need-loop-less Inv-loop μ-loop
+loop-less c = search needs
+
+loop-again : tie.Need-loop-again Inv-loop μ-loop
+loop-again c =
+    let at-number = c .before .before .before in
+    let at-loop = at-number .before .before in
+    let start = at-loop .before .before .before in (
+      search needs,
+      (
+        search needs,
+        words-step (start .args .s .now) (c .before .x .given .0 .0) (search needs) (number-read
+            (take 8 (drop (14 + 8 * at-loop .loop .i) (start .args .s .now))) (c .before .x .given .0 .0) (c .before .x .given .1)
+            (at-number .number .ensures)) (at-loop .loop .inv .1 .1),
+      ),
+    )
+
+same-length-2 : tie.Need-same-length-2 Inv-loop μ-loop
+same-length-2 c = search needs
+
+returns-2 : tie.Need-returns-2 Inv-loop μ-loop
+returns-2 c =
+    let start = c .before .before .before .before in
+    words-end (start .args .s .now) (start .args .count) (search needs) (search needs) (c .before .loop .inv .1 .1)
+
+pub read-words-spec : {M : Type 1} → statement M
+read-words-spec =
+    tie.close
+    (tie.spec
+    Inv-loop
+    μ-loop
+    loop-holds
+    mul-number
+    add-number
+    number-requires
+    enum-known-x
+    enum-told
+    same-length
+    returns
+    mul-words
+    slice-write-words
+    add-i
+    loop-less
+    loop-again
+    same-length-2
+    returns-2)

@@ -1,0 +1,61 @@
+use borrow.Author.Needs.{needs}
+use mathlib.Core.Path.{_≡_}
+use Prim.Native.Nat.{_≤_}
+use Rattle.hexadecimal.proofs.Spelling.{Writing, writing-none, writing-step, writing-end}
+use Rattle.hexadecimal.proofs.write.Statement.{statement}
+use Rattle.hexadecimal.proofs.write.Tie as tie
+
+abbrev Inv-loop : tie.InvT-loop
+Inv-loop out₀ at count x y₀ i₀ out y i = (i ≤ count) × Writing count x at out₀ i y out
+
+abbrev μ-loop : tie.MeasureT-loop
+μ-loop out₀ at count x y₀ i₀ out y i = i
+
+loop-holds : tie.Need-loop-holds Inv-loop μ-loop
+loop-holds c = (search needs, writing-none _ _ _ _)
+
+sub-i : tie.Need-sub-i Inv-loop μ-loop
+sub-i c = search needs
+
+character-requires : tie.Need-character-requires Inv-loop μ-loop
+character-requires c κs = search needs
+
+add-out : tie.Need-add-out Inv-loop μ-loop
+add-out c = search needs
+
+slice-write-out : tie.Need-slice-write-out Inv-loop μ-loop
+slice-write-out c = search needs
+
+loop-less : tie.Need-loop-less Inv-loop μ-loop
+loop-less c = search needs
+
+loop-again : tie.Need-loop-again Inv-loop μ-loop
+loop-again c = (
+  search needs,
+  writing-step (c .character .result) (search needs) (search needs) (c .character .ensures)
+      (c .before .before .loop .inv .1),
+)
+
+same-length : tie.Need-same-length Inv-loop μ-loop
+same-length c = search needs
+
+returns : tie.Need-returns Inv-loop μ-loop
+returns c =
+    let e : c .before .loop .i ≡ 0 = search needs in
+    writing-end (rw e at (c .before .loop .inv .1))
+
+pub write-spec : {M : Type 1} → statement M
+write-spec =
+    tie.close
+    (tie.spec
+    Inv-loop
+    μ-loop
+    loop-holds
+    sub-i
+    character-requires
+    add-out
+    slice-write-out
+    loop-less
+    loop-again
+    same-length
+    returns)

@@ -1,0 +1,4 @@
+pub mod Leading
+pub mod Leads
+pub mod Reductions
+pub mod Joining

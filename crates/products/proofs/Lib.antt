@@ -1,0 +1,2 @@
+pub mod Subtraction
+pub mod Taking

@@ -1,0 +1,4 @@
+pub mod Halves
+pub mod Mixing
+pub mod Joins
+pub mod Parting

@@ -1,0 +1,57 @@
+// The resultant of two polynomials modulo n, in their sent degrees.
+//
+//   run      the resultant; a split of n is worked on each factor and joined
+//   once     one attempt, in either order of f and g
+//   ordered  one attempt where f has no more words than g
+ghost use mathlib.Core.Path.{_≡_};
+ghost use Prim.Native.Nat.{_+_, _-_, _<_, _≤_};
+ghost use lib.ListN.{length};
+ghost use Rattle.definitions.specs.Resultants.{resultant};
+ghost use Rattle.steps.specs.Answers.{AnswerOf};
+ghost use Rattle.attempt.specs.Rooms.{room};
+ghost use Rattle.resultant.specs.Sizes.{Served};
+use steps::Attempt;
+
+// f and g are loaded modulo n, f first.
+fn ordered(w: &mut [u32], n: u32, f: &[u32], g: &[u32]) -> Attempt
+    requires { ⌜ (2 ≤ n) × ((1 ≤ length (now f)) × (length (now f) ≤ length (now g))) ⌝ }
+    requires { ⌜ length (now f) + length (now g) + room (length (now f) - 1) (length (now g) - 1) ≤ length (now w) ⌝ }
+    ensures { λ r. ⌜ AnswerOf n (resultant n (now (f .entry)) (now (g .entry))) r ⌝ }
+{
+    let l = f.len();
+    let m = g.len();
+    windows::load(w, 0, f, n);
+    windows::load(w, l, g, n);
+    attempt::euclid(w, n, 0, l - 1, l, m - 1, l + m)
+}
+
+// The one with fewer words goes first; a swap costs the sign (-1)^(d e).
+fn once(w: &mut [u32], n: u32, f: &[u32], g: &[u32]) -> Attempt
+    requires { ⌜ (2 ≤ n) × Served (now f) (now g) (now w) ⌝ }
+    ensures { λ r. ⌜ AnswerOf n (resultant n (now (f .entry)) (now (g .entry))) r ⌝ }
+{
+    let l = f.len();
+    let m = g.len();
+    if l <= m {
+        return ordered(w, n, f, g);
+    }
+    let r = ordered(w, n, g, f);
+    steps::times_sign(n, l - 1, m - 1, r)
+}
+
+// "At a splitting coefficient, each of the two factors is worked as a modulus of its own, and the answers are joined by the
+// Chinese remainder." The words of f and g may be any; they count modulo n.
+pub fn run(w: &mut [u32], n: u32, f: &[u32], g: &[u32]) -> u32
+    requires { ⌜ (2 ≤ n) × Served (now f) (now g) (now w) ⌝ }
+    ensures { λ r. ⌜ r ≡ resultant n (now (f .entry)) (now (g .entry)) ⌝ }
+    ensures { λ _. ⌜ length (now (w .exit)) ≡ length (now (w .entry)) ⌝ }
+{
+    match once(w, n, f, g) {
+        Attempt::Value(v) => v,
+        Attempt::Splits(p, q) => {
+            let x = run(w, p, f, g);
+            let y = run(w, q, f, g);
+            residue::join(p, q, x, y)
+        }
+    }
+}

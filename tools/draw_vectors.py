@@ -1,0 +1,119 @@
+#!/usr/bin/env python3
+"""Draws the pairs of the test program `vectors` and computes their numbers by PARI, independently of the engine.
+
+Writes crates/vectors/stdin (one frame of kind 01 a line) and crates/vectors/stdout (resultant, D, in hexadecimal; D as dashes
+where it is not computed here). The resultant is the integer determinant of the Sylvester matrix in the sent degrees, modulo n.
+D, for degrees up to 5, is the least constant in the Hermite normal form of the multiples x^i f, x^j g and n. Needs gp (PARI).
+It is not needed to run the gate."""
+import os, random, subprocess
+
+SEED = 20261115
+random.seed(SEED)
+here = os.path.dirname(os.path.abspath(__file__))
+out = os.path.join(here, '..', 'crates', 'vectors')
+
+MODULI = [2, 3, 4, 5, 6, 7, 8, 9, 10, 12, 16, 18, 24, 30, 36, 60, 64, 72, 210, 2310, 65536, 65537, 6**12, 2**31, 3**20, 5**13, 7**11,
+          30030 * 143, 223092870, 4294967291, 4294967295, 4294967294, 65535 * 65537, 2**31 - 1, 46341**2, 2**16 * 3**10, 2 * 2147483647]
+MODULI = [n for n in MODULI if 2 <= n < 2**32]
+
+
+def divisors_of(n):
+    """small prime factors of n, and a few of their products"""
+    found, m, p = [], n, 2
+    while p * p <= m and p < 100000:
+        while m % p == 0:
+            found.append(p)
+            m //= p
+        p += 1
+    return found or [1]
+
+
+def word(n, full):
+    if not full:
+        return random.randrange(n)
+    x = random.choice([0, 1, n - 1, random.randrange(n), random.randrange(n)])
+    for _ in range(random.randrange(4)):
+        x = x * random.choice(divisors_of(n)) % n
+    return x
+
+
+def polynomial(n, d, full):
+    f = [word(n, full) for _ in range(d + 1)]
+    if full and random.random() < 0.4:
+        for k in range(random.randrange(d + 2)):
+            f[d - k if d >= k else 0] = 0          # zero tops, and now and then the zero polynomial
+    if full and random.random() < 0.3:
+        p = random.choice(divisors_of(n))
+        for k in range(1, d + 1):
+            f[k] = f[k] * p % n                    # a unit polynomial, or nearly
+    return f
+
+
+def pair():
+    n = random.choice(MODULI) if random.random() < 0.8 else random.randrange(2, 2**32)
+    full = random.random() < 0.6
+    most = random.choice([2, 3, 4, 5, 5, 8, 12, 20, 48])
+    d, e = random.randrange(most + 1), random.randrange(most + 1)
+    f, g = polynomial(n, d, full), polynomial(n, e, full)
+    if full and random.random() < 0.3 and d >= 1 and e >= 1:
+        h = polynomial(n, 1, False)                # a common factor
+        f = [sum(h[i] * f[k - i] for i in range(2) if 0 <= k - i < d) % n for k in range(d + 1)]
+        g = [sum(h[i] * g[k - i] for i in range(2) if 0 <= k - i < e) % n for k in range(e + 1)]
+    return n, f, g
+
+
+def sylvester(f, g):
+    d, e = len(f) - 1, len(g) - 1
+    rows = [[0] * i + f[::-1] + [0] * (e - 1 - i) for i in range(e)]
+    rows += [[0] * i + g[::-1] + [0] * (d - 1 - i) for i in range(d)]
+    return rows
+
+
+def determinant(m, n):
+    if len(m) < 2:
+        return str(m[0][0] % n if m else 1)
+    return 'matdet([%s])%%%d' % (';'.join(','.join(map(str, r)) for r in m), n)
+
+
+def multiples(n, f, g):
+    size = (n.bit_length() + 1) * max(len(f), len(g))
+    columns = []
+    for h in (f, g):
+        for i in range(size - len(h) + 1):
+            columns.append([0] * i + h + [0] * (size - len(h) - i))
+    return size, columns
+
+
+def main():
+    rows = [(4294967295, [4294967294], [0, 1])]            # the unstarred row of document 01
+    big = 0
+    while len(rows) < 620:
+        n, f, g = pair()
+        if len(f) + len(g) > 60:
+            big += 1
+            if big > 40:
+                continue
+        rows.append((n, f, g))
+    rows.append((2**32 - 1, [random.randrange(2**32 - 1) for _ in range(49)], [random.randrange(2**32 - 1) for _ in range(49)]))
+    rows.append((2**31, polynomial(2**31, 48, True), polynomial(2**31, 48, True)))
+    script = []
+    for n, f, g in rows:
+        m = sylvester(f, g)
+        script.append('print(%s);' % determinant(m, n))
+        if max(len(f), len(g)) <= 6:
+            size, columns = multiples(n, f, g)
+            script.append('print(mathnfmodid([%s]~,%d)[1,1]);' % (';'.join(','.join(map(str, c)) for c in columns), n))
+        else:
+            script.append('print(-1);')
+    answer = subprocess.run(['gp', '-q', '-f', '--stacksize', '1000000000'], input='\n'.join(script) + '\n', capture_output=True, text=True)
+    numbers = [int(x) for x in answer.stdout.split()]
+    assert len(numbers) == 2 * len(rows), (len(numbers), len(rows), answer.stderr[:500])
+    os.makedirs(out, exist_ok=True)
+    with open(os.path.join(out, 'stdin'), 'w') as frames, open(os.path.join(out, 'stdout'), 'w') as figures:
+        for i, (n, f, g) in enumerate(rows):
+            r, D = numbers[2 * i], numbers[2 * i + 1]
+            frames.write('01%08x%02x%02x%s\n' % (n, len(f) - 1, len(g) - 1, ''.join('%08x' % x for x in f + g)))
+            figures.write('%08x %s\n' % (r % n, '%08x' % D if D >= 0 else '--------'))
+
+
+main()
