@@ -6,8 +6,8 @@
 --   convolve-mod, convolve-constant        congruent factors; a constant factor
 --   convolve-shift, convolve-first         the places above a degree; the lowest coefficient
 --   convolve-out                           there is nothing above the sum of the degrees
-use mathlib.Core.Path.{_≡_, refl, sym, ap, ap₂, subst, _∙_}
-use Prim.Native.Nat.{ℕ, zero, suc, _+_, _-_, _*_, _%_, _<_, _≤_}
+use mathlib.Core.Path.{_≡_, refl, sym, ap, ap₂, _∙_}
+use Prim.Native.Nat.{ℕ, zero, suc, _+_, _-_, _*_, _<_, _≤_}
 use native.Mathlib.Nat.{add-assoc, add-comm, add-zero, zero-add, zero-mul, mul-zero, mul-comm, suc-add}
 use native.Mathlib.Decide.{decLt}
 use native.Mathlib.Omega.{arith}
@@ -19,7 +19,8 @@ use Rattle.theory.specs.Words.{total-cong, convolve-zero, convolve-suc}
 
 pub total-last : (m : ℕ) (F : ℕ → ℕ) → total (suc m) F ≡ total m F + F m
 total-last zero F = add-comm (F 0) 0
-total-last (suc m) F = ap (λ (x : ℕ). F 0 + x) (total-last m (λ i. F (suc i))) ∙ sym (add-assoc (F 0) (total m (λ i. F (suc i))) (F (suc m)))
+total-last (suc m) F = ap (λ (x : ℕ). F 0 + x) (total-last m (λ i. F (suc i)))
+    ∙ sym (add-assoc (F 0) (total m (λ i. F (suc i))) (F (suc m)))
 
 pub total-none : (m : ℕ) (F : ℕ → ℕ) → ((i : ℕ) → i < m → F i ≡ 0) → total m F ≡ 0
 total-none zero F h = refl
@@ -28,7 +29,8 @@ total-none (suc m) F h = ap₂ (λ (x y : ℕ). x + y) (h 0 (omega arith)) (tota
 pub total-more : (m k : ℕ) (F : ℕ → ℕ) → m ≤ k → ((i : ℕ) → m ≤ i → i < k → F i ≡ 0) → total k F ≡ total m F
 total-more zero k F l h = total-none k F (λ i p. h i (omega arith) p)
 total-more (suc m) zero F l h = absurd (omega arith)
-total-more (suc m) (suc k) F l h = ap (λ (x : ℕ). F 0 + x) (total-more m k (λ i. F (suc i)) (omega arith) (λ i p q. h (suc i) (omega arith) (omega arith)))
+total-more (suc m) (suc k) F l h = ap (λ (x : ℕ). F 0 + x) (total-more m k (λ i. F (suc i)) (omega arith)
+    (λ i p q. h (suc i) (omega arith) (omega arith)))
 
 pub total-mod : (n m : ℕ) (F G : ℕ → ℕ) → ((i : ℕ) → i < m → Cong n (F i) (G i)) → Cong n (total m F) (total m G)
 total-mod n zero F G h = c-refl
@@ -47,12 +49,14 @@ total-at n (suc m) (suc t) F G pos l h s =
     let Y : ℕ = total m (λ i. G (suc i)) in
     total-at n m t (λ i. F (suc i)) (λ i. G (suc i)) pos (omega arith) (λ i q ne. h (suc i) (omega arith) (λ e. ne (omega arith)))
     (c-cancel (F 0) pos
-    (c-trans (c-eq (add-comm X (F 0))) (c-trans s (c-trans (c-add (c-sym (h 0 (omega arith) (λ e. omega arith))) c-refl) (c-eq (add-comm (F 0) Y))))))
+    (c-trans (c-eq (add-comm X (F 0))) (c-trans s (c-trans (c-add (c-sym (h 0 (omega arith) (λ e. omega arith))) c-refl)
+    (c-eq (add-comm (F 0) Y))))))
 
 -- ---- convolutions
 
 pub convolve-last : (p q : ℕ → ℕ) (k : ℕ) → convolve p q (suc k) ≡ p (suc k) * q 0 + convolve p (λ i. q (suc i)) k
-convolve-last p q zero = convolve-suc p q 0 ∙ ap (λ (x : ℕ). p 0 * q 1 + x) (convolve-zero (λ i. p (suc i)) q) ∙ turn (p 0 * q 1) (p 1 * q 0) ∙ ap (λ (x : ℕ). p 1 * q 0 + x) (sym (convolve-zero p (λ i. q (suc i))))
+convolve-last p q zero = convolve-suc p q 0 ∙ ap (λ (x : ℕ). p 0 * q 1 + x) (convolve-zero (λ i. p (suc i)) q)
+    ∙ turn (p 0 * q 1) (p 1 * q 0) ∙ ap (λ (x : ℕ). p 1 * q 0 + x) (sym (convolve-zero p (λ i. q (suc i))))
   where
     turn : (a b : ℕ) → a + b ≡ b + a
     turn a b = omega arith
@@ -68,9 +72,11 @@ convolve-last p q (suc k) =
 pub convolve-comm : (p q : ℕ → ℕ) (k : ℕ) → convolve p q k ≡ convolve q p k
 convolve-comm p q zero = convolve-zero p q ∙ mul-comm (p 0) (q 0) ∙ sym (convolve-zero q p)
 convolve-comm p q (suc k) =
-    convolve-suc p q k ∙ ap₂ (λ (x y : ℕ). x + y) (mul-comm (p 0) (q (suc k))) (convolve-comm (λ i. p (suc i)) q k) ∙ sym (convolve-last q p k)
+    convolve-suc p q k ∙ ap₂ (λ (x y : ℕ). x + y) (mul-comm (p 0) (q (suc k))) (convolve-comm (λ i. p (suc i)) q k)
+    ∙ sym (convolve-last q p k)
 
-pub convolve-mod : {n : ℕ} {p p' q q' : ℕ → ℕ} → ((i : ℕ) → Cong n (p i) (p' i)) → ((i : ℕ) → Cong n (q i) (q' i)) → (k : ℕ) → Cong n (convolve p q k) (convolve p' q' k)
+pub convolve-mod : {n : ℕ} {p p' q q' : ℕ → ℕ} → ((i : ℕ) → Cong n (p i) (p' i)) → ((i : ℕ) → Cong n (q i) (q' i)) → (k : ℕ)
+    → Cong n (convolve p q k) (convolve p' q' k)
 convolve-mod {n} a b k = total-mod n (suc k) _ _ (λ i l. c-mul (a i) (b (k - i)))
 
 pub convolve-constant : (c : ℕ) (g : ℕ → ℕ) (k : ℕ) → convolve (constant c) g k ≡ c * g k
@@ -82,11 +88,13 @@ convolve-constant c g (suc k) =
 
 -- where q is 0 above e, word j + e of the product is word e of that with p from j on
 pub convolve-shift : (j e : ℕ) (p q : ℕ → ℕ) → ((i : ℕ) → e < i → q i ≡ 0) → convolve p q (j + e) ≡ convolve (λ (i : ℕ). p (j + i)) q e
-convolve-shift zero e p q h = ap (convolve p q) (zero-add e) ∙ total-cong (suc e) _ _ (λ i l. ap (λ (x : ℕ). p x * q (e - i)) (sym (zero-add i)))
+convolve-shift zero e p q h = ap (convolve p q) (zero-add e) ∙ total-cong (suc e) _ _
+    (λ i l. ap (λ (x : ℕ). p x * q (e - i)) (sym (zero-add i)))
 convolve-shift (suc j) e p q h =
     ap (convolve p q) (suc-add j e)
     ∙ convolve-suc p q (j + e)
-    ∙ ap₂ (λ (x y : ℕ). x + y) (ap (λ (x : ℕ). p 0 * x) (h (suc (j + e)) (omega arith)) ∙ mul-zero (p 0)) (convolve-shift j e (λ i. p (suc i)) q h)
+    ∙ ap₂ (λ (x y : ℕ). x + y) (ap (λ (x : ℕ). p 0 * x) (h (suc (j + e)) (omega arith)) ∙ mul-zero (p 0))
+    (convolve-shift j e (λ i. p (suc i)) q h)
     ∙ zero-add _
     ∙ total-cong (suc e) _ _ (λ i l. ap (λ (x : ℕ). p x * q (e - i)) (sym (suc-add j i)))
 
@@ -98,10 +106,12 @@ convolve-first p p' q zero z h =
 convolve-first p p' q (suc e) z h =
     convolve-suc p q e
     ∙ ap (λ (x : ℕ). p 0 * q (suc e) + x)
-      (total-cong (suc e) _ _ (λ i l. ap (λ (x : ℕ). x * q (e - i)) (h i))
-      ∙ sym (convolve-suc p' q e ∙ ap (λ (x : ℕ). x + convolve (λ i. p' (suc i)) q e) (ap (λ (x : ℕ). x * q (suc e)) z ∙ zero-mul (q (suc e))) ∙ zero-add _))
+    (total-cong (suc e) _ _ (λ i l. ap (λ (x : ℕ). x * q (e - i)) (h i))
+    ∙ sym (convolve-suc p' q e ∙ ap (λ (x : ℕ). x + convolve (λ i. p' (suc i)) q e)
+    (ap (λ (x : ℕ). x * q (suc e)) z ∙ zero-mul (q (suc e))) ∙ zero-add _))
 
-pub convolve-out : (d e : ℕ) (p q : ℕ → ℕ) → ((i : ℕ) → d < i → p i ≡ 0) → ((i : ℕ) → e < i → q i ≡ 0) → (k : ℕ) → d + e < k → convolve p q k ≡ 0
+pub convolve-out : (d e : ℕ) (p q : ℕ → ℕ) → ((i : ℕ) → d < i → p i ≡ 0) → ((i : ℕ) → e < i → q i ≡ 0) → (k : ℕ) → d + e < k
+    → convolve p q k ≡ 0
 convolve-out d e p q hp hq k l = total-none (suc k) _ (λ i b. term i (decLt d i))
   where
     term : (i : ℕ) → Dec (d < i) → p i * q (k - i) ≡ 0

@@ -9,15 +9,15 @@
 --   quotient-unit, quotient-nilpotent      the quotient is a unit polynomial
 use mathlib.Core.Path.{_≡_, refl, sym, ap, subst, _∙_}
 use mathlib.Core.Logic.{⊎-elim}
-use Prim.Native.Nat.{ℕ, zero, suc, _+_, _-_, _*_, _%_, _≤_, _<_, _∣_}
+use Prim.Native.Nat.{ℕ, zero, suc, _+_, _-_, _*_, _≤_, _<_, _∣_}
 use native.Mathlib.Nat.{add-zero, mul-zero, zero-mul, one-mul, mul-comm, mul-assoc, mod-eq-zero-of-dvd, dvd-trans, dvd-mul-right, one-dvd, pos-of-dvd-of-pos, mod-eq-of-lt, dvd-one}
 use native.Mathlib.Decide.{ℕ-discrete}
 use native.Mathlib.Omega.{arith}
 use Rattle.numbers.specs.Congruence.{Cong, c-refl, c-sym, c-trans, c-eq, c-add, c-mul, c-dvd, c-zero, dvd-c, c-times, ring}
-use Rattle.numbers.specs.Primes.{Prime, prime-of, Rise, rise, rise-more}
+use Rattle.numbers.specs.Primes.{Prime, prime-of, rise, rise-more}
 use Rattle.numbers.specs.Nilpotents.{InRadical}
 use Rattle.numbers.specs.Units.{unit-of-coprime}
-use Rattle.definitions.specs.Residues.{IsUnit, Coprime}
+use Rattle.definitions.specs.Residues.{IsUnit}
 use Rattle.definitions.specs.Polynomials.{convolve, constant}
 use Rattle.convolution.specs.Sums.{total-mod, convolve-mod, convolve-comm, convolve-constant}
 use Rattle.division.proofs.Turns.{convolve-add}
@@ -64,15 +64,16 @@ divided-mod v a = record { at = λ k. c-dvd v (a .at k) }
 
 pub near-start : (n d t i : ℕ) (f h : ℕ → ℕ) → MonicAt n t h → ((j : ℕ) → j ≤ t → Cong n (h j) (i * f j)) → Near n d t 0 i f h
 near-start n d t i f h o e = record {
-      monic = o;
-      alike = λ p v a j. ⊎-elim (λ l. c-trans (c-eq (o .over j l)) (c-sym (c-trans (c-mul c-refl (c-zero (a j l))) (c-eq (mul-zero i))))) (λ l. c-dvd v (e j l)) (lt-or-le t j);
-      m = 1;
-      divides = one-dvd n;
-      more = omega arith;
-      q = λ _. 0;
-      top = λ j l. refl;
-      exact = record { at = λ k. c-trans (c-zero (one-dvd _)) (c-sym (c-zero (one-dvd (f k)))) }
-    }
+  monic = o;
+  alike = λ p v a j. ⊎-elim (λ l. c-trans (c-eq (o .over j l)) (c-sym (c-trans (c-mul c-refl (c-zero (a j l))) (c-eq (mul-zero i)))))
+      (λ l. c-dvd v (e j l)) (lt-or-le t j);
+  m = 1;
+  divides = one-dvd n;
+  more = omega arith;
+  q = λ _. 0;
+  top = λ j l. refl;
+  exact = record { at = λ k. c-trans (c-zero (one-dvd _)) (c-sym (c-zero (one-dvd (f k)))) };
+}
 
 constant-over : (d c j : ℕ) → d < j → constant c j ≡ 0
 constant-over d c zero l = absurd (omega arith)
@@ -84,17 +85,19 @@ module _ {n d t k i : ℕ} {f h q r : ℕ → ℕ} (pos : 0 < n) (u : Cong n (i 
   module _ (p : ℕ) (v : p ∣ n) (above : (j : ℕ) → t < j → p ∣ f j) where
     flat : DividedBy p f h (constant (f t)) (λ (_ : ℕ). 0)
     flat = record {
-        at = λ j.
+      at = λ j.
           c-trans (c-eq (add-zero (convolve (constant (f t)) h j) ∙ convolve-constant (f t) h j))
           (c-trans (c-mul (c-refl {a = f t}) (near .alike p v above j))
-          (c-trans (c-eq {b = i * f t * f j} (simp ring)) (c-trans (c-mul (c-dvd v u) (c-refl {a = f j})) (c-eq (one-mul (f j))))))
-      }
+          (c-trans (c-eq {b = i * f t * f j} (simp ring)) (c-trans (c-mul (c-dvd v u) (c-refl {a = f j})) (c-eq (one-mul (f j))))));
+    }
 
     pub quotient-at : (j : ℕ) → Cong p (q j) (constant (f t) j)
-    quotient-at j = one-quotient {d = d} (pos-of-dvd-of-pos v pos) (monic-mod v (near .monic)) (divided-mod v a) flat short (λ _ _. refl) top (constant-over d (f t)) j
+    quotient-at j = one-quotient {d = d} (pos-of-dvd-of-pos v pos) (monic-mod v (near .monic))
+        (divided-mod v a) flat short (λ _ _. refl) top (constant-over d (f t)) j
 
     pub remainder-at : (j : ℕ) → Cong p (r j) 0
-    remainder-at j = one-remainder {d = d} (pos-of-dvd-of-pos v pos) (monic-mod v (near .monic)) (divided-mod v a) flat short (λ _ _. refl) top (constant-over d (f t)) j
+    remainder-at j = one-remainder {d = d} (pos-of-dvd-of-pos v pos) (monic-mod v (near .monic))
+        (divided-mod v a) flat short (λ _ _. refl) top (constant-over d (f t)) j
 
     pub inverse-at : (j : ℕ) → Cong p (q j * i) (constant 1 j)
     inverse-at j = c-trans (c-mul (quotient-at j) c-refl) (one j)
@@ -106,7 +109,8 @@ module _ {n d t k i : ℕ} {f h q r : ℕ → ℕ} (pos : 0 < n) (u : Cong n (i 
   -- the remainder is a multiple of m
   pub remainder-m : (j : ℕ) → near .m ∣ r j
   remainder-m j =
-      dvd-c (one-remainder {d = d} (omega (arith, near .more)) (monic-mod (near .divides) (near .monic)) (divided-mod (near .divides) a) (near .exact)
+      dvd-c (one-remainder {d = d} (omega (arith, near .more)) (monic-mod (near .divides) (near .monic)) (divided-mod (near .divides) a)
+      (near .exact)
       short (λ _ _. refl) top (near .top) j)
 
   -- where m is n, the remainder is 0
@@ -114,23 +118,24 @@ module _ {n d t k i : ℕ} {f h q r : ℕ → ℕ} (pos : 0 < n) (u : Cong n (i 
   done e j l = sym (mod-eq-of-lt l) ∙ mod-eq-zero-of-dvd n (subst (λ (x : ℕ). x ∣ r j) e (remainder-m j))
 
   -- the next round divides f modulo p m
-  module _ {h' : ℕ → ℕ} (e : (j : ℕ) → Cong n (h' j) (h j + i * r j)) (p : ℕ) (v : p * near .m ∣ n) (above : (j : ℕ) → t < j → p ∣ f j) where
+  module _ {h' : ℕ → ℕ} (e : (j : ℕ) → Cong n (h' j) (h j + i * r j)) (p : ℕ) (v : p * near .m ∣ n)
+      (above : (j : ℕ) → t < j → p ∣ f j) where
     correction : (j : ℕ) → Cong (p * near .m) (convolve q (λ (s : ℕ). i * r s) j) (r j)
     correction j =
         c-trans
         (total-mod _ (suc j) (λ (s : ℕ). q s * (i * r (j - s))) (λ (s : ℕ). constant 1 s * r (j - s))
-          (λ s l. c-trans (c-eq (sym (mul-assoc (q s) i (r (j - s)))))
-            (c-times (near .m) (inverse-at p (dvd-trans p (dvd-mul-right p (near .m)) v) above s) (r (j - s)) (remainder-m (j - s)))))
+        (λ s l. c-trans (c-eq (sym (mul-assoc (q s) i (r (j - s)))))
+        (c-times (near .m) (inverse-at p (dvd-trans p (dvd-mul-right p (near .m)) v) above s) (r (j - s)) (remainder-m (j - s)))))
         (c-eq (convolve-constant 1 r j ∙ one-mul (r j)))
 
     pub exact-next : DividedBy (p * near .m) f h' q (λ (_ : ℕ). 0)
     exact-next = record {
-        at = λ j.
+      at = λ j.
           c-trans (c-eq (add-zero (convolve q h' j)))
           (c-trans (convolve-mod {p = q} (λ _. c-refl) (λ s. c-dvd v (e s)) j)
           (c-trans (c-eq (convolve-add-right q h (λ (s : ℕ). i * r s) j))
-          (c-trans (c-add c-refl (correction j)) (c-dvd v (a .at j)))))
-      }
+          (c-trans (c-add c-refl (correction j)) (c-dvd v (a .at j)))));
+    }
 
   pub near-next : {h' : ℕ → ℕ} → MonicAt n t h' → ((j : ℕ) → Cong n (h' j) (h j + i * r j)) → ((j : ℕ) → t < j → InRadical n (f j))
       → (near .m ≡ n → ⊥) → Near n d t (k + 1) i f h'
@@ -142,14 +147,14 @@ module _ {n d t k i : ℕ} {f h q r : ℕ → ℕ} (pos : 0 < n) (u : Cong n (i 
       record {
         monic = o;
         alike = λ p w above j. c-trans (c-dvd w (e j))
-          (c-trans (c-add c-refl (c-mul c-refl (remainder-at p w above j)))
-          (c-trans (c-eq (ap (λ (x : ℕ). h j + x) (mul-zero i) ∙ add-zero (h j))) (near .alike p w above j)));
+            (c-trans (c-add c-refl (c-mul c-refl (remainder-at p w above j)))
+            (c-trans (c-eq (ap (λ (x : ℕ). h j + x) (mul-zero i) ∙ add-zero (h j))) (near .alike p w above j)));
         m = s .p * near .m;
         divides = s .divides;
         more = omega arith;
         q = q;
         top = top;
-        exact = exact-next e (s .p) (s .divides) (λ j l. radical j l .at (s .p) (s .prime) v)
+        exact = exact-next e (s .p) (s .divides) (λ j l. radical j l .at (s .p) (s .prime) v);
       }
 
   -- the quotient: a unit at 0, nilpotent above

@@ -4,7 +4,7 @@
 --   common-of              a number in the radical of n that divides some given ones of the radical
 --   SeriesInverse          Y U is the constant s U_0, and the words of Y beyond (K - 1) k are 0
 --   series-exact           so it is for a unit polynomial U of degree k, if Y has more than (K - 1) k words
-use mathlib.Core.Path.{_≡_, refl, sym, ap, ap₂, subst, _∙_}
+use mathlib.Core.Path.{_≡_, refl, sym, ap, subst, _∙_}
 use mathlib.Core.List.{List}
 use mathlib.Core.Logic.{inl, inr, ⊎-elim}
 use Prim.Native.Nat.{ℕ, zero, suc, _+_, _-_, _*_, _/_, _%_, _^_, _≤_, _<_, _∣_}
@@ -51,8 +51,8 @@ multiple-more {n} {a} ρ u c d x =
     record {
       times = u / ρ * x .times;
       is = c-trans (c-mul (c-eq (sym e)) (x .is))
-        (c-eq ((let z : ρ * (u / ρ) * (ρ ^ c * x .times) ≡ ρ ^ c * ρ * (u / ρ * x .times) = simp ring in z)
-        ∙ ap (λ (y : ℕ). y * (u / ρ * x .times)) (sym (pow-suc ρ c))))
+          (c-eq ((let z : ρ * (u / ρ) * (ρ ^ c * x .times) ≡ ρ ^ c * ρ * (u / ρ * x .times) = simp ring in z)
+          ∙ ap (λ (y : ℕ). y * (u / ρ * x .times)) (sym (pow-suc ρ c))));
     }
 
 multiple-total : {n m : ℕ} (l : ℕ) (F : ℕ → ℕ) → ((i : ℕ) → i < l → Multiple n m (F i)) → Multiple n m (total l F)
@@ -78,13 +78,15 @@ common-of n (suc m) F h =
     record {
       ρ = g .0;
       divides = elim [ zero ↦ λ l. g .1 .left | suc k ↦ λ l. dvd-trans (g .0) (g .1 .right) (t .divides k (omega arith)) ];
-      radical = record { at = λ p pr v. g .1 .most p (h 0 (omega arith) .at p pr v) (t .radical .at p pr v) }
+      radical = record { at = λ p pr v. g .1 .most p (h 0 (omega arith) .at p pr v) (t .radical .at p pr v) };
     }
 
 -- ---- the words
 
-module _ (n k s i len : ℕ) (U Y : ℕ → ℕ) (two : 2 ≤ n) (unit : Cong n (i * U 0) 1) (deg : (x : ℕ) → k < x → U x ≡ 0) (over : (j : ℕ) → len ≤ j → Y j ≡ 0)
-    (eq : (j : ℕ) → j < len → Cong n (convolve Y U j) (constant (s * U 0) j)) (ρ : ℕ) (divides : (x : ℕ) → x < k → ρ ∣ U (suc x)) (radical : InRadical n ρ) where
+module _ (n k s i len : ℕ) (U Y : ℕ → ℕ) (two : 2 ≤ n) (unit : Cong n (i * U 0) 1) (deg : (x : ℕ) → k < x → U x ≡ 0)
+    (over : (j : ℕ) → len ≤ j → Y j ≡ 0)
+    (eq : (j : ℕ) → j < len → Cong n (convolve Y U j) (constant (s * U 0) j)) (ρ : ℕ) (divides : (x : ℕ) → x < k → ρ ∣ U (suc x))
+    (radical : InRadical n ρ) where
   -- Y_j is - i T where U_0 Y_j + T is 0
   solved : (y t : ℕ) → Cong n (U 0 * y + t) 0 → Cong n y (i * (n - 1) * t)
   solved y t c =
@@ -102,15 +104,20 @@ module _ (n k s i len : ℕ) (U Y : ℕ → ℕ) (two : 2 ≤ n) (unit : Cong n 
           (c-trans (c-eq (sym (more (n - 1) (omega arith)))) (c-trans (c-add c (c-refl {a = (n - 1) * t})) (c-eq (zero-add _))))
 
   -- a term of the recurrence
-  term : (c h x : ℕ) → x < suc h → ((c * k < h - x + k) → Multiple n (ρ ^ c) (Y (h - x))) → c * k ≤ h → Dec (x < k) → Multiple n (ρ ^ suc c) (U (suc x) * Y (h - x))
+  term : (c h x : ℕ) → x < suc h → ((c * k < h - x + k) → Multiple n (ρ ^ c) (Y (h - x))) → c * k ≤ h → Dec (x < k)
+      → Multiple n (ρ ^ suc c) (U (suc x) * Y (h - x))
   term c h x l ih b (yes d) = multiple-more ρ (U (suc x)) c (divides x d) (ih (omega arith))
-  term c h x l ih b (no d) = multiple-same (c-eq (ap (λ (y : ℕ). y * Y (h - x)) (deg (suc x) (omega arith)) ∙ zero-mul (Y (h - x)))) (multiple-zero n (ρ ^ suc c))
+  term c h x l ih b (no d) = multiple-same (c-eq (ap (λ (y : ℕ). y * Y (h - x)) (deg (suc x) (omega arith)) ∙ zero-mul (Y (h - x))))
+      (multiple-zero n (ρ ^ suc c))
 
-  inside : (c h : ℕ) → c * k ≤ h → suc h < len → ((j : ℕ) → j ≤ h → c * k < j + k → Multiple n (ρ ^ c) (Y j)) → Multiple n (ρ ^ suc c) (Y (suc h))
+  inside : (c h : ℕ) → c * k ≤ h → suc h < len → ((j : ℕ) → j ≤ h → c * k < j + k → Multiple n (ρ ^ c) (Y j))
+      → Multiple n (ρ ^ suc c) (Y (suc h))
   inside c h b l ih =
       let t : ℕ = convolve (λ x. U (suc x)) Y h in
-      let sum : Multiple n (ρ ^ suc c) t = multiple-total (suc h) (λ x. U (suc x) * Y (h - x)) (λ x q. term c h x q (ih (h - x) (omega arith)) b (decLt x k)) in
-      multiple-same (solved (Y (suc h)) t (c-trans (c-eq (sym (convolve-comm Y U (suc h) ∙ convolve-suc U Y h))) (eq (suc h) l))) (multiple-scale (i * (n - 1)) sum)
+      let sum : Multiple n (ρ ^ suc c) t = multiple-total (suc h) (λ x. U (suc x) * Y (h - x))
+      (λ x q. term c h x q (ih (h - x) (omega arith)) b (decLt x k)) in
+      multiple-same (solved (Y (suc h)) t (c-trans (c-eq (sym (convolve-comm Y U (suc h) ∙ convolve-suc U Y h))) (eq (suc h) l)))
+      (multiple-scale (i * (n - 1)) sum)
 
   power-at : (b j c : ℕ) → j < b → c * k < j + k → Multiple n (ρ ^ c) (Y j)
   power-at zero j c l h = absurd (omega arith)
@@ -142,20 +149,22 @@ module _ (n k s i len : ℕ) (U Y : ℕ → ℕ) (two : 2 ≤ n) (unit : Cong n 
       ⊎-elim
       (λ p. multiple-same (c-eq (ap (λ (y : ℕ). y * U (j - x)) (over x p) ∙ zero-mul (U (j - x)))) (multiple-zero n (ρ ^ K n)))
       (λ p. ⊎-elim
-        (λ q. multiple-same (c-eq (ap (λ (y : ℕ). Y x * y) (deg (j - x) q) ∙ mul-zero (Y x))) (multiple-zero n (ρ ^ K n)))
-        (λ q.
-          let e : suc (K n - 1) ≡ K n = omega (arith, K-positive n two) in
-          let y : j - x ≡ suc (j - x - 1) = omega arith in
-          subst (λ (z : ℕ). Multiple n (ρ ^ z) (Y x * U (j - x))) e
-          (multiple-same (c-eq (mul-comm (Y x) (U (j - x))))
-          (multiple-more ρ (U (j - x)) (K n - 1) (subst (λ (z : ℕ). ρ ∣ U z) (sym y) (divides (j - x - 1) (omega arith))) (word-power x (K n - 1) (omega arith)))))
-        (lt-or-le k (j - x)))
+      (λ q. multiple-same (c-eq (ap (λ (y : ℕ). Y x * y) (deg (j - x) q) ∙ mul-zero (Y x))) (multiple-zero n (ρ ^ K n)))
+      (λ q.
+      let e : suc (K n - 1) ≡ K n = omega (arith, K-positive n two) in
+      let y : j - x ≡ suc (j - x - 1) = omega arith in
+      subst (λ (z : ℕ). Multiple n (ρ ^ z) (Y x * U (j - x))) e
+      (multiple-same (c-eq (mul-comm (Y x) (U (j - x))))
+      (multiple-more ρ (U (j - x)) (K n - 1) (subst (λ (z : ℕ). ρ ∣ U z) (sym y) (divides (j - x - 1) (omega arith)))
+      (word-power x (K n - 1) (omega arith)))))
+      (lt-or-le k (j - x)))
       (⊎-elim (λ p. inr p) (λ p. inl p) (lt-or-le x len))
 
   pub product-mod : (K n - 1) * k < len → (j : ℕ) → Cong n (convolve Y U j) (constant (s * U 0) j)
   product-mod l j =
       ⊎-elim (eq j)
-      (λ b. c-trans (multiple-none none (multiple-total (suc j) (λ x. Y x * U (j - x)) (λ x h. far j x b (omega arith) h))) (c-eq (sym (rest j (omega arith)))))
+      (λ b. c-trans (multiple-none none (multiple-total (suc j) (λ x. Y x * U (j - x)) (λ x h. far j x b (omega arith) h)))
+      (c-eq (sym (rest j (omega arith)))))
       (lt-or-le j len)
     where
       rest : (j : ℕ) → 0 < j → constant (s * U 0) j ≡ 0
@@ -168,7 +177,8 @@ pub record SeriesInverse (n k s : ℕ) (U Y : List ℕ) : Type 0 where
   pub zeros : (j : ℕ) → (K n - 1) * k < j → coef Y j ≡ 0
   pub equation : (j : ℕ) → convolve (coef Y) (coef U) j % n ≡ constant (s * coef U 0) j % n
 
-pub series-exact : {n k s len : ℕ} {w w' : List ℕ} → 2 ≤ n → Series n k s len w w' → UnitPolynomial n (piece w 0 (k + 1)) → (K n - 1) * k < len
+pub series-exact : {n k s len : ℕ} {w w' : List ℕ} → 2 ≤ n → Series n k s len w w' → UnitPolynomial n (piece w 0 (k + 1))
+    → (K n - 1) * k < len
     → SeriesInverse n k s (piece w 0 (k + 1)) (piece w' (k + 1) len)
 series-exact {n} {k} {s} {len} {w} {w'} two sr up l =
     let U : ℕ → ℕ = coef (piece w 0 (k + 1)) in
@@ -181,9 +191,9 @@ series-exact {n} {k} {s} {len} {w} {w'} two sr up l =
     let eq : (j : ℕ) → j < len → Cong n (convolve Y U j) (constant (s * U 0) j) = λ j b. record { same = sr .equation j b } in
     record {
       zeros = λ j b. ⊎-elim
-        (λ q. sym (mod-eq-of-lt (subst (λ (x : ℕ). x < n) (sym (piece-at w' (k + 1) len j q)) (sr .below .at j q)))
+          (λ q. sym (mod-eq-of-lt (subst (λ (x : ℕ). x < n) (sym (piece-at w' (k + 1) len j q)) (sr .below .at j q)))
           ∙ zeros-mod n k s i len U Y two unit deg over eq (r .ρ) (r .divides) (r .radical) j b .same ∙ zero-mod n)
-        (λ q. over j q)
-        (lt-or-le j len);
-      equation = λ j. product-mod n k s i len U Y two unit deg over eq (r .ρ) (r .divides) (r .radical) l j .same
+          (λ q. over j q)
+          (lt-or-le j len);
+      equation = λ j. product-mod n k s i len U Y two unit deg over eq (r .ρ) (r .divides) (r .radical) l j .same;
     }

@@ -4,9 +4,9 @@
 --   MonicAt n t h             h is monic of degree t
 --   DividedBy n f h q r       f is q h + r
 --   one-quotient, one-remainder
-use mathlib.Core.Path.{_≡_, refl, sym, ap, _∙_}
+use mathlib.Core.Path.{_≡_, sym, ap, _∙_}
 use mathlib.Core.Logic.{⊎-elim}
-use Prim.Native.Nat.{ℕ, zero, suc, _+_, _-_, _*_, _%_, _≤_, _<_}
+use Prim.Native.Nat.{ℕ, zero, suc, _+_, _-_, _*_, _≤_, _<_}
 use native.Mathlib.Nat.{add-comm, add-zero, mul-zero, mul-one}
 use native.Mathlib.Omega.{arith}
 use Rattle.numbers.specs.Congruence.{Cong, c-refl, c-sym, c-trans, c-eq, c-add, c-mul, c-cancel}
@@ -35,12 +35,12 @@ module _ {n t d : ℕ} {f h q r q' r' : ℕ → ℕ} (pos : 0 < n) (o : MonicAt 
   down j up =
       let e : t + j - j ≡ t = omega arith in
       let c : Cong n (q j * h (t + j - j)) (q' j * h (t + j - j)) =
-          total-at n (suc (t + j)) j (λ (i : ℕ). q i * h (t + j - i)) (λ (i : ℕ). q' i * h (t + j - i)) pos (omega arith)
-            (λ i l ne. ⊎-elim
-              (λ s. c-eq (rw (o .over (t + j - i) (omega arith), mul-zero, mul-zero)))
-              (λ s. c-mul (up i (omega arith)) c-refl)
-              (lt-or-le i j))
-            (high (t + j) (omega arith)) in
+      total-at n (suc (t + j)) j (λ (i : ℕ). q i * h (t + j - i)) (λ (i : ℕ). q' i * h (t + j - i)) pos (omega arith)
+      (λ i l ne. ⊎-elim
+      (λ s. c-eq (rw (o .over (t + j - i) (omega arith), mul-zero, mul-zero)))
+      (λ s. c-mul (up i (omega arith)) c-refl)
+      (lt-or-le i j))
+      (high (t + j) (omega arith)) in
       c-trans (c-eq (sym (mul-one (q j))))
       (c-trans (c-mul c-refl (c-sym (o .lead)))
       (c-trans (rw e at c) (c-trans (c-mul c-refl (o .lead)) (c-eq (mul-one (q' j))))))
@@ -57,4 +57,5 @@ module _ {n t d : ℕ} {f h q r q' r' : ℕ → ℕ} (pos : 0 < n) (o : MonicAt 
       c-cancel (convolve q h k) pos
       (c-trans (c-eq (add-comm (r k) (convolve q h k)))
       (c-trans (c-trans (a .at k) (c-sym (b .at k)))
-      (c-trans (c-add (c-sym (convolve-mod {q = h} {q' = h} one-quotient (λ i. c-refl) k)) c-refl) (c-eq (add-comm (convolve q h k) (r' k))))))
+      (c-trans (c-add (c-sym (convolve-mod {q = h} {q' = h} one-quotient (λ i. c-refl) k)) c-refl)
+      (c-eq (add-comm (convolve q h k) (r' k))))))

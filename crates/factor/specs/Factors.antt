@@ -6,7 +6,7 @@
 --   Series                the words of a power series with a given product
 use mathlib.Core.Path.{_≡_}
 use mathlib.Core.List.{List}
-use Prim.Native.Nat.{ℕ, zero, suc, _+_, _-_, _*_, _%_, _<_, _≤_}
+use Prim.Native.Nat.{ℕ, zero, suc, _+_, _-_, _*_, _%_, _<_}
 use lib.ListN.{length}
 use Rattle.definitions.specs.Residues.{Inverse, IsNilpotent, Coprime}
 use Rattle.definitions.specs.Polynomials.{coef, convolve, constant, Divided, Multiplied, UnitPolynomial}
@@ -47,7 +47,8 @@ pub record Given (n d t i : ℕ) (w : List ℕ) : Type 0 where
 pub record Round (n d t : ℕ) (w w' : List ℕ) : Type 0 where
   pub around : Around (d + 1 + (t + 1)) (d + 1) w w'
   pub below : Below n (d + 1 + (t + 1)) (d + 1) w'
-  pub equation : Divided n (piece w 0 (d + 1)) (piece w (d + 1) (t + 1)) (piece w' (d + 1 + (t + 1) + t) (d + 1 - t)) (piece w' (d + 1 + (t + 1)) t)
+  pub equation : Divided n (piece w 0 (d + 1)) (piece w (d + 1) (t + 1)) (piece w' (d + 1 + (t + 1) + t) (d + 1 - t))
+      (piece w' (d + 1 + (t + 1)) t)
 
 -- f is U H: H after f, U in the upper d + 1 - t words of the room
 pub record Factored (n d t : ℕ) (w w' : List ℕ) : Type 0 where
@@ -69,4 +70,4 @@ pub record Series (n k s len : ℕ) (w w' : List ℕ) : Type 0 where
   pub around : Around (k + 1) len w w'
   pub below : Below n (k + 1) len w'
   pub equation : (j : ℕ) → j < len
-    → convolve (coef (piece w' (k + 1) len)) (coef (piece w 0 (k + 1))) j % n ≡ constant (s * coef (piece w 0 (k + 1)) 0) j % n
+      → convolve (coef (piece w' (k + 1) len)) (coef (piece w 0 (k + 1))) j % n ≡ constant (s * coef (piece w 0 (k + 1)) 0) j % n

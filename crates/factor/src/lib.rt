@@ -6,7 +6,7 @@
 //   series_word         one word of s U_0 / U as a power series
 //   series_inverse      all of them: the inverse of U where s is that of U_0
 ghost use mathlib.Core.Path.{_≡_};
-ghost use Prim.Native.Nat.{ℕ, _+_, _-_, _*_, _%_, _<_, _≤_};
+ghost use Prim.Native.Nat.{_+_, _-_, _*_, _%_, _<_, _≤_};
 ghost use lib.ListN.{length, getD};
 ghost use Rattle.definitions.specs.Polynomials.{coef};
 ghost use Rattle.windows.specs.Window.{piece, Below};

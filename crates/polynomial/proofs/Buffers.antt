@@ -1,9 +1,9 @@
 -- Results in the first words of a lent buffer: the part was lent, and came back.
-use mathlib.Core.Path.{_≡_, refl, sym, ap, ap₂, subst, _∙_}
-use mathlib.Core.List.{List, [], _∷_, _++_}
-use Prim.Native.Nat.{ℕ, zero, suc, _+_, _-_, _*_, _%_, _≤_, _<_}
+use mathlib.Core.Path.{_≡_, refl, sym, ap, ap₂, _∙_}
+use mathlib.Core.List.{List, _++_}
+use Prim.Native.Nat.{ℕ, _+_, _-_, _<_}
 use native.Mathlib.Omega.{arith}
-use lib.ListN.{length, getD, take, drop, set, length-set}
+use lib.ListN.{length, take, drop, set, length-set}
 use lib.Seq.{ext-getD, getD-set-same, getD-set-other, take-append-seam, drop-append-seam}
 use borrow.Author.Count.{below-more}
 use borrow.Rule.Slice.PartMut.{putMid}
@@ -20,9 +20,9 @@ filled-none F w = record { same = refl; at = λ i l. absurd (omega arith) }
 
 pub filled-step : {F : ℕ → ℕ} {k v : ℕ} {w₀ w : List ℕ} → Filled F k w₀ w → k < length w₀ → v ≡ F k → Filled F (k + 1) w₀ (set w k v)
 filled-step {F} {k} {v} {w₀} {w} s l e = record {
-      same = length-set w k v ∙ s .same;
-      at = below-more _ k (λ i h. getD-set-other w k i v 0 (omega arith) ∙ s .at i h) (getD-set-same w k v 0 (omega (arith, s .same)) ∙ e)
-    }
+  same = length-set w k v ∙ s .same;
+  at = below-more _ k (λ i h. getD-set-other w k i v 0 (omega arith) ∙ s .at i h) (getD-set-same w k v 0 (omega (arith, s .same)) ∙ e);
+}
 
 pub filled-end : {F : ℕ → ℕ} {k : ℕ} {w₀ w : List ℕ} → Filled F k w₀ w → k ≡ length w₀ → w ≡ tabulate (length w₀) F
 filled-end {F} {k} {w₀} {w} s e =

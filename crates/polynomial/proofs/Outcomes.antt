@@ -1,15 +1,15 @@
 -- Statuses: which refusal applies, and what is known of the answer and of the lent words where none does.
 use mathlib.Core.Path.{_≡_, refl, sym, ap, ap₂, subst, _∙_}
-use mathlib.Core.Bool.{Bool, true, false, not, cond}
+use mathlib.Core.Bool.{Bool, true, false, cond}
 use mathlib.Core.List.{List, [], _∷_, _++_}
 use Prim.Native.Nat.{ℕ, zero, suc, pred, _+_, _-_, _≤_, _<_}
 use native.Mathlib.Numerals.{add-one}
 use native.Mathlib.Omega.{arith}
 use borrow.Author.Tests.{lt-ltb, le-ltb}
-use lib.Dec.{T, ltb, eqb}
+use lib.Dec.{T, ltb}
 use lib.ListN.{length, take, drop}
-use Rattle.definitions.specs.Polynomials.{coef, deg, extent, true-degree}
-use Rattle.refusals.specs.Refusals.{bad-modulus, bad-length, all-below, refusal-two, short-result, first-of, answered}
+use Rattle.definitions.specs.Polynomials.{deg, extent, true-degree}
+use Rattle.refusals.specs.Refusals.{bad-modulus, bad-length, all-below, short-result, first-of, answered}
 use Rattle.refusals.proofs.Accepted.{Accepted, accepted-two}
 use Rattle.polynomial.specs.Services.{Outcome, replaced, refusal-product, leading-part}
 use Rattle.polynomial.specs.Counts.{extent-length}
@@ -82,7 +82,8 @@ strip false false false false z h = h
 
 pub accepted-product : (n : ℕ) (f g : List ℕ) → refusal-product n f g ≡ 0 → Accepted n f × Accepted n g
 accepted-product n f g h =
-    accepted-two n f g (strip (bad-modulus n) (bad-length f) (bad-length g) (ltb 48 (deg f + deg g)) (cond (all-below n f) (cond (all-below n g) 0 3) 3) h)
+    accepted-two n f g (strip (bad-modulus n) (bad-length f) (bad-length g) (ltb 48 (deg f + deg g))
+    (cond (all-below n f) (cond (all-below n g) 0 3) 3) h)
 
 -- ---- the leading part
 

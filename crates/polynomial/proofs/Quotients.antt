@@ -4,12 +4,11 @@ use mathlib.Core.List.{List}
 use mathlib.Core.Logic.{⊎-elim}
 use Prim.Native.Nat.{ℕ, zero, suc, _+_, _-_, _*_, _%_, _≤_, _<_}
 use native.Mathlib.Nat.{mod-lt, add-zero, add-comm, mul-one, eq-or-lt-of-le, zero-mul}
-use native.Mathlib.Numerals.{add-one}
 use native.Mathlib.Omega.{arith}
 use lib.ListN.{length, getD, take, drop, set, replicate, length-set, length-drop, List·getD-eq-default}
 use lib.Seq.{getD-set-same, getD-set-other, getD-drop, take-all}
-use Rattle.numbers.specs.Congruence.{Cong, c-refl, c-sym, c-trans, c-eq, c-add, c-mul, c-mod, c-sub, ring}
-use Rattle.definitions.specs.Polynomials.{coef, deg, convolve, tabulate, quotient-length, Residues, Divided, Division}
+use Rattle.numbers.specs.Congruence.{Cong, c-refl, c-trans, c-eq, c-add, c-mul, c-mod, c-sub, ring}
+use Rattle.definitions.specs.Polynomials.{coef, deg, convolve, tabulate, quotient-length, Division}
 use Rattle.theory.specs.Words.{total-cong, coef-out, coef-tabulate, length-tabulate}
 use Rattle.convolution.specs.Sums.{total-none, convolve-shift, convolve-first}
 use Rattle.windows.proofs.Leaf.{lt-or-le}
@@ -42,8 +41,9 @@ quotienting-start n s m f g q pos e es =
       below = λ j. subst (λ (x : ℕ). x < n) (sym (z j)) pos;
       high = λ j l. z j;
       at = λ j l. c-eq
-        (total-none (suc (deg g)) _ (λ i b. ap (λ (x : ℕ). x * coef g (deg g - i)) (getD-drop j q i 0 ∙ z (j + i)) ∙ zero-mul (coef g (deg g - i)))
-        ∙ sym (beyond f (deg g + j) (omega (arith, deg-is g))))
+          (total-none (suc (deg g)) _ (λ i b. ap (λ (x : ℕ). x * coef g (deg g - i)) (getD-drop j q i 0 ∙ z (j + i))
+          ∙ zero-mul (coef g (deg g - i)))
+          ∙ sym (beyond f (deg g + j) (omega (arith, deg-is g))));
     }
 
 -- the loop begins within the quotient
@@ -56,7 +56,8 @@ starts-within f g l s one el es =
 pub read-is : (q : List ℕ) (s m k : ℕ) → m ≡ length q → k ≡ m - s → take k (drop s q) ≡ drop s q
 read-is q s m k em ek = take-all k (drop s q) (omega (arith, length-drop s q))
 
-module _ (n i s x v : ℕ) (f g q₀ q : List ℕ) (pos : 0 < n) (inside : s < length q₀) (reach : deg g + s < length f) (unit : (i * coef g (deg g)) % n ≡ 1 % n)
+module _ (n i s x v : ℕ) (f g q₀ q : List ℕ) (pos : 0 < n) (inside : s < length q₀) (reach : deg g + s < length f)
+    (unit : (i * coef g (deg g)) % n ≡ 1 % n)
     (qs : Quotienting n (s + 1) f g q₀ q) (ex : x ≡ convolve (coef (drop s q)) (coef g) (deg g) % n)
     (ev : v ≡ (i * ((coef f (deg g + s) + (n - x)) % n)) % n) where
   q' : List ℕ
@@ -81,36 +82,41 @@ module _ (n i s x v : ℕ) (f g q₀ q : List ℕ) (pos : 0 < n) (inside : s < l
       let y : ℕ = (a + (n - X % n)) % n in
       let top : ℕ = coef g (deg g) in
       let w : v ≡ (i * y) % n = ev ∙ ap (λ (z : ℕ). (i * ((a + (n - z)) % n)) % n) ex in
-      c-trans (c-eq (convolve-first (coef (drop s q')) (coef (drop s q)) (coef g) (deg g) none rest ∙ ap (λ (z : ℕ). z * top + X) (first ∙ w)))
+      c-trans (c-eq (convolve-first (coef (drop s q')) (coef (drop s q)) (coef g) (deg g) none rest
+      ∙ ap (λ (z : ℕ). z * top + X) (first ∙ w)))
       (c-trans (c-add (c-trans (c-mul (c-mod (i * y)) (c-refl {a = top}))
-        (c-trans (c-eq {b = y * (i * top)} (simp ring)) (c-trans (c-mul (c-refl {a = y}) (record { same = unit })) (c-eq (mul-one y))))) (c-refl {a = X}))
+      (c-trans (c-eq {b = y * (i * top)} (simp ring)) (c-trans (c-mul (c-refl {a = y}) (record { same = unit })) (c-eq (mul-one y)))))
+      (c-refl {a = X}))
       (c-sub X pos))
 
   kept : (j : ℕ) → s < j → convolve (coef (drop j q')) (coef g) (deg g) ≡ convolve (coef (drop j q)) (coef g) (deg g)
   unfolding q'
-  kept j l = total-cong (suc (deg g)) _ _ (λ k b. ap (λ (z : ℕ). z * coef g (deg g - k)) (getD-drop j q' k 0 ∙ getD-set-other q s (j + k) v 0 (omega arith) ∙ sym (getD-drop j q k 0)))
+  kept j l = total-cong (suc (deg g)) _ _ (λ k b. ap (λ (z : ℕ). z * coef g (deg g - k))
+      (getD-drop j q' k 0 ∙ getD-set-other q s (j + k) v 0 (omega arith) ∙ sym (getD-drop j q k 0)))
 
   pub quotienting-step : Quotienting n s f g q₀ (set q s v)
   unfolding q'
   quotienting-step = record {
-        same = length-set q s v ∙ qs .same;
-        low = λ j l. getD-set-other q s j v 0 (omega arith) ∙ qs .low j (omega arith);
-        below = λ j. ⊎-elim
-          (λ l. subst (λ (z : ℕ). z < n) (sym (getD-set-other q s j v 0 (omega arith))) (qs .below j))
-          (λ l. ⊎-elim
-            (λ e. subst (λ (z : ℕ). z < n) (sym (ap (λ (k : ℕ). getD q' k 0) (sym e) ∙ getD-set-same q s v 0 (omega (arith, qs .same)) ∙ ev)) (mod-lt _ pos))
-            (λ b. subst (λ (z : ℕ). z < n) (sym (getD-set-other q s j v 0 (omega arith))) (qs .below j))
-            (eq-or-lt-of-le l))
-          (lt-or-le j s);
-        high = λ j l. getD-set-other q s j v 0 (omega arith) ∙ qs .high j l;
-        at = λ j l. ⊎-elim
-          (λ e. subst (λ (k : ℕ). Cong n (convolve (coef (drop k q')) (coef g) (deg g)) (coef f (deg g + k))) e made)
-          (λ b. c-trans (c-eq (kept j b)) (qs .at j (omega arith)))
-          (eq-or-lt-of-le l)
-      }
+    same = length-set q s v ∙ qs .same;
+    low = λ j l. getD-set-other q s j v 0 (omega arith) ∙ qs .low j (omega arith);
+    below = λ j. ⊎-elim
+        (λ l. subst (λ (z : ℕ). z < n) (sym (getD-set-other q s j v 0 (omega arith))) (qs .below j))
+        (λ l. ⊎-elim
+        (λ e. subst (λ (z : ℕ). z < n) (sym (ap (λ (k : ℕ). getD q' k 0) (sym e) ∙ getD-set-same q s v 0 (omega (arith, qs .same)) ∙ ev))
+        (mod-lt _ pos))
+        (λ b. subst (λ (z : ℕ). z < n) (sym (getD-set-other q s j v 0 (omega arith))) (qs .below j))
+        (eq-or-lt-of-le l))
+        (lt-or-le j s);
+    high = λ j l. getD-set-other q s j v 0 (omega arith) ∙ qs .high j l;
+    at = λ j l. ⊎-elim
+        (λ e. subst (λ (k : ℕ). Cong n (convolve (coef (drop k q')) (coef g) (deg g)) (coef f (deg g + k))) e made)
+        (λ b. c-trans (c-eq (kept j b)) (qs .at j (omega arith)))
+        (eq-or-lt-of-le l);
+  }
 
 -- the turn, as the code has it
-pub quotienting-turn : (n i s k x y v : ℕ) (f g q₀ q : List ℕ) → 0 < n → s < length q₀ → s < length f - (length g - 1) → (i * coef g (deg g)) % n ≡ 1 % n
+pub quotienting-turn : (n i s k x y v : ℕ) (f g q₀ q : List ℕ) → 0 < n → s < length q₀ → s < length f - (length g - 1)
+    → (i * coef g (deg g)) % n ≡ 1 % n
     → Quotienting n (s + 1) f g q₀ q → k ≡ length q - s → x ≡ convolve (coef (take k (drop s q))) (coef g) (length g - 1) % n
     → y ≡ (coef f (length g - 1 + s) + (n - x)) % n → v ≡ (i * y) % n → Quotienting n s f g q₀ (set q s v)
 quotienting-turn n i s k x y v f g q₀ q pos inside reach unit qs ek ex ey ev =
@@ -118,13 +124,14 @@ quotienting-turn n i s k x y v f g q₀ q pos inside reach unit qs ek ex ey ev =
     (ex ∙ ap₂ (λ (w : List ℕ) (e : ℕ). convolve (coef w) (coef g) e % n) (read-is q s (length q) k refl ek) (sym (deg-is g)))
     (ev ∙ ap (λ (z : ℕ). (i * z) % n) (ey ∙ ap (λ (e : ℕ). (coef f (e + s) + (n - x)) % n) (sym (deg-is g))))
 
-pub quotienting-end : (n s : ℕ) (f g q₀ q : List ℕ) → s ≡ 0 → 1 ≤ length f → length q₀ ≡ quotient-length (deg f) (deg g) → Quotienting n s f g q₀ q → QuotientWords n f g q
+pub quotienting-end : (n s : ℕ) (f g q₀ q : List ℕ) → s ≡ 0 → 1 ≤ length f → length q₀ ≡ quotient-length (deg f) (deg g)
+    → Quotienting n s f g q₀ q → QuotientWords n f g q
 quotienting-end n s f g q₀ q e one l qs = record {
-      length-q = qs .same ∙ l;
-      residues = record { at = λ k b. qs .below k };
-      short = λ b. qs .high 0 (omega (arith, deg-is f));
-      equation = λ j. qs .at j (omega arith) .same
-    }
+  length-q = qs .same ∙ l;
+  residues = record { at = λ k b. qs .below k };
+  short = λ b. qs .high 0 (omega (arith, deg-is f));
+  equation = λ j. qs .at j (omega arith) .same;
+}
 
 -- ---- the division
 
@@ -138,31 +145,42 @@ module _ (n : ℕ) (f g q r : List ℕ) (pos : 0 < n) (one : 1 ≤ length g) (qw
     where
       low : k < deg g → (convolve (coef q) (coef g) k + coef r k) % n ≡ coef f k % n
       low l =
-          ap (λ (x : ℕ). (convolve (coef q) (coef g) k + x) % n) (ap (λ (w : List ℕ). coef w k) is ∙ coef-tabulate (deg g) (λ (k : ℕ). difference n (coef f k) (convolve (coef q) (coef g) k)) k l)
+          ap (λ (x : ℕ). (convolve (coef q) (coef g) k + x) % n)
+          (ap (λ (w : List ℕ). coef w k) is ∙ coef-tabulate (deg g)
+          (λ (k : ℕ). difference n (coef f k) (convolve (coef q) (coef g) k)) k l)
           ∙ ap (λ (x : ℕ). x % n) (add-comm (convolve (coef q) (coef g) k) (difference n (coef f k) (convolve (coef q) (coef g) k)))
           ∙ c-sub {a = coef f k} (convolve (coef q) (coef g) k) pos .same
 
       high : (j : ℕ) → k ≡ j + deg g → (convolve (coef q) (coef g) k + coef r k) % n ≡ coef f k % n
       high j e =
           ap₂ (λ (x y : ℕ). (x + y) % n)
-            (ap (convolve (coef q) (coef g)) e ∙ convolve-shift j (deg g) (coef q) (coef g) above
-              ∙ total-cong (suc (deg g)) _ _ (λ i b. ap (λ (x : ℕ). x * coef g (deg g - i)) (sym (getD-drop j q i 0))))
-            (List·getD-eq-default r 0 (omega (arith, ap length is, length-tabulate (deg g) (λ (k : ℕ). difference n (coef f k) (convolve (coef q) (coef g) k)))))
+          (ap (convolve (coef q) (coef g)) e ∙ convolve-shift j (deg g) (coef q) (coef g) above
+          ∙ total-cong (suc (deg g)) _ _ (λ i b. ap (λ (x : ℕ). x * coef g (deg g - i)) (sym (getD-drop j q i 0))))
+          (List·getD-eq-default r 0 (omega (
+            arith,
+            ap length is,
+            length-tabulate (deg g)
+                (λ (k : ℕ). difference n (coef f k) (convolve (coef q) (coef g) k)),
+          )))
           ∙ ap (λ (x : ℕ). x % n) (add-zero _)
           ∙ qw .equation j
           ∙ ap (λ (x : ℕ). coef f x % n) (add-comm (deg g) j ∙ sym e)
 
   pub divided : Division n f g q r
   divided = record {
-        length-q = qw .length-q;
-        length-r = ap length is ∙ length-tabulate (deg g) (λ (k : ℕ). difference n (coef f k) (convolve (coef q) (coef g) k));
-        residues-q = qw .residues;
-        residues-r = record { at = λ k l. subst (λ (x : ℕ). x < n)
-          (sym (ap (λ (w : List ℕ). coef w k) is ∙ coef-tabulate (deg g) (λ (k : ℕ). difference n (coef f k) (convolve (coef q) (coef g) k)) k
-            (subst (λ (x : ℕ). k < x) (ap length is ∙ length-tabulate (deg g) (λ (k : ℕ). difference n (coef f k) (convolve (coef q) (coef g) k))) l))) (mod-lt _ pos) };
-        short = qw .short;
-        equation = record { at = equation }
-      }
+    length-q = qw .length-q;
+    length-r = ap length is ∙ length-tabulate (deg g) (λ (k : ℕ). difference n (coef f k) (convolve (coef q) (coef g) k));
+    residues-q = qw .residues;
+    residues-r = record {
+      at = λ k l. subst (λ (x : ℕ). x < n)
+          (sym (ap (λ (w : List ℕ). coef w k) is ∙ coef-tabulate (deg g)
+          (λ (k : ℕ). difference n (coef f k) (convolve (coef q) (coef g) k)) k
+          (subst (λ (x : ℕ). k < x) (ap length is ∙ length-tabulate (deg g)
+          (λ (k : ℕ). difference n (coef f k) (convolve (coef q) (coef g) k))) l))) (mod-lt _ pos);
+    };
+    short = qw .short;
+    equation = record { at = equation };
+  }
 
 -- a word of the remainder, as the code makes it
 pub remainder-made : (n x a r : ℕ) (f g q : List ℕ) (k : ℕ) → x ≡ convolve (coef q) (coef g) k % n → a ≡ coef f k → r ≡ (a + (n - x)) % n

@@ -9,7 +9,7 @@ use mathlib.Core.Path.{_≡_, refl, sym, ap, subst, _∙_}
 use mathlib.Core.Bool.{Bool, true, false, cond}
 use mathlib.Core.List.{List, [], _∷_}
 use mathlib.Core.Logic.{⊎-elim}
-use Prim.Native.Nat.{ℕ, zero, suc, _+_, _-_, _≤_, _<_}
+use Prim.Native.Nat.{ℕ, zero, suc, _-_, _≤_, _<_}
 use native.Mathlib.Nat.{le-antisymm, eq-or-lt-of-le}
 use native.Mathlib.Omega.{arith}
 use lib.Dec.{T, eqb}
@@ -46,7 +46,8 @@ counted-next t (suc e) j l = omega arith
 pub count-most : (P : ℕ → Bool) (f : List ℕ) (k : ℕ) → ((j : ℕ) → k ≤ j → j < length f → P (coef f j) ≡ true) → last-count P f ≤ k
 unfolding last-count
 count-most P [] k h = omega arith
-count-most P (x ∷ f) zero h = counted-none (P x) (last-count P f) (h 0 (omega arith) (omega arith)) (count-most P f 0 (λ j l b. h (suc j) (omega arith) (omega arith)))
+count-most P (x ∷ f) zero h = counted-none (P x) (last-count P f) (h 0 (omega arith) (omega arith))
+    (count-most P f 0 (λ j l b. h (suc j) (omega arith) (omega arith)))
 count-most P (x ∷ f) (suc k) h = counted-some (P x) (last-count P f) k (count-most P f k (λ j l b. h (suc j) (omega arith) (omega arith)))
 
 pub count-least : (P : ℕ → Bool) (f : List ℕ) (j : ℕ) → j < length f → P (coef f j) ≡ false → j < last-count P f
@@ -55,7 +56,8 @@ count-least P [] j l h = absurd (omega arith)
 count-least P (x ∷ f) zero l h = counted-first (P x) (last-count P f) h
 count-least P (x ∷ f) (suc j) l h = counted-next (P x) (last-count P f) j (count-least P f j (omega arith) h)
 
-pub count-is : (P : ℕ → Bool) (f : List ℕ) (k : ℕ) → k ≤ length f → ((j : ℕ) → k ≤ j → j < length f → P (coef f j) ≡ true) → (0 < k → P (coef f (k - 1)) ≡ false)
+pub count-is : (P : ℕ → Bool) (f : List ℕ) (k : ℕ) → k ≤ length f → ((j : ℕ) → k ≤ j → j < length f → P (coef f j) ≡ true)
+    → (0 < k → P (coef f (k - 1)) ≡ false)
     → k ≡ last-count P f
 count-is P f zero l h top = le-antisymm (omega arith) (count-most P f zero h)
 count-is P f (suc k) l h top =
@@ -71,8 +73,8 @@ passed-none P f = record { at = λ j l b. absurd (omega arith) }
 
 pub passed-more : {P : ℕ → Bool} {f : List ℕ} {k : ℕ} → Passed P f k → 0 < k → P (coef f (k - 1)) ≡ true → Passed P f (k - 1)
 passed-more {P} {f} {k} x l h = record {
-      at = λ j b q. ⊎-elim (λ e. subst (λ (y : ℕ). P (coef f y) ≡ true) e h) (λ c. x .at j (omega arith) q) (eq-or-lt-of-le b)
-    }
+  at = λ j b q. ⊎-elim (λ e. subst (λ (y : ℕ). P (coef f y) ≡ true) e h) (λ c. x .at j (omega arith) q) (eq-or-lt-of-le b);
+}
 
 pub passed-all : {P : ℕ → Bool} {f : List ℕ} {k : ℕ} → Passed P f k → k ≡ 0 → 0 ≡ last-count P f
 passed-all {P} {f} {k} x e = count-is P f 0 (omega arith) (λ j l b. x .at j (omega arith) b) (λ l. absurd (omega arith))
@@ -95,7 +97,8 @@ count-at P f l = pick (P (coef f (last-count P f - 1))) refl
   where
     pick : (t : Bool) → P (coef f (last-count P f - 1)) ≡ t → P (coef f (last-count P f - 1)) ≡ false
     pick true e = absurd (let z = count-most P f (last-count P f - 1)
-        (λ j b h. ⊎-elim (λ q. subst (λ (x : ℕ). P (coef f x) ≡ true) q e) (λ q. count-above P f j (omega arith) h) (eq-or-lt-of-le b)) in omega arith)
+        (λ j b h. ⊎-elim (λ q. subst (λ (x : ℕ). P (coef f x) ≡ true) q e) (λ q. count-above P f j (omega arith) h) (eq-or-lt-of-le b)) in
+        omega arith)
     pick false e = e
 
 -- the definition's count

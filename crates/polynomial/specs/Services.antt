@@ -7,8 +7,8 @@
 --   DivisionPlaced            quotient and remainder in the first words of their buffers
 --   leading-part              the words up to the highest nonzero one
 use mathlib.Core.Path.{_≡_}
-use mathlib.Core.Bool.{Bool, true, false, cond}
-use mathlib.Core.List.{List, [], _∷_, _++_}
+use mathlib.Core.Bool.{cond}
+use mathlib.Core.List.{List, [], _++_}
 use Prim.Native.Nat.{ℕ, zero, suc, _+_}
 use lib.Dec.{ltb}
 use lib.ListN.{length, take, drop}
@@ -39,7 +39,8 @@ product-status n f g l = first-of (refusal-product n f g) (short-result l (suc (
 abbrev pub division-status : ℕ → List ℕ → List ℕ → ℕ → ℕ → ℕ
 division-status n f g k l =
     first-of (refusal-two n f g)
-    (first-of (cond (is-unit n (coef g (deg g))) 0 4) (first-of (short-result k (quotient-length (deg f) (deg g))) (short-result l (deg g))))
+    (first-of (cond (is-unit n (coef g (deg g))) 0 4) (first-of (short-result k (quotient-length (deg f) (deg g)))
+    (short-result l (deg g))))
 
 pub record DivisionPlaced (n : ℕ) (f g q q' r r' : List ℕ) : Type 0 where
   pub division : Division n f g (take (quotient-length (deg f) (deg g)) q') (take (deg g) r')

@@ -10,8 +10,8 @@ use mathlib.Core.Path.{_≡_, refl, sym, ap, subst, _∙_}
 use mathlib.Core.Bool.{Bool, true, false, cond}
 use mathlib.Core.List.{List}
 use mathlib.Core.Logic.{⊎-elim}
-use Prim.Native.Nat.{ℕ, zero, suc, pred, _+_, _-_, _*_, _%_, _^_, _<_, _≤_}
-use native.Mathlib.Nat.{eq-or-lt-of-le, mod-eq-of-lt, zero-mul, zero-mod}
+use Prim.Native.Nat.{ℕ, zero, suc, pred, _-_, _*_, _%_, _^_, _<_, _≤_}
+use native.Mathlib.Nat.{eq-or-lt-of-le}
 use native.Mathlib.Decide.{decLt, ℕ-discrete}
 use native.Mathlib.Omega.{arith}
 use borrow.Author.Tests.{eqb-true, eq-eqb, ne-eqb}
@@ -128,8 +128,8 @@ test-lead {n} {f} l h = record { unit = test-unit h; nilpotent = above-lead n f 
 -- and it is at one place
 pub lead-unique : (n t : ℕ) (f : List ℕ) → 2 ≤ n → UnitAt n t f → lead-place n f ≡ t
 lead-unique n t f l u = ap pred (sym (count-is (is-nilpotent n) f (suc t) inside (λ j b h. nilpotent-test (omega arith) (u .nilpotent j b))
-      (λ _. subst (λ (x : ℕ). is-nilpotent n (coef f x) ≡ false) (let z : t ≡ suc t - 1 = omega arith in z)
-        (no-test (is-nilpotent n (coef f t)) (λ e. unit-not-nilpotent l (u .unit) (test-nilpotent e))))))
+    (λ _. subst (λ (x : ℕ). is-nilpotent n (coef f x) ≡ false) (let z : t ≡ suc t - 1 = omega arith in z)
+    (no-test (is-nilpotent n (coef f t)) (λ e. unit-not-nilpotent l (u .unit) (test-nilpotent e))))))
   where
     inside : suc t ≤ length f
     inside = pick (decLt t (length f))
@@ -148,7 +148,11 @@ test-polynomial {n} {f} l h = pick (has-lead n f) refl h
     pick : (t : Bool) → has-lead n f ≡ t → cond t (eqb (lead-place n f) 0) false ≡ true → UnitPolynomial n f
     pick true e q =
         let z : lead-place n f ≡ 0 = eqb-true _ _ q in
-        record { unit = subst (λ (x : ℕ). IsUnit n (coef f x)) z (test-unit e); nilpotent = λ k b. above-lead n f l k (subst (λ (x : ℕ). x < k) (sym z) b) }
+        record {
+          unit = subst (λ (x : ℕ). IsUnit n (coef f x)) z (test-unit e);
+          nilpotent = λ k b. above-lead n f l k
+              (subst (λ (x : ℕ). x < k) (sym z) b);
+        }
     pick false e q = absurd (subst T (sym q) tt)
 
 pub polynomial-test : (n : ℕ) (f : List ℕ) → 2 ≤ n → UnitPolynomial n f → is-unit-polynomial n f ≡ true

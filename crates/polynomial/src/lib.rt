@@ -14,7 +14,6 @@ ghost use Rattle.definitions.specs.Polynomials.{coef, deg, convolve, tabulate, 
 ghost use Rattle.refusals.specs.Refusals.{refusal-one, short-result, first-of, answered};
 ghost use Rattle.polynomial.specs.Stages.{QuotientWords, difference};
 ghost use Rattle.polynomial.specs.Services.{Outcome, replaced, refusal-product, product-status, division-status, DivisionPlaced, leading-part};
-
 use refusals::Answer;
 
 // ---- product
@@ -60,18 +59,27 @@ pub fn product_words(n: u32, f: &[u32], g: &[u32], out: &mut [u32])
 pub fn product(n: u32, f: &[u32], g: &[u32], out: &mut [u32]) -> Answer
     ensures { λ r. ⌜ (r .value ≡ 0) × (r .status ≡ product-status n (now (f .entry)) (now (g .entry)) (length (now (out .entry)))) ⌝ }
     ensures { λ _. ⌜ now (out .exit) ≡ replaced (product-status n (now (f .entry)) (now (g .entry)) (length (now (out .entry))))
-      (product-of n (now (f .entry)) (now (g .entry))) (now (out .entry)) ⌝ }
+        (product-of n (now (f .entry)) (now (g .entry))) (now (out .entry)) ⌝ }
 {
     let s = refusal_product(n, f, g);
     if s != 0 {
-        return Answer { value: 0, status: s };
+        return Answer {
+            value: 0,
+            status: s,
+        };
     }
     let m = (f.len() - 1) + (g.len() - 1) + 1;
     if out.len() < m {
-        return Answer { value: 0, status: 6 };
+        return Answer {
+            value: 0,
+            status: 6,
+        };
     }
     product_words(n, f, g, &mut out[0..m]);
-    Answer { value: 0, status: 0 }
+    Answer {
+        value: 0,
+        status: 0,
+    }
 }
 
 // ---- division
@@ -118,7 +126,7 @@ pub fn quotient_words(n: u32, i: u32, f: &[u32], g: &[u32], q: &mut [u32])
 pub fn remainder_words(n: u32, f: &[u32], g: &[u32], q: &[u32], r: &mut [u32])
     requires { ⌜ (1 ≤ n) × Residues n (now g) ⌝ }
     ensures { λ _. ⌜ now (r .exit) ≡ tabulate (length (now (r .entry)))
-      (λ (k : ℕ). difference n (coef (now (f .entry)) k) (convolve (coef (now (q .entry))) (coef (now (g .entry))) k)) ⌝ }
+        (λ (k : ℕ). difference n (coef (now (f .entry)) k) (convolve (coef (now (q .entry))) (coef (now (g .entry))) k)) ⌝ }
 {
     let mut k: usize = 0;
     while k < r.len() {
@@ -160,22 +168,31 @@ pub fn refusal_quotient(u: u32, k: usize, m: usize, l: usize, e: usize) -> u32
 pub fn division(n: u32, f: &[u32], g: &[u32], q: &mut [u32], r: &mut [u32]) -> Answer
     ensures { λ a. ⌜ (a .value ≡ 0) × (a .status ≡ division-status n (now (f .entry)) (now (g .entry)) (length (now (q .entry))) (length (now (r .entry)))) ⌝ }
     ensures { λ _. ⌜ Outcome (division-status n (now (f .entry)) (now (g .entry)) (length (now (q .entry))) (length (now (r .entry))))
-      (DivisionPlaced n (now (f .entry)) (now (g .entry)) (now (q .entry)) (now (q .exit)) (now (r .entry)) (now (r .exit)))
-      ((now (q .exit) ≡ now (q .entry)) × (now (r .exit) ≡ now (r .entry))) ⌝ }
+        (DivisionPlaced n (now (f .entry)) (now (g .entry)) (now (q .entry)) (now (q .exit)) (now (r .entry)) (now (r .exit)))
+        ((now (q .exit) ≡ now (q .entry)) × (now (r .exit) ≡ now (r .entry))) ⌝ }
 {
     let s = refusals::refusal_two(n, f, g);
     if s != 0 {
-        return Answer { value: 0, status: s };
+        return Answer {
+            value: 0,
+            status: s,
+        };
     }
     let e = g.len() - 1;
     let m = excess(f.len() - 1, e) + 1;
     let u = bezout::cofactor(n, g[e]);
     let t = refusal_quotient(u.g, q.len(), m, r.len(), e);
     if t != 0 {
-        return Answer { value: 0, status: t };
+        return Answer {
+            value: 0,
+            status: t,
+        };
     }
     divide(n, u.s, f, g, &mut q[0..m], &mut r[0..e]);
-    Answer { value: 0, status: 0 }
+    Answer {
+        value: 0,
+        status: 0,
+    }
 }
 
 // ---- true degree
@@ -201,13 +218,22 @@ pub fn true_degree(n: u32, f: &[u32]) -> Answer
 {
     let s = refusals::refusal_one(n, f);
     if s != 0 {
-        return Answer { value: 0, status: s };
+        return Answer {
+            value: 0,
+            status: s,
+        };
     }
     let k = extent_of(f);
     if k == 0 {
-        return Answer { value: 0, status: 0 };
+        return Answer {
+            value: 0,
+            status: 0,
+        };
     }
-    Answer { value: (k - 1) as u32, status: 0 }
+    Answer {
+        value: (k - 1) as u32,
+        status: 0,
+    }
 }
 
 // "Another serves the words up to that place: they are handed back as a leading part of the caller's own words, not copied."

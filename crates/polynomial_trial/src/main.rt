@@ -6,9 +6,8 @@
 // Results are lent one word too few, as many as needed, or more; some polynomials are too long or hold a word that is no residue;
 // some working buffers are one word too short.
 ghost use mathlib.Core.Path.{_≡_};
-ghost use Prim.Native.Nat.{ℕ, _+_, _-_, _*_, _≤_};
+ghost use Prim.Native.Nat.{_+_, _-_, _*_, _≤_};
 ghost use lib.ListN.{length};
-
 use refusals::Answer;
 
 // ---- writing
@@ -157,7 +156,15 @@ fn needed(service: u32, n: u32, l: usize, m: usize) -> usize
 }
 
 // The services by their place in the line. After the true degree comes the leading part.
-fn apply(service: u32, n: u32, f: &[u32], g: &[u32], a: &mut [u32], b: &mut [u32], work: &mut [u32]) -> Answer {
+fn apply(
+    service: u32,
+    n: u32,
+    f: &[u32],
+    g: &[u32],
+    a: &mut [u32],
+    b: &mut [u32],
+    work: &mut [u32],
+) -> Answer {
     if service == 0 {
         return polynomial::product(n, f, g, a);
     }
@@ -174,7 +181,18 @@ fn apply(service: u32, n: u32, f: &[u32], g: &[u32], a: &mut [u32], b: &mut [u32
 }
 
 // The answer and every lent word join the checksum; cut words are lent for the first result, and end working words.
-fn run(service: u32, n: u32, f: &[u32], g: &[u32], a: &mut [u32], b: &mut [u32], work: &mut [u32], cut: usize, end: usize, h: u32) -> u32
+fn run(
+    service: u32,
+    n: u32,
+    f: &[u32],
+    g: &[u32],
+    a: &mut [u32],
+    b: &mut [u32],
+    work: &mut [u32],
+    cut: usize,
+    end: usize,
+    h: u32,
+) -> u32
     requires { ⌜ (cut ≤ length (now a)) × (end ≤ length (now work)) ⌝ }
 {
     let r = apply(service, n, f, g, &mut a[0..cut], b, &mut work[0..end]);
@@ -199,7 +217,17 @@ fn spoil(n: u32, f: &mut [u32], x: u32)
 }
 
 // The words that are lent stand out; every eleventh working buffer or so is one word short.
-fn case_of(service: u32, n: u32, f: &mut [u32], g: &mut [u32], a: &mut [u32], b: &mut [u32], work: &mut [u32], x: u32, h: u32) -> u32
+fn case_of(
+    service: u32,
+    n: u32,
+    f: &mut [u32],
+    g: &mut [u32],
+    a: &mut [u32],
+    b: &mut [u32],
+    work: &mut [u32],
+    x: u32,
+    h: u32,
+) -> u32
     requires { ⌜ (1 ≤ length (now f)) × ((length (now f) ≤ 50) × ((1 ≤ length (now g)) × (length (now g) ≤ 50))) ⌝ }
     requires { ⌜ (2003 ≤ length (now a)) × (8192 ≤ length (now work)) ⌝ }
 {
@@ -215,7 +243,17 @@ fn case_of(service: u32, n: u32, f: &mut [u32], g: &mut [u32], a: &mut [u32], b:
 }
 
 // One drawn pair. The second polynomial's top word is one more than a multiple of 6.
-fn trial(service: u32, n: u32, f: &mut [u32], g: &mut [u32], a: &mut [u32], b: &mut [u32], work: &mut [u32], x: u32, h: u32) -> Drawn
+fn trial(
+    service: u32,
+    n: u32,
+    f: &mut [u32],
+    g: &mut [u32],
+    a: &mut [u32],
+    b: &mut [u32],
+    work: &mut [u32],
+    x: u32,
+    h: u32,
+) -> Drawn
     requires { ⌜ (1 ≤ n) × ((50 ≤ length (now f)) × (50 ≤ length (now g))) ⌝ }
     requires { ⌜ (2003 ≤ length (now a)) × (8192 ≤ length (now work)) ⌝ }
 {
@@ -225,7 +263,10 @@ fn trial(service: u32, n: u32, f: &mut [u32], g: &mut [u32], a: &mut [u32], b: &
     let m = length_of(x2);
     let x3 = fill(n, &mut f[0..l], (x2 as usize) % l, x2 / 7 % 3, x2);
     let x4 = fill(n, &mut g[0..m], m - 1, 1, x3);
-    Drawn { x: x4, h: case_of(service, n, &mut f[0..l], &mut g[0..m], a, b, work, x4, h) }
+    Drawn {
+        x: x4,
+        h: case_of(service, n, &mut f[0..l], &mut g[0..m], a, b, work, x4, h),
+    }
 }
 
 // ---- lines
@@ -249,7 +290,15 @@ fn working_words() -> [u32; 8192]
 }
 
 // 40 cases of one service.
-fn cases(service: u32, n: u32, f: &mut [u32], g: &mut [u32], a: &mut [u32], b: &mut [u32], work: &mut [u32]) -> u32
+fn cases(
+    service: u32,
+    n: u32,
+    f: &mut [u32],
+    g: &mut [u32],
+    a: &mut [u32],
+    b: &mut [u32],
+    work: &mut [u32],
+) -> u32
     requires { ⌜ (1 ≤ n) × ((service ≤ 4) × ((50 ≤ length (now f)) × (50 ≤ length (now g)))) ⌝ }
     requires { ⌜ (2003 ≤ length (now a)) × (8192 ≤ length (now work)) ⌝ }
 {
@@ -273,7 +322,15 @@ fn next_service(service: u32, n: u32)
     let mut a = some();
     let mut b = few();
     let mut work = working_words();
-    next_number(cases(service, n, &mut f[0..64], &mut g[0..64], &mut a[0..2048], &mut b[0..64], &mut work[0..8192]));
+    next_number(cases(
+        service,
+        n,
+        &mut f[0..64],
+        &mut g[0..64],
+        &mut a[0..2048],
+        &mut b[0..64],
+        &mut work[0..8192],
+    ));
 }
 
 fn modulus_line(n: u32)
@@ -289,7 +346,15 @@ fn modulus_line(n: u32)
 }
 
 // The answer, the first and the second result.
-fn show(service: u32, n: u32, f: &[u32], g: &[u32], a: &mut [u32], b: &mut [u32], work: &mut [u32]) {
+fn show(
+    service: u32,
+    n: u32,
+    f: &[u32],
+    g: &[u32],
+    a: &mut [u32],
+    b: &mut [u32],
+    work: &mut [u32],
+) {
     answer(apply(service, n, f, g, a, b, work));
     next_words(a);
     next_words(b);
@@ -303,7 +368,15 @@ fn example(service: u32, n: u32, f: &[u32], g: &[u32], k: usize, l: usize, end: 
     let mut a = few();
     let mut b = few();
     let mut work = working_words();
-    show(service, n, f, g, &mut a[0..k], &mut b[0..l], &mut work[0..end]);
+    show(
+        service,
+        n,
+        f,
+        g,
+        &mut a[0..k],
+        &mut b[0..l],
+        &mut work[0..end],
+    );
 }
 
 fn examples() {

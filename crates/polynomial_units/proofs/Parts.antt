@@ -8,16 +8,14 @@ use mathlib.Core.Path.{_≡_, refl, sym, ap, ap₂, subst, _∙_}
 use mathlib.Core.List.{List}
 use mathlib.Core.Logic.{⊎-elim}
 use Prim.Native.Nat.{ℕ, zero, suc, _+_, _-_, _*_, _%_, _≤_, _<_}
-use native.Mathlib.Nat.{mod-eq-of-lt, mul-comm, zero-mod, zero-add}
-use native.Mathlib.Numerals.{add-one}
+use native.Mathlib.Nat.{mod-eq-of-lt, mul-comm, zero-mod}
 use native.Mathlib.Omega.{arith}
-use lib.ListN.{length, getD, List·getD-eq-default}
+use lib.ListN.{length, List·getD-eq-default}
 use lib.Seq.{ext-getD}
 use Rattle.definitions.specs.Residues.{K, Inverse, IsUnit, IsNilpotent}
-use Rattle.definitions.specs.Polynomials.{coef, deg, convolve, constant, tabulate, Residues, Monic, Multiplied, UnitPolynomial, UnitTimesMonic, InverseOf}
-use Rattle.numbers.specs.Congruence.{Cong}
+use Rattle.definitions.specs.Polynomials.{coef, deg, constant, tabulate, Residues, UnitPolynomial, UnitTimesMonic, InverseOf}
 use Rattle.theory.specs.Words.{total-cong, coef-tabulate, length-tabulate}
-use Rattle.windows.specs.Window.{piece, Below, Around, Loaded}
+use Rattle.windows.specs.Window.{piece, Below, Loaded}
 use Rattle.windows.proofs.Leaf.{lt-or-le, piece-at, piece-over, piece-length}
 use Rattle.factor.specs.Factors.{LeadingUnit, Given, Factored, Series}
 use Rattle.factor.proofs.SeriesLaws.{series-exact}
@@ -25,7 +23,8 @@ use Rattle.polynomial.proofs.Outcomes.{deg-is}
 
 -- ---- f in the buffer
 
-pub loaded-is : (n d : ℕ) (f w w' : List ℕ) → d + 1 ≡ length f → length f ≤ length w → Residues n f → Loaded n 0 f w w' → piece w' 0 (d + 1) ≡ f
+pub loaded-is : (n d : ℕ) (f w w' : List ℕ) → d + 1 ≡ length f → length f ≤ length w → Residues n f → Loaded n 0 f w w'
+    → piece w' 0 (d + 1) ≡ f
 loaded-is n d f w w' e fits rs ld =
     let l : length (piece w' 0 (d + 1)) ≡ d + 1 = piece-length w' 0 (d + 1) (omega (arith, ld .same)) in
     ext-getD 0 (piece w' 0 (d + 1)) f (l ∙ e)
@@ -33,32 +32,36 @@ loaded-is n d f w w' e fits rs ld =
 
 pub loaded-below : (n d : ℕ) (f w w' : List ℕ) → d + 1 ≡ length f → Residues n f → Loaded n 0 f w w' → Below n 0 (d + 1) w'
 loaded-below n d f w w' e rs ld = record {
-      at = λ k l. subst (λ (x : ℕ). x < n) (sym (ld .mid k (omega arith) ∙ mod-eq-of-lt (rs .at k (omega arith)))) (rs .at k (omega arith))
-    }
+  at = λ k l. subst (λ (x : ℕ). x < n) (sym (ld .mid k (omega arith) ∙ mod-eq-of-lt (rs .at k (omega arith)))) (rs .at k (omega arith));
+}
 
 -- ---- zeros above
 
 pub spread : (l : ℕ) (P : List ℕ) → length P ≤ l → (k : ℕ) → coef (tabulate l (coef P)) k ≡ coef P k
 spread l P h k =
     ⊎-elim (λ b. coef-tabulate l (coef P) k b)
-    (λ b. List·getD-eq-default (tabulate l (coef P)) 0 (omega (arith, length-tabulate l (coef P))) ∙ sym (List·getD-eq-default P 0 (omega arith)))
+    (λ b. List·getD-eq-default (tabulate l (coef P)) 0 (omega (arith, length-tabulate l (coef P)))
+    ∙ sym (List·getD-eq-default P 0 (omega arith)))
     (lt-or-le k l)
 
 -- ---- unit times monic
 
-pub given-of : (n d t i : ℕ) (f w w' : List ℕ) → 2 ≤ n → d + 1 ≡ length f → length f ≤ length w → Residues n f → LeadingUnit n t i f → Loaded n 0 f w w' → Given n d t i w'
+pub given-of : (n d t i : ℕ) (f w w' : List ℕ) → 2 ≤ n → d + 1 ≡ length f → length f ≤ length w → Residues n f → LeadingUnit n t i f
+    → Loaded n 0 f w w' → Given n d t i w'
 given-of n d t i f w w' two e fits rs lu ld =
     let q : piece w' 0 (d + 1) ≡ f = loaded-is n d f w w' e fits rs ld in
     record {
       below = loaded-below n d f w w' e rs ld;
       unit = ap (λ (p : List ℕ). (i * coef p t) % n) q ∙ ap (λ (x : ℕ). x % n) (mul-comm i (coef f t)) ∙ lu .inverse .one;
-      nilpotent = λ k l. subst (λ (p : List ℕ). IsNilpotent n (coef p k)) (sym q) (lu .nilpotent k l)
+      nilpotent = λ k l. subst (λ (p : List ℕ). IsNilpotent n (coef p k)) (sym q) (lu .nilpotent k l);
     }
 
-module _ (n d t i : ℕ) (f w w1 w2 u h : List ℕ) (two : 2 ≤ n) (e : d + 1 ≡ length f) (fits : length f + (length f + length f) ≤ length w) (rs : Residues n f)
+module _ (n d t i : ℕ) (f w w1 w2 u h : List ℕ) (two : 2 ≤ n) (e : d + 1 ≡ length f) (fits : length f + (length f + length f) ≤ length w)
+    (rs : Residues n f)
     (lu : LeadingUnit n t i f) (ld : Loaded n 0 f w w1) (fc : Factored n d t w1 w2)
     (k l : ℕ) (ek : k ≡ length f) (el : l ≡ length f)
-    (made-u : u ≡ tabulate k (coef (piece w2 (d + 1 + (t + 1) + t) (d + 1 - t)))) (made-h : h ≡ tabulate l (coef (piece w2 (d + 1) (t + 1)))) where
+    (made-u : u ≡ tabulate k (coef (piece w2 (d + 1 + (t + 1) + t) (d + 1 - t))))
+    (made-h : h ≡ tabulate l (coef (piece w2 (d + 1) (t + 1)))) where
   U : List ℕ
   U = piece w2 (d + 1 + (t + 1) + t) (d + 1 - t)
 
@@ -96,26 +99,29 @@ module _ (n d t i : ℕ) (f w w1 w2 u h : List ℕ) (two : 2 ≤ n) (e : d + 1 �
   pub factors-of : UnitTimesMonic n f t u h
   unfolding U H
   factors-of = record {
-        length-u = ap length eu ∙ length-tabulate (length f) (coef U);
-        length-h = ap length eh ∙ length-tabulate (length f) (coef H);
-        residues-u = record { at = λ k l. small (d + 1 + (t + 1) + t) (d + 1 - t) u (fc .below-u) at-u k };
-        residues-h = record { at = λ k l. small (d + 1) (t + 1) h (fc .below-h) at-h k };
-        unit = record {
-          unit = subst (IsUnit n) (sym (at-u 0)) (fc .unit .unit);
-          nilpotent = λ k l. subst (IsNilpotent n) (sym (at-u k)) (fc .unit .nilpotent k l)
-        };
-        monic = record {
-          lead = ap (λ (x : ℕ). x % n) (at-h t ∙ fc .monic);
-          above = λ k l. ap (λ (x : ℕ). x % n) (at-h k ∙ piece-over w2 (d + 1) (t + 1) k (omega arith)) ∙ zero-mod n
-        };
-        equation = record { at = λ k.
+    length-u = ap length eu ∙ length-tabulate (length f) (coef U);
+    length-h = ap length eh ∙ length-tabulate (length f) (coef H);
+    residues-u = record { at = λ k l. small (d + 1 + (t + 1) + t) (d + 1 - t) u (fc .below-u) at-u k };
+    residues-h = record { at = λ k l. small (d + 1) (t + 1) h (fc .below-h) at-h k };
+    unit = record {
+      unit = subst (IsUnit n) (sym (at-u 0)) (fc .unit .unit);
+      nilpotent = λ k l. subst (IsNilpotent n) (sym (at-u k)) (fc .unit .nilpotent k l);
+    };
+    monic = record {
+      lead = ap (λ (x : ℕ). x % n) (at-h t ∙ fc .monic);
+      above = λ k l. ap (λ (x : ℕ). x % n) (at-h k ∙ piece-over w2 (d + 1) (t + 1) k (omega arith)) ∙ zero-mod n;
+    };
+    equation = record {
+      at = λ k.
           ap (λ (p : List ℕ). coef p k % n) (sym (loaded-is n d f w w1 e (omega arith) rs ld)) ∙ fc .equation .at k
-          ∙ ap (λ (x : ℕ). x % n) (sym (total-cong (suc k) _ _ (λ j l. ap₂ (λ (x y : ℕ). x * y) (at-u j) (at-h (k - j))))) }
-      }
+          ∙ ap (λ (x : ℕ). x % n) (sym (total-cong (suc k) _ _ (λ j l. ap₂ (λ (x y : ℕ). x * y) (at-u j) (at-h (k - j)))));
+    };
+  }
 
 -- ---- inverse
 
-module _ (n d i m : ℕ) (f w w1 w2 v : List ℕ) (two : 2 ≤ n) (e : d + 1 ≡ length f) (em : m ≡ suc (K n * deg f)) (fits : length f + m ≤ length w) (rs : Residues n f)
+module _ (n d i m : ℕ) (f w w1 w2 v : List ℕ) (two : 2 ≤ n) (e : d + 1 ≡ length f) (em : m ≡ suc (K n * deg f))
+    (fits : length f + m ≤ length w) (rs : Residues n f)
     (up : UnitPolynomial n f) (inv : Inverse n (coef f 0) i) (ld : Loaded n 0 f w w1) (sr : Series n d i m w1 w2)
     (ev : v ≡ tabulate m (coef (piece w2 (d + 1) m))) where
   loaded : piece w1 0 (d + 1) ≡ f
@@ -126,7 +132,8 @@ module _ (n d i m : ℕ) (f w w1 w2 v : List ℕ) (two : 2 ≤ n) (e : d + 1 ≡
 
   at-v : (k : ℕ) → coef v k ≡ coef Y k
   unfolding Y
-  at-v k = ap (λ (p : List ℕ). coef p k) ev ∙ spread m Y (omega (arith, piece-length w2 (d + 1) m (omega (arith, sr .around .same, ld .same)))) k
+  at-v k = ap (λ (p : List ℕ). coef p k) ev ∙ spread m Y (omega
+      (arith, piece-length w2 (d + 1) m (omega (arith, sr .around .same, ld .same)))) k
 
   -- (K - 1) d words and one are enough
   enough : (K n - 1) * d < m
@@ -144,11 +151,14 @@ module _ (n d i m : ℕ) (f w w1 w2 v : List ℕ) (two : 2 ≤ n) (e : d + 1 ≡
       let x = series-exact two sr (subst (UnitPolynomial n) (sym loaded) up) enough in
       record {
         length-w = ap length ev ∙ length-tabulate m (coef Y) ∙ em;
-        residues-w = record { at = λ k l. let b : k < m = omega (arith, ap length ev, length-tabulate m (coef Y)) in
-          subst (λ (y : ℕ). y < n) (sym (at-v k ∙ piece-at w2 (d + 1) m k b)) (sr .below .at k b) };
+        residues-w = record {
+          at = λ k l. let b : k < m = omega (arith, ap length ev, length-tabulate m (coef Y)) in
+              subst (λ (y : ℕ). y < n) (sym (at-v k ∙ piece-at w2 (d + 1) m k b)) (sr .below .at k b);
+        };
         equation = λ k.
-          ap (λ (y : ℕ). y % n) (total-cong (suc k) _ _ (λ j l. ap₂ (λ (a b : ℕ). a * b) (at-v j) (ap (λ (p : List ℕ). coef p (k - j)) (sym loaded))))
-          ∙ x .equation k ∙ ends k
+            ap (λ (y : ℕ). y % n) (total-cong (suc k) _ _ (λ j l. ap₂ (λ (a b : ℕ). a * b) (at-v j)
+            (ap (λ (p : List ℕ). coef p (k - j)) (sym loaded))))
+            ∙ x .equation k ∙ ends k;
       }
     where
       ends : (k : ℕ) → constant (i * coef (piece w1 0 (d + 1)) 0) k % n ≡ constant 1 k % n

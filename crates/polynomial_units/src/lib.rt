@@ -6,7 +6,7 @@
 //   inverse             the inverse of a unit polynomial
 ghost use mathlib.Core.Path.{_≡_};
 ghost use mathlib.Core.Bool.{cond, false};
-ghost use Prim.Native.Nat.{ℕ, suc, _+_, _-_, _*_, _%_, _<_, _≤_};
+ghost use Prim.Native.Nat.{suc, _+_, _-_, _*_, _<_, _≤_};
 ghost use lib.Dec.{eqb};
 ghost use lib.ListN.{length, replicate};
 ghost use Rattle.definitions.specs.Residues.{K, Inverse};
@@ -17,7 +17,6 @@ ghost use Rattle.factor.specs.Factors.{LeadingUnit};
 ghost use Rattle.polynomial.specs.Services.{Outcome};
 ghost use Rattle.polynomial.specs.UnitTests.{is-nilpotent, lead-place};
 ghost use Rattle.polynomial_units.specs.UnitServices.{factors-status, FactorsPlaced, inverse-status, InversePlaced};
-
 use refusals::Answer;
 
 // ---- the leading coefficient
@@ -77,7 +76,15 @@ pub fn hand_out(out: &mut [u32], w: &[u32], a: usize, len: usize)
 // ---- unit times monic
 
 // f = u h, where coefficient t has the inverse i and those above it are nilpotent; u and h have as many words as f.
-pub fn factor_words(n: u32, f: &[u32], t: usize, i: u32, u: &mut [u32], h: &mut [u32], work: &mut [u32])
+pub fn factor_words(
+    n: u32,
+    f: &[u32],
+    t: usize,
+    i: u32,
+    u: &mut [u32],
+    h: &mut [u32],
+    work: &mut [u32],
+)
     requires { ⌜ (2 ≤ n) × ((Residues n (now f)) × LeadingUnit n t i (now f)) ⌝ }
     requires { ⌜ (length (now u) ≡ length (now f)) × ((length (now h) ≡ length (now f)) × (length (now f) + (length (now f) + length (now f)) ≤ length (now work))) ⌝ }
     ensures { λ _. ⌜ UnitTimesMonic n (now (f .entry)) t (now (u .exit)) (now (h .exit)) ⌝ }
@@ -116,25 +123,34 @@ pub fn refusal_factors(g: u32, k: usize, l: usize, len: usize, m: usize) -> u32
 pub fn unit_times_monic(n: u32, f: &[u32], u: &mut [u32], h: &mut [u32], work: &mut [u32]) -> Answer
     ensures { λ a. ⌜ a .status ≡ factors-status n (now (f .entry)) (length (now (u .entry))) (length (now (h .entry))) (length (now (work .entry))) ⌝ }
     ensures { λ a. ⌜ a .value ≡ answered (factors-status n (now (f .entry)) (length (now (u .entry))) (length (now (h .entry))) (length (now (work .entry))))
-      (lead-place n (now (f .entry))) ⌝ }
+        (lead-place n (now (f .entry))) ⌝ }
     ensures { λ _. ⌜ Outcome (factors-status n (now (f .entry)) (length (now (u .entry))) (length (now (h .entry))) (length (now (work .entry))))
-      ((FactorsPlaced n (now (f .entry)) (now (u .entry)) (now (u .exit)) (now (h .entry)) (now (h .exit)))
+        ((FactorsPlaced n (now (f .entry)) (now (u .entry)) (now (u .exit)) (now (h .entry)) (now (h .exit)))
         × (now (work .exit) ≡ replicate (length (now (work .entry))) 0))
-      ((now (u .exit) ≡ now (u .entry)) × ((now (h .exit) ≡ now (h .entry)) × (now (work .exit) ≡ now (work .entry)))) ⌝ }
+        ((now (u .exit) ≡ now (u .entry)) × ((now (h .exit) ≡ now (h .entry)) × (now (work .exit) ≡ now (work .entry)))) ⌝ }
 {
     let s = refusals::refusal_one(n, f);
     if s != 0 {
-        return Answer { value: 0, status: s };
+        return Answer {
+            value: 0,
+            status: s,
+        };
     }
     let t = leading_place(n, f);
     let e = bezout::cofactor(n, f[t]);
     let l = f.len();
     let r = refusal_factors(e.g, u.len(), h.len(), l, work.len());
     if r != 0 {
-        return Answer { value: 0, status: r };
+        return Answer {
+            value: 0,
+            status: r,
+        };
     }
     factor_words(n, f, t, e.s, &mut u[0..l], &mut h[0..l], work);
-    Answer { value: t as u32, status: 0 }
+    Answer {
+        value: t as u32,
+        status: 0,
+    }
 }
 
 // ---- inverse
@@ -178,12 +194,15 @@ pub fn refusal_inverse(g: u32, t: usize, k: usize, m: usize, l: usize) -> u32
 pub fn inverse(n: u32, f: &[u32], out: &mut [u32], work: &mut [u32]) -> Answer
     ensures { λ a. ⌜ (a .value ≡ 0) × (a .status ≡ inverse-status n (now (f .entry)) (length (now (out .entry))) (length (now (work .entry)))) ⌝ }
     ensures { λ _. ⌜ Outcome (inverse-status n (now (f .entry)) (length (now (out .entry))) (length (now (work .entry))))
-      ((InversePlaced n (now (f .entry)) (now (out .entry)) (now (out .exit))) × (now (work .exit) ≡ replicate (length (now (work .entry))) 0))
-      ((now (out .exit) ≡ now (out .entry)) × (now (work .exit) ≡ now (work .entry))) ⌝ }
+        ((InversePlaced n (now (f .entry)) (now (out .entry)) (now (out .exit))) × (now (work .exit) ≡ replicate (length (now (work .entry))) 0))
+        ((now (out .exit) ≡ now (out .entry)) × (now (work .exit) ≡ now (work .entry))) ⌝ }
 {
     let s = refusals::refusal_one(n, f);
     if s != 0 {
-        return Answer { value: 0, status: s };
+        return Answer {
+            value: 0,
+            status: s,
+        };
     }
     let t = leading_place(n, f);
     let e = bezout::cofactor(n, f[t]);
@@ -191,8 +210,14 @@ pub fn inverse(n: u32, f: &[u32], out: &mut [u32], work: &mut [u32]) -> Answer
     let l = (m.k as usize) * (f.len() - 1) + 1;
     let r = refusal_inverse(e.g, t, out.len(), l, work.len());
     if r != 0 {
-        return Answer { value: 0, status: r };
+        return Answer {
+            value: 0,
+            status: r,
+        };
     }
     inverse_words(n, f, e.s, &mut out[0..l], work);
-    Answer { value: 0, status: 0 }
+    Answer {
+        value: 0,
+        status: 0,
+    }
 }

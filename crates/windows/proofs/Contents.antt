@@ -1,10 +1,10 @@
 -- What a turn of `content` keeps: c is the greatest common divisor of n and of the first j words.
-use mathlib.Core.Path.{_≡_, refl, sym, ap, subst, _∙_}
+use mathlib.Core.Path.{_≡_, subst}
 use mathlib.Core.List.{List}
 use Prim.Native.Nat.{ℕ, _+_, _≤_, _<_, _∣_}
 use native.Mathlib.Omega.{arith}
 use native.Mathlib.Nat.{dvd-refl, dvd-trans, one-dvd}
-use lib.ListN.{length, getD}
+use lib.ListN.{length}
 use borrow.Author.Count.{below-more}
 use Rattle.definitions.specs.Polynomials.{coef}
 use Rattle.numbers.specs.Divisors.{IsGcd}
@@ -23,7 +23,7 @@ common-step {n} {j} {c} {g} {f} s d =
     record {
       divides-n = dvd-trans g (d .right) (s .divides-n);
       divides = below-more _ j (λ k l. dvd-trans g (d .right) (s .divides k l)) (d .left);
-      greatest = λ x p q. d .most x (q j (omega arith)) (s .greatest x p (λ k l. q k (omega arith)))
+      greatest = λ x p q. d .most x (q j (omega arith)) (s .greatest x p (λ k l. q k (omega arith)));
     }
 
 pub common-end : {n j c : ℕ} {f : List ℕ} → j ≡ length f → Common n f j c → Content n f c
@@ -31,7 +31,7 @@ common-end {n} {j} {c} {f} e s =
     record {
       divides-n = s .divides-n;
       divides = λ k l. s .divides k (omega arith);
-      greatest = λ x p q. s .greatest x p (λ k l. q k (omega arith))
+      greatest = λ x p q. s .greatest x p (λ k l. q k (omega arith));
     }
 
 -- nothing divides 1 but 1, so the words left need not be read
@@ -40,5 +40,5 @@ common-one {n} {j} {c} {f} l e s =
     record {
       divides-n = one-dvd n;
       divides = λ k h. one-dvd (coef f k);
-      greatest = λ x p q. subst (λ (y : ℕ). x ∣ y) e (s .greatest x p (λ k h. q k (omega arith)))
+      greatest = λ x p q. subst (λ (y : ℕ). x ∣ y) e (s .greatest x p (λ k h. q k (omega arith)));
     }

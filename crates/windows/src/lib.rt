@@ -5,8 +5,8 @@
 //   residue, load                                       words of a lent polynomial, as residues
 //   zeros, content                                      what a polynomial's words have in front, and in common
 ghost use mathlib.Core.Path.{_≡_};
-ghost use Prim.Native.Nat.{ℕ, _+_, _-_, _*_, _%_, _<_, _≤_};
-ghost use lib.ListN.{length, getD, replicate};
+ghost use Prim.Native.Nat.{_+_, _-_, _%_, _<_, _≤_};
+ghost use lib.ListN.{length, replicate};
 ghost use Rattle.windows.specs.Window.{Moved, Clear, addMul, mulBy, second, quotient-by, reduced-by, zeroed, Paired, Apart, Below, Zeros, Content, Reversed, Loaded};
 
 // w[dst + j] += c * w[src + j], for j < len.

@@ -1,9 +1,9 @@
 use Rattle.residue.specs.Kinds.{KindOf}
 use borrow.Author.Needs.{needs}
-use mathlib.Core.Path.{_≡_, refl, sym, ap, subst, _∙_}
-use Prim.Native.Nat.{ℕ, _+_, _-_, _*_, _%_, _≤_, _<_}
+use mathlib.Core.Path.{subst}
+use Prim.Native.Nat.{_-_, _≤_}
 use native.Mathlib.Omega.{arith}
-use lib.ListN.{length, getD}
+use lib.ListN.{length}
 use Rattle.factor.proofs.Leads.{NilpotentFrom, from-start, from-step, from-end, leading-unit, split-of}
 use Rattle.factor.proofs.highest_of.Statement.{statement}
 use Rattle.factor.proofs.highest_of.Tie as tie
@@ -43,7 +43,9 @@ enum-known-i c = search needs
 
 -- src/lib.rt:31:17
 returns : tie.Need-returns Inv-loop μ-loop
-returns c = leading-unit (c .before .before .before .before .before .before .loop .inv .1) (omega arith) (omega arith) (subst (KindOf (c .before .before .before .before .before .before .before .before .args .n) _) (c .before .i .given .1) (c .before .before .before .kind-of .ensures))
+returns c = leading-unit (c .before .before .before .before .before .before .loop .inv .1) (omega arith) (omega arith)
+    (subst (KindOf (c .before .before .before .before .before .before .before .before .args .n) _) (c .before .i .given .1)
+    (c .before .before .before .kind-of .ensures))
 
 -- src/lib.rt:33:35
 enum-known-p : tie.Need-enum-known-p Inv-loop μ-loop
@@ -51,7 +53,8 @@ enum-known-p c = search needs
 
 -- src/lib.rt:34:17
 returns-2 : tie.Need-returns-2 Inv-loop μ-loop
-returns-2 c = split-of (subst (KindOf (c .before .before .before .before .before .before .before .before .args .n) _) (c .before .p .given .1) (c .before .before .before .kind-of .ensures))
+returns-2 c = split-of (subst (KindOf (c .before .before .before .before .before .before .before .before .args .n) _)
+    (c .before .p .given .1) (c .before .before .before .kind-of .ensures))
 
 enum-told : tie.Need-enum-told Inv-loop μ-loop
 enum-told c = search needs
@@ -62,7 +65,12 @@ loop-less c = search needs
 
 -- src/lib.rt:27:5
 loop-again : tie.Need-loop-again Inv-loop μ-loop
-loop-again c = (omega arith, from-step (c .before .before .before .before .before .loop .inv .1) (omega arith) (subst (KindOf (c .before .before .before .before .before .before .before .args .n) _) (c .enum-told .given .1) (c .before .before .kind-of .ensures)))
+loop-again c = (
+  omega arith,
+  from-step (c .before .before .before .before .before .loop .inv .1) (omega arith)
+      (subst (KindOf (c .before .before .before .before .before .before .before .args .n) _) (c .enum-told .given .1)
+      (c .before .before .kind-of .ensures)),
+)
 
 -- src/lib.rt:22:1
 returns-3 : tie.Need-returns-3 Inv-loop μ-loop

@@ -1,8 +1,7 @@
 use borrow.Author.Needs.{needs}
-use mathlib.Core.Path.{_≡_, refl, sym, ap, subst, _∙_}
-use Prim.Native.Nat.{ℕ, _+_, _-_, _*_, _%_, _≤_, _<_}
+use mathlib.Core.Path.{_≡_}
+use Prim.Native.Nat.{_-_, _≤_}
 use native.Mathlib.Omega.{arith}
-use lib.ListN.{length, getD}
 use Rattle.factor.specs.Factors.{Series}
 use Rattle.factor.proofs.SeriesTurns.{series-start, series-step}
 use Rattle.factor.proofs.series_inverse.Statement.{statement}
@@ -54,9 +53,11 @@ loop-less c = search needs
 -- src/lib.rt:77:5
 loop-again : tie.Need-loop-again Inv-loop μ-loop
 loop-again c = let s = c .before .before .before .before .before in
-    let l = c .before .before .before .loop in
-    (omega arith,
-    series-step (s .args .n) (s .args .k) (s .args .i) (s .args .s) (l .j) (c .series-word .result) (s .args .w .now) (l .w) (omega arith) (s .pre .0 .0) (s .pre .0 .1 .0) (s .pre .1) (omega arith) (l .inv .1) (c .series-word .ensures))
+    let l = c .before .before .before .loop in (
+      omega arith,
+      series-step (s .args .n) (s .args .k) (s .args .i) (s .args .s) (l .j) (c .series-word .result) (s .args .w .now) (l .w)
+          (omega arith) (s .pre .0 .0) (s .pre .0 .1 .0) (s .pre .1) (omega arith) (l .inv .1) (c .series-word .ensures),
+    )
 
 -- src/lib.rt:71:1
 same-length : tie.Need-same-length Inv-loop μ-loop

@@ -1,8 +1,7 @@
 use lib.ListN.{take, drop}
-use mathlib.Core.Path.{_≡_, refl, sym, ap, subst, _∙_}
-use Prim.Native.Nat.{ℕ, _+_, _-_, _*_, _%_, _≤_, _<_}
+use mathlib.Core.Path.{_≡_, ap}
+use Prim.Native.Nat.{ℕ, _+_, _-_}
 use native.Mathlib.Omega.{arith}
-use lib.ListN.{length, getD}
 use Rattle.factor.proofs.SeriesTurns.{series-residues, word-is}
 use borrow.Author.Needs.{needs}
 use Rattle.factor.proofs.series_word.Statement.{statement}
@@ -66,8 +65,11 @@ sub-product-word-3 c = search needs
 
 -- src/lib.rt:66:9
 product-word-requires : tie.Need-product-word-requires
-product-word-requires c κs = let s = c .before .before .before .before in
-    (s .pre .0, series-residues (s .args .n) (s .args .k) (s .args .j) (s .args .k + 1 + s .args .j - (s .args .k + 1)) (s .args .w .now) (omega arith) (s .pre .1 .1 .0) (s .pre .1 .1 .1))
+product-word-requires c κs = let s = c .before .before .before .before in (
+  s .pre .0,
+  series-residues (s .args .n) (s .args .k) (s .args .j) (s .args .k + 1 + s .args .j - (s .args .k + 1)) (s .args .w .now)
+      (omega arith) (s .pre .1 .1 .0) (s .pre .1 .1 .1),
+)
 
 -- src/lib.rt:67:28
 sub-mul-mod : tie.Need-sub-mul-mod
@@ -82,7 +84,8 @@ returns-2 : tie.Need-returns-2
 returns-2 c = let s = c .before .before .before .before .before .before in
     let k = s .args .k in
     let e : k + 1 - 1 ≡ k = omega arith in
-    word-is (s .args .n) (s .args .i) (s .args .s) k (s .args .j) (k + 1 + s .args .j - (k + 1)) (s .args .w .now) _ (c .before .product-word .result) (c .mul-mod .result) (omega arith) (omega arith)
+    word-is (s .args .n) (s .args .i) (s .args .s) k (s .args .j) (k + 1 + s .args .j - (k + 1))
+    (s .args .w .now) _ (c .before .product-word .result) (c .mul-mod .result) (omega arith) (omega arith)
     (ap (λ (y : ℕ). take y (drop 1 (s .args .w .now))) e) (c .before .product-word .ensures) (c .mul-mod .ensures)
 
 pub series-word-spec : {M : Type 1} → statement M

@@ -1,8 +1,7 @@
 use borrow.Author.Needs.{needs}
-use mathlib.Core.Path.{_≡_, refl, sym, ap, subst, _∙_}
-use Prim.Native.Nat.{ℕ, _+_, _-_, _*_, _%_, _≤_, _<_}
+use Prim.Native.Nat.{ℕ, _+_, _-_, _≤_}
 use native.Mathlib.Omega.{arith}
-use lib.ListN.{length, getD}
+use lib.ListN.{length}
 use Rattle.windows.specs.Window.{piece, Around}
 use Rattle.factor.proofs.Rounds.{Held, held-less, enter, again, leave, all-zero, not-zero}
 use Rattle.factor.proofs.unit_times_monic.Statement.{statement}
@@ -43,7 +42,8 @@ scale-requires c κs = search needs
 -- src/lib.rt:82:5
 loop-holds : tie.Need-loop-holds Inv-loop μ-loop
 loop-holds c = let s = c .before .before .before .before .before in
-    enter (s .args .n) (s .args .d) (s .args .t) (s .args .i) (s .args .w .now) (c .before .before .scale .last .0) (omega arith) (omega arith) (omega arith) (s .pre .1) (c .before .before .scale .ensures)
+    enter (s .args .n) (s .args .d) (s .args .t) (s .args .i) (s .args .w .now) (c .before .before .scale .last .0) (omega arith)
+    (omega arith) (omega arith) (s .pre .1) (c .before .before .scale .ensures)
 
 -- src/lib.rt:83:9
 divide-copy-requires : tie.Need-divide-copy-requires Inv-loop μ-loop
@@ -92,7 +92,8 @@ returns c = let s = c .before .before .before .before .before .before .before .b
     let dc = c .before .before .before .before .before .before .divide-copy in
     let w3 = dc .last .0 in
     let room : v + t ≤ length w3 = omega (arith, dc .ensures .around .same, q .inv .0 .same, sc .ensures .same, s .pre .0) in
-    leave n d t (s .args .i) (s .args .w .now) (sc .last .0) (omega arith) (omega arith) (omega arith) (s .pre .1) (sc .ensures) (q .k) (q .w) w3 (q .inv) (dc .ensures)
+    leave n d t (s .args .i) (s .args .w .now) (sc .last .0) (omega arith) (omega arith) (omega arith) (s .pre .1) (sc .ensures) (q .k)
+    (q .w) w3 (q .inv) (dc .ensures)
     (all-zero v (v + t - v) t _ w3 (omega arith) room (c .before .zeros .ensures) (c .if1 .taken))
 
 -- src/lib.rt:87:9
@@ -101,26 +102,32 @@ add-scaled-requires c κs = ((omega arith, (omega arith, omega arith)), search n
 
 -- src/lib.rt:88:9
 add-k : tie.Need-add-k Inv-loop μ-loop
-add-k c = let x = held-less (omega arith) (c .before .before .before .before .before .before .before .before .before .before .before .before .loop .inv .1) in search needs
+add-k c = let x = held-less (omega arith) (c .before .before .before .before .before .before .before .before .before .before .before
+    .before .loop .inv .1) in search needs
 
 -- src/lib.rt:82:5
 loop-less : tie.Need-loop-less Inv-loop μ-loop
-loop-less c = let x = held-less (omega arith) (c .before .before .before .before .before .before .before .before .before .before .before .before .loop .inv .1) in omega arith
+loop-less c = let x = held-less (omega arith) (c .before .before .before .before .before .before .before .before .before .before .before
+    .before .loop .inv .1) in omega arith
 
 -- src/lib.rt:82:5
 loop-again : tie.Need-loop-again Inv-loop μ-loop
-loop-again c = let s = c .before .before .before .before .before .before .before .before .before .before .before .before .before .before .before .before .before .before in
+loop-again c = let s = c .before .before .before .before .before .before .before .before .before .before .before .before .before .before
+    .before .before .before .before in
     let n = s .args .n in
     let d = s .args .d in
     let t = s .args .t in
     let v : ℕ = d + 1 + (t + 1) in
     let q = c .before .before .before .before .before .before .before .before .before .before .before .before .loop in
-    let sc = c .before .before .before .before .before .before .before .before .before .before .before .before .before .before .before .scale in
+    let sc = c .before .before .before .before .before .before .before .before .before .before .before .before .before .before .before
+    .scale in
     let dc = c .before .before .before .before .before .before .before .before .before .before .divide-copy in
     let w3 = dc .last .0 in
     let room : v + t ≤ length w3 = omega (arith, dc .ensures .around .same, q .inv .0 .same, sc .ensures .same, s .pre .0) in
-    again n d t (s .args .i) (s .args .w .now) (sc .last .0) (omega arith) (omega arith) (omega arith) (s .pre .1) (sc .ensures) (q .k) _ (q .w) w3 (c .before .before .add-scaled .last .0) (q .inv) (dc .ensures)
-    (not-zero v (v + t - v) t _ w3 (omega arith) room (c .before .before .before .before .before .zeros .ensures) (c .before .before .before .before .if1 .left)) (c .before .before .add-scaled .ensures)
+    again n d t (s .args .i) (s .args .w .now) (sc .last .0) (omega arith) (omega arith) (omega arith) (s .pre .1) (sc .ensures)
+    (q .k) _ (q .w) w3 (c .before .before .add-scaled .last .0) (q .inv) (dc .ensures)
+    (not-zero v (v + t - v) t _ w3 (omega arith) room (c .before .before .before .before .before .zeros .ensures)
+    (c .before .before .before .before .if1 .left)) (c .before .before .add-scaled .ensures)
 
 pub unit-times-monic-spec : {M : Type 1} → statement M
 unit-times-monic-spec =

@@ -1,4 +1,4 @@
-use mathlib.Core.Path.{_≡_, refl, sym, ap, _∙_}
+use mathlib.Core.Path.{ap, _∙_}
 use Prim.Native.Nat.{ℕ}
 use Rattle.definitions.specs.Polynomials.{coef, convolve, tabulate}
 use Rattle.polynomial.specs.Stages.{difference}
@@ -32,8 +32,10 @@ returns : tie.Need-returns
 returns c = let s = c .before .before .before .before .before .before .before .before .before .before .before .before .before in
     let q = c .before .before .before .before .before .before .before .quotient-words in
     let r = c .before .before .remainder-words in
-    divided (s .args .n) (s .args .f .now) (s .args .g .now) (q .last .1 .1 .1 .1 .0) (r .last .1 .1 .1 .1 .0) (s .pre .0 .0) (s .pre .0 .1 .1 .0) (q .ensures)
-    (r .ensures ∙ ap (λ (l : ℕ). tabulate l (λ (k : ℕ). difference (s .args .n) (coef (s .args .f .now) k) (convolve (coef (q .last .1 .1 .1 .1 .0)) (coef (s .args .g .now)) k))) (s .pre .1 .0))
+    divided (s .args .n) (s .args .f .now) (s .args .g .now) (q .last .1 .1 .1 .1 .0) (r .last .1 .1 .1 .1 .0) (s .pre .0 .0)
+    (s .pre .0 .1 .1 .0) (q .ensures)
+    (r .ensures ∙ ap (λ (l : ℕ). tabulate l (λ (k : ℕ). difference (s .args .n) (coef (s .args .f .now) k)
+    (convolve (coef (q .last .1 .1 .1 .1 .0)) (coef (s .args .g .now)) k))) (s .pre .1 .0))
 
 pub divide-spec : {M : Type 1} → statement M
 divide-spec =

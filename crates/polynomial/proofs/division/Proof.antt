@@ -1,5 +1,5 @@
-use mathlib.Core.Path.{_≡_, refl, sym, ap, _∙_}
-use Prim.Native.Nat.{ℕ, _+_, _-_, _*_, _%_, _≤_, _<_}
+use mathlib.Core.Path.{sym, _∙_}
+use Prim.Native.Nat.{_+_, _-_}
 use native.Mathlib.Omega.{arith}
 use lib.ListN.{length}
 use Rattle.refusals.proofs.Accepted.{accepted-two}
@@ -21,16 +21,28 @@ refusal-two-requires c κs = search needs
 
 -- src/lib.rt:168:9
 returns : tie.Need-returns
-returns c = let s = c .before .before .before .before .before .before .args in
-    division-refused (s .n) _ (s .f .now) (s .g .now) (s .q .now) (s .r .now) (c .before .refusal-two .ensures) (c .if1 .taken)
+returns c = let rt = c .before in
+    let start = rt .before .before .before .before .before in
+    let s = start .args in
+    division-refused (s .n) _ (s .f .now) (s .g .now) (s .q .now) (s .r .now) (rt .refusal-two .ensures) (c .if1 .taken)
 
 -- src/lib.rt:170:13
 sub-e : tie.Need-sub-e
-sub-e c = accepted-two (c .before .before .before .before .before .before .args .n) (c .before .before .before .before .before .before .args .f .now) (c .before .before .before .before .before .before .args .g .now) (sym (c .before .refusal-two .ensures) ∙ c .if1 .left) .1 .some
+sub-e c = let if1 = c in
+    let rt = if1 .before in
+    let start = rt .before .before .before .before .before in
+    let s = start .args in
+    let a = accepted-two (s .n) (s .f .now) (s .g .now) (sym (rt .refusal-two .ensures) ∙ if1 .if1 .left) in
+    a .1 .some
 
 -- src/lib.rt:171:20
 sub-excess : tie.Need-sub-excess
-sub-excess c = accepted-two (c .before .before .before .before .before .before .args .n) (c .before .before .before .before .before .before .args .f .now) (c .before .before .before .before .before .before .args .g .now) (sym (c .before .refusal-two .ensures) ∙ c .if1 .left) .0 .some
+sub-excess c = let if1 = c in
+    let rt = if1 .before in
+    let start = rt .before .before .before .before .before in
+    let s = start .args in
+    let a = accepted-two (s .n) (s .f .now) (s .g .now) (sym (rt .refusal-two .ensures) ∙ if1 .if1 .left) in
+    a .0 .some
 
 -- src/lib.rt:171:13
 excess-requires : tie.Need-excess-requires
@@ -46,11 +58,21 @@ mul-cofactor c = search needs
 
 -- src/lib.rt:172:33
 shared-slice-read-cofactor : tie.Need-shared-slice-read-cofactor
-shared-slice-read-cofactor c = omega (arith, accepted-two (c .before .before .before .before .before .before .before .before .args .n) (c .before .before .before .before .before .before .before .before .args .f .now) (c .before .before .before .before .before .before .before .before .args .g .now) (sym (c .before .before .before .refusal-two .ensures) ∙ c .before .before .if1 .left) .1 .some)
+shared-slice-read-cofactor c = let if1 = c .before .before in
+    let rt = if1 .before in
+    let start = rt .before .before .before .before .before in
+    let s = start .args in
+    let a = accepted-two (s .n) (s .f .now) (s .g .now) (sym (rt .refusal-two .ensures) ∙ if1 .if1 .left) in
+    omega (arith, a .1 .some)
 
 -- src/lib.rt:172:9
 cofactor-requires : tie.Need-cofactor-requires
-cofactor-requires c κs = omega (arith, accepted-two (c .before .before .before .before .before .before .before .before .args .n) (c .before .before .before .before .before .before .before .before .args .f .now) (c .before .before .before .before .before .before .before .before .args .g .now) (sym (c .before .before .before .refusal-two .ensures) ∙ c .before .before .if1 .left) .1 .modulus)
+cofactor-requires c κs = let if1 = c .before .before in
+    let rt = if1 .before in
+    let start = rt .before .before .before .before .before in
+    let s = start .args in
+    let a = accepted-two (s .n) (s .f .now) (s .g .now) (sym (rt .refusal-two .ensures) ∙ if1 .if1 .left) in
+    omega (arith, a .1 .modulus)
 
 -- src/lib.rt:173:9
 refusal-quotient-requires : tie.Need-refusal-quotient-requires
@@ -58,10 +80,17 @@ refusal-quotient-requires c κs = search needs
 
 -- src/lib.rt:175:9
 returns-2 : tie.Need-returns-2
-returns-2 c = let s = c .before .before .before .before .before .before .before .before .before .before .before .args in
-    let a = accepted-two (s .n) (s .f .now) (s .g .now) (sym (c .before .before .before .before .before .before .refusal-two .ensures) ∙ c .before .before .before .before .before .if1 .left) in
-    division-late (s .n) _ (s .f .now) (s .g .now) (s .q .now) (s .r .now) (c .before .before .before .before .before .before .refusal-two .ensures) (c .before .before .before .before .before .if1 .left) (a .0 .modulus) _ (c .before .before .cofactor .result .s) (c .before .before .before .before .excess .result) _
-    (c .before .before .cofactor .ensures) (c .before .before .before .before .excess .ensures) (c .before .refusal-quotient .ensures) (c .if2 .taken)
+returns-2 c = let rq = c .before in
+    let cf = rq .before in
+    let ex = cf .before .before in
+    let if1 = ex .before in
+    let rt = if1 .before in
+    let start = rt .before .before .before .before .before in
+    let s = start .args in
+    let a = accepted-two (s .n) (s .f .now) (s .g .now) (sym (rt .refusal-two .ensures) ∙ if1 .if1 .left) in
+    division-late (s .n) _ (s .f .now) (s .g .now) (s .q .now) (s .r .now) (rt .refusal-two .ensures) (if1 .if1 .left) (a .0 .modulus)
+    _ (cf .cofactor .result .s) (ex .excess .result) _ (cf .cofactor .ensures) (ex .excess .ensures) (rq .refusal-quotient .ensures)
+    (c .if2 .taken)
 
 -- src/lib.rt:177:26
 sub-divide : tie.Need-sub-divide
@@ -73,8 +102,17 @@ part-divide-start c = search needs
 
 -- src/lib.rt:177:26
 part-divide-end : tie.Need-part-divide-end
-part-divide-end c = let s = c .before .before .before .before .before .before .before .before .before .before .before .args in
-    let z = late-accepted (c .before .before .cofactor .result .g) (length (s .q .now)) (c .before .before .before .before .excess .result + 1) (length (s .r .now)) (length (s .g .now) - 1) _ (c .before .refusal-quotient .ensures) (c .if2 .left) .1 .0 in
+part-divide-end c = let if2 = c in
+    let rq = if2 .before in
+    let cf = rq .before in
+    let ex = cf .before .before in
+    let if1 = ex .before in
+    let rt = if1 .before in
+    let start = rt .before .before .before .before .before in
+    let s = start .args in
+    let z = late-accepted (cf .cofactor .result .g) (length (s .q .now)) (ex .excess .result + 1) (length (s .r .now))
+    (length (s .g .now) - 1) _
+    (rq .refusal-quotient .ensures) (if2 .if2 .left) .1 .0 in
     search needs
 
 -- src/lib.rt:177:40
@@ -87,17 +125,37 @@ part-divide-start-2 c = search needs
 
 -- src/lib.rt:177:40
 part-divide-end-2 : tie.Need-part-divide-end-2
-part-divide-end-2 c = let s = c .before .before .before .before .before .before .before .before .before .before .before .before .args in
-    let z = late-accepted (c .before .before .before .cofactor .result .g) (length (s .q .now)) (c .before .before .before .before .before .excess .result + 1) (length (s .r .now)) (length (s .g .now) - 1) _ (c .before .before .refusal-quotient .ensures) (c .before .if2 .left) .1 .1 in
+part-divide-end-2 c = let if2 = c .before in
+    let rq = if2 .before in
+    let cf = rq .before in
+    let ex = cf .before .before in
+    let if1 = ex .before in
+    let rt = if1 .before in
+    let start = rt .before .before .before .before .before in
+    let s = start .args in
+    let z = late-accepted (cf .cofactor .result .g) (length (s .q .now)) (ex .excess .result + 1) (length (s .r .now))
+    (length (s .g .now) - 1) _
+    (rq .refusal-quotient .ensures) (if2 .if2 .left) .1 .1 in
     search needs
 
 -- src/lib.rt:177:5
 divide-requires : tie.Need-divide-requires
-divide-requires c κs = let s = c .before .before .before .before .before .before .before .before .before .before .before .before .before .args in
-    let a = accepted-two (s .n) (s .f .now) (s .g .now) (sym (c .before .before .before .before .before .before .before .before .refusal-two .ensures) ∙ c .before .before .before .before .before .before .before .if1 .left) in
-    let b = late-accepted (c .before .before .before .before .cofactor .result .g) (length (s .q .now)) (c .before .before .before .before .before .before .excess .result + 1) (length (s .r .now)) (length (s .g .now) - 1) _ (c .before .before .before .refusal-quotient .ensures) (c .before .before .if2 .left) in
-    let x = c .before .before .before .before .before .before .excess .result in
-    division-asked (s .n) _ (c .before .before .before .before .cofactor .result .s) x (x + 1 - 0) (length (s .g .now) - 1 - 0) (s .f .now) (s .g .now) (s .q .now) (s .r .now) a (c .before .before .before .before .cofactor .ensures) (b .0) (c .before .before .before .before .before .before .excess .ensures) (omega arith) (omega arith) (omega (arith, b .1 .0)) (omega (arith, b .1 .1))
+divide-requires c κs = let if2 = c .before .before in
+    let rq = if2 .before in
+    let cf = rq .before in
+    let ex = cf .before .before in
+    let if1 = ex .before in
+    let rt = if1 .before in
+    let start = rt .before .before .before .before .before in
+    let s = start .args in
+    let a = accepted-two (s .n) (s .f .now) (s .g .now) (sym (rt .refusal-two .ensures) ∙ if1 .if1 .left) in
+    let b = late-accepted (cf .cofactor .result .g) (length (s .q .now)) (ex .excess .result + 1) (length (s .r .now))
+    (length (s .g .now) - 1) _
+    (rq .refusal-quotient .ensures) (if2 .if2 .left) in
+    let x = ex .excess .result in
+    division-asked (s .n) _ (cf .cofactor .result .s) x (x + 1 - 0) (length (s .g .now) - 1 - 0) (s .f .now) (s .g .now) (s .q .now)
+    (s .r .now) a
+    (cf .cofactor .ensures) (b .0) (ex .excess .ensures) (omega arith) (omega arith) (omega (arith, b .1 .0)) (omega (arith, b .1 .1))
 
 -- src/lib.rt:160:1
 same-length : tie.Need-same-length
@@ -109,11 +167,19 @@ same-length-2 c = search needs
 
 -- src/lib.rt:160:1
 returns-3 : tie.Need-returns-3
-returns-3 c = let s = c .before .before .before .before .before .before .before .before .before .before .before .before .before .before .before .before .before .before .args in
-    let a = accepted-two (s .n) (s .f .now) (s .g .now) (sym (c .before .before .before .before .before .before .before .before .before .before .before .before .before .refusal-two .ensures) ∙ c .before .before .before .before .before .before .before .before .before .before .before .before .if1 .left) in
-    let x = c .before .before .before .before .before .before .before .before .before .before .before .excess .result in
-    division-done (s .n) _ (s .f .now) (s .g .now) (s .q .now) (s .r .now) (c .before .before .before .before .before .before .before .before .before .before .before .before .before .refusal-two .ensures) (c .before .before .before .before .before .before .before .before .before .before .before .before .if1 .left) (a .0 .modulus) _ (c .before .before .before .before .before .before .before .before .before .cofactor .result .s) x _
-    (c .before .before .before .before .before .before .before .before .before .cofactor .ensures) (c .before .before .before .before .before .before .before .before .before .before .before .excess .ensures) (c .before .before .before .before .before .before .before .before .refusal-quotient .ensures) (c .before .before .before .before .before .before .before .if2 .left) (x + 1 - 0) (length (s .g .now) - 1 - 0) (omega arith) (omega arith) _ _ (c .before .before .before .before .divide .ensures)
+returns-3 c = let if2 = c .before .before .before .before .before .before .before in
+    let rq = if2 .before in
+    let cf = rq .before in
+    let ex = cf .before .before in
+    let if1 = ex .before in
+    let rt = if1 .before in
+    let start = rt .before .before .before .before .before in
+    let s = start .args in
+    let a = accepted-two (s .n) (s .f .now) (s .g .now) (sym (rt .refusal-two .ensures) ∙ if1 .if1 .left) in
+    division-done (s .n) _ (s .f .now) (s .g .now) (s .q .now) (s .r .now) (rt .refusal-two .ensures) (if1 .if1 .left) (a .0 .modulus)
+    _ (cf .cofactor .result .s) (ex .excess .result) _ (cf .cofactor .ensures) (ex .excess .ensures) (rq .refusal-quotient .ensures)
+    (if2 .if2 .left) (ex .excess .result + 1 - 0) (length (s .g .now) - 1 - 0) (omega arith)
+    (omega arith) _ _ (c .before .before .before .before .divide .ensures)
 
 pub division-spec : {M : Type 1} → statement M
 division-spec =

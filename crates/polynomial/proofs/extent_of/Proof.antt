@@ -1,9 +1,8 @@
 use borrow.Author.Needs.{needs}
-use mathlib.Core.Path.{_≡_, refl, sym, ap, subst, _∙_}
-use Prim.Native.Nat.{ℕ, _+_, _-_, _*_, _%_, _≤_, _<_}
+use mathlib.Core.Path.{sym, _∙_}
+use Prim.Native.Nat.{ℕ, _-_, _≤_}
 use native.Mathlib.Omega.{arith}
-use lib.ListN.{length, getD}
-use mathlib.Core.Bool.{true, false}
+use lib.ListN.{length}
 use lib.Dec.{eqb}
 use borrow.Author.Tests.{eq-eqb, ne-eqb}
 use Rattle.polynomial.specs.Counts.{extent-count, Passed, passed-none, passed-more, passed-all, passed-until}
@@ -36,7 +35,8 @@ shared-slice-read-if1 c = search needs
 
 -- src/lib.rt:85:13
 returns : tie.Need-returns Inv-loop μ-loop
-returns c = passed-until (c .before .before .before .loop .inv .1) (omega arith) (ne-eqb _ _ (c .if1 .taken)) ∙ sym (extent-count (c .before .before .before .before .args .f .now))
+returns c = passed-until (c .before .before .before .loop .inv .1) (omega arith) (ne-eqb _ _ (c .if1 .taken))
+    ∙ sym (extent-count (c .before .before .before .before .args .f .now))
 
 -- src/lib.rt:87:9
 sub-k : tie.Need-sub-k Inv-loop μ-loop

@@ -1,7 +1,6 @@
-use mathlib.Core.Path.{_≡_, refl, sym, ap, _∙_}
-use Prim.Native.Nat.{ℕ, _+_, _-_, _≤_, _<_}
+use mathlib.Core.Path.{sym, _∙_}
+use Prim.Native.Nat.{_+_, _-_}
 use native.Mathlib.Omega.{arith}
-use lib.ListN.{length}
 use Rattle.refusals.proofs.Accepted.{accepted-one}
 use Rattle.polynomial.proofs.Outcomes.{leading-none, leading-some, degree-inside}
 use borrow.Author.Needs.{needs}
@@ -59,7 +58,8 @@ part-result-end-2 c = let s = c .before .before .before .before .before in
 -- src/lib.rt:109:1
 returns-2 : tie.Need-returns-2
 returns-2 c = let d = c .before .before .before .before .true-degree .ensures in
-    leading-some _ _ (c .before .before .before .before .true-degree .result .value + 1 - 0) _ (sym (d .0) ∙ c .before .before .if1 .left) (d .1) (omega arith)
+    leading-some _ _ (c .before .before .before .before .true-degree .result .value + 1 - 0) _ (sym (d .0) ∙ c .before .before .if1 .left)
+    (d .1) (omega arith)
 
 pub leading-spec : {M : Type 1} → statement M
 leading-spec =

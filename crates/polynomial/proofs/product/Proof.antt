@@ -1,7 +1,7 @@
 use borrow.Rule.Slice.PartMut.{midOf}
 use Rattle.windows.proofs.Lift.{mid-length}
-use mathlib.Core.Path.{_≡_, refl, sym, ap, _∙_}
-use Prim.Native.Nat.{ℕ, _+_, _-_, _≤_, _<_}
+use mathlib.Core.Path.{_≡_, refl, sym, _∙_}
+use Prim.Native.Nat.{ℕ, _+_, _-_, _≤_}
 use native.Mathlib.Omega.{arith}
 use lib.ListN.{length}
 use Rattle.polynomial.proofs.Answers.{product-refused, product-short, product-done}
@@ -20,15 +20,19 @@ refusal-product-requires c κs = search needs
 
 -- src/lib.rt:66:9
 returns : tie.Need-returns
-returns c = product-refused (c .before .before .before .before .before .args .n) _ (c .before .before .before .before .before .args .f .now) (c .before .before .before .before .before .args .g .now) (c .before .before .before .before .before .args .out .now) (c .before .refusal-product .ensures) (c .if1 .taken)
+returns c = product-refused (c .before .before .before .before .before .args .n) _
+    (c .before .before .before .before .before .args .f .now) (c .before .before .before .before .before .args .g .now)
+    (c .before .before .before .before .before .args .out .now) (c .before .refusal-product .ensures) (c .if1 .taken)
 
 -- src/lib.rt:68:14
 sub-m : tie.Need-sub-m
-sub-m c = accepted-product (c .before .before .before .before .before .args .n) (c .before .before .before .before .before .args .f .now) (c .before .before .before .before .before .args .g .now) (sym (c .before .refusal-product .ensures) ∙ c .if1 .left) .0 .some
+sub-m c = accepted-product (c .before .before .before .before .before .args .n) (c .before .before .before .before .before .args .f .now)
+    (c .before .before .before .before .before .args .g .now) (sym (c .before .refusal-product .ensures) ∙ c .if1 .left) .0 .some
 
 -- src/lib.rt:68:30
 sub-m-2 : tie.Need-sub-m-2
-sub-m-2 c = accepted-product (c .before .before .before .before .before .args .n) (c .before .before .before .before .before .args .f .now) (c .before .before .before .before .before .args .g .now) (sym (c .before .refusal-product .ensures) ∙ c .if1 .left) .1 .some
+sub-m-2 c = accepted-product (c .before .before .before .before .before .args .n) (c .before .before .before .before .before .args .f .now)
+    (c .before .before .before .before .before .args .g .now) (sym (c .before .refusal-product .ensures) ∙ c .if1 .left) .1 .some
 
 -- src/lib.rt:68:13
 add-m : tie.Need-add-m
@@ -40,7 +44,10 @@ add-m-2 c = search needs
 
 -- src/lib.rt:70:9
 returns-2 : tie.Need-returns-2
-returns-2 c = product-short (c .before .before .before .before .before .before .args .n) _ (c .before .before .before .before .before .before .args .f .now) (c .before .before .before .before .before .before .args .g .now) (c .before .before .before .before .before .before .args .out .now) (c .before .before .refusal-product .ensures) (c .before .if1 .left) (c .if2 .taken)
+returns-2 c = product-short (c .before .before .before .before .before .before .args .n) _
+    (c .before .before .before .before .before .before .args .f .now) (c .before .before .before .before .before .before .args .g .now)
+    (c .before .before .before .before .before .before .args .out .now) (c .before .before .refusal-product .ensures)
+    (c .before .if1 .left) (c .if2 .taken)
 
 -- src/lib.rt:72:28
 sub-product-words : tie.Need-sub-product-words
@@ -56,7 +63,10 @@ part-product-words-end c = search needs
 
 -- src/lib.rt:72:5
 product-words-requires : tie.Need-product-words-requires
-product-words-requires c κs = let a = accepted-product (c .before .before .before .before .before .before .before .args .n) (c .before .before .before .before .before .before .before .args .f .now) (c .before .before .before .before .before .before .before .args .g .now) (sym (c .before .before .before .refusal-product .ensures) ∙ c .before .before .if1 .left) .1 in
+product-words-requires c κs = let a = accepted-product (c .before .before .before .before .before .before .before .args .n)
+    (c .before .before .before .before .before .before .before .args .f .now)
+    (c .before .before .before .before .before .before .before .args .g .now)
+    (sym (c .before .before .before .refusal-product .ensures) ∙ c .before .before .if1 .left) .1 in
     (omega (arith, a .modulus), a .residues)
 
 -- src/lib.rt:59:1
@@ -70,8 +80,11 @@ returns-3 c = let s = c .before .before .before .before .before .before .before 
     let m : ℕ = length (s .args .f .now) - 1 + (length (s .args .g .now) - 1) + 1 in
     let room : m ≤ length out = omega arith in
     let e : m - 0 ≡ m = omega arith in
-    product-done (s .args .n) _ (s .args .f .now) (s .args .g .now) out (c .before .before .before .before .before .before .refusal-product .ensures) (c .before .before .before .before .before .if1 .left) m (m - 0) refl room e
-    (c .before .before .product-words .last .1 .1 .1 .0) (length (midOf 0 (m - 0) out)) (mid-length 0 (m - 0) out (omega arith) ∙ e) (c .before .before .product-words .ensures)
+    product-done (s .args .n) _ (s .args .f .now) (s .args .g .now) out
+    (c .before .before .before .before .before .before .refusal-product .ensures)
+    (c .before .before .before .before .before .if1 .left) m (m - 0) refl room e
+    (c .before .before .product-words .last .1 .1 .1 .0) (length (midOf 0 (m - 0) out)) (mid-length 0 (m - 0) out (omega arith) ∙ e)
+    (c .before .before .product-words .ensures)
 
 pub product-spec : {M : Type 1} → statement M
 product-spec =

@@ -1,10 +1,9 @@
 use borrow.Author.Needs.{needs}
-use mathlib.Core.Path.{_≡_, refl, sym, ap, subst, _∙_}
-use Prim.Native.Nat.{ℕ, _+_, _-_, _*_, _%_, _≤_, _<_}
+use mathlib.Core.Path.{_≡_, sym, subst, _∙_}
+use Prim.Native.Nat.{ℕ, _+_, _-_, _≤_}
 use native.Mathlib.Omega.{arith}
-use lib.ListN.{length, getD}
+use lib.ListN.{length}
 use native.Mathlib.Nat.{mod-lt, le-of-lt}
-use Rattle.polynomial.proofs.Outcomes.{deg-is}
 use Rattle.polynomial.proofs.Quotients.{Quotienting, quotienting-start, quotienting-turn, quotienting-end, starts-within}
 use Rattle.polynomial.proofs.quotient_words.Statement.{statement}
 use Rattle.polynomial.proofs.quotient_words.Tie as tie
@@ -38,9 +37,11 @@ excess-requires c κs = search needs
 loop-holds : tie.Need-loop-holds Inv-loop μ-loop
 loop-holds c = let s = c .before .before .before .before .before .before .before .before in
     let w = c .before .before .before .wipe in
-    let l : length (w .last .0) ≡ length (s .args .q .now) = search needs in
-    (starts-within (s .args .f .now) (s .args .g .now) (length (w .last .0)) (c .excess .result) (s .pre .0 .1 .0) (l ∙ s .pre .0 .1 .1 .1) (c .excess .ensures),
-    (omega arith, quotienting-start _ _ (length (s .args .q .now)) _ _ _ (s .pre .0 .0) (w .ensures) (c .excess .ensures)))
+    let l : length (w .last .0) ≡ length (s .args .q .now) = search needs in (
+      starts-within (s .args .f .now) (s .args .g .now) (length (w .last .0)) (c .excess .result) (s .pre .0 .1 .0)
+          (l ∙ s .pre .0 .1 .1 .1) (c .excess .ensures),
+      (omega arith, quotienting-start _ _ (length (s .args .q .now)) _ _ _ (s .pre .0 .0) (w .ensures) (c .excess .ensures)),
+    )
 
 -- src/lib.rt:111:9
 sub-s : tie.Need-sub-s Inv-loop μ-loop
@@ -81,7 +82,8 @@ shared-slice-read-sub-mod c = search needs
 
 -- src/lib.rt:113:42
 sub-mod-requires : tie.Need-sub-mod-requires Inv-loop μ-loop
-sub-mod-requires c κs = let s = c .before .before .before .before .before .before .before .before .before .before .before .before .before .before in
+sub-mod-requires c κs = let s = c .before .before .before .before .before .before .before .before .before .before .before .before .before
+    .before in
     (s .pre .0 .0, subst (λ (y : ℕ). y ≤ s .args .n) (sym (c .before .product-word .ensures)) (le-of-lt (mod-lt _ (s .pre .0 .0))))
 
 -- src/lib.rt:113:16
@@ -102,12 +104,20 @@ loop-less c = search needs
 
 -- src/lib.rt:110:5
 loop-again : tie.Need-loop-again Inv-loop μ-loop
-loop-again c = let s = c .before .before .before .before .before .before .before .before .before .before .before .before .before .before .before .before in
+loop-again c = let s = c .before .before .before .before .before .before .before .before .before .before .before .before .before .before
+    .before .before in
     let l = c .before .before .before .before .before .before .before .loop in
-    let e : l .s ≡ l .s - 1 + 1 = omega arith in
-    (omega arith, (omega arith,
-    quotienting-turn (s .args .n) (s .args .i) (l .s - 1) (length (c .before .before .before .before .before .before .before .before .before .before .before .wipe .last .0) - (l .s - 1)) _ _ _ (s .args .f .now) (s .args .g .now) _ (l .q) (s .pre .0 .0) (omega arith) (omega arith) (s .pre .1 .1)
-    (rw e at (l .inv .1 .1)) (omega (arith, l .inv .1 .1 .same)) (c .before .before .before .product-word .ensures) (c .before .sub-mod .ensures) (c .mul-mod .ensures)))
+    let e : l .s ≡ l .s - 1 + 1 = omega arith in (
+      omega arith,
+      (
+        omega arith,
+        quotienting-turn (s .args .n) (s .args .i) (l .s - 1)
+            (length (c .before .before .before .before .before .before .before .before .before .before .before .wipe .last .0) -
+            (l .s - 1)) _ _ _ (s .args .f .now) (s .args .g .now) _ (l .q) (s .pre .0 .0) (omega arith) (omega arith) (s .pre .1 .1)
+            (rw e at (l .inv .1 .1)) (omega (arith, l .inv .1 .1 .same)) (c .before .before .before .product-word .ensures)
+            (c .before .sub-mod .ensures) (c .mul-mod .ensures),
+      ),
+    )
 
 -- src/lib.rt:101:1
 same-length : tie.Need-same-length Inv-loop μ-loop

@@ -1,9 +1,9 @@
 use Rattle.polynomial.proofs.Quotients.{remainder-made}
 use borrow.Author.Needs.{needs}
-use mathlib.Core.Path.{_≡_, refl, sym, ap, subst, _∙_}
-use Prim.Native.Nat.{ℕ, _+_, _-_, _*_, _%_, _≤_, _<_}
+use mathlib.Core.Path.{sym, subst}
+use Prim.Native.Nat.{ℕ, _-_, _≤_}
 use native.Mathlib.Omega.{arith}
-use lib.ListN.{length, getD}
+use lib.ListN.{length}
 use native.Mathlib.Nat.{mod-lt, le-of-lt}
 use Rattle.definitions.specs.Polynomials.{coef, convolve}
 use Rattle.polynomial.specs.Stages.{difference}
@@ -59,8 +59,11 @@ loop-less c = search needs
 loop-again : tie.Need-loop-again Inv-loop μ-loop
 loop-again c = let s = c .before .before .before .before .before .before .before .before .before in
     let l = c .before .before .before .before .loop in
-    let n = s .args .n in
-    (omega arith, filled-step (l .inv .1) (omega arith) (remainder-made n _ _ _ (s .args .f .now) (s .args .g .now) (s .args .q .now) (l .k) (c .before .before .product-word .ensures) (c .before .coefficient .ensures) (c .sub-mod .ensures)))
+    let n = s .args .n in (
+      omega arith,
+      filled-step (l .inv .1) (omega arith) (remainder-made n _ _ _ (s .args .f .now) (s .args .g .now) (s .args .q .now)
+          (l .k) (c .before .before .product-word .ensures) (c .before .coefficient .ensures) (c .sub-mod .ensures)),
+    )
 
 -- src/lib.rt:118:1
 same-length : tie.Need-same-length Inv-loop μ-loop

@@ -1,5 +1,5 @@
-use mathlib.Core.Path.{_≡_, refl, sym, ap, _∙_}
-use Prim.Native.Nat.{ℕ, pred, _-_, _≤_, _<_}
+use mathlib.Core.Path.{sym, ap, _∙_}
+use Prim.Native.Nat.{pred, _-_}
 use native.Mathlib.Omega.{arith}
 use Rattle.refusals.proofs.Accepted.{accepted-one}
 use Rattle.polynomial.specs.Counts.{extent-length}
@@ -36,8 +36,18 @@ sub-t6 c = search needs
 
 -- src/lib.rt:105:21
 cast-t7 : tie.Need-cast-t7
-cast-t7 c = let a = accepted-one (c .before .before .before .before .before .args .n) (c .before .before .before .before .before .args .f .now) (sym (c .before .before .before .refusal-one .ensures) ∙ c .before .before .if1 .left) in
-    record { fits = omega (arith, a .few, extent-length (c .before .before .before .before .before .args .f .now), c .before .extent-of .ensures) }
+cast-t7 c = let a = accepted-one (c .before .before .before .before .before .args .n)
+    (c .before .before .before .before .before .args .f .now)
+    (sym (c .before .before .before .refusal-one .ensures) ∙ c .before .before .if1 .left) in
+    record {
+      fits = omega (
+        arith,
+        a .few,
+        extent-length (c .before .before .before .before .before .args .f .now),
+        c .before .extent-of
+            .ensures,
+      );
+    }
 
 -- src/lib.rt:93:1
 returns-3 : tie.Need-returns-3

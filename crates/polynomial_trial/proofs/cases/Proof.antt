@@ -1,5 +1,5 @@
 use borrow.Author.Needs.{needs}
-use Prim.Native.Nat.{ℕ, _-_, _≤_}
+use Prim.Native.Nat.{_-_, _≤_}
 use mathlib.Core.Path.{_≡_}
 use lib.ListN.{length}
 use Rattle.polynomial_trial.proofs.cases.Statement.{statement}
@@ -10,7 +10,9 @@ use Rattle.polynomial_trial.proofs.mix.Reads as mix-reads
 use Rattle.polynomial_trial.proofs.trial.Reads as trial-reads
 
 abbrev Inv-loop : tie.InvT-loop
-Inv-loop service n f₀ g₀ a₀ b₀ work₀ x₀ h₀ i₀ f g a b work x h i = (i ≤ 40) × ((length f ≡ length f₀) × ((length g ≡ length g₀) × ((length a ≡ length a₀) × ((length b ≡ length b₀) × (length work ≡ length work₀)))))
+Inv-loop service n f₀ g₀ a₀ b₀ work₀ x₀ h₀ i₀ f g a b work x h i = (i ≤ 40)
+    × ((length f ≡ length f₀) × ((length g ≡ length g₀) × ((length a ≡ length a₀)
+    × ((length b ≡ length b₀) × (length work ≡ length work₀)))))
 
 abbrev μ-loop : tie.MeasureT-loop
 μ-loop service n f₀ g₀ a₀ b₀ work₀ x₀ h₀ i₀ f g a b work x h i = 40 - i

@@ -1,7 +1,6 @@
 use Rattle.polynomial_trial.proofs.Sizes.{longest}
-use Prim.Native.Nat.{ℕ, _+_, _-_, _*_, _≤_, _<_}
+use Prim.Native.Nat.{_-_}
 use native.Mathlib.Omega.{arith}
-use lib.ListN.{length}
 use borrow.Author.Needs.{needs}
 use Rattle.polynomial_trial.proofs.needed.Statement.{statement}
 use Rattle.polynomial_trial.proofs.needed.Tie as tie
@@ -56,17 +55,20 @@ sub-result-2 c = search needs
 
 -- src/main.rt:156:5
 mul-result : tie.Need-mul-result
-mul-result c = let z = longest (c .before .modulus-of .result .k) (c .before .before .before .before .before .args .l) (omega arith) (omega arith) in
+mul-result c = let z = longest (c .before .modulus-of .result .k) (c .before .before .before .before .before .args .l) (omega arith)
+    (omega arith) in
     record { fits = omega arith }
 
 -- src/main.rt:156:5
 add-result-3 : tie.Need-add-result-3
-add-result-3 c = let z = longest (c .before .modulus-of .result .k) (c .before .before .before .before .before .args .l) (omega arith) (omega arith) in
+add-result-3 c = let z = longest (c .before .modulus-of .result .k) (c .before .before .before .before .before .args .l) (omega arith)
+    (omega arith) in
     record { fits = omega arith }
 
 -- src/main.rt:139:1
 returns-5 : tie.Need-returns-5
-returns-5 c = let z = longest (c .before .modulus-of .result .k) (c .before .before .before .before .before .args .l) (omega arith) (omega arith) in
+returns-5 c = let z = longest (c .before .modulus-of .result .k) (c .before .before .before .before .before .args .l) (omega arith)
+    (omega arith) in
     (omega arith, omega arith)
 
 pub needed-spec : {M : Type 1} → statement M

@@ -1,7 +1,6 @@
-use mathlib.Core.Path.{_≡_, refl, sym, ap, subst, _∙_}
-use Prim.Native.Nat.{ℕ, _+_, _-_, _*_, _%_, _≤_, _<_}
+use mathlib.Core.Path.{sym}
+use Prim.Native.Nat.{_-_}
 use native.Mathlib.Omega.{arith}
-use lib.ListN.{length, getD}
 use Rattle.windows.proofs.Leaf.{piece-at, piece-over}
 use borrow.Author.Needs.{needs}
 use Rattle.polynomial_units.proofs.coefficient_at.Statement.{statement}
@@ -23,7 +22,8 @@ shared-slice-read-result c = search needs
 
 -- src/lib.rt:60:9
 returns : tie.Need-returns
-returns c = sym (piece-at (c .before .before .args .w .now) (c .before .before .args .a) (c .before .before .args .len) (c .before .before .args .k) (omega arith))
+returns c = sym (piece-at (c .before .before .args .w .now) (c .before .before .args .a) (c .before .before .args .len)
+    (c .before .before .args .k) (omega arith))
 
 -- src/lib.rt:55:1
 returns-2 : tie.Need-returns-2

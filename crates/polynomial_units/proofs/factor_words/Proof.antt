@@ -1,7 +1,7 @@
-use mathlib.Core.Path.{_≡_, refl, sym, ap, subst, _∙_}
-use Prim.Native.Nat.{ℕ, _+_, _-_, _*_, _%_, _≤_, _<_}
+use mathlib.Core.Path.{_≡_, ap, _∙_}
+use Prim.Native.Nat.{ℕ, _+_, _-_}
 use native.Mathlib.Omega.{arith}
-use lib.ListN.{length, getD}
+use lib.ListN.{length}
 use lib.ListN.{replicate}
 use Rattle.polynomial_units.proofs.Parts.{given-of, factors-of}
 use borrow.Author.Needs.{needs}
@@ -28,9 +28,11 @@ unit-times-monic-requires c κs = let s = c .before .before .before .before .bef
     let d : ℕ = length (s .args .f .now) - 1 in
     let p = s .pre .0 .1 .1 .place in
     let e : d + 1 ≡ length (s .args .f .now) = omega arith in
-    let ld = c .before .before .before .load .ensures in
-    ((s .pre .0 .0, (omega arith, omega (arith, ld .same, s .pre .1 .1 .1))),
-    given-of (s .args .n) d (s .args .t) (s .args .i) (s .args .f .now) (s .args .work .now) (c .before .before .before .load .last .0) (s .pre .0 .0) e (omega (arith, s .pre .1 .1 .1)) (s .pre .0 .1 .0) (s .pre .0 .1 .1) ld)
+    let ld = c .before .before .before .load .ensures in (
+      (s .pre .0 .0, (omega arith, omega (arith, ld .same, s .pre .1 .1 .1))),
+      given-of (s .args .n) d (s .args .t) (s .args .i) (s .args .f .now) (s .args .work .now) (c .before .before .before .load .last .0)
+          (s .pre .0 .0) e (omega (arith, s .pre .1 .1 .1)) (s .pre .0 .1 .0) (s .pre .0 .1 .1) ld,
+    )
 
 -- src/lib.rt:89:23
 add-hand-out : tie.Need-add-hand-out
@@ -90,17 +92,26 @@ same-length-3 c = search needs
 
 -- src/lib.rt:80:1
 returns : tie.Need-returns
-returns c = let s = c .before .before .before .before .before .before .before .before .before .before .before .before .before .before .before .before .before .before .before .before .before .before .before .before .before .before in
+returns c = let s = c .before .before .before .before .before .before .before .before .before .before .before .before .before .before
+    .before .before .before .before .before .before .before .before .before .before .before .before in
     let f = s .args .f .now in
     let d : ℕ = length f - 1 in
     let p = s .pre .0 .1 .1 .place in
     let e : d + 1 ≡ length f = omega (arith, p) in
-    let ld = c .before .before .before .before .before .before .before .before .before .before .before .before .before .before .before .before .before .before .before .before .load .ensures in
-    let fc = c .before .before .before .before .before .before .before .before .before .before .before .before .before .before .before .before .unit-times-monic .ensures in
-    let l = s .pre .1 in
-    (factors-of (s .args .n) d (s .args .t) (s .args .i) f (s .args .work .now) (c .before .before .before .before .before .before .before .before .before .before .before .before .before .before .before .before .before .before .before .before .load .last .0) (c .before .before .before .before .before .before .before .before .before .before .before .before .before .before .before .before .unit-times-monic .last .0) _ _ (s .pre .0 .0) e (l .1 .1) (s .pre .0 .1 .0) (s .pre .0 .1 .1) ld fc
-      _ _ (l .0) (l .1 .0) (c .before .before .before .before .before .before .before .before .before .before .before .hand-out .ensures) (c .before .before .before .before .before .before .hand-out2 .ensures),
-    c .before .before .wipe .ensures ∙ ap (λ (x : ℕ). replicate x 0) (fc .around .same ∙ ld .same))
+    let ld = c .before .before .before .before .before .before .before .before .before .before .before .before .before .before .before
+    .before .before .before .before .before .load .ensures in
+    let fc = c .before .before .before .before .before .before .before .before .before .before .before .before .before .before .before
+    .before .unit-times-monic .ensures in
+    let l = s .pre .1 in (
+      factors-of (s .args .n) d (s .args .t) (s .args .i) f (s .args .work .now)
+          (c .before .before .before .before .before .before .before .before .before .before .before .before .before .before .before
+          .before .before .before .before .before .load .last .0)
+          (c .before .before .before .before .before .before .before .before .before .before .before .before .before .before .before
+          .before .unit-times-monic .last .0) _ _ (s .pre .0 .0) e (l .1 .1) (s .pre .0 .1 .0) (s .pre .0 .1 .1) ld fc
+          _ _ (l .0) (l .1 .0) (c .before .before .before .before .before .before .before .before .before .before .before .hand-out
+          .ensures) (c .before .before .before .before .before .before .hand-out2 .ensures),
+      c .before .before .wipe .ensures ∙ ap (λ (x : ℕ). replicate x 0) (fc .around .same ∙ ld .same),
+    )
 
 pub factor-words-spec : {M : Type 1} → statement M
 factor-words-spec =

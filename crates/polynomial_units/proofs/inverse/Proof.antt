@@ -1,7 +1,7 @@
-use mathlib.Core.Path.{_≡_, refl, sym, ap, subst, _∙_}
-use Prim.Native.Nat.{ℕ, _+_, _-_, _*_, _%_, _≤_, _<_}
+use mathlib.Core.Path.{sym, _∙_}
+use Prim.Native.Nat.{_+_, _-_, _*_}
 use native.Mathlib.Omega.{arith}
-use lib.ListN.{length, getD}
+use lib.ListN.{length}
 use Rattle.refusals.proofs.Accepted.{accepted-one}
 use Rattle.polynomial_units.proofs.UnitAnswers.{lead-inside, inverse-small, inverse-accepted, inverse-refused, inverse-late, inverse-asked, inverse-done}
 use borrow.Author.Needs.{needs}
@@ -22,32 +22,54 @@ refusal-one-requires c κs = search needs
 
 -- src/lib.rt:186:9
 returns : tie.Need-returns
-returns c = let s = c .before .before .before .before .before .args in
-    inverse-refused (s .n) _ (s .f .now) (s .out .now) (s .work .now) (c .before .refusal-one .ensures) (c .if1 .taken)
+returns c = let ro = c .before in
+    let start = ro .before .before .before .before in
+    let s = start .args in
+    inverse-refused (s .n) _ (s .f .now) (s .out .now) (s .work .now) (ro .refusal-one .ensures) (c .if1 .taken)
 
 -- src/lib.rt:188:9
 leading-place-requires : tie.Need-leading-place-requires
-leading-place-requires c κs = let s = c .before .before .before .before .before .args in
-    let a = accepted-one (s .n) (s .f .now) (sym (c .before .refusal-one .ensures) ∙ c .if1 .left) in
+leading-place-requires c κs = let if1 = c in
+    let ro = if1 .before in
+    let start = ro .before .before .before .before in
+    let s = start .args in
+    let a = accepted-one (s .n) (s .f .now) (sym (ro .refusal-one .ensures) ∙ if1 .if1 .left) in
     a .modulus
 
 -- src/lib.rt:189:33
 mul-cofactor : tie.Need-mul-cofactor
-mul-cofactor c = let s = c .before .before .before .before .before .before .args in
-    let a = accepted-one (s .n) (s .f .now) (sym (c .before .before .refusal-one .ensures) ∙ c .before .if1 .left) in
-    let z = lead-inside (s .n) _ (s .f .now) (a .some) (c .leading-place .ensures) in
-    record { fits = omega (arith, z, a .few) }
+mul-cofactor c = let lp = c in
+    let if1 = lp .before in
+    let ro = if1 .before in
+    let start = ro .before .before .before .before in
+    let s = start .args in
+    let a = accepted-one (s .n) (s .f .now) (sym (ro .refusal-one .ensures) ∙ if1 .if1 .left) in
+    record {
+      fits = omega (
+        arith,
+        lead-inside (s .n) (lp .leading-place .result) (s .f .now) (a .some)
+            (lp .leading-place .ensures),
+        a .few,
+      );
+    }
 
 -- src/lib.rt:189:33
 shared-slice-read-cofactor : tie.Need-shared-slice-read-cofactor
-shared-slice-read-cofactor c = let s = c .before .before .before .before .before .before .before .args in
-    let a = accepted-one (s .n) (s .f .now) (sym (c .before .before .before .refusal-one .ensures) ∙ c .before .before .if1 .left) in
-    lead-inside (s .n) _ (s .f .now) (a .some) (c .before .leading-place .ensures)
+shared-slice-read-cofactor c = let lp = c .before in
+    let if1 = lp .before in
+    let ro = if1 .before in
+    let start = ro .before .before .before .before in
+    let s = start .args in
+    let a = accepted-one (s .n) (s .f .now) (sym (ro .refusal-one .ensures) ∙ if1 .if1 .left) in
+    lead-inside (s .n) (lp .leading-place .result) (s .f .now) (a .some) (lp .leading-place .ensures)
 
 -- src/lib.rt:189:9
 cofactor-requires : tie.Need-cofactor-requires
-cofactor-requires c κs = let s = c .before .before .before .before .before .before .before .args in
-    let a = accepted-one (s .n) (s .f .now) (sym (c .before .before .before .refusal-one .ensures) ∙ c .before .before .if1 .left) in
+cofactor-requires c κs = let if1 = c .before .before in
+    let ro = if1 .before in
+    let start = ro .before .before .before .before in
+    let s = start .args in
+    let a = accepted-one (s .n) (s .f .now) (sym (ro .refusal-one .ensures) ∙ if1 .if1 .left) in
     omega (arith, a .modulus)
 
 -- src/lib.rt:190:9
@@ -60,21 +82,50 @@ cast-l c = search needs
 
 -- src/lib.rt:191:31
 sub-l : tie.Need-sub-l
-sub-l c = let s = c .before .before .before .before .before .before .before .before .before .before .args in
-    let a = accepted-one (s .n) (s .f .now) (sym (c .before .before .before .before .before .before .refusal-one .ensures) ∙ c .before .before .before .before .before .if1 .left) in
+sub-l c = let if1 = c .before .before .before .before .before in
+    let ro = if1 .before in
+    let start = ro .before .before .before .before in
+    let s = start .args in
+    let a = accepted-one (s .n) (s .f .now) (sym (ro .refusal-one .ensures) ∙ if1 .if1 .left) in
     a .some
 
 -- src/lib.rt:191:13
 mul-l : tie.Need-mul-l
-mul-l c = let s = c .before .before .before .before .before .before .before .before .before .before .args in
-    let a = accepted-one (s .n) (s .f .now) (sym (c .before .before .before .before .before .before .refusal-one .ensures) ∙ c .before .before .before .before .before .if1 .left) in
-    record { fits = omega (arith, inverse-small (s .n) (c .before .modulus-of .result .k) (length (s .f .now)) (omega (arith, a .modulus)) (c .before .before .before .before .before .before .before .before .before .before .fits .n .fits) (c .before .modulus-of .ensures .1) (a .few)) }
+mul-l c = let mo = c .before in
+    let cf = mo .before in
+    let lp = cf .before .before in
+    let if1 = lp .before in
+    let ro = if1 .before in
+    let start = ro .before .before .before .before in
+    let s = start .args in
+    let a = accepted-one (s .n) (s .f .now) (sym (ro .refusal-one .ensures) ∙ if1 .if1 .left) in
+    record {
+      fits = omega (
+        arith,
+        inverse-small (s .n) (mo .modulus-of .result .k) (length (s .f .now)) (omega (arith, a .modulus))
+            (start .fits .n .fits)
+            (mo .modulus-of .ensures .1) (a .few),
+      );
+    }
 
 -- src/lib.rt:191:13
 add-l : tie.Need-add-l
-add-l c = let s = c .before .before .before .before .before .before .before .before .before .before .args in
-    let a = accepted-one (s .n) (s .f .now) (sym (c .before .before .before .before .before .before .refusal-one .ensures) ∙ c .before .before .before .before .before .if1 .left) in
-    record { fits = omega (arith, inverse-small (s .n) (c .before .modulus-of .result .k) (length (s .f .now)) (omega (arith, a .modulus)) (c .before .before .before .before .before .before .before .before .before .before .fits .n .fits) (c .before .modulus-of .ensures .1) (a .few)) }
+add-l c = let mo = c .before in
+    let cf = mo .before in
+    let lp = cf .before .before in
+    let if1 = lp .before in
+    let ro = if1 .before in
+    let start = ro .before .before .before .before in
+    let s = start .args in
+    let a = accepted-one (s .n) (s .f .now) (sym (ro .refusal-one .ensures) ∙ if1 .if1 .left) in
+    record {
+      fits = omega (
+        arith,
+        inverse-small (s .n) (mo .modulus-of .result .k) (length (s .f .now)) (omega (arith, a .modulus))
+            (start .fits .n .fits)
+            (mo .modulus-of .ensures .1) (a .few),
+      );
+    }
 
 -- src/lib.rt:192:9
 refusal-inverse-requires : tie.Need-refusal-inverse-requires
@@ -82,9 +133,19 @@ refusal-inverse-requires c κs = search needs
 
 -- src/lib.rt:194:9
 returns-2 : tie.Need-returns-2
-returns-2 c = let s = c .before .before .before .before .before .before .before .before .before .before .before .before .args in
-    let a = accepted-one (s .n) (s .f .now) (sym (c .before .before .before .before .before .before .before .before .refusal-one .ensures) ∙ c .before .before .before .before .before .before .before .if1 .left) in
-    inverse-late (s .n) _ (s .f .now) (s .out .now) (s .work .now) (c .before .before .before .before .before .before .before .before .refusal-one .ensures) (c .before .before .before .before .before .before .before .if1 .left) a (c .before .before .before .before .before .before .leading-place .result) (c .before .before .before .before .cofactor .result .g) (c .before .before .before .before .cofactor .result .s) (c .before .before .before .modulus-of .result .k) _ (c .before .before .before .before .before .before .leading-place .ensures) (c .before .before .before .before .cofactor .ensures) (c .before .before .before .modulus-of .ensures .1) (c .before .refusal-inverse .ensures) (c .if2 .taken)
+returns-2 c = let ri = c .before in
+    let mo = ri .before .before in
+    let cf = mo .before in
+    let lp = cf .before .before in
+    let if1 = lp .before in
+    let ro = if1 .before in
+    let start = ro .before .before .before .before in
+    let s = start .args in
+    let a = accepted-one (s .n) (s .f .now) (sym (ro .refusal-one .ensures) ∙ if1 .if1 .left) in
+    inverse-late (s .n) _ (s .f .now) (s .out .now) (s .work .now) (ro .refusal-one .ensures) (if1 .if1 .left) a
+    (lp .leading-place .result) (cf .cofactor .result .g) (cf .cofactor .result .s) (mo .modulus-of .result .k) _
+    (lp .leading-place .ensures) (cf .cofactor .ensures) (mo .modulus-of .ensures .1) (ri .refusal-inverse .ensures)
+    (c .if2 .taken)
 
 -- src/lib.rt:196:30
 sub-inverse-words : tie.Need-sub-inverse-words
@@ -96,16 +157,36 @@ part-inverse-words-start c = search needs
 
 -- src/lib.rt:196:30
 part-inverse-words-end : tie.Need-part-inverse-words-end
-part-inverse-words-end c = let s = c .before .before .before .before .before .before .before .before .before .before .before .before .args in
-    let a = accepted-one (s .n) (s .f .now) (sym (c .before .before .before .before .before .before .before .before .refusal-one .ensures) ∙ c .before .before .before .before .before .before .before .if1 .left) in
-    let z = inverse-accepted (c .before .before .before .before .cofactor .result .g) (c .before .before .before .before .before .before .leading-place .result) (length (s .out .now)) (c .before .before .before .modulus-of .result .k * (length (s .f .now) - 1) + 1) (length (s .work .now)) _ (c .before .refusal-inverse .ensures) (c .if2 .left) .1 .0 in
+part-inverse-words-end c = let if2 = c in
+    let ri = if2 .before in
+    let mo = ri .before .before in
+    let cf = mo .before in
+    let lp = cf .before .before in
+    let if1 = lp .before in
+    let ro = if1 .before in
+    let start = ro .before .before .before .before in
+    let s = start .args in
+    let z = inverse-accepted (cf .cofactor .result .g) (lp .leading-place .result) (length (s .out .now))
+    (mo .modulus-of .result .k * (length (s .f .now) - 1) + 1) (length (s .work .now)) _ (ri .refusal-inverse .ensures)
+    (if2 .if2 .left) .1 .0 in
     search needs
 
 -- src/lib.rt:196:5
 inverse-words-requires : tie.Need-inverse-words-requires
-inverse-words-requires c κs = let s = c .before .before .before .before .before .before .before .before .before .before .before .before .before .before .args in
-    let a = accepted-one (s .n) (s .f .now) (sym (c .before .before .before .before .before .before .before .before .before .before .refusal-one .ensures) ∙ c .before .before .before .before .before .before .before .before .before .if1 .left) in
-    inverse-asked (s .n) _ (s .f .now) (s .out .now) (s .work .now) (c .before .before .before .before .before .before .before .before .before .before .refusal-one .ensures) (c .before .before .before .before .before .before .before .before .before .if1 .left) a (c .before .before .before .before .before .before .before .before .leading-place .result) (c .before .before .before .before .before .before .cofactor .result .g) (c .before .before .before .before .before .before .cofactor .result .s) (c .before .before .before .before .before .modulus-of .result .k) _ (c .before .before .before .before .before .before .before .before .leading-place .ensures) (c .before .before .before .before .before .before .cofactor .ensures) (c .before .before .before .before .before .modulus-of .ensures .1) (c .before .before .before .refusal-inverse .ensures) (c .before .before .if2 .left) (c .before .before .before .before .before .before .before .before .before .before .before .before .before .before .fits .n .fits) (c .before .before .before .before .before .modulus-of .result .k * (length (s .f .now) - 1) + 1 - 0) (omega arith)
+inverse-words-requires c κs = let if2 = c .before .before in
+    let ri = if2 .before in
+    let mo = ri .before .before in
+    let cf = mo .before in
+    let lp = cf .before .before in
+    let if1 = lp .before in
+    let ro = if1 .before in
+    let start = ro .before .before .before .before in
+    let s = start .args in
+    let a = accepted-one (s .n) (s .f .now) (sym (ro .refusal-one .ensures) ∙ if1 .if1 .left) in
+    inverse-asked (s .n) _ (s .f .now) (s .out .now) (s .work .now) (ro .refusal-one .ensures) (if1 .if1 .left) a
+    (lp .leading-place .result) (cf .cofactor .result .g) (cf .cofactor .result .s) (mo .modulus-of .result .k) _
+    (lp .leading-place .ensures) (cf .cofactor .ensures) (mo .modulus-of .ensures .1) (ri .refusal-inverse .ensures)
+    (if2 .if2 .left) (start .fits .n .fits) (mo .modulus-of .result .k * (length (s .f .now) - 1) + 1 - 0) (omega arith)
 
 -- src/lib.rt:178:1
 same-length : tie.Need-same-length
@@ -117,9 +198,22 @@ same-length-2 c = search needs
 
 -- src/lib.rt:178:1
 returns-3 : tie.Need-returns-3
-returns-3 c = let s = c .before .before .before .before .before .before .before .before .before .before .before .before .before .before .before .before .before .before .before .args in
-    let a = accepted-one (s .n) (s .f .now) (sym (c .before .before .before .before .before .before .before .before .before .before .before .before .before .before .before .refusal-one .ensures) ∙ c .before .before .before .before .before .before .before .before .before .before .before .before .before .before .if1 .left) in
-    inverse-done (s .n) _ (s .f .now) (s .out .now) (s .work .now) (c .before .before .before .before .before .before .before .before .before .before .before .before .before .before .before .refusal-one .ensures) (c .before .before .before .before .before .before .before .before .before .before .before .before .before .before .if1 .left) a (c .before .before .before .before .before .before .before .before .before .before .before .before .before .leading-place .result) (c .before .before .before .before .before .before .before .before .before .before .before .cofactor .result .g) (c .before .before .before .before .before .before .before .before .before .before .before .cofactor .result .s) (c .before .before .before .before .before .before .before .before .before .before .modulus-of .result .k) _ (c .before .before .before .before .before .before .before .before .before .before .before .before .before .leading-place .ensures) (c .before .before .before .before .before .before .before .before .before .before .before .cofactor .ensures) (c .before .before .before .before .before .before .before .before .before .before .modulus-of .ensures .1) (c .before .before .before .before .before .before .before .before .refusal-inverse .ensures) (c .before .before .before .before .before .before .before .if2 .left) (c .before .before .before .before .before .before .before .before .before .before .modulus-of .result .k * (length (s .f .now) - 1) + 1 - 0) (omega arith) _ _ (c .before .before .before .before .inverse-words .ensures .0) (c .before .before .before .before .inverse-words .ensures .1)
+returns-3 c = let if2 = c .before .before .before .before .before .before .before in
+    let ri = if2 .before in
+    let mo = ri .before .before in
+    let cf = mo .before in
+    let lp = cf .before .before in
+    let if1 = lp .before in
+    let ro = if1 .before in
+    let start = ro .before .before .before .before in
+    let s = start .args in
+    let a = accepted-one (s .n) (s .f .now) (sym (ro .refusal-one .ensures) ∙ if1 .if1 .left) in
+    inverse-done (s .n) _ (s .f .now) (s .out .now) (s .work .now) (ro .refusal-one .ensures) (if1 .if1 .left) a
+    (lp .leading-place .result) (cf .cofactor .result .g) (cf .cofactor .result .s) (mo .modulus-of .result .k) _
+    (lp .leading-place .ensures) (cf .cofactor .ensures) (mo .modulus-of .ensures .1) (ri .refusal-inverse .ensures)
+    (if2 .if2 .left) (mo .modulus-of .result .k * (length (s .f .now) - 1) + 1 - 0)
+    (omega arith) _ _ (c .before .before .before .before .inverse-words .ensures .0)
+    (c .before .before .before .before .inverse-words .ensures .1)
 
 pub inverse-spec : {M : Type 1} → statement M
 inverse-spec =

@@ -1,8 +1,8 @@
 use borrow.Author.Needs.{needs}
-use mathlib.Core.Path.{_≡_, refl, sym, ap, subst, _∙_}
-use Prim.Native.Nat.{ℕ, _+_, _-_, _*_, _%_, _≤_, _<_}
+use mathlib.Core.Path.{sym, ap, _∙_}
+use Prim.Native.Nat.{_-_, _≤_}
 use native.Mathlib.Omega.{arith}
-use lib.ListN.{length, getD}
+use lib.ListN.{length}
 use Prim.Native.Nat.{pred}
 use borrow.Author.Tests.{not-true, not-false}
 use Rattle.polynomial.specs.UnitTests.{is-nilpotent}
@@ -46,7 +46,9 @@ sub-result c = search needs
 
 -- src/lib.rt:45:13
 returns : tie.Need-returns Inv-loop μ-loop
-returns c = sym (pred-is (c .before .before .before .before .loop .t)) ∙ ap pred (passed-until (c .before .before .before .before .loop .inv .1) (omega arith) (sym (c .before .nilpotent .ensures) ∙ not-true _ (c .if1 .taken)))
+returns c = sym (pred-is (c .before .before .before .before .loop .t))
+    ∙ ap pred (passed-until (c .before .before .before .before .loop .inv .1) (omega arith)
+    (sym (c .before .nilpotent .ensures) ∙ not-true _ (c .if1 .taken)))
 
 -- src/lib.rt:47:9
 sub-t : tie.Need-sub-t Inv-loop μ-loop
@@ -58,7 +60,11 @@ loop-less c = search needs
 
 -- src/lib.rt:43:5
 loop-again : tie.Need-loop-again Inv-loop μ-loop
-loop-again c = (omega arith, passed-more (c .before .before .before .before .loop .inv .1) (omega arith) (sym (c .before .nilpotent .ensures) ∙ not-false _ (c .if1 .left)))
+loop-again c = (
+  omega arith,
+  passed-more (c .before .before .before .before .loop .inv .1) (omega arith)
+      (sym (c .before .nilpotent .ensures) ∙ not-false _ (c .if1 .left)),
+)
 
 -- src/lib.rt:38:1
 returns-2 : tie.Need-returns-2 Inv-loop μ-loop

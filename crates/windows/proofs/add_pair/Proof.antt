@@ -2,8 +2,8 @@ use borrow.Author.Needs.{needs}
 use Rattle.windows.specs.Window.{Paired, behind}
 use Rattle.windows.proofs.Pairs.{paired-none, paired-step, source, next-behind}
 use native.Mathlib.Omega.{arith}
-use mathlib.Core.Path.{_≡_, refl, sym, ap, subst, _∙_}
-use Prim.Native.Nat.{ℕ, _+_, _*_, _-_, _%_, _≤_, _<_}
+use mathlib.Core.Path.{_≡_, refl, sym, subst, _∙_}
+use Prim.Native.Nat.{ℕ, _+_, _-_, _≤_}
 use lib.ListN.{getD}
 use native.Mathlib.Nat.{le-of-lt}
 use Rattle.windows.proofs.add_pair.Statement.{statement}
@@ -50,8 +50,14 @@ slice-read-sum-two c = search needs
 sum-two-requires : tie.Need-sum-two-requires Inv-loop μ-loop
 sum-two-requires c κs =
     let s = c .before .before .before .before .before in
-    let l = c .before .before .before .loop in
-    (s .pre .0 .0, (subst (λ (x : ℕ). x ≤ s .args .n) (sym (l .inv .1 .0 .high (s .args .dst + l .j) (omega arith))) (le-of-lt (s .pre .1 .1 .at (l .j) (omega arith))), s .pre .0 .1 .0))
+    let l = c .before .before .before .loop in (
+      s .pre .0 .0,
+      (
+        subst (λ (x : ℕ). x ≤ s .args .n) (sym (l .inv .1 .0 .high (s .args .dst + l .j) (omega arith)))
+            (le-of-lt (s .pre .1 .1 .at (l .j) (omega arith))),
+        s .pre .0 .1 .0,
+      ),
+    )
 
 -- src/lib.rt:35:11
 add-w : tie.Need-add-w Inv-loop μ-loop
@@ -77,10 +83,14 @@ loop-less c = search needs
 loop-again : tie.Need-loop-again Inv-loop μ-loop
 loop-again c =
     let s = c .before .before .before .before .before .before in
-    let l = c .before .before .before .before .loop in
-    (omega arith,
-    (paired-step (l .inv .1 .0) (s .pre .1 .0) (omega arith) (omega arith) (l .inv .1 .1) (c .sum-two .ensures),
-    source (l .inv .1 .0) (s .pre .1 .0) (omega arith) (l .j) (omega arith) ∙ sym (next-behind (λ (k : ℕ). getD (s .args .w .now) (s .args .src + k) 0) (l .j))))
+    let l = c .before .before .before .before .loop in (
+      omega arith,
+      (
+        paired-step (l .inv .1 .0) (s .pre .1 .0) (omega arith) (omega arith) (l .inv .1 .1) (c .sum-two .ensures),
+        source (l .inv .1 .0) (s .pre .1 .0) (omega arith) (l .j) (omega arith)
+            ∙ sym (next-behind (λ (k : ℕ). getD (s .args .w .now) (s .args .src + k) 0) (l .j)),
+      ),
+    )
 
 -- src/lib.rt:26:1
 same-length : tie.Need-same-length Inv-loop μ-loop

@@ -1,9 +1,8 @@
 use borrow.Author.Needs.{needs}
 use Rattle.windows.proofs.Leaf.{moved-none, moved-step}
-use mathlib.Core.Path.{_≡_, refl, sym, ap, _∙_}
-use Prim.Native.Nat.{ℕ, _+_, _-_, _≤_, _<_}
+use mathlib.Core.Path.{_≡_}
+use Prim.Native.Nat.{_-_, _≤_}
 use native.Mathlib.Omega.{arith}
-use lib.ListN.{length, getD}
 use Rattle.windows.specs.Window.{Moved, addMul}
 use Rattle.windows.proofs.add_scaled.Statement.{statement}
 use Rattle.windows.proofs.add_scaled.Tie as tie
@@ -71,7 +70,11 @@ loop-less c = search needs
 
 -- src/lib.rt:13:5
 loop-again : tie.Need-loop-again Inv-loop μ-loop
-loop-again c = (search needs, moved-step (c .before .before .before .before .loop .inv .1) (c .before .before .before .before .before .before .pre .1) (omega arith) (omega arith) (c .mul-add-mod .ensures))
+loop-again c = (
+  search needs,
+  moved-step (c .before .before .before .before .loop .inv .1)
+      (c .before .before .before .before .before .before .pre .1) (omega arith) (omega arith) (c .mul-add-mod .ensures),
+)
 
 -- src/lib.rt:7:1
 same-length : tie.Need-same-length Inv-loop μ-loop

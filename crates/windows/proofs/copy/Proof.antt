@@ -1,10 +1,9 @@
 use borrow.Author.Needs.{needs}
 use Rattle.windows.proofs.Leaf.{moved-none, moved-step}
-use mathlib.Core.Path.{_≡_, refl, sym, ap, _∙_}
-use Prim.Native.Nat.{ℕ, _+_, _-_, _≤_, _<_}
+use mathlib.Core.Path.{_≡_, refl}
+use Prim.Native.Nat.{_-_, _≤_}
 use native.Mathlib.Omega.{arith}
-use lib.ListN.{length, getD}
-use Rattle.windows.specs.Window.{Moved, addMul, mulBy, second}
+use Rattle.windows.specs.Window.{Moved, second}
 use Rattle.windows.proofs.copy.Statement.{statement}
 use Rattle.windows.proofs.copy.Tie as tie
 use Rattle.windows.proofs.copy.Reads as reads
@@ -54,7 +53,11 @@ loop-less c = search needs
 
 -- src/lib.rt:39:5
 loop-again : tie.Need-loop-again Inv-loop μ-loop
-loop-again c = (search needs, moved-step (c .before .before .loop .inv .1) (c .before .before .before .pre .1) (omega arith) (omega arith) refl)
+loop-again c = (
+  search needs,
+  moved-step (c .before .before .loop .inv .1) (c .before .before .before .pre .1) (omega arith)
+      (omega arith) refl,
+)
 
 -- src/lib.rt:33:1
 same-length : tie.Need-same-length Inv-loop μ-loop
@@ -62,7 +65,7 @@ same-length c = search needs
 
 -- src/lib.rt:33:1
 returns : tie.Need-returns Inv-loop μ-loop
-returns c = 
+returns c =
     let e : c .before .loop .j ≡ c .before .before .args .len = omega arith in
     rw e at (c .before .loop .inv .1)
 

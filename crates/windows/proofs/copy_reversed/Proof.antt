@@ -1,9 +1,9 @@
 use borrow.Author.Needs.{needs}
-use mathlib.Core.Path.{_≡_, refl, sym, ap, _∙_}
-use Prim.Native.Nat.{ℕ, _+_, _-_, _%_, _≤_, _<_}
+use mathlib.Core.Path.{_≡_}
+use Prim.Native.Nat.{ℕ, _+_, _-_, _≤_}
 use native.Mathlib.Omega.{arith}
-use lib.ListN.{length, getD}
-use Rattle.windows.specs.Window.{Written, Reversed, Apart}
+use lib.ListN.{getD}
+use Rattle.windows.specs.Window.{Written}
 use Rattle.windows.proofs.Leaf.{written-none, written-step, written-source, written-reversed}
 use Rattle.windows.proofs.copy_reversed.Statement.{statement}
 use Rattle.windows.proofs.copy_reversed.Tie as tie
@@ -62,7 +62,11 @@ loop-less c = search needs
 
 -- src/lib.rt:124:5
 loop-again : tie.Need-loop-again Inv-loop μ-loop
-loop-again c = (search needs, written-step (c .before .before .loop .inv .1) (omega arith) (written-source (c .before .before .loop .inv .1) _ _ (c .before .before .before .pre .1) (omega arith) _ (omega arith)))
+loop-again c = (
+  search needs,
+  written-step (c .before .before .loop .inv .1) (omega arith)
+      (written-source (c .before .before .loop .inv .1) _ _ (c .before .before .before .pre .1) (omega arith) _ (omega arith)),
+)
 
 -- src/lib.rt:118:1
 same-length : tie.Need-same-length Inv-loop μ-loop

@@ -1,9 +1,9 @@
 use borrow.Author.Needs.{needs}
-use mathlib.Core.Path.{_≡_, refl, sym, ap, _∙_}
-use Prim.Native.Nat.{ℕ, _+_, _-_, _%_, _≤_, _<_}
+use mathlib.Core.Path.{_≡_}
+use Prim.Native.Nat.{ℕ, _-_, _%_, _≤_}
 use native.Mathlib.Omega.{arith}
 use lib.ListN.{length, getD}
-use Rattle.windows.specs.Window.{Written, Loaded}
+use Rattle.windows.specs.Window.{Written}
 use Rattle.windows.proofs.Leaf.{written-none, written-step, written-loaded}
 use Rattle.windows.proofs.load.Statement.{statement}
 use Rattle.windows.proofs.load.Tie as tie
