@@ -20,9 +20,9 @@ use Rattle.windows.proofs.Lift.{moved-around}
 use Rattle.multipliers.specs.Leads.{Leads, Completes, lifted, leads-scaled, completes-none}
 use Rattle.multipliers.specs.Reductions.{UnitLead, reduced-same, reduced-lead, reduced-none}
 use Rattle.products.specs.Products.{MonicAt}
-use Rattle.clearing.specs.States.{Multiplier, Stage, Solved, Kept, Change}
-use Rattle.clearing.specs.Factorings.{ContentTaken}
-use Rattle.clearing.proofs.Regions.{apart-low, apart-swap, below-apart, piece-apart, multiplier-apart, monic-apart, kept-around, kept-trans, kept-piece}
+use Rattle.unit_factors.specs.States.{Multiplier, Stage, Solved, Kept, Change}
+use Rattle.clearing.specs.Clearings.{ContentTaken}
+use Rattle.unit_factors.proofs.Regions.{apart-low, apart-swap, below-apart, piece-apart, multiplier-apart, monic-apart, kept-around, kept-trans, kept-piece}
 
 -- A has a leading unit
 pub unit-lead : {n ν t pa a pb c al be l : ℕ} {w : List ℕ} → Stage n ν t pa a pb c al be l w → UnitLead ν a (piece w pa (a + 1))

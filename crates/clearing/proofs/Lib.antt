@@ -1,7 +1,2 @@
-pub mod Regions
-pub mod Overs
-pub mod Splitting
-pub mod Inverses
-pub mod UnitFactor
 pub mod ContentSteps
 pub mod UnitSteps

@@ -6,7 +6,7 @@ use mathlib.Core.Logic.{⊎-elim}
 use Prim.Native.Nat.{ℕ, zero, suc, _+_, _-_, _*_, _/_, _%_, _≤_, _<_, _∣_}
 use native.Mathlib.Omega.{arith}
 use native.Mathlib.Nat.{mul-one, mul-assoc, mul-pos, dvd-trans, dvd-mul-left, dvd-mul-right, le-of-dvd, add-zero}
-use lib.ListN.{length, getD, take, drop}
+use lib.ListN.{length, getD}
 use Rattle.definitions.specs.Residues.{IsUnit, IsNilpotent, Coprime}
 use Rattle.definitions.specs.Polynomials.{coef, constant}
 use Rattle.definitions.specs.Resultants.{Reduced}
@@ -18,15 +18,11 @@ use Rattle.factor.specs.Factors.{SplitOf, LeadingUnit}
 use Rattle.multipliers.specs.Leads.{Leads, Completes, leads-unit, leads-completes, completes-same, inverse-of-negated}
 use Rattle.multipliers.specs.Reductions.{reduced-unit-second, reduced-unity}
 use Rattle.products.specs.Products.{MonicAt}
-use Rattle.clearing.specs.States.{Multiplier, Stage, Solved, Splitter, Kept, Change, Cleared}
-use Rattle.clearing.specs.Factorings.{ContentTaken, UnitTaken}
-use Rattle.clearing.proofs.Regions.{multiplier-more, kept-around, kept-trans, kept-piece, multiplier-short}
+use Rattle.unit_factors.specs.States.{Multiplier, Stage, Solved, Splitter, Kept, Change, Cleared}
+use Rattle.unit_factors.specs.Factorings.{UnitTaken}
+use Rattle.clearing.specs.Clearings.{ContentTaken}
+use Rattle.unit_factors.proofs.Regions.{multiplier-more, kept-around, kept-trans, kept-piece, multiplier-short}
 use Rattle.clearing.proofs.ContentSteps.{content-positive, content-whole, content-above, content-stage, content-change, content-kept}
-
--- the words of a part, as a polynomial
-pub part-piece : (w : List ℕ) (p a m : ℕ) → m ≡ a → take m (drop p w) ≡ piece w p a
-unfolding piece
-part-piece w p a m e = ap (λ (x : ℕ). take x (drop p w)) e
 
 -- the place of a coefficient of B
 pub shorter-than : (ν s i p a : ℕ) (w : List ℕ) → p + a ≤ length w → LeadingUnit ν s i (piece w p a) → s < a

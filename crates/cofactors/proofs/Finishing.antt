@@ -21,9 +21,10 @@ use Rattle.windows.proofs.Lift.{moved-around, moved-copy}
 use Rattle.multipliers.specs.Leads.{Completes, NegatedInverse, completed, leads-first, leads-completes, inverse-of-negated}
 use Rattle.multipliers.specs.Joining.{combination-same}
 use Rattle.multipliers.specs.Reductions.{reduced-unity}
-use Rattle.clearing.proofs.Regions.{apart-low, piece-apart}
-use Rattle.cofactors.specs.Cofactors.{Certified, OverFirst, ExactQuotient, Finished, FactoredAt, monic-place, core-room}
-use Rattle.cofactors.proofs.Quotients.{zeros-at}
+use Rattle.unit_factors.proofs.Regions.{apart-low, piece-apart}
+use Rattle.cofactors.specs.Cofactors.{Certified, Finished, FactoredAt, monic-place, core-room}
+use Rattle.quotients.specs.Quotients.{OverFirst, ExactQuotient}
+use Rattle.quotients.proofs.Divisions.{zeros-at}
 
 -- the polynomial of degree t at q, with a leading 1
 pub monic-at : (n q t : ℕ) (w : List ℕ) → 1 ≤ n → getD w (q + t) 0 ≡ 1 → Monic n t (piece w q (t + 1))

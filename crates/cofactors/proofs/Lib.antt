@@ -1,4 +1,2 @@
-pub mod Quotients
-pub mod Preparing
 pub mod Finishing
 pub mod Solving

@@ -18,9 +18,10 @@ use Rattle.windows.proofs.Lift.{moved-around, moved-copy, mid-length, was, piec
 use Rattle.factor.specs.Factors.{LeadingUnit, Given, Factored}
 use Rattle.multipliers.specs.Leads.{Leads, Completes, NegatedInverse, leads-first, leads-second, inverse-of-negated}
 use Rattle.products.specs.Products.{MonicAt}
-use Rattle.clearing.specs.States.{Places, Multiplier, Stage, Solved, Kept, stage-room}
-use Rattle.clearing.proofs.Regions.{apart-low, piece-apart, below-apart}
-use Rattle.cofactors.specs.Cofactors.{Certified, Prepared, Finished, FactoredAt, monic-place, core-room}
+use Rattle.unit_factors.specs.States.{Places, Multiplier, Stage, Solved, Kept, stage-room}
+use Rattle.unit_factors.proofs.Regions.{apart-low, piece-apart, below-apart}
+use Rattle.cofactors.specs.Cofactors.{Certified, Finished, FactoredAt, monic-place, core-room}
+use Rattle.quotients.specs.Quotients.{Prepared}
 use Rattle.cofactors.proofs.Finishing.{cofactor-fits, degree-fits}
 
 -- U is moved to the place of F

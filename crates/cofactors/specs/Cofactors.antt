@@ -3,7 +3,7 @@
 --
 --   Certified n len f g u v D    D is the reduced resultant of f and g, u f + v g = D, the cofactors have at most len words
 --   Answers n len f g u v r      r is such a D; or two coprime divisors of n
---   OverFirst, RestAt, Prepared, ExactQuotient, Finished, FactoredAt     what the parts of the core promise of the words
+--   Finished, FactoredAt         what the parts of the core promise of the words
 use mathlib.Core.Path.{_≡_}
 use mathlib.Core.List.{List, []}
 use Prim.Native.Nat.{ℕ, suc, _+_, _-_, _*_, _/_, _%_, _<_, _≤_, _∣_}
@@ -13,7 +13,7 @@ use Rattle.definitions.specs.Polynomials.{coef, convolve, constant, Multiplied,
 use Rattle.definitions.specs.Resultants.{Combination, Reduced}
 use Rattle.windows.specs.Window.{piece, Below, Around}
 use Rattle.multipliers.specs.Leads.{NegatedInverse, Completes}
-use Rattle.clearing.specs.States.{Splitter}
+use Rattle.unit_factors.specs.States.{Splitter}
 use Rattle.stages.specs.declared.Outcome.{Outcome}
 use Rattle.stages.specs.declared.Outcome.the-variants.{Value, Splits}
 
@@ -28,41 +28,6 @@ pub record Certified (n len : ℕ) (f g u v : List ℕ) (D : ℕ) : Type 0 where
 abbrev pub Answers : ℕ → ℕ → List ℕ → List ℕ → List ℕ → List ℕ → Outcome → Type 0
 Answers n len f g u v (Value D) = Certified n len f g u v D
 Answers n len f g u v (Splits p q) = Splitter n p q
-
--- x is the lz words at zp over the unit polynomial of k + 1 words at up
-pub record OverFirst (n up k zp lz : ℕ) (w x : List ℕ) : Type 0 where
-  pub j : List ℕ
-  pub inverse : NegatedInverse n (piece w up (k + 1)) j
-  pub divided : Divided n [] (piece w zp lz) j x
-  pub below : (i : ℕ) → coef x i < n
-  pub short : (i : ℕ) → (K n - 1) * k + lz ≤ i → coef x i ≡ 0
-
--- G modulo H, t words at q + 8 (t + 1)
-pub record RestAt (n e q t : ℕ) (w w' : List ℕ) : Type 0 where
-  pub around : Around (q + 8 * (t + 1)) (e + 1 + t) w w'
-  pub below : Below n (q + 8 * (t + 1)) t w'
-  pub z : List ℕ
-  pub divided : Divided n (piece w 0 (e + 1)) (piece w q (t + 1)) z (piece w' (q + 8 * (t + 1)) t)
-
--- the window from q on, as the content stage wants it: H and G modulo H, with the multipliers 0 and 1
-pub record Prepared (n e q t : ℕ) (w w' : List ℕ) : Type 0 where
-  pub same : length w' ≡ length w
-  pub low : (k : ℕ) → k < q + (t + 1) → getD w' k 0 ≡ getD w k 0
-  pub first : piece w' (q + 2 * (t + 1)) (t + 1) ≡ piece w q (t + 1)
-  pub second : Below n (q + 3 * (t + 1)) t w'
-  pub z : List ℕ
-  pub divided : Divided n (piece w 0 (e + 1)) (piece w q (t + 1)) z (piece w' (q + 3 * (t + 1)) t)
-  pub none : (k : ℕ) → k < 2 * (t + 1) → getD w' (q + 4 * (t + 1) + k) 0 ≡ 0
-  pub one : (k : ℕ) → k < 2 * (t + 1) → getD w' (q + 6 * (t + 1) + k) 0 ≡ constant 1 k
-
--- c less the product of G and the t words at q + (t + 1), by H: the remainder, t words, and the quotient, e + 1 words, from q + 2 (t + 1) on
-pub record ExactQuotient (n e q t c : ℕ) (w w' : List ℕ) : Type 0 where
-  pub around : Around (q + 2 * (t + 1)) (t + e + 1) w w'
-  pub s : List ℕ
-  pub r : List ℕ
-  pub start : (k : ℕ) → coef s k % n ≡ constant c k % n
-  pub product : Divided n s (piece w 0 (e + 1)) (piece w (q + (t + 1)) t) r
-  pub divided : Divided n r (piece w q (t + 1)) (piece w' (q + 2 * (t + 1) + t) (e + 1)) (piece w' (q + 2 * (t + 1)) t)
 
 -- x and y are cofactors of c for f = U H and G, where the t words at q + (t + 1) complete to c
 pub record Finished (n e q t k c : ℕ) (w x y : List ℕ) : Type 0 where

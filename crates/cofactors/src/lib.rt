@@ -7,67 +7,7 @@ ghost use Rattle.definitions.specs.Residues.{K};
 ghost use Rattle.definitions.specs.Polynomials.{L, UnitPolynomial};
 ghost use Rattle.windows.specs.Window.{piece, Below};
 ghost use Rattle.factor.specs.Factors.{LeadingUnit};
-ghost use Rattle.multipliers.specs.Leads.{Completes};
-ghost use Rattle.clearing.specs.States.{stage-room};
-ghost use Rattle.cofactors.specs.Cofactors.{Answers, Certified, OverFirst, RestAt, Prepared, ExactQuotient, Finished, FactoredAt, monic-place, core-room};
-
-// x becomes the lz words at zp over the unit polynomial of k + 1 words at up; what lies above that is room.
-fn over_first(x: &mut [u32], w: &mut [u32], n: u32, up: usize, k: usize, zp: usize, lz: usize)
-    requires { ⌜ (2 ≤ n) × ((1 ≤ lz) × ((zp + lz ≤ up) × ((up + (k + 1) + (2 * (K n * k + 1) + lz) ≤ length (now w)) × ((K n - 1) * k + lz ≤ length (now x))))) ⌝ }
-    requires { ⌜ UnitPolynomial n (piece (now w) up (k + 1)) ⌝ }
-    ensures { λ _. ⌜ OverFirst n up k zp lz (now (w .entry)) (now (x .exit)) ⌝ }
-    ensures { λ _. ⌜ length (now (w .exit)) ≡ length (now (w .entry)) ⌝ }
-{
-    let len = clearing::negate_inverse(w, n, up, k);
-    let a = up + (k + 1);
-    let b = a + len;
-    let l = len + lz - 1;
-    windows::clear(w, b, l);
-    products::sub_product(w, n, a, len, zp, lz, b);
-    windows::wipe(x);
-    windows::load(x, 0, &w[b..b + l], n);
-}
-
-// G at 0 modulo H at q.
-fn remainder(w: &mut [u32], n: u32, e: usize, q: usize, t: usize)
-    requires { ⌜ (1 ≤ n) × ((1 ≤ t) × ((e + 1 ≤ q) × (q + 8 * (t + 1) + (e + 1 + t) ≤ length (now w)))) ⌝ }
-    requires { ⌜ (Below n 0 (e + 1) (now w)) × ((Below n q (t + 1) (now w)) × (getD (now w) (q + t) 0 ≡ 1)) ⌝ }
-    ensures { λ _. ⌜ RestAt n e q t (now (w .entry)) (now (w .exit)) ⌝ }
-{
-    let b = q + 8 * (t + 1);
-    windows::clear(w, b, e + 1 + t);
-    windows::copy(w, 0, b, e + 1);
-    if e + 1 < t {
-        return;
-    }
-    division::divide(w, n, q, t, b, e, 1);
-}
-
-// The window from q on is made ready for the content stage.
-fn prepare(w: &mut [u32], n: u32, e: usize, q: usize, t: usize)
-    requires { ⌜ (2 ≤ n) × ((1 ≤ t) × ((e + 1 ≤ q) × (q + 8 * (t + 1) + (e + 1 + t) ≤ length (now w)))) ⌝ }
-    requires { ⌜ (Below n 0 (e + 1) (now w)) × ((Below n q (t + 1) (now w)) × (getD (now w) (q + t) 0 ≡ 1)) ⌝ }
-    ensures { λ _. ⌜ Prepared n e q t (now (w .entry)) (now (w .exit)) ⌝ }
-{
-    remainder(w, n, e, q, t);
-    windows::copy(w, q, q + 2 * (t + 1), t + 1);
-    windows::copy(w, q + 8 * (t + 1), q + 3 * (t + 1), t);
-    windows::clear(w, q + 4 * (t + 1), 4 * (t + 1));
-    w[q + 6 * (t + 1)] = 1;
-}
-
-// c less the product of G at 0 and the multiplier at q + (t + 1), divided by H at q.
-fn exact_quotient(w: &mut [u32], n: u32, e: usize, q: usize, t: usize, c: u32)
-    requires { ⌜ (2 ≤ n) × ((1 ≤ t) × ((e + 1 ≤ q) × (q + 2 * (t + 1) + (t + e + 1) ≤ length (now w)))) ⌝ }
-    requires { ⌜ (Below n q (t + 1) (now w)) × ((getD (now w) (q + t) 0 ≡ 1) × (Below n (q + (t + 1)) t (now w))) ⌝ }
-    ensures { λ _. ⌜ ExactQuotient n e q t c (now (w .entry)) (now (w .exit)) ⌝ }
-{
-    let z = q + 2 * (t + 1);
-    windows::clear(w, z, t + e + 1);
-    w[z] = windows::residue(c, n);
-    products::sub_product(w, n, q + (t + 1), t, 0, e + 1, z);
-    division::divide_keeping(w, n, q, t, z, t + e, 1);
-}
+ghost use Rattle.cofactors.specs.Cofactors.{Answers, Certified, Finished, FactoredAt, monic-place, core-room};
 
 // The cofactors of c, from the multiplier at q + (t + 1): y is that multiplier, and x is the exact quotient over the unit polynomial of k + 1
 // words at e + 1.
@@ -78,13 +18,13 @@ fn finish(x: &mut [u32], y: &mut [u32], w: &mut [u32], n: u32, e: usize, q: usiz
     ensures { λ _. ⌜ Finished n e q t k c (now (w .entry)) (now (x .exit)) (now (y .exit)) ⌝ }
     ensures { λ _. ⌜ length (now (w .exit)) ≡ length (now (w .entry)) ⌝ }
 {
-    exact_quotient(w, n, e, q, t, c);
+    quotients::exact_quotient(w, n, e, q, t, c);
     let a = q + (t + 1);
     let up = q + 2 * (t + 1) + (t + e + 1);
     windows::copy(w, e + 1, up, k + 1);
     windows::wipe(y);
     windows::load(y, 0, &w[a..a + t], n);
-    over_first(x, w, n, up, k, q + 2 * (t + 1) + t, e + 1);
+    quotients::over_first(x, w, n, up, k, q + 2 * (t + 1) + t, e + 1);
 }
 
 // F is a unit polynomial: its inverse and 0.
@@ -96,7 +36,7 @@ fn constant(x: &mut [u32], y: &mut [u32], w: &mut [u32], n: u32, d: usize, e: us
 {
     w[0] = 1;
     windows::wipe(y);
-    over_first(x, w, n, e + 1 + (d + 1) + (0 + 1) + 0, d, 0, 1);
+    quotients::over_first(x, w, n, e + 1 + (d + 1) + (0 + 1) + 0, d, 0, 1);
 }
 
 // H has degree t above 0: the stages find D and the multiplier of G.
@@ -109,7 +49,7 @@ fn solve(x: &mut [u32], y: &mut [u32], w: &mut [u32], n: u32, d: usize, e: usize
     let q = e + 1 + (d + 1);
     let k = d - t;
     windows::copy(w, q + (t + 1) + t, e + 1, k + 1);
-    prepare(w, n, e, q, t);
+    quotients::prepare(w, n, e, q, t);
     let z = w.len();
     match stages::content_stage(&mut w[q..z], n, n, t, 2 * (t + 1), t, 3 * (t + 1), 4 * (t + 1), 6 * (t + 1), 1) {
         stages::Outcome::Value(c) => {

@@ -1,4 +1,2 @@
-pub mod Halves
 pub mod Mixing
 pub mod Joins
-pub mod Parting

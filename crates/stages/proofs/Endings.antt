@@ -17,8 +17,8 @@ use Rattle.windows.proofs.Leaf.{lt-or-le, piece-at, piece-over}
 use Rattle.windows.proofs.Lift.{moved-around}
 use Rattle.multipliers.specs.Leads.{Leads, Completes, leads-unity}
 use Rattle.multipliers.specs.Reductions.{reduced-unit-constant}
-use Rattle.clearing.specs.States.{Stage, Solved, Splitter, Kept, Cleared}
-use Rattle.clearing.proofs.Regions.{kept-around, kept-piece}
+use Rattle.unit_factors.specs.States.{Stage, Solved, Splitter, Kept, Cleared}
+use Rattle.unit_factors.proofs.Regions.{kept-around, kept-piece}
 
 -- B of one word, a unit: D is 1, and the multiplier of B over that word is left
 module _ (n ν t pa a pb al be l i : ℕ) (w w' : List ℕ) (st : Stage n ν t pa a pb a al be l w) (one : a ≡ 1) (unit : (i * getD w (pb + (a - 1)) 0) % ν ≡ 1 % ν)

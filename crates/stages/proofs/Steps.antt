@@ -16,11 +16,11 @@ use Rattle.division.specs.Remainders.{Pair, Quotient}
 use Rattle.multipliers.specs.Leads.{Leads, Completes, Taken, leads-taken}
 use Rattle.multipliers.specs.Reductions.{reduced-step}
 use Rattle.products.specs.Products.{Factors, MonicAt, TakenFrom}
-use Rattle.clearing.specs.States.{Places, Multiplier, Stage, Solved, Kept}
+use Rattle.unit_factors.specs.States.{Places, Multiplier, Stage, Solved, Kept}
 use Rattle.stages.specs.Outcomes.{Answers}
 use Rattle.stages.specs.declared.Outcome.{Outcome}
 use Rattle.stages.specs.declared.Outcome.the-variants.{Value, Splits}
-use Rattle.clearing.proofs.Regions.{apart-sub, apart-low, apart-swap, below-apart, piece-apart, multiplier-apart, multiplier-more, monic-apart, kept-around, kept-trans, kept-piece, places-swap, multiplier-short}
+use Rattle.unit_factors.proofs.Regions.{apart-sub, apart-low, apart-swap, below-apart, piece-apart, multiplier-apart, multiplier-more, monic-apart, kept-around, kept-trans, kept-piece, places-swap, multiplier-short}
 
 module _ (n ν t pa a pb b al be l : ℕ) (w : List ℕ) (low : b < a) (one : 1 ≤ b) (st : Stage n ν t pa a pb (b + 1) al be l w) where
   -- what the division asks

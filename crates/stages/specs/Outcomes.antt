@@ -3,7 +3,7 @@
 --   Answers n ν t pa a pb c al be w w' r    r is the reduced resultant of the two polynomials, with a multiplier; or two coprime divisors of ν
 use mathlib.Core.List.{List}
 use Prim.Native.Nat.{ℕ}
-use Rattle.clearing.specs.States.{Solved, Splitter}
+use Rattle.unit_factors.specs.States.{Solved, Splitter}
 use Rattle.stages.specs.declared.Outcome.{Outcome}
 use Rattle.stages.specs.declared.Outcome.the-variants.{Value, Splits}
 

@@ -3,7 +3,7 @@
 ghost use mathlib.Core.Path.{_≡_};
 ghost use Prim.Native.Nat.{ℕ, _+_, _-_, _*_, _/_, _%_, _<_, _≤_, _∣_};
 ghost use lib.ListN.{length, getD};
-ghost use Rattle.clearing.specs.States.{Stage, Kept};
+ghost use Rattle.unit_factors.specs.States.{Stage, Kept};
 ghost use Rattle.stages.specs.Outcomes.{Answers};
 
 // What a stage or an attempt comes to: a reduced resultant, or two coprime divisors of the modulus.

@@ -1,5 +1,6 @@
 use Rattle.clearing.proofs.ContentSteps.{none-kept, none-solved, content-positive, content-whole, content-below, content-above, content-stage, content-kept, content-primitive}
-use Rattle.clearing.proofs.UnitSteps.{part-piece, both-kept, both-cleared, last-kept, last-solved, split-splitter}
+use Rattle.unit_factors.proofs.Regions.{part-piece}
+use Rattle.clearing.proofs.UnitSteps.{both-kept, both-cleared, last-kept, last-solved, split-splitter}
 use Rattle.windows.specs.Window.{piece, Content}
 use Rattle.factor.specs.Factors.{HighestOf, LeadingUnit}
 use native.Mathlib.Omega.{arith}
@@ -17,7 +18,7 @@ use Rattle.clearing.proofs.clear_contents.Tie as tie
 use Rattle.clearing.proofs.clear_contents.Reads as reads
 use Rattle.clearing.proofs.clear_contents.Lts as lts
 use Rattle.clearing.proofs.take_content.Reads as take-content-reads
-use Rattle.clearing.proofs.take_unit.Reads as take-unit-reads
+use Rattle.unit_factors.proofs.take_unit.Reads as take-unit-reads
 use Rattle.factor.proofs.highest_of.Reads as highest-of-reads
 use Rattle.windows.proofs.clear.Reads as clear-reads
 use Rattle.windows.proofs.content.Reads as content-reads

@@ -12,7 +12,7 @@ use Rattle.cofactors.proofs.constant.Statement.{statement}
 use Rattle.cofactors.proofs.constant.Tie as tie
 use Rattle.cofactors.proofs.constant.Reads as reads
 use Rattle.cofactors.proofs.constant.Lts as lts
-use Rattle.cofactors.proofs.over_first.Reads as over-first-reads
+use Rattle.quotients.proofs.over_first.Reads as over-first-reads
 use Rattle.windows.proofs.wipe.Reads as wipe-reads
 
 -- src/lib.rt:97:5

@@ -1,5 +1,5 @@
 use Rattle.cofactors.proofs.Finishing.{finish-unit, finish-room, finished}
-use Rattle.clearing.proofs.UnitSteps.{part-piece}
+use Rattle.unit_factors.proofs.Regions.{part-piece}
 use Rattle.windows.specs.Window.{piece, Loaded}
 use native.Mathlib.Omega.{arith}
 use mathlib.Core.Path.{_≡_, refl, sym, ap, subst, _∙_}
@@ -10,8 +10,8 @@ use Rattle.cofactors.proofs.finish.Statement.{statement}
 use Rattle.cofactors.proofs.finish.Tie as tie
 use Rattle.cofactors.proofs.finish.Reads as reads
 use Rattle.cofactors.proofs.finish.Lts as lts
-use Rattle.cofactors.proofs.exact_quotient.Reads as exact-quotient-reads
-use Rattle.cofactors.proofs.over_first.Reads as over-first-reads
+use Rattle.quotients.proofs.exact_quotient.Reads as exact-quotient-reads
+use Rattle.quotients.proofs.over_first.Reads as over-first-reads
 use Rattle.windows.proofs.copy.Reads as copy-reads
 use Rattle.windows.proofs.load.Reads as load-reads
 use Rattle.windows.proofs.wipe.Reads as wipe-reads

@@ -14,7 +14,7 @@ use Rattle.cofactors.proofs.solve.Tie as tie
 use Rattle.cofactors.proofs.solve.Reads as reads
 use Rattle.cofactors.proofs.solve.Lts as lts
 use Rattle.cofactors.proofs.finish.Reads as finish-reads
-use Rattle.cofactors.proofs.prepare.Reads as prepare-reads
+use Rattle.quotients.proofs.prepare.Reads as prepare-reads
 use Rattle.stages.proofs.content_stage.Reads as content-stage-reads
 use Rattle.windows.proofs.copy.Reads as copy-reads
 

@@ -1,5 +1,6 @@
 use Rattle.reduced.proofs.Joins.{factor-less, second-less, first-length, second-length, first-room, second-room, product-below, factors-split, run-joined}
-use Rattle.reduced.specs.Runs.{Attempted, Merged, run-room}
+use Rattle.reduced.specs.Runs.{Merged, run-room}
+use Rattle.attempts.specs.Attempts.{Attempted}
 use Rattle.cofactors.specs.Cofactors.{Certified}
 use Rattle.definitions.specs.Polynomials.{L}
 use Rattle.windows.proofs.Lift.{mid-length, window}
@@ -17,7 +18,7 @@ use borrow.Fn.PlainCycle.{Measures, is, falls, and}
 use Rattle.reduced.proofs.run.Reads as run
 use Rattle.reduced.proofs.run.Kinds as run-kinds
 use Rattle.reduced.proofs.+run.Lts-run as run-lts
-use Rattle.reduced.proofs.attempt.Reads as attempt-reads
+use Rattle.attempts.proofs.attempt.Reads as attempt-reads
 use Rattle.reduced.proofs.merge.Reads as merge-reads
 use Rattle.reduced.proofs.save.Reads as save-reads
 use Rattle.reduced.proofs.+run.{statement}

@@ -1,6 +1,6 @@
 use Rattle.reduced.proofs.Joins.{merged-of}
 use Rattle.reduced.specs.Runs.{Mixed}
-use Rattle.clearing.proofs.UnitSteps.{part-piece}
+use Rattle.unit_factors.proofs.Regions.{part-piece}
 use Rattle.numbers.specs.Coprimality.{coprime-sym}
 use native.Mathlib.Omega.{arith}
 use native.Mathlib.Nat.{mul-comm}

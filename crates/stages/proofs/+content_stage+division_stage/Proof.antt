@@ -1,8 +1,9 @@
 use Rattle.stages.proofs.Steps.{step-answers}
 use Rattle.stages.proofs.Endings.{unit-kept, unit-solved, leading-inverse, leading-unit, stage-words, quotient-small, cleared-splitter, product-most, cleared-solved}
 use Rattle.stages.proofs.Steps.{step-pair, step-monic, step-factors, step-stage, step-kept, step-solved}
-use Rattle.clearing.proofs.Regions.{kept-trans}
-use Rattle.clearing.specs.States.{Stage, Clears, Kept}
+use Rattle.unit_factors.proofs.Regions.{kept-trans}
+use Rattle.unit_factors.specs.States.{Stage, Kept}
+use Rattle.clearing.specs.Clearings.{Clears}
 use Rattle.stages.specs.Outcomes.{Answers}
 use Rattle.stages.specs.declared.Outcome.{Outcome}
 use lib.ListN.{length, getD}
