@@ -17,6 +17,10 @@ MODULI = [2, 3, 4, 5, 6, 7, 8, 9, 10, 12, 16, 18, 24, 30, 36, 60, 64, 72, 210, 2
 MODULI = [n for n in MODULI if 2 <= n < 2**32]
 
 
+STARRED = [(7, [1, 1], [2, 1]), (7, [2, 1], [1, 1]), (12, [3, 2], [1, 4]), (4, [1, 2], [3, 2]), (6, [2], [4]), (9, [3], [1, 0, 1]),
+           (5, [2, 1, 0], [1, 1]), (5, [2, 1], [1, 1]), (5, [1, 0], [2, 0]), (10, [0, 0], [0]), (6, [5, 0, 1], [3, 1])]
+
+
 def divisors_of(n):
     """small prime factors of n, and a few of their products"""
     found, m, p = [], n, 2
@@ -85,7 +89,7 @@ def multiples(n, f, g):
 
 
 def main():
-    rows = [(4294967295, [4294967294], [0, 1])]            # the unstarred row of document 01
+    rows = [(4294967295, [4294967294], [0, 1])]            # the unstarred row of document 01, and after the drawn ones the starred
     big = 0
     while len(rows) < 620:
         n, f, g = pair()
@@ -96,6 +100,7 @@ def main():
         rows.append((n, f, g))
     rows.append((2**32 - 1, [random.randrange(2**32 - 1) for _ in range(49)], [random.randrange(2**32 - 1) for _ in range(49)]))
     rows.append((2**31, polynomial(2**31, 48, True), polynomial(2**31, 48, True)))
+    rows += STARRED
     script = []
     for n, f, g in rows:
         m = sylvester(f, g)
