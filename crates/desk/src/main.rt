@@ -24,7 +24,7 @@ fn take_turn(held: usize, line: &mut [u8], out: &mut [u8]) -> Turn
     if n == 0 {
         return Turn::Ended;
     }
-    let p = reader::step(held, line, &piece[0..n], out);
+    let p = frame_reader::step(held, line, &piece[0..n], out);
     let written = p.written;
     if io::write_all(STDOUT_FILENO, &out[0..written]) {
         return Turn::Held(p.held);
@@ -36,7 +36,7 @@ fn take_turn(held: usize, line: &mut [u8], out: &mut [u8]) -> Turn
 fn end(held: usize, line: &[u8], out: &mut [u8])
     requires { ⌜ (798 ≤ length (now line)) × (13 ≤ length (now out)) ⌝ }
 {
-    let written = reader::finish(held, line, out);
+    let written = frame_reader::finish(held, line, out);
     io::write_all(STDOUT_FILENO, &out[0..written]);
 }
 

@@ -17,7 +17,7 @@ use Rattle.numbers.specs.Logarithm.{K-below}
 use Rattle.refusals.specs.Refusals.{refusal-two, short-result, short-work, first-of, answered}
 use Rattle.refusals.proofs.Accepted.{Accepted, accepted-two}
 use Rattle.resultant.specs.Sizes.{Served}
-use Rattle.cofactors.specs.Cofactors.{Certified}
+use Rattle.reduced_cofactors.specs.Cofactors.{Certified}
 use Rattle.reduced.specs.Runs.{run-room}
 use Rattle.engine.specs.Services.{resultant-status, reduced-status, left, ResultantAnswer, HoldsCofactor, ReducedLeft, ReducedAnswer}
 use Rattle.engine.specs.Answers.{take-front}

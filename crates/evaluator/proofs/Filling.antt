@@ -18,8 +18,8 @@ use lib.IntN.{pos, natAbs}
 use lib.ListN.{length, List·getD-eq-default}
 use Rattle.definitions.specs.Polynomials.{coef, deg, Residues}
 use Rattle.definitions.specs.Resultants.{entry, sylvester, resultant}
-use Rattle.matrices.specs.Elimination.{cell, ResidueCells}
-use Rattle.matrices.specs.LeadingMinors.{leading-minor, minor-sylvester}
+use Rattle.evaluator_matrices.specs.Elimination.{cell, ResidueCells}
+use Rattle.evaluator_matrices.specs.LeadingMinors.{leading-minor, minor-sylvester}
 use Rattle.evaluator.specs.Sylvester.{Filled}
 
 -- the sent degree, and d + e, as the code takes them

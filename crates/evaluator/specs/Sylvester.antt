@@ -8,7 +8,7 @@ use Prim.Native.Nat.{ℕ, _<_}
 use lib.IntN.{pos}
 use lib.ListN.{getD}
 use Rattle.definitions.specs.Resultants.{sylvester}
-use Rattle.matrices.specs.Elimination.{cell}
+use Rattle.evaluator_matrices.specs.Elimination.{cell}
 
 pub record Filled (f g : List ℕ) (m : List (List ℕ)) : Type 0 where
   pub at : (r c : ℕ) → r < 8 → c < 8 → pos (cell m r c) ≡ sylvester f g r c

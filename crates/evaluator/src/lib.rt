@@ -140,7 +140,7 @@ pub fn evaluate(n: u32, f: &[u32], g: &[u32]) -> refusals::Answer
     let size = f.len() - 1 + (g.len() - 1);
     let m = sylvester_matrix(f, g);
     refusals::Answer {
-        value: matrices::determinant(m, n, size),
+        value: evaluator_matrices::determinant(m, n, size),
         status: 0,
     }
 }

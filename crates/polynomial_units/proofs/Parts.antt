@@ -17,8 +17,8 @@ use Rattle.definitions.specs.Polynomials.{coef, deg, constant, tabulate, Residu
 use Rattle.theory.specs.Words.{total-cong, coef-tabulate, length-tabulate}
 use Rattle.windows.specs.Window.{piece, Below, Loaded}
 use Rattle.windows.proofs.Leaf.{lt-or-le, piece-at, piece-over, piece-length}
-use Rattle.factor.specs.Factors.{LeadingUnit, Given, Factored, Series}
-use Rattle.factor.proofs.SeriesLaws.{series-exact}
+use Rattle.window_factor.specs.Factors.{LeadingUnit, Given, Factored, Series}
+use Rattle.window_factor.proofs.SeriesLaws.{series-exact}
 use Rattle.polynomial.proofs.Outcomes.{deg-is}
 
 -- ---- f in the buffer

@@ -22,7 +22,7 @@ use Rattle.numbers.specs.Logarithm.{K-below}
 use Rattle.refusals.specs.Refusals.{refusal-one, short-result, short-work, first-of, answered}
 use Rattle.refusals.proofs.Accepted.{Accepted}
 use Rattle.windows.proofs.Lift.{mid-length}
-use Rattle.factor.specs.Factors.{LeadingUnit}
+use Rattle.window_factor.specs.Factors.{LeadingUnit}
 use Rattle.polynomial.specs.Services.{Outcome}
 use Rattle.polynomial.specs.Counts.{count-length}
 use Rattle.polynomial.specs.UnitTests.{is-unit, is-nilpotent, lead-count, lead-place, has-lead, is-unit-polynomial, unit-gcd, above-lead, test-polynomial}

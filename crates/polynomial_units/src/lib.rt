@@ -13,7 +13,7 @@ ghost use Rattle.definitions.specs.Residues.{K, Inverse};
 ghost use Rattle.definitions.specs.Polynomials.{coef, deg, tabulate, Residues, UnitPolynomial, UnitTimesMonic, InverseOf};
 ghost use Rattle.refusals.specs.Refusals.{short-result, short-work, first-of, answered};
 ghost use Rattle.windows.specs.Window.{piece};
-ghost use Rattle.factor.specs.Factors.{LeadingUnit};
+ghost use Rattle.window_factor.specs.Factors.{LeadingUnit};
 ghost use Rattle.polynomial.specs.Services.{Outcome};
 ghost use Rattle.polynomial.specs.UnitTests.{is-nilpotent, lead-place};
 ghost use Rattle.polynomial_units.specs.UnitServices.{factors-status, FactorsPlaced, inverse-status, InversePlaced};
@@ -92,7 +92,7 @@ pub fn factor_words(
 {
     let d = f.len() - 1;
     windows::load(work, 0, f, n);
-    factor::unit_times_monic(work, n, d, t, i);
+    window_factor::unit_times_monic(work, n, d, t, i);
     hand_out(u, work, d + 1 + (t + 1) + t, d + 1 - t);
     hand_out(h, work, d + 1, t + 1);
     windows::wipe(work);
@@ -165,7 +165,7 @@ pub fn inverse_words(n: u32, f: &[u32], i: u32, out: &mut [u32], room: &mut [u32
     let d = f.len() - 1;
     let m = out.len();
     windows::load(room, 0, f, n);
-    factor::series_inverse(room, n, d, i, i, m);
+    window_factor::series_inverse(room, n, d, i, i, m);
     hand_out(out, room, d + 1, m);
     windows::wipe(room);
 }

@@ -20,10 +20,10 @@ use Rattle.theory.specs.ReducedLaws.{reduced-content, reduced-one, reduced-spli
 use Rattle.windows.specs.Window.{piece, Around}
 use Rattle.windows.proofs.Leaf.{lt-or-le, piece-at, piece-over}
 use Rattle.windows.proofs.Lift.{window}
-use Rattle.factor.specs.Factors.{SplitOf}
-use Rattle.multipliers.specs.Joining.{Mixed as MixedModulo, combination-content, combination-flip, combination-same, combination-joined}
-use Rattle.cofactors.specs.Cofactors.{Certified, core-room}
-use Rattle.quotients.proofs.Divisions.{zeros-at}
+use Rattle.window_factor.specs.Factors.{SplitOf}
+use Rattle.reduced_multipliers.specs.Joining.{Mixed as MixedModulo, combination-content, combination-flip, combination-same, combination-joined}
+use Rattle.reduced_cofactors.specs.Cofactors.{Certified, core-room}
+use Rattle.reduced_quotients.proofs.Divisions.{zeros-at}
 use Rattle.reduced.specs.Runs.{Mixed, Saved, Merged, run-room}
 
 -- ---- rooms

@@ -10,7 +10,7 @@ use lib.ListN.{length, getD}
 use Rattle.definitions.specs.Residues.{K}
 use Rattle.definitions.specs.Polynomials.{coef}
 use Rattle.windows.specs.Window.{piece}
-use Rattle.attempts.specs.Attempts.{attempt-room}
+use Rattle.reduced_attempt.specs.Attempts.{attempt-room}
 
 -- each word is a times that of s and b times that of u
 pub record Mixed (n a b : ℕ) (s u u' : List ℕ) : Type 0 where

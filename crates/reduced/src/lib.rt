@@ -4,9 +4,10 @@ ghost use mathlib.Core.Path.{_≡_};
 ghost use Prim.Native.Nat.{ℕ, max, _+_, _-_, _*_, _/_, _%_, _<_, _≤_, _∣_};
 ghost use lib.ListN.{length, getD};
 ghost use Rattle.definitions.specs.Polynomials.{L};
-ghost use Rattle.factor.specs.Factors.{SplitOf};
-ghost use Rattle.cofactors.specs.Cofactors.{Certified};
+ghost use Rattle.window_factor.specs.Factors.{SplitOf};
+ghost use Rattle.reduced_cofactors.specs.Cofactors.{Certified};
 ghost use Rattle.reduced.specs.Runs.{Mixed, Saved, Merged, run-room};
+use residue::Attempt;
 
 // u[j] = a * s[j] + b * u[j]; s ends before u does, or with it.
 fn mix(u: &mut [u32], s: &[u32], n: u32, a: u32, b: u32)
@@ -64,9 +65,9 @@ pub fn run(u: &mut [u32], v: &mut [u32], w: &mut [u32], n: u32, f: &[u32], g: &[
     ensures { λ r. ⌜ Certified n (L n (length (now (f .entry)) - 1) (length (now (g .entry)) - 1)) (now (f .entry)) (now (g .entry)) (now (u .exit)) (now (v .exit)) r ⌝ }
     ensures { λ _. ⌜ length (now (w .exit)) ≡ length (now (w .entry)) ⌝ }
 {
-    match attempts::attempt(u, v, w, n, f, g) {
-        stages::Outcome::Value(d) => d,
-        stages::Outcome::Splits(p, q) => {
+    match reduced_attempt::attempt(u, v, w, n, f, g) {
+        Attempt::Value(d) => d,
+        Attempt::Splits(p, q) => {
             let a = run(u, v, w, p, f, g);
             let l = save(w, u, v, p, f.len(), g.len());
             let z = w.len();

@@ -17,11 +17,11 @@ use Rattle.theory.specs.ReachedSteps.{coef-beyond}
 use Rattle.theory.specs.ResultantLaws.{signed, resultant-cong, resultant-swap}
 use Rattle.windows.specs.Window.{piece, Loaded}
 use Rattle.windows.proofs.Leaf.{lt-or-le, piece-at, piece-length}
-use Rattle.steps.specs.Answers.{AnswerOf}
-use Rattle.steps.specs.declared.Attempt.{Attempt}
-use Rattle.steps.proofs.Degrees.{deg-of}
-use Rattle.attempt.specs.Rooms.{room}
-use Rattle.attempt.specs.Stages.{Placed}
+use Rattle.resultant_steps.specs.Answers.{AnswerOf}
+use Rattle.residue.specs.declared.Attempt.{Attempt}
+use Rattle.resultant_steps.proofs.Degrees.{deg-of}
+use Rattle.resultant_attempt.specs.Rooms.{room}
+use Rattle.resultant_attempt.specs.Stages.{Placed}
 use Rattle.resultant.specs.Sizes.{Served}
 
 -- enough working words for f of l words and g of m

@@ -7,10 +7,10 @@ ghost use mathlib.Core.Path.{_≡_};
 ghost use Prim.Native.Nat.{_+_, _-_, _<_, _≤_};
 ghost use lib.ListN.{length};
 ghost use Rattle.definitions.specs.Resultants.{resultant};
-ghost use Rattle.steps.specs.Answers.{AnswerOf};
-ghost use Rattle.attempt.specs.Rooms.{room};
+ghost use Rattle.resultant_steps.specs.Answers.{AnswerOf};
+ghost use Rattle.resultant_attempt.specs.Rooms.{room};
 ghost use Rattle.resultant.specs.Sizes.{Served};
-use steps::Attempt;
+use residue::Attempt;
 
 // f and g are loaded modulo n, f first.
 fn ordered(w: &mut [u32], n: u32, f: &[u32], g: &[u32]) -> Attempt
@@ -22,7 +22,7 @@ fn ordered(w: &mut [u32], n: u32, f: &[u32], g: &[u32]) -> Attempt
     let m = g.len();
     windows::load(w, 0, f, n);
     windows::load(w, l, g, n);
-    attempt::euclid(w, n, 0, l - 1, l, m - 1, l + m)
+    resultant_attempt::euclid(w, n, 0, l - 1, l, m - 1, l + m)
 }
 
 // The one with fewer words goes first; a swap costs the sign (-1)^(d e).
@@ -36,7 +36,7 @@ fn once(w: &mut [u32], n: u32, f: &[u32], g: &[u32]) -> Attempt
         return ordered(w, n, f, g);
     }
     let r = ordered(w, n, g, f);
-    steps::times_sign(n, l - 1, m - 1, r)
+    resultant_steps::times_sign(n, l - 1, m - 1, r)
 }
 
 // "At a splitting coefficient, each of the two factors is worked as a modulus of its own, and the answers are joined by the

@@ -12,7 +12,7 @@ use Rattle.evaluator.proofs.evaluate.Reads as reads
 use Rattle.evaluator.proofs.evaluate.Lts as lts
 use Rattle.evaluator.proofs.refusal_of.Reads as refusal-of-reads
 use Rattle.evaluator.proofs.sylvester_matrix.Reads as sylvester-matrix-reads
-use Rattle.matrices.proofs.determinant.Reads as determinant-reads
+use Rattle.evaluator_matrices.proofs.determinant.Reads as determinant-reads
 
 -- src/lib.rt:113:9
 refusal-of-requires : tie.Need-refusal-of-requires

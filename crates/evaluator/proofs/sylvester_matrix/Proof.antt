@@ -4,7 +4,7 @@ use mathlib.Core.List.{[]}
 use Prim.Native.Nat.{_-_, _≤_}
 use native.Mathlib.Omega.{arith}
 use Rattle.evaluator.specs.Sylvester.{FilledRow}
-use Rattle.matrices.proofs.Arrays.{Written, written-none, written-next}
+use Rattle.evaluator_matrices.proofs.Arrays.{Written, written-none, written-next}
 use Rattle.evaluator.proofs.sylvester_matrix.Statement.{statement}
 use Rattle.evaluator.proofs.sylvester_matrix.Tie as tie
 use Rattle.evaluator.proofs.sylvester_matrix.Reads as reads

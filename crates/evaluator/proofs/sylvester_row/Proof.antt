@@ -4,7 +4,7 @@ use Prim.Native.Nat.{_-_, _≤_}
 use native.Mathlib.Omega.{arith}
 use lib.IntN.{pos}
 use Rattle.definitions.specs.Resultants.{sylvester}
-use Rattle.matrices.proofs.Arrays.{Written, written-none, written-next}
+use Rattle.evaluator_matrices.proofs.Arrays.{Written, written-none, written-next}
 use Rattle.evaluator.proofs.sylvester_row.Statement.{statement}
 use Rattle.evaluator.proofs.sylvester_row.Tie as tie
 use Rattle.evaluator.proofs.sylvester_row.Reads as reads

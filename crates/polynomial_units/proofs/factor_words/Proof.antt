@@ -9,7 +9,7 @@ use Rattle.polynomial_units.proofs.factor_words.Statement.{statement}
 use Rattle.polynomial_units.proofs.factor_words.Tie as tie
 use Rattle.polynomial_units.proofs.factor_words.Reads as reads
 use Rattle.polynomial_units.proofs.factor_words.Lts as lts
-use Rattle.factor.proofs.unit_times_monic.Reads as unit-times-monic-reads
+use Rattle.window_factor.proofs.unit_times_monic.Reads as unit-times-monic-reads
 use Rattle.polynomial_units.proofs.hand_out.Reads as hand-out-reads
 use Rattle.windows.proofs.load.Reads as load-reads
 use Rattle.windows.proofs.wipe.Reads as wipe-reads

@@ -12,7 +12,7 @@ use Rattle.polynomial_units.proofs.inverse_words.Statement.{statement}
 use Rattle.polynomial_units.proofs.inverse_words.Tie as tie
 use Rattle.polynomial_units.proofs.inverse_words.Reads as reads
 use Rattle.polynomial_units.proofs.inverse_words.Lts as lts
-use Rattle.factor.proofs.series_inverse.Reads as series-inverse-reads
+use Rattle.window_factor.proofs.series_inverse.Reads as series-inverse-reads
 use Rattle.polynomial_units.proofs.hand_out.Reads as hand-out-reads
 use Rattle.windows.proofs.load.Reads as load-reads
 use Rattle.windows.proofs.wipe.Reads as wipe-reads

@@ -1,7 +1,7 @@
 use Rattle.reduced.proofs.Joins.{factor-less, second-less, first-length, second-length, first-room, second-room, product-below, factors-split, run-joined}
 use Rattle.reduced.specs.Runs.{Merged, run-room}
-use Rattle.attempts.specs.Attempts.{Attempted}
-use Rattle.cofactors.specs.Cofactors.{Certified}
+use Rattle.reduced_attempt.specs.Attempts.{Attempted}
+use Rattle.reduced_cofactors.specs.Cofactors.{Certified}
 use Rattle.definitions.specs.Polynomials.{L}
 use Rattle.windows.proofs.Lift.{mid-length, window}
 use native.Mathlib.Omega.{arith}
@@ -18,7 +18,7 @@ use borrow.Fn.PlainCycle.{Measures, is, falls, and}
 use Rattle.reduced.proofs.run.Reads as run
 use Rattle.reduced.proofs.run.Kinds as run-kinds
 use Rattle.reduced.proofs.+run.Lts-run as run-lts
-use Rattle.attempts.proofs.attempt.Reads as attempt-reads
+use Rattle.reduced_attempt.proofs.attempt.Reads as attempt-reads
 use Rattle.reduced.proofs.merge.Reads as merge-reads
 use Rattle.reduced.proofs.save.Reads as save-reads
 use Rattle.reduced.proofs.+run.{statement}

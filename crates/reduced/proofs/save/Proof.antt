@@ -2,7 +2,7 @@ use Rattle.reduced.proofs.Mixing.{saved-of}
 use Rattle.reduced.specs.Runs.{Saved}
 use Rattle.windows.specs.Window.{Loaded, piece}
 use Rattle.definitions.specs.Polynomials.{L}
-use Rattle.unit_factors.proofs.Regions.{part-piece}
+use Rattle.reduced_units.proofs.Regions.{part-piece}
 use native.Mathlib.Omega.{arith}
 use mathlib.Core.Path.{_≡_, refl, sym, ap, subst, _∙_}
 use mathlib.Core.List.{List}

@@ -4,7 +4,7 @@ use Rattle.resultant.proofs.ordered.Statement.{statement}
 use Rattle.resultant.proofs.ordered.Tie as tie
 use Rattle.resultant.proofs.ordered.Reads as reads
 use Rattle.resultant.proofs.ordered.Lts as lts
-use Rattle.attempt.proofs.euclid.Reads as euclid-reads
+use Rattle.resultant_attempt.proofs.euclid.Reads as euclid-reads
 use Rattle.windows.proofs.load.Reads as load-reads
 
 -- src/lib.rt:23:5

@@ -1,0 +1,68 @@
+use borrow.Author.Needs.{needs}
+use Prim.Native.Nat.{_-_, _≤_}
+use native.Mathlib.Omega.{arith}
+use lib.ListN.{length}
+use Rattle.frame_reader.proofs.Holding.{Holding, holding-none, holding-step, holding-end, holding-long}
+use Rattle.frame_reader.proofs.hold.Statement.{statement}
+use Rattle.frame_reader.proofs.hold.Tie as tie
+
+abbrev Inv-loop : tie.InvT-loop
+Inv-loop held line₀ part i₀ line i = (i ≤ length part) × Holding held line₀ part i line
+
+abbrev μ-loop : tie.MeasureT-loop
+μ-loop held line₀ part i₀ line i = length part - i
+
+returns : tie.Need-returns Inv-loop μ-loop
+returns c = λ s. holding-long (c .before .args .line .now) _ (c .before .args .part .now) (omega arith) s
+
+returns-2 : tie.Need-returns-2 Inv-loop μ-loop
+returns-2 c = λ s. holding-long (c .before .before .args .line .now) _ (c .before .before .args .part .now) (omega arith) s
+
+loop-holds : tie.Need-loop-holds Inv-loop μ-loop
+loop-holds c = (search needs, holding-none _ _ _)
+
+shared-slice-read-line : tie.Need-shared-slice-read-line Inv-loop μ-loop
+shared-slice-read-line c = search needs
+
+add-line : tie.Need-add-line Inv-loop μ-loop
+add-line c = search needs
+
+slice-write-line : tie.Need-slice-write-line Inv-loop μ-loop
+slice-write-line c = search needs
+
+add-i : tie.Need-add-i Inv-loop μ-loop
+add-i c = search needs
+
+loop-less : tie.Need-loop-less Inv-loop μ-loop
+loop-less c = search needs
+
+loop-again : tie.Need-loop-again Inv-loop μ-loop
+loop-again c = (search needs, holding-step (search needs) (search needs) (c .before .before .loop .inv .1))
+
+add-result : tie.Need-add-result Inv-loop μ-loop
+add-result c = search needs
+
+same-length : tie.Need-same-length Inv-loop μ-loop
+same-length c = search needs
+
+returns-3 : tie.Need-returns-3 Inv-loop μ-loop
+returns-3 c = λ s. holding-end (search needs) (search needs) (search needs) (c .before .loop .inv .1) s
+
+pub hold-spec : {M : Type 1} → statement M
+hold-spec =
+    tie.close
+    (tie.spec
+    Inv-loop
+    μ-loop
+    returns
+    returns-2
+    loop-holds
+    shared-slice-read-line
+    add-line
+    slice-write-line
+    add-i
+    loop-less
+    loop-again
+    add-result
+    same-length
+    returns-3)
