@@ -49,25 +49,25 @@ refused-value (suc s) x n = refl
 module _ (n : ℕ) (f g work : List ℕ) where
   pub resultant-refused : (s : ℕ) → s ≡ refusal-two n f g → (s ≡ 0 → ⊥) → ResultantAnswer n f g work work 0 s
   resultant-refused s e z = record {
-      status-is = first-is (refusal-two n f g) (short-work (length work)) s e z;
-      value-is = refused-value s (resultant n f g) z;
-      work-is = left-refused s work z
-    }
+    status-is = first-is (refusal-two n f g) (short-work (length work)) s e z;
+    value-is = refused-value s (resultant n f g) z;
+    work-is = left-refused s work z;
+  }
 
   pub resultant-short : (s : ℕ) → s ≡ refusal-two n f g → s ≡ 0 → length work < 8192 → ResultantAnswer n f g work work 0 7
   resultant-short s e z h = record {
-      status-is = next-is (refusal-two n f g) (short-work (length work)) 7 (sym e ∙ z) (work-short (length work) h);
-      value-is = refl;
-      work-is = refl
-    }
+    status-is = next-is (refusal-two n f g) (short-work (length work)) 7 (sym e ∙ z) (work-short (length work) h);
+    value-is = refl;
+    work-is = refl;
+  }
 
   pub resultant-done : (s r : ℕ) (work' : List ℕ) → s ≡ refusal-two n f g → s ≡ 0 → 8192 ≤ length work → r ≡ resultant n f g → work' ≡ replicate (length work) 0
       → ResultantAnswer n f g work work' r 0
   resultant-done s r work' e z h er ew = record {
-      status-is = next-is (refusal-two n f g) (short-work (length work)) 0 (sym e ∙ z) (work-long (length work) h);
-      value-is = er;
-      work-is = ew
-    }
+    status-is = next-is (refusal-two n f g) (short-work (length work)) 0 (sym e ∙ z) (work-long (length work) h);
+    value-is = er;
+    work-is = ew;
+  }
 
   pub served : (s : ℕ) → s ≡ refusal-two n f g → s ≡ 0 → 8192 ≤ length work → (2 ≤ n) × Served f g work
   served s e z h =
@@ -144,20 +144,20 @@ module _ (n : ℕ) (f g u v work : List ℕ) (s : ℕ) (e : s ≡ refusal-two n 
 
     pub reduced-first-short : length u < l → ReducedAnswer n f g u u v v work work 0 6
     reduced-first-short h = record {
-        status-is = next-is (refusal-two n f g) _ 6 (sym e ∙ z) (first-is (short-result (length u) (L n (deg f) (deg g))) _ 6
+      status-is = next-is (refusal-two n f g) _ 6 (sym e ∙ z) (first-is (short-result (length u) (L n (deg f) (deg g))) _ 6
           (result-short (length u) _ (subst (λ (x : ℕ). length u < x) length-is h)) (λ b. absurd (omega arith)));
-        result = left-alone 6 n f g u v (λ b. absurd (omega arith));
-        work-is = refl
-      }
+      result = left-alone 6 n f g u v (λ b. absurd (omega arith));
+      work-is = refl;
+    }
 
     pub reduced-second-short : l ≤ length u → length v < l → ReducedAnswer n f g u u v v work work 0 6
     reduced-second-short a h = record {
-        status-is = next-is (refusal-two n f g) _ 6 (sym e ∙ z) (next-is (short-result (length u) (L n (deg f) (deg g))) _ 6
+      status-is = next-is (refusal-two n f g) _ 6 (sym e ∙ z) (next-is (short-result (length u) (L n (deg f) (deg g))) _ 6
           (sym (result-long (length u) _ (subst (λ (x : ℕ). x ≤ length u) length-is a)))
           (first-is (short-result (length v) (L n (deg f) (deg g))) _ 6 (result-short (length v) _ (subst (λ (x : ℕ). length v < x) length-is h)) (λ b. absurd (omega arith))));
-        result = left-alone 6 n f g u v (λ b. absurd (omega arith));
-        work-is = refl
-      }
+      result = left-alone 6 n f g u v (λ b. absurd (omega arith));
+      work-is = refl;
+    }
 
     last-status : (t : ℕ) → l ≤ length u → l ≤ length v → t ≡ short-work (length work) → t ≡ reduced-status n f g (length u) (length v) (length work)
     last-status t a b h =
@@ -167,20 +167,22 @@ module _ (n : ℕ) (f g u v work : List ℕ) (s : ℕ) (e : s ≡ refusal-two n 
 
     pub reduced-work-short : l ≤ length u → l ≤ length v → length work < 8192 → ReducedAnswer n f g u u v v work work 0 7
     reduced-work-short a b h = record {
-        status-is = last-status 7 a b (work-short (length work) h);
-        result = left-alone 7 n f g u v (λ b. absurd (omega arith));
-        work-is = refl
-      }
+      status-is = last-status 7 a b (work-short (length work) h);
+      result = left-alone 7 n f g u v (λ b. absurd (omega arith));
+      work-is = refl;
+    }
 
     -- a buffer whose first l words came back as x
     held : (m : ℕ) → m ≡ l → (b x : List ℕ) → l ≤ length b → length x ≡ l → ((k : ℕ) → coef x k < n)
         → HoldsCofactor n (L n (deg f) (deg g)) b (x ++ postOf 0 m b) × (take (L n (deg f) (deg g)) (x ++ postOf 0 m b) ≡ x)
-    held m em b x fits lx below =
-        (record {
-          same = length-append x (postOf 0 m b) ∙ ap₂ _+_ lx (length-drop m b) ∙ back m l (length b) em fits;
-          residues = record { at = λ k _. subst (λ (y : List ℕ). coef y k < n) (sym front) (below k) };
-          beyond = ap (λ (i : ℕ). drop i (x ++ postOf 0 m b)) is ∙ drop-front x (postOf 0 m b) ∙ ap (λ (i : ℕ). drop i b) (em ∙ length-is)
-        }, front)
+    held m em b x fits lx below = (
+      record {
+        same = length-append x (postOf 0 m b) ∙ ap₂ _+_ lx (length-drop m b) ∙ back m l (length b) em fits;
+        residues = record { at = λ k _. subst (λ (y : List ℕ). coef y k < n) (sym front) (below k) };
+        beyond = ap (λ (i : ℕ). drop i (x ++ postOf 0 m b)) is ∙ drop-front x (postOf 0 m b) ∙ ap (λ (i : ℕ). drop i b) (em ∙ length-is);
+      },
+      front,
+    )
       where
         is : L n (deg f) (deg g) ≡ length x
         is = sym (lx ∙ length-is)
@@ -204,7 +206,7 @@ module _ (n : ℕ) (f g u v work : List ℕ) (s : ℕ) (e : s ≡ refusal-two n 
             first = p .0;
             second = q .0;
             combination = subst (λ (i : List ℕ). Combination n f g i (take (L n (deg f) (deg g)) (y ++ postOf 0 m v)) D) (sym (p .1))
-              (subst (λ (i : List ℕ). Combination n f g x i D) (sym (q .1)) (c .combination))
+                (subst (λ (i : List ℕ). Combination n f g x i D) (sym (q .1)) (c .combination));
           };
-          work-is = ew
+          work-is = ew;
         }

@@ -59,5 +59,5 @@ law-of-the-answers n l f g h p r rf rg D Df Dg a b c d x y z =
       resultant-of-second = d .call .value-is;
       reduced-of-product = x .call .result .reduced;
       reduced-of-first = y .call .result .reduced;
-      reduced-of-second = z .call .result .reduced
+      reduced-of-second = z .call .result .reduced;
     })

@@ -86,15 +86,15 @@ scalar-second p q r y x none e =
 pub merged-of : (p q l D₁ D₂ r s a b : ℕ) (w u u' v v' : List ℕ) → r % p ≡ 1 % p → r % q ≡ 0 → s % q ≡ 1 % q → s % p ≡ 0 → a ≡ (r * D₂) % (p * q) → b ≡ (s * D₁) % (p * q)
     → Mixed (p * q) a b (piece w 0 l) u u' → Mixed (p * q) a b (piece w l l) v v' → Merged p q l D₁ D₂ w u u' v v'
 merged-of p q l D₁ D₂ r s a b w u u' v v' r₁ r₂ s₂ s₁ ea eb mu mv = record {
-      a = a;
-      b = b;
-      a-first = scalar-first p q r D₂ a r₁ ea;
-      a-second = scalar-second p q r D₂ a r₂ ea;
-      b-first = scalar-second q p s D₁ b s₁ (eb ∙ ap (λ (m : ℕ). (s * D₁) % m) (mul-comm p q));
-      b-second = scalar-first q p s D₁ b s₂ (eb ∙ ap (λ (m : ℕ). (s * D₁) % m) (mul-comm p q));
-      mixed-u = mu;
-      mixed-v = mv
-    }
+  a = a;
+  b = b;
+  a-first = scalar-first p q r D₂ a r₁ ea;
+  a-second = scalar-second p q r D₂ a r₂ ea;
+  b-first = scalar-second q p s D₁ b s₁ (eb ∙ ap (λ (m : ℕ). (s * D₁) % m) (mul-comm p q));
+  b-second = scalar-first q p s D₁ b s₂ (eb ∙ ap (λ (m : ℕ). (s * D₁) % m) (mul-comm p q));
+  mixed-u = mu;
+  mixed-v = mv;
+}
 
 -- ---- joining
 
@@ -112,8 +112,8 @@ bezout-of p q a b c =
       s = j .inverse;
       t = i .inverse;
       is = chinese-same a b c
-        (c-trans (c-add (c-zero (dvd-mul-left p (j .inverse))) (c-trans (c-eq (mul-comm (i .inverse) q)) (record { same = i .is .one }))) (c-eq (zero-add 1)))
-        (c-trans (c-add (c-trans (c-eq (mul-comm (j .inverse) p)) (record { same = j .is .one })) (c-zero (dvd-mul-left q (i .inverse)))) (c-eq (add-zero 1))) .same
+          (c-trans (c-add (c-zero (dvd-mul-left p (j .inverse))) (c-trans (c-eq (mul-comm (i .inverse) q)) (record { same = i .is .one }))) (c-eq (zero-add 1)))
+          (c-trans (c-add (c-trans (c-eq (mul-comm (j .inverse) p)) (record { same = j .is .one })) (c-zero (dvd-mul-left q (i .inverse)))) (c-eq (add-zero 1))) .same;
     }
 
 module _ (n p q d e D₁ D₂ : ℕ) (f g u₁ v₁ u₂ v₂ u v w w₁ w₂ : List ℕ) (sp : SplitOf n p q) (c₁ : Certified p (L p d e) f g u₁ v₁ D₁) (c₂ : Certified q (L q d e) f g u₂ v₂ D₂)
@@ -154,14 +154,14 @@ module _ (n p q d e D₁ D₂ : ℕ) (f g u₁ v₁ u₂ v₂ u v w w₁ w₂ : 
 
   joined : Certified (p * q) (L n d e) f g u v (D₁ * D₂)
   joined = record {
-        reduced = reduced-split p q (bz .s) (bz .t) pos-p pos-q (bz .is) f g D₁ D₂ (c₁ .reduced) (c₂ .reduced);
-        combination = combination-joined p q (bz .s) (bz .t) pos-p pos-q (bz .is) (mg .a) (mg .b) D₁ D₂ (mg .a-first) (mg .a-second) (mg .b-first) (mg .b-second) f g u u₁ u₂ v v₁ v₂
-          (record { at = λ k. ap (λ (x : ℕ). x % (p * q)) (word-u k) ∙ mod-mod _ (p * q) }) (record { at = λ k. ap (λ (x : ℕ). x % (p * q)) (word-v k) ∙ mod-mod _ (p * q) }) (c₁ .combination) (c₂ .combination);
-        below-u = λ k. subst (λ (x : ℕ). x < p * q) (sym (word-u k)) (mod-lt _ (mul-pos pos-p pos-q));
-        below-v = λ k. subst (λ (x : ℕ). x < p * q) (sym (word-v k)) (mod-lt _ (mul-pos pos-p pos-q));
-        short-u = λ k h. word-u k ∙ none (mg .a) (mg .b) (coef u₁ k) (coef u₂ k) (p * q) (c₁ .short-u k (first-length n p q sp d e k h)) (c₂ .short-u k (second-length n p q sp d e k h));
-        short-v = λ k h. word-v k ∙ none (mg .a) (mg .b) (coef v₁ k) (coef v₂ k) (p * q) (c₁ .short-v k (first-length n p q sp d e k h)) (c₂ .short-v k (second-length n p q sp d e k h))
-      }
+    reduced = reduced-split p q (bz .s) (bz .t) pos-p pos-q (bz .is) f g D₁ D₂ (c₁ .reduced) (c₂ .reduced);
+    combination = combination-joined p q (bz .s) (bz .t) pos-p pos-q (bz .is) (mg .a) (mg .b) D₁ D₂ (mg .a-first) (mg .a-second) (mg .b-first) (mg .b-second) f g u u₁ u₂ v v₁ v₂
+        (record { at = λ k. ap (λ (x : ℕ). x % (p * q)) (word-u k) ∙ mod-mod _ (p * q) }) (record { at = λ k. ap (λ (x : ℕ). x % (p * q)) (word-v k) ∙ mod-mod _ (p * q) }) (c₁ .combination) (c₂ .combination);
+    below-u = λ k. subst (λ (x : ℕ). x < p * q) (sym (word-u k)) (mod-lt _ (mul-pos pos-p pos-q));
+    below-v = λ k. subst (λ (x : ℕ). x < p * q) (sym (word-v k)) (mod-lt _ (mul-pos pos-p pos-q));
+    short-u = λ k h. word-u k ∙ none (mg .a) (mg .b) (coef u₁ k) (coef u₂ k) (p * q) (c₁ .short-u k (first-length n p q sp d e k h)) (c₂ .short-u k (second-length n p q sp d e k h));
+    short-v = λ k h. word-v k ∙ none (mg .a) (mg .b) (coef v₁ k) (coef v₂ k) (p * q) (c₁ .short-v k (first-length n p q sp d e k h)) (c₂ .short-v k (second-length n p q sp d e k h));
+  }
 
   pub run-joined : Certified n (L n d e) f g u v (D₁ * D₂)
   run-joined = subst (λ (m : ℕ). Certified m (L n d e) f g u v (D₁ * D₂)) (sp .product) joined

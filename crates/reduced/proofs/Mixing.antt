@@ -29,17 +29,19 @@ adding-none n a s u = record { same = refl; done = λ k h. absurd (omega arith);
 
 pub adding-step : {n a j : ℕ} {s u₀ u : List ℕ} {v : ℕ} → Adding n a j s u₀ u → j < length u₀ → v ≡ (getD u j 0 + a * getD s j 0) % n → Adding n a (j + 1) s u₀ (set u j v)
 adding-step {n} {a} {j} {s} {u₀} {u} {v} x inside e = record {
-      same = length-set u j v ∙ x .same;
-      done = below-more _ j (λ k h. getD-set-other u j k v 0 (omega arith) ∙ x .done k h)
-        (getD-set-same u j v 0 (omega (arith, x .same)) ∙ e ∙ ap (λ (y : ℕ). (y + a * getD s j 0) % n) (x .rest j (omega arith)));
-      rest = λ k h. getD-set-other u j k v 0 (omega arith) ∙ x .rest k (omega arith)
-    }
+  same = length-set u j v ∙ x .same;
+  done = below-more _ j (λ k h. getD-set-other u j k v 0 (omega arith) ∙ x .done k h)
+      (getD-set-same u j v 0 (omega (arith, x .same)) ∙ e ∙ ap (λ (y : ℕ). (y + a * getD s j 0) % n) (x .rest j (omega arith)));
+  rest = λ k h. getD-set-other u j k v 0 (omega arith) ∙ x .rest k (omega arith);
+}
 
 pub mixed-end : (n a b j z : ℕ) (s u u₁ u₂ : List ℕ) → z ≡ length u → length s ≤ length u → j ≡ length s → Moved (mulBy n b) 0 0 z u u₁ → Adding n a j s u₁ u₂ → Mixed n a b s u u₂
-mixed-end n a b j z s u u₁ u₂ ez short ej mv ad = record { at = λ k. ⊎-elim
+mixed-end n a b j z s u u₁ u₂ ez short ej mv ad = record {
+  at = λ k. ⊎-elim
       (λ h. ad .done k (omega arith) ∙ ap (λ (x : ℕ). (x + a * coef s k) % n) (scaled k) ∙ turn (b * coef u k) (a * coef s k))
       (λ h. ad .rest k (omega arith) ∙ scaled k ∙ ap (λ (x : ℕ). x % n) (sym (ap (λ (x : ℕ). a * x + b * coef u k) (coef-beyond s k h) ∙ ap (λ (x : ℕ). x + b * coef u k) (mul-zero a) ∙ zero-add _)))
-      (lt-or-le k (length s)) }
+      (lt-or-le k (length s));
+}
   where
     scaled : (k : ℕ) → getD u₁ k 0 ≡ (b * coef u k) % n
     scaled k = ⊎-elim
@@ -54,10 +56,10 @@ mixed-end n a b j z s u u₁ u₂ ez short ej mv ad = record { at = λ k. ⊎-el
 
 pub saved-of : (n l : ℕ) (u v w w₁ w₂ : List ℕ) → 2 * l ≤ length w → l ≤ length u → l ≤ length v → Loaded n 0 (piece u 0 l) w w₁ → Loaded n l (piece v 0 l) w₁ w₂ → Saved n l u v w w₂
 saved-of n l u v w w₁ w₂ fits fu fv lu lv = record {
-      same = lv .same ∙ lu .same;
-      first = λ k h. lv .low k h ∙ ap (λ (x : ℕ). getD w₁ x 0) (sym (zero-add k)) ∙ lu .mid k (omega (arith, piece-length u 0 l (omega arith))) ∙ ap (λ (x : ℕ). x % n) (word u k h);
-      second = λ k h. lv .mid k (omega (arith, piece-length v 0 l (omega arith))) ∙ ap (λ (x : ℕ). x % n) (word v k h)
-    }
+  same = lv .same ∙ lu .same;
+  first = λ k h. lv .low k h ∙ ap (λ (x : ℕ). getD w₁ x 0) (sym (zero-add k)) ∙ lu .mid k (omega (arith, piece-length u 0 l (omega arith))) ∙ ap (λ (x : ℕ). x % n) (word u k h);
+  second = λ k h. lv .mid k (omega (arith, piece-length v 0 l (omega arith))) ∙ ap (λ (x : ℕ). x % n) (word v k h);
+}
   where
     word : (f : List ℕ) (k : ℕ) → k < l → coef (piece f 0 l) k ≡ coef f k
     word f k h = piece-at f 0 l k h ∙ ap (λ (x : ℕ). getD f x 0) (zero-add k)

@@ -38,14 +38,14 @@ module _ (n : ℕ) (f g w w₁ w₂ : List ℕ) (fits : length f + length g ≤ 
 
   pub common-of : (c : ℕ) → Content n (piece w₂ 0 (length f + length g)) c → Common n f g c
   common-of c ct = record {
-        divides-n = ct .divides-n;
-        divides-f = λ k. ⊎-elim (λ h. subst (λ (x : ℕ). c ∣ x) (at k (omega arith) ∙ first-loaded k h) (ct .divides k (omega (arith, size)))) (λ h. beyond f k h c) (lt-or-le k (length f));
-        divides-g = λ k. ⊎-elim (λ h. subst (λ (x : ℕ). c ∣ x) (at (length f + k) (omega arith) ∙ second-loaded k h) (ct .divides (length f + k) (omega (arith, size)))) (λ h. beyond g k h c) (lt-or-le k (length g));
-        greatest = λ x d p q. ct .greatest x d (λ k h. ⊎-elim
-          (λ b. subst (λ (y : ℕ). x ∣ y) (sym (at k (omega (arith, size)) ∙ first-loaded k b)) (p k))
-          (λ b. subst (λ (y : ℕ). x ∣ y) (sym (at k (omega (arith, size)) ∙ ap (λ (y : ℕ). getD w₂ y 0) (let z : k ≡ length f + (k - length f) = omega arith in z) ∙ second-loaded (k - length f) (omega (arith, size)))) (q (k - length f)))
-          (lt-or-le k (length f)))
-      }
+    divides-n = ct .divides-n;
+    divides-f = λ k. ⊎-elim (λ h. subst (λ (x : ℕ). c ∣ x) (at k (omega arith) ∙ first-loaded k h) (ct .divides k (omega (arith, size)))) (λ h. beyond f k h c) (lt-or-le k (length f));
+    divides-g = λ k. ⊎-elim (λ h. subst (λ (x : ℕ). c ∣ x) (at (length f + k) (omega arith) ∙ second-loaded k h) (ct .divides (length f + k) (omega (arith, size)))) (λ h. beyond g k h c) (lt-or-le k (length g));
+    greatest = λ x d p q. ct .greatest x d (λ k h. ⊎-elim
+        (λ b. subst (λ (y : ℕ). x ∣ y) (sym (at k (omega (arith, size)) ∙ first-loaded k b)) (p k))
+        (λ b. subst (λ (y : ℕ). x ∣ y) (sym (at k (omega (arith, size)) ∙ ap (λ (y : ℕ). getD w₂ y 0) (let z : k ≡ length f + (k - length f) = omega arith in z) ∙ second-loaded (k - length f) (omega (arith, size)))) (q (k - length f)))
+        (lt-or-le k (length f)));
+  }
     where
       size : length (piece w₂ 0 (length f + length g)) ≡ length f + length g
       size = piece-length w₂ 0 (length f + length g) (omega (arith, long))
@@ -59,10 +59,10 @@ module _ (n : ℕ) (f g w w₁ w₂ : List ℕ) (fits : length f + length g ≤ 
   -- each word over c
   pub arranged-of : (c : ℕ) (w₃ : List ℕ) → Moved (quotient-by c) 0 0 (length f + length g) w₂ w₃ → Arranged n c g f w w₃
   arranged-of c w₃ mv = record {
-        same = mv .same ∙ long;
-        first = λ k h. word (length f + k) (omega arith) ∙ ap (λ (x : ℕ). x / c) (second-loaded k h);
-        second = λ k h. word k (omega arith) ∙ ap (λ (x : ℕ). x / c) (first-loaded k h)
-      }
+    same = mv .same ∙ long;
+    first = λ k h. word (length f + k) (omega arith) ∙ ap (λ (x : ℕ). x / c) (second-loaded k h);
+    second = λ k h. word k (omega arith) ∙ ap (λ (x : ℕ). x / c) (first-loaded k h);
+  }
     where
       word : (k : ℕ) → k < length f + length g → getD w₃ k 0 ≡ getD w₂ k 0 / c
       word k h = ap (λ (x : ℕ). getD w₃ x 0) (sym (zero-add k)) ∙ mv .mid k h ∙ ap (λ (x : ℕ). getD w₂ x 0 / c) (zero-add k)
@@ -147,8 +147,10 @@ module _ (n c : ℕ) (a b : List ℕ) (two : 2 ≤ n) (cm : Common n a b c) wher
     arranged-nilpotents x = record { at = λ k. subst (IsNilpotent (n / c)) (ap (λ (f : List ℕ). coef f k) part-first ∙ first-at k) (x .at k) }
 
     times : (a f : List ℕ) → ((k : ℕ) → coef f k ≡ (coef a k % n) / c) → ((k : ℕ) → c ∣ coef a k % n) → Times (c * (n / c)) c a f
-    times a f at d = record { at = λ k. subst (λ (x : ℕ). coef a k % x ≡ (c * coef f k) % x) common-whole
-        (sym (ap (λ (x : ℕ). (c * x) % n) (at k) ∙ ap (λ (x : ℕ). x % n) (mul-div-cancel' c (d k)) ∙ mod-mod (coef a k) n)) }
+    times a f at d = record {
+      at = λ k. subst (λ (x : ℕ). coef a k % x ≡ (c * coef f k) % x) common-whole
+          (sym (ap (λ (x : ℕ). (c * x) % n) (at k) ∙ ap (λ (x : ℕ). x % n) (mul-div-cancel' c (d k)) ∙ mod-mod (coef a k) n));
+    }
 
     times-first : Times (c * (n / c)) c a (piece w₁ (length b - 1 + 1) (length a - 1 + 1))
     times-first = times a (piece w₁ (length b - 1 + 1) (length a - 1 + 1)) first-at (cm .divides-f)
@@ -163,27 +165,27 @@ module _ (n c : ℕ) (a b : List ℕ) (two : 2 ≤ n) (cm : Common n a b c) wher
 
       pub half-certified : Certified n (L n (length a - 1) (length b - 1)) a b x y (c * D)
       half-certified = record {
-            reduced = subst (λ (z : ℕ). Reduced z a b (c * D)) (sym common-whole)
-              (reduced-content c (n / c) D a (piece w₁ (length b - 1 + 1) (length a - 1 + 1)) b (piece w₁ 0 (length b - 1 + 1)) common-positive (omega (arith, common-above ne)) times-first times-second (ce .reduced));
-            combination = subst (λ (z : ℕ). Combination z a b x y (c * D)) (sym common-whole)
-              (combination-content c (n / c) D common-positive (omega (arith, common-above ne)) a (piece w₁ (length b - 1 + 1) (length a - 1 + 1)) b (piece w₁ 0 (length b - 1 + 1)) x y times-first times-second (ce .combination));
-            below-u = λ k. omega (arith, ce .below-u k, common-most);
-            below-v = λ k. omega (arith, ce .below-v k, common-most);
-            short-u = λ k h. ce .short-u k (length-less ne (length a - 1) (length b - 1) k h);
-            short-v = λ k h. ce .short-v k (length-less ne (length a - 1) (length b - 1) k h)
-          }
+        reduced = subst (λ (z : ℕ). Reduced z a b (c * D)) (sym common-whole)
+            (reduced-content c (n / c) D a (piece w₁ (length b - 1 + 1) (length a - 1 + 1)) b (piece w₁ 0 (length b - 1 + 1)) common-positive (omega (arith, common-above ne)) times-first times-second (ce .reduced));
+        combination = subst (λ (z : ℕ). Combination z a b x y (c * D)) (sym common-whole)
+            (combination-content c (n / c) D common-positive (omega (arith, common-above ne)) a (piece w₁ (length b - 1 + 1) (length a - 1 + 1)) b (piece w₁ 0 (length b - 1 + 1)) x y times-first times-second (ce .combination));
+        below-u = λ k. omega (arith, ce .below-u k, common-most);
+        below-v = λ k. omega (arith, ce .below-v k, common-most);
+        short-u = λ k h. ce .short-u k (length-less ne (length a - 1) (length b - 1) k h);
+        short-v = λ k h. ce .short-v k (length-less ne (length a - 1) (length b - 1) k h);
+      }
 
     pub part-divides : n / c ∣ n
     part-divides = subst (λ (x : ℕ). n / c ∣ x) (sym common-whole) (dvd-mul-left (n / c) c)
 
     pub half-splitter : (p q : ℕ) → Splitter (n / c) p q → Splitter n p q
     half-splitter p q x = record {
-          divides₁ = dvd-trans p (x .divides₁) part-divides;
-          divides₂ = dvd-trans q (x .divides₂) part-divides;
-          above₁ = x .above₁;
-          above₂ = x .above₂;
-          coprime = x .coprime
-        }
+      divides₁ = dvd-trans p (x .divides₁) part-divides;
+      divides₂ = dvd-trans q (x .divides₂) part-divides;
+      above₁ = x .above₁;
+      above₂ = x .above₂;
+      coprime = x .coprime;
+    }
 
 -- not all coefficients of both are nilpotent
 pub common-primitive : (n c : ℕ) (a b : List ℕ) → 2 ≤ n → Common n a b c → (c ≡ n → ⊥) → Nilpotents n c a → Nilpotents n c b → ⊥
@@ -192,10 +194,10 @@ common-primitive n c a b two cm ne na nb =
     let pos = common-positive n c a b two cm in
     let p = prime-of (n / c) (omega arith) in
     let go : (y : ℕ) → c ∣ y % n → IsNilpotent (n / c) ((y % n) / c) → c * p .p ∣ y % n = λ y d x.
-        subst (λ (z : ℕ). c * p .p ∣ z) (mul-div-cancel' c d) (mul-dvd-mul-left (p .p) c (nilpotent-radical x .at (p .p) (p .prime) (p .divides))) in
+    subst (λ (z : ℕ). c * p .p ∣ z) (mul-div-cancel' c d) (mul-dvd-mul-left (p .p) c (nilpotent-radical x .at (p .p) (p .prime) (p .divides))) in
     let d : c * p .p ∣ c =
-        cm .greatest (c * p .p) (subst (λ (x : ℕ). c * p .p ∣ x) (sym (common-whole n c a b two cm)) (mul-dvd-mul-left (p .p) c (p .divides)))
-        (λ k. go (coef a k) (cm .divides-f k) (na .at k)) (λ k. go (coef b k) (cm .divides-g k) (nb .at k)) in
+    cm .greatest (c * p .p) (subst (λ (x : ℕ). c * p .p ∣ x) (sym (common-whole n c a b two cm)) (mul-dvd-mul-left (p .p) c (p .divides)))
+    (λ k. go (coef a k) (cm .divides-f k) (na .at k)) (λ k. go (coef b k) (cm .divides-g k) (nb .at k)) in
     big c (p .p) pos (p .prime .above) (le-of-dvd pos d)
   where
     big : (c p : ℕ) → 0 < c → 1 < p → c * p ≤ c → ⊥

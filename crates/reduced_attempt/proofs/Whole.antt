@@ -30,28 +30,30 @@ use Rattle.reduced_attempt.specs.Attempts.{Common, attempt-room}
 
 pub none-certified : (n len : ℕ) (f g x y : List ℕ) → 2 ≤ n → Common n f g n → Certified n len f g (replicate (length x) 0) (replicate (length y) 0) n
 none-certified n len f g x y two cm = record {
-      reduced = subst (λ (z : ℕ). Reduced z f g z) (mul-one n) (reduced-content n 1 1 f [] g [] (omega arith) (omega arith) (times f (cm .divides-f)) (times g (cm .divides-g)) (reduced-one [] []));
-      combination = subst (λ (z : ℕ). Combination z f g (replicate (length x) 0) (replicate (length y) 0) z) (mul-one n)
-        (combination-content n 1 1 (omega arith) (omega arith) f [] g [] (replicate (length x) 0) (replicate (length y) 0) (times f (cm .divides-f)) (times g (cm .divides-g)) (record { sum = λ k. mod-one _ ∙ sym (mod-one _) }));
-      below-u = λ k. subst (λ (z : ℕ). z < n) (sym (zeros-at (length x) k)) (omega arith);
-      below-v = λ k. subst (λ (z : ℕ). z < n) (sym (zeros-at (length y) k)) (omega arith);
-      short-u = λ k h. zeros-at (length x) k;
-      short-v = λ k h. zeros-at (length y) k
-    }
+  reduced = subst (λ (z : ℕ). Reduced z f g z) (mul-one n) (reduced-content n 1 1 f [] g [] (omega arith) (omega arith) (times f (cm .divides-f)) (times g (cm .divides-g)) (reduced-one [] []));
+  combination = subst (λ (z : ℕ). Combination z f g (replicate (length x) 0) (replicate (length y) 0) z) (mul-one n)
+      (combination-content n 1 1 (omega arith) (omega arith) f [] g [] (replicate (length x) 0) (replicate (length y) 0) (times f (cm .divides-f)) (times g (cm .divides-g)) (record { sum = λ k. mod-one _ ∙ sym (mod-one _) }));
+  below-u = λ k. subst (λ (z : ℕ). z < n) (sym (zeros-at (length x) k)) (omega arith);
+  below-v = λ k. subst (λ (z : ℕ). z < n) (sym (zeros-at (length y) k)) (omega arith);
+  short-u = λ k h. zeros-at (length x) k;
+  short-v = λ k h. zeros-at (length y) k;
+}
   where
     times : (f : List ℕ) → ((k : ℕ) → n ∣ coef f k % n) → Times (n * 1) n f []
-    times f d = record { at = λ k. subst (λ (z : ℕ). coef f k % z ≡ (n * coef [] k) % z) (sym (mul-one n))
-        (sym (mod-mod (coef f k) n) ∙ mod-eq-zero-of-dvd n (d k) ∙ sym (mul-mod-right n (coef [] k))) }
+    times f d = record {
+      at = λ k. subst (λ (z : ℕ). coef f k % z ≡ (n * coef [] k) % z) (sym (mul-one n))
+          (sym (mod-mod (coef f k) n) ∙ mod-eq-zero-of-dvd n (d k) ∙ sym (mul-mod-right n (coef [] k)));
+    }
 
 pub certified-flip : (n len : ℕ) (f g u v : List ℕ) (D : ℕ) → 2 ≤ n → Certified n len f g u v D → Certified n len g f v u D
 certified-flip n len f g u v D two x = record {
-      reduced = reduced-flip n (omega arith) f g D (x .reduced);
-      combination = combination-flip (x .combination);
-      below-u = x .below-v;
-      below-v = x .below-u;
-      short-u = x .short-v;
-      short-v = x .short-u
-    }
+  reduced = reduced-flip n (omega arith) f g D (x .reduced);
+  combination = combination-flip (x .combination);
+  below-u = x .below-v;
+  below-v = x .below-u;
+  short-u = x .short-v;
+  short-v = x .short-u;
+}
 
 -- ---- rooms
 

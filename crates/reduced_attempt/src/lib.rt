@@ -52,7 +52,16 @@ fn half(x: &mut [u32], y: &mut [u32], w: &mut [u32], n: u32, c: u32, a: &[u32], 
     let l = b.len();
     let m = l + a.len();
     match window_factor::highest_of(&w[l..m], n / c) {
-        window_factor::Highest::UnitAt(t, i) => match reduced_cofactors::core(x, y, w, n / c, a.len() - 1, l - 1, t, i) {
+        window_factor::Highest::UnitAt(t, i) => match reduced_cofactors::core(
+            x,
+            y,
+            w,
+            n / c,
+            a.len() - 1,
+            l - 1,
+            t,
+            i,
+        ) {
             Attempt::Value(d) => Trial::Found(c * d),
             Attempt::Splits(p, q) => Trial::Divisors(p, q),
         },

@@ -27,9 +27,9 @@ use Rattle.reduced_units.proofs.Regions.{apart-low, apart-swap, below-apart, pi
 -- A has a leading unit
 pub unit-lead : {n ν t pa a pb c al be l : ℕ} {w : List ℕ} → Stage n ν t pa a pb c al be l w → UnitLead ν a (piece w pa (a + 1))
 unit-lead {ν = ν} {pa = pa} {a = a} {w = w} st = record {
-      unit = subst (IsUnit ν) (sym (piece-at w pa (a + 1) a (omega arith))) (st .lead);
-      above = λ k h. piece-over w pa (a + 1) k (omega arith)
-    }
+  unit = subst (IsUnit ν) (sym (piece-at w pa (a + 1) a (omega arith))) (st .lead);
+  above = λ k h. piece-over w pa (a + 1) k (omega arith);
+}
 
 -- every coefficient, where the words do
 all-coefficients : (w : List ℕ) (p l x : ℕ) → p + l ≤ length w → ((k : ℕ) → k < length (piece w p l) → x ∣ coef (piece w p l) k) → (k : ℕ) → x ∣ coef (piece w p l) k
@@ -49,11 +49,11 @@ module _ (n ν t pa a pb al be l : ℕ) (w w' : List ℕ) (st : Stage n ν t pa 
 
   pub none-solved : Solved n ν t pa a pb a al be ν w w'
   none-solved = record {
-        reduced = reduced-none ν a (omega (arith, st .above)) (st .degree) (piece w pa (a + 1)) (piece w pb a) (unit-lead st)
-          (λ k. mod-eq-zero-of-dvd ν (all-coefficients w pb a ν (omega (arith, st .room, st .within, st .places .b-high)) (ct .divides) k));
-        below = record { at = λ k h. subst (λ (x : ℕ). x < n) (sym (mv .mid k h)) (st .positive) };
-        completes = λ g m p e x y. completes-none n (m * ν) (st .positive) (ap (λ (z : ℕ). z % n) (sym e) ∙ mod-self n) (piece w 0 (t + 1)) g (piece w' (t + 1) t) empty
-      }
+    reduced = reduced-none ν a (omega (arith, st .above)) (st .degree) (piece w pa (a + 1)) (piece w pb a) (unit-lead st)
+        (λ k. mod-eq-zero-of-dvd ν (all-coefficients w pb a ν (omega (arith, st .room, st .within, st .places .b-high)) (ct .divides) k));
+    below = record { at = λ k h. subst (λ (x : ℕ). x < n) (sym (mv .mid k h)) (st .positive) };
+    completes = λ g m p e x y. completes-none n (m * ν) (st .positive) (ap (λ (z : ℕ). z % n) (sym e) ∙ mod-self n) (piece w 0 (t + 1)) g (piece w' (t + 1) t) empty;
+  }
 
 -- ---- c is not ν
 
@@ -161,25 +161,25 @@ module _ (n ν t pa a pb al be l c : ℕ) (w : List ℕ) (st : Stage n ν t pa a
 
     pub content-stage : Stage n (ν / c) t pa a pb a al be l w'
     content-stage = record {
-          positive = st .positive;
-          above = two;
-          divides = dvd-trans (ν / c) (subst (λ (x : ℕ). ν / c ∣ x) (sym content-whole) (dvd-mul-left (ν / c) c)) (st .divides);
-          degree = st .degree;
-          within = st .within;
-          some = st .some;
-          most = st .most;
-          room = omega (arith, st .room, content-kept .same);
-          places = st .places;
-          monic = monic-apart (omega (arith, st .places .a-low)) reduced (monic-apart (omega (arith, st .places .b-low)) divided (monic-apart (omega (arith, st .places .al-low)) scaled (st .monic)));
-          first = record { at = λ k h. subst (λ (x : ℕ). x < ν / c) (sym (word-a k h)) (mod-lt _ (omega (arith, two))) };
-          lead = subst (IsUnit (ν / c)) (sym (word-a a (omega arith))) (unit-mod (getD w (pa + a) 0) (st .lead));
-          second = record { at = λ k h. smaller k h };
-          alpha = record {
-            below = record { at = λ k h. subst (λ (x : ℕ). x < n) (sym (word-al k h)) (mod-lt _ (st .positive)) };
-            zero = λ k h b. word-al k b ∙ ap (λ (x : ℕ). (c * x) % n) (st .alpha .zero k h b) ∙ ap (λ (x : ℕ). x % n) (mul-zero c) ∙ zero-mod n
-          };
-          beta = beta'
-        }
+      positive = st .positive;
+      above = two;
+      divides = dvd-trans (ν / c) (subst (λ (x : ℕ). ν / c ∣ x) (sym content-whole) (dvd-mul-left (ν / c) c)) (st .divides);
+      degree = st .degree;
+      within = st .within;
+      some = st .some;
+      most = st .most;
+      room = omega (arith, st .room, content-kept .same);
+      places = st .places;
+      monic = monic-apart (omega (arith, st .places .a-low)) reduced (monic-apart (omega (arith, st .places .b-low)) divided (monic-apart (omega (arith, st .places .al-low)) scaled (st .monic)));
+      first = record { at = λ k h. subst (λ (x : ℕ). x < ν / c) (sym (word-a k h)) (mod-lt _ (omega (arith, two))) };
+      lead = subst (IsUnit (ν / c)) (sym (word-a a (omega arith))) (unit-mod (getD w (pa + a) 0) (st .lead));
+      second = record { at = λ k h. smaller k h };
+      alpha = record {
+        below = record { at = λ k h. subst (λ (x : ℕ). x < n) (sym (word-al k h)) (mod-lt _ (st .positive)) };
+        zero = λ k h b. word-al k b ∙ ap (λ (x : ℕ). (c * x) % n) (st .alpha .zero k h b) ∙ ap (λ (x : ℕ). x % n) (mul-zero c) ∙ zero-mod n;
+      };
+      beta = beta';
+    }
       where
         unit-mod : (x : ℕ) → IsUnit ν x → IsUnit (ν / c) (x % (ν / c))
         unit-mod x u =
@@ -201,16 +201,16 @@ module _ (n ν t pa a pb al be l c : ℕ) (w : List ℕ) (st : Stage n ν t pa a
 
     pub content-change : Change n ν (ν / c) c t pa a pb a a al be w w'
     content-change = record {
-          whole = content-whole;
-          reduced = λ D x. subst (λ (y : ℕ). Reduced y (piece w pa (a + 1)) (piece w pb a) (c * D)) (sym content-whole)
-            (reduced-lead c (ν / c) a content-positive (omega (arith, two)) (st .degree) (piece w pa (a + 1)) (subst (λ (y : ℕ). UnitLead y a (piece w pa (a + 1))) content-whole (unit-lead st))
-            (piece w pb a) (piece w' pb a) D times (reduced-same (ν / c) (omega (arith, two)) (piece w pa (a + 1)) (piece w' pa (a + 1)) (piece w' pb a) D same-a x));
-          first = λ g m p e x. leads-scaled n c m (m * c) (st .positive) (piece w 0 (t + 1)) g (piece w al (2 * (t + 1))) (piece w' al (2 * (t + 1))) (piece w pa (a + 1)) (piece w' pa (a + 1))
-            times-al (λ k. sym (ap (λ (y : ℕ). y % n) (turn c m (coef (piece w pa (a + 1)) k)) ∙ lifted n (m * c) (ν / c) _ _ (mul-pos p content-positive) (omega (arith, two)) (modulus m e) (same-a k))) x;
-          second = λ g m p e x. leads-scaled n 1 m (m * c) (st .positive) (piece w 0 (t + 1)) g (piece w be (2 * (t + 1))) (piece w' be (2 * (t + 1))) (piece w pb a) (piece w' pb a)
-            (λ k. ap (λ (y : ℕ). y % n) (ap (λ (f : List ℕ). coef f k) same-be ∙ sym (one-mul (coef (piece w be (2 * (t + 1))) k))))
-            (λ k. ap (λ (y : ℕ). y % n) (mul-assoc m c (coef (piece w' pb a) k) ∙ ap (λ (y : ℕ). m * y) (sym (times-c k)) ∙ sym (one-mul _))) x
-        }
+      whole = content-whole;
+      reduced = λ D x. subst (λ (y : ℕ). Reduced y (piece w pa (a + 1)) (piece w pb a) (c * D)) (sym content-whole)
+          (reduced-lead c (ν / c) a content-positive (omega (arith, two)) (st .degree) (piece w pa (a + 1)) (subst (λ (y : ℕ). UnitLead y a (piece w pa (a + 1))) content-whole (unit-lead st))
+          (piece w pb a) (piece w' pb a) D times (reduced-same (ν / c) (omega (arith, two)) (piece w pa (a + 1)) (piece w' pa (a + 1)) (piece w' pb a) D same-a x));
+      first = λ g m p e x. leads-scaled n c m (m * c) (st .positive) (piece w 0 (t + 1)) g (piece w al (2 * (t + 1))) (piece w' al (2 * (t + 1))) (piece w pa (a + 1)) (piece w' pa (a + 1))
+          times-al (λ k. sym (ap (λ (y : ℕ). y % n) (turn c m (coef (piece w pa (a + 1)) k)) ∙ lifted n (m * c) (ν / c) _ _ (mul-pos p content-positive) (omega (arith, two)) (modulus m e) (same-a k))) x;
+      second = λ g m p e x. leads-scaled n 1 m (m * c) (st .positive) (piece w 0 (t + 1)) g (piece w be (2 * (t + 1))) (piece w' be (2 * (t + 1))) (piece w pb a) (piece w' pb a)
+          (λ k. ap (λ (y : ℕ). y % n) (ap (λ (f : List ℕ). coef f k) same-be ∙ sym (one-mul (coef (piece w be (2 * (t + 1))) k))))
+          (λ k. ap (λ (y : ℕ). y % n) (mul-assoc m c (coef (piece w' pb a) k) ∙ ap (λ (y : ℕ). m * y) (sym (times-c k)) ∙ sym (one-mul _))) x;
+    }
       where
         turn : (c m x : ℕ) → c * (m * x) ≡ m * c * x
         turn c m x = omega arith
@@ -228,8 +228,8 @@ module _ (n ν t pa a pb al be l c : ℕ) (w : List ℕ) (st : Stage n ν t pa a
     content-primitive nil =
         let p = prime-of (ν / c) (omega (arith, two)) in
         let d : c * p .p ∣ c =
-            ct .greatest (c * p .p) (subst (λ (x : ℕ). c * p .p ∣ x) (sym content-whole) (mul-dvd-mul-left (p .p) c (p .divides)))
-            (λ k h. subst (λ (x : ℕ). c * p .p ∣ x) (sym (times-c k)) (mul-dvd-mul-left (p .p) c (nilpotent-radical (nil k) .at (p .p) (p .prime) (p .divides)))) in
+        ct .greatest (c * p .p) (subst (λ (x : ℕ). c * p .p ∣ x) (sym content-whole) (mul-dvd-mul-left (p .p) c (p .divides)))
+        (λ k h. subst (λ (x : ℕ). c * p .p ∣ x) (sym (times-c k)) (mul-dvd-mul-left (p .p) c (nilpotent-radical (nil k) .at (p .p) (p .prime) (p .divides)))) in
         big c (p .p) content-positive (p .prime .above) (le-of-dvd content-positive d)
       where
         big : (c p : ℕ) → 0 < c → 1 < p → c * p ≤ c → ⊥

@@ -54,28 +54,28 @@ module _ (n ν t pa a pb al be l s r : ℕ) (w w' : List ℕ) (st : Stage n ν t
 
   pub unit-stage : Stage n ν t pa a pb (s + 1) al be r w'
   unit-stage = record {
-        positive = st .positive;
-        above = st .above;
-        divides = st .divides;
-        degree = st .degree;
-        within = st .within;
-        some = omega (arith, st .some, ut .longer);
-        most = ut .most;
-        room = omega (arith, st .room, ut .same);
-        places = st .places;
-        monic = record {
-          lead = unit-kept .low t (omega arith) ∙ st .monic .lead;
-          below = record { at = λ k h. subst (λ (x : ℕ). x < n) (sym (unit-kept .low (0 + k) (omega arith))) (st .monic .below .at k h) }
-        };
-        first = record { at = λ k h. subst (λ (x : ℕ). x < ν) (sym (word-a k h)) (st .first .at k h) };
-        lead = subst (IsUnit ν) (sym (word-a a (omega arith))) (st .lead);
-        second = ut .below;
-        alpha = multiplier-more r (ut .longer) (record {
-          below = record { at = λ k h. subst (λ (x : ℕ). x < n) (sym (word-al k h)) (st .alpha .below .at k h) };
-          zero = λ k h b. word-al k b ∙ st .alpha .zero k h b
-        });
-        beta = ut .multiplier
-      }
+    positive = st .positive;
+    above = st .above;
+    divides = st .divides;
+    degree = st .degree;
+    within = st .within;
+    some = omega (arith, st .some, ut .longer);
+    most = ut .most;
+    room = omega (arith, st .room, ut .same);
+    places = st .places;
+    monic = record {
+      lead = unit-kept .low t (omega arith) ∙ st .monic .lead;
+      below = record { at = λ k h. subst (λ (x : ℕ). x < n) (sym (unit-kept .low (0 + k) (omega arith))) (st .monic .below .at k h) };
+    };
+    first = record { at = λ k h. subst (λ (x : ℕ). x < ν) (sym (word-a k h)) (st .first .at k h) };
+    lead = subst (IsUnit ν) (sym (word-a a (omega arith))) (st .lead);
+    second = ut .below;
+    alpha = multiplier-more r (ut .longer) (record {
+      below = record { at = λ k h. subst (λ (x : ℕ). x < n) (sym (word-al k h)) (st .alpha .below .at k h) };
+      zero = λ k h b. word-al k b ∙ st .alpha .zero k h b;
+    });
+    beta = ut .multiplier;
+  }
 
   pub unit-reduced : (D : ℕ) → Reduced ν (piece w' pa (a + 1)) (piece w' pb (s + 1)) D → Reduced ν (piece w pa (a + 1)) (piece w pb a) D
   unit-reduced D x =
@@ -133,13 +133,13 @@ module _ (n ν t pa a pb al be l c s r : ℕ) (w w₁ w₂ : List ℕ) (st : Sta
   -- the monic factor has a degree
   pub both-cleared : 1 ≤ s → Cleared n ν t pa a pb al be c s r w w₂
   both-cleared d = record {
-        positive = c-pos;
-        degree = d;
-        shorter = shorter;
-        monic = ut .monic;
-        stage = unit-stage n (ν / c) t pa a pb al be l s r w₁ w₂ stage₁ shorter ut;
-        change = record { whole = change₁ .whole; reduced = both-reduced; first = both-first; second = both-second }
-      }
+    positive = c-pos;
+    degree = d;
+    shorter = shorter;
+    monic = ut .monic;
+    stage = unit-stage n (ν / c) t pa a pb al be l s r w₁ w₂ stage₁ shorter ut;
+    change = record { whole = change₁ .whole; reduced = both-reduced; first = both-first; second = both-second };
+  }
 
   -- it is 1
   module _ (none : s ≡ 0) (w₃ : List ℕ) (cp : Moved second be (t + 1) t w₂ w₃) where
@@ -157,22 +157,22 @@ module _ (n ν t pa a pb al be l c s r : ℕ) (w w₁ w₂ : List ℕ) (st : Sta
 
     pub last-solved : Solved n ν t pa a pb a al be c w w₃
     last-solved = record {
-          reduced = subst (Reduced ν (piece w pa (a + 1)) (piece w pb a)) (mul-one c)
-            (both-reduced 1 (reduced-unity (ν / c) (omega (arith, stage₁ .above)) (piece w₂ pa (a + 1)) (piece w₂ pb (s + 1)) (λ k. ap (λ (x : ℕ). x % (ν / c)) (unity k))));
-          below = record { at = λ k h. subst (λ (x : ℕ). x < n) (sym (cp .mid k h)) (ut .multiplier .below .at k (omega arith)) };
-          completes = λ g m p e x y.
-            completes-same n (m * c) (piece w 0 (t + 1)) g (piece w₂ be (2 * (t + 1))) (piece w₃ (t + 1) t) found
-            (leads-completes n (m * c) (ν / c) (mul-pos p c-pos) (omega (arith, stage₁ .above)) (modulus m e) (piece w 0 (t + 1)) g (piece w₂ be (2 * (t + 1))) (piece w₂ pb (s + 1))
-            (λ k. ap (λ (z : ℕ). z % (ν / c)) (unity k)) (both-second g m p e y))
-        }
+      reduced = subst (Reduced ν (piece w pa (a + 1)) (piece w pb a)) (mul-one c)
+          (both-reduced 1 (reduced-unity (ν / c) (omega (arith, stage₁ .above)) (piece w₂ pa (a + 1)) (piece w₂ pb (s + 1)) (λ k. ap (λ (x : ℕ). x % (ν / c)) (unity k))));
+      below = record { at = λ k h. subst (λ (x : ℕ). x < n) (sym (cp .mid k h)) (ut .multiplier .below .at k (omega arith)) };
+      completes = λ g m p e x y.
+          completes-same n (m * c) (piece w 0 (t + 1)) g (piece w₂ be (2 * (t + 1))) (piece w₃ (t + 1) t) found
+          (leads-completes n (m * c) (ν / c) (mul-pos p c-pos) (omega (arith, stage₁ .above)) (modulus m e) (piece w 0 (t + 1)) g (piece w₂ be (2 * (t + 1))) (piece w₂ pb (s + 1))
+          (λ k. ap (λ (z : ℕ). z % (ν / c)) (unity k)) (both-second g m p e y));
+    }
 
 -- ---- a coefficient splits the modulus
 
 pub split-splitter : (ν r p q : ℕ) → r ∣ ν → SplitOf r p q → Splitter ν p q
 split-splitter ν r p q d x = record {
-      divides₁ = dvd-trans p (subst (λ (y : ℕ). p ∣ y) (x .product) (dvd-mul-right p q)) d;
-      divides₂ = dvd-trans q (subst (λ (y : ℕ). q ∣ y) (x .product) (dvd-mul-left q p)) d;
-      above₁ = x .above₁;
-      above₂ = x .above₂;
-      coprime = x .coprime
-    }
+  divides₁ = dvd-trans p (subst (λ (y : ℕ). p ∣ y) (x .product) (dvd-mul-right p q)) d;
+  divides₂ = dvd-trans q (subst (λ (y : ℕ). q ∣ y) (x .product) (dvd-mul-left q p)) d;
+  above₁ = x .above₁;
+  above₂ = x .above₂;
+  coprime = x .coprime;
+}

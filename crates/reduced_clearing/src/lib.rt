@@ -14,7 +14,17 @@ pub enum Clearing {
 }
 
 // B over its content c, the multiplier of A times c, and A modulo v / c.
-fn take_content(w: &mut [u32], n: u32, v: u32, c: u32, t: usize, pa: usize, a: usize, pb: usize, al: usize)
+fn take_content(
+    w: &mut [u32],
+    n: u32,
+    v: u32,
+    c: u32,
+    t: usize,
+    pa: usize,
+    a: usize,
+    pb: usize,
+    al: usize,
+)
     requires { ⌜ (1 ≤ n) × ((1 ≤ c) × ((1 ≤ v / c) × ((al + 2 * (t + 1) ≤ length (now w)) × ((pb + a ≤ length (now w)) × (pa + (a + 1) ≤ length (now w)))))) ⌝ }
     ensures { λ _. ⌜ ContentTaken n v c t pa a pb al (now (w .entry)) (now (w .exit)) ⌝ }
 {
@@ -24,7 +34,18 @@ fn take_content(w: &mut [u32], n: u32, v: u32, c: u32, t: usize, pa: usize, a: u
 }
 
 // The content of B is taken out of it and of the modulus, then the unit factor of B.
-pub fn clear_contents(w: &mut [u32], n: u32, v: u32, t: usize, pa: usize, a: usize, pb: usize, al: usize, be: usize, l: usize) -> Clearing
+pub fn clear_contents(
+    w: &mut [u32],
+    n: u32,
+    v: u32,
+    t: usize,
+    pa: usize,
+    a: usize,
+    pb: usize,
+    al: usize,
+    be: usize,
+    l: usize,
+) -> Clearing
     requires { ⌜ Stage n v t pa a pb a al be l (now w) ⌝ }
     ensures { λ r. ⌜ Clears n v t pa a pb al be (now (w .entry)) (now (w .exit)) r ⌝ }
     ensures { λ _. ⌜ Kept t (now (w .entry)) (now (w .exit)) ⌝ }

@@ -29,9 +29,9 @@ use Rattle.reduced_quotients.proofs.Divisions.{zeros-at}
 -- the polynomial of degree t at q, with a leading 1
 pub monic-at : (n q t : ℕ) (w : List ℕ) → 1 ≤ n → getD w (q + t) 0 ≡ 1 → Monic n t (piece w q (t + 1))
 monic-at n q t w pos lead = record {
-      lead = ap (λ (x : ℕ). x % n) (piece-at w q (t + 1) t (omega arith) ∙ lead);
-      above = λ k h. ap (λ (x : ℕ). x % n) (piece-over w q (t + 1) k (omega arith)) ∙ zero-mod n
-    }
+  lead = ap (λ (x : ℕ). x % n) (piece-at w q (t + 1) t (omega arith) ∙ lead);
+  above = λ k h. ap (λ (x : ℕ). x % n) (piece-over w q (t + 1) k (omega arith)) ∙ zero-mod n;
+}
 
 -- words loaded above zeros
 pub loaded-word : (n : ℕ) (s y₀ y : List ℕ) (l : ℕ) → length s ≡ l → Loaded n 0 s (replicate (length y₀) 0) y → (i : ℕ) → coef y i ≡ coef s i % n
@@ -74,20 +74,20 @@ module _ (n e q t k c : ℕ) (w w₁ w₂ : List ℕ) (two : 2 ≤ n) (one : 1 �
 
     pub finished : Finished n e q t k c w x y
     finished = record {
-          j = of .j;
-          inverse = subst (λ (f : List ℕ). NegatedInverse n f (of .j)) same-u (of .inverse);
-          combination = λ f mf cm.
-            combination-same n (omega arith) f f (piece w 0 (e + 1)) (piece w 0 (e + 1)) x x (piece w (q + (t + 1)) t) y c (λ i. refl) (λ i. refl) (λ i. refl)
-            (λ i. sym (ap (λ (z : ℕ). z % n) (word i) ∙ mod-mod _ n))
-            (completed n (omega arith) t c f (piece w 0 (e + 1)) (piece w q (t + 1)) (piece w (e + 1) (k + 1)) (of .j) (piece w (q + (t + 1)) t) (eq .r) (piece w₁ (q + 2 * (t + 1) + t) (e + 1))
-            (piece w₁ (q + 2 * (t + 1)) t) x [] (eq .s) (monic-at n q t w (omega arith) lead) cm (eq .start) (eq .product) (eq .divided) (λ i h. piece-over w₁ (q + 2 * (t + 1)) t i h) mf
-            (subst (λ (f : List ℕ). NegatedInverse n f (of .j)) same-u (of .inverse)) (λ i. coef-beyond [] i (omega arith))
-            (subst (λ (f : List ℕ). Divided n [] f (of .j) x) same-z (of .divided)));
-          below-x = of .below;
-          below-y = λ i. subst (λ (z : ℕ). z < n) (sym (word i)) (mod-lt _ (omega arith));
-          short-x = of .short;
-          short-y = λ i h. word i ∙ ap (λ (z : ℕ). z % n) (piece-over w (q + (t + 1)) t i h) ∙ zero-mod n
-        }
+      j = of .j;
+      inverse = subst (λ (f : List ℕ). NegatedInverse n f (of .j)) same-u (of .inverse);
+      combination = λ f mf cm.
+          combination-same n (omega arith) f f (piece w 0 (e + 1)) (piece w 0 (e + 1)) x x (piece w (q + (t + 1)) t) y c (λ i. refl) (λ i. refl) (λ i. refl)
+          (λ i. sym (ap (λ (z : ℕ). z % n) (word i) ∙ mod-mod _ n))
+          (completed n (omega arith) t c f (piece w 0 (e + 1)) (piece w q (t + 1)) (piece w (e + 1) (k + 1)) (of .j) (piece w (q + (t + 1)) t) (eq .r) (piece w₁ (q + 2 * (t + 1) + t) (e + 1))
+          (piece w₁ (q + 2 * (t + 1)) t) x [] (eq .s) (monic-at n q t w (omega arith) lead) cm (eq .start) (eq .product) (eq .divided) (λ i h. piece-over w₁ (q + 2 * (t + 1)) t i h) mf
+          (subst (λ (f : List ℕ). NegatedInverse n f (of .j)) same-u (of .inverse)) (λ i. coef-beyond [] i (omega arith))
+          (subst (λ (f : List ℕ). Divided n [] f (of .j) x) same-z (of .divided)));
+      below-x = of .below;
+      below-y = λ i. subst (λ (z : ℕ). z < n) (sym (word i)) (mod-lt _ (omega arith));
+      short-x = of .short;
+      short-y = λ i h. word i ∙ ap (λ (z : ℕ). z % n) (piece-over w (q + (t + 1)) t i h) ∙ zero-mod n;
+    }
 
 -- ---- lengths
 
@@ -144,24 +144,24 @@ module _ (n d e : ℕ) (w y₀ x : List ℕ) (two : 2 ≤ n) (room : core-room n
   pub constant-certified : (of : OverFirst n (monic-place d e + (0 + 1) + 0) d 0 1 (set w 0 1) x)
       → Certified n (L n d e) (piece w (e + 1) (d + 1)) (piece w 0 (e + 1)) x (replicate (length y₀) 0) 1
   constant-certified of = record {
-        reduced =
-          let i = inverse-of-negated n (omega arith) u (of .j) inverse in
-          reduced-unit n (omega arith) f u (i .0) (piece w (monic-place d e) (0 + 1)) g 1 (fa .equation) (i .1)
-          (reduced-flip n (omega arith) g (piece w (monic-place d e) (0 + 1)) 1 (reduced-unity n (omega arith) g (piece w (monic-place d e) (0 + 1)) (λ k. ap (λ (z : ℕ). z % n) (unity k))));
-        combination =
-          completed n (omega arith) 0 1 f g (piece w (monic-place d e) (0 + 1)) u (of .j) (replicate (length y₀) 0) (1 ∷ []) (piece (set w 0 1) 0 1) [] x [] (1 ∷ [])
-          (monic-at n (monic-place d e) 0 w (omega arith) (fa .monic))
-          (leads-completes n 1 n (omega arith) (omega arith) (sym (one-mul n)) (piece w (monic-place d e) (0 + 1)) g (replicate (length y₀) 0) (piece w (monic-place d e) (0 + 1)) (λ k. ap (λ (z : ℕ). z % n) (unity k))
-            (leads-first n (omega arith) (piece w (monic-place d e) (0 + 1)) g (replicate (length y₀) 0) (zeros-at (length y₀))))
-          (λ k. ap (λ (z : ℕ). z % n) (single k))
-          (record { at = λ k. ap (λ (z : ℕ). z % n) (ap (λ (z : ℕ). z + coef (1 ∷ []) k) (nothing (coef g) k) ∙ zero-add _) })
-          (record { at = λ k. ap (λ (z : ℕ). z % n) (ap₂ (λ (F G : ℕ → ℕ). convolve F G k + coef [] k) (fun-ext first) (fun-ext unity) ∙ ap₂ (λ (p q : ℕ). p + q) (ones k) (coef-beyond [] k (omega arith)) ∙ add-zero _ ∙ sym (single k)) })
-          (λ k h. coef-beyond [] k (omega arith)) (fa .equation) inverse (λ k. coef-beyond [] k (omega arith)) (of .divided);
-        below-u = of .below;
-        below-v = λ k. subst (λ (z : ℕ). z < n) (sym (zeros-at (length y₀) k)) (omega arith);
-        short-u = λ k h. of .short k (omega (arith, cofactor-fits n d e d two le-self));
-        short-v = λ k h. zeros-at (length y₀) k
-      }
+    reduced =
+        let i = inverse-of-negated n (omega arith) u (of .j) inverse in
+        reduced-unit n (omega arith) f u (i .0) (piece w (monic-place d e) (0 + 1)) g 1 (fa .equation) (i .1)
+        (reduced-flip n (omega arith) g (piece w (monic-place d e) (0 + 1)) 1 (reduced-unity n (omega arith) g (piece w (monic-place d e) (0 + 1)) (λ k. ap (λ (z : ℕ). z % n) (unity k))));
+    combination =
+        completed n (omega arith) 0 1 f g (piece w (monic-place d e) (0 + 1)) u (of .j) (replicate (length y₀) 0) (1 ∷ []) (piece (set w 0 1) 0 1) [] x [] (1 ∷ [])
+        (monic-at n (monic-place d e) 0 w (omega arith) (fa .monic))
+        (leads-completes n 1 n (omega arith) (omega arith) (sym (one-mul n)) (piece w (monic-place d e) (0 + 1)) g (replicate (length y₀) 0) (piece w (monic-place d e) (0 + 1)) (λ k. ap (λ (z : ℕ). z % n) (unity k))
+        (leads-first n (omega arith) (piece w (monic-place d e) (0 + 1)) g (replicate (length y₀) 0) (zeros-at (length y₀))))
+        (λ k. ap (λ (z : ℕ). z % n) (single k))
+        (record { at = λ k. ap (λ (z : ℕ). z % n) (ap (λ (z : ℕ). z + coef (1 ∷ []) k) (nothing (coef g) k) ∙ zero-add _) })
+        (record { at = λ k. ap (λ (z : ℕ). z % n) (ap₂ (λ (F G : ℕ → ℕ). convolve F G k + coef [] k) (fun-ext first) (fun-ext unity) ∙ ap₂ (λ (p q : ℕ). p + q) (ones k) (coef-beyond [] k (omega arith)) ∙ add-zero _ ∙ sym (single k)) })
+        (λ k h. coef-beyond [] k (omega arith)) (fa .equation) inverse (λ k. coef-beyond [] k (omega arith)) (of .divided);
+    below-u = of .below;
+    below-v = λ k. subst (λ (z : ℕ). z < n) (sym (zeros-at (length y₀) k)) (omega arith);
+    short-u = λ k h. of .short k (omega (arith, cofactor-fits n d e d two le-self));
+    short-v = λ k h. zeros-at (length y₀) k;
+  }
     where
       f : List ℕ
       f = piece w (e + 1) (d + 1)

@@ -101,42 +101,42 @@ module _ (n d e t : ℕ) (w w₁ : List ℕ) (two : 2 ≤ n) (one : 1 ≤ t) (wi
 
     pub solve-stage : Stage n n t (2 * (t + 1)) t (3 * (t + 1)) t (4 * (t + 1)) (6 * (t + 1)) 1 (midOf (monic-place d e) m w₂)
     solve-stage = record {
-          positive = omega arith;
-          above = two;
-          divides = dvd-refl n;
-          degree = one;
-          within = omega arith;
-          some = omega arith;
-          most = one;
-          room = omega (arith, long-m, mid-length (monic-place d e) m w₂ inside);
-          places = record {
-            a-low = omega arith;
-            a-high = omega arith;
-            b-low = omega arith;
-            b-high = omega arith;
-            al-low = omega arith;
-            al-high = omega arith;
-            be-low = omega arith;
-            be-high = omega arith;
-            polynomials = apart-low (2 * (t + 1)) (t + 1) (3 * (t + 1)) (t + 1) (omega arith);
-            multipliers = apart-low (4 * (t + 1)) (2 * (t + 1)) (6 * (t + 1)) (2 * (t + 1)) (omega arith)
-          };
-          monic = record {
-            lead = low t (omega arith) ∙ solve-lead;
-            below = record { at = λ i h. subst (λ (x : ℕ). x < n) (sym (ap (λ (x : ℕ). getD (midOf (monic-place d e) m w₂) x 0) (zero-add i) ∙ low i h)) (solve-monic .at i h) }
-          };
-          first = record { at = λ i h. subst (λ (x : ℕ). x < n) (sym (first-word i h)) (solve-monic .at i h) };
-          lead = unit-of 1 (omega arith) (record { same = ap (λ (x : ℕ). x % n) (one-mul _ ∙ first-word t (omega arith) ∙ solve-lead) });
-          second = record { at = λ i h. subst (λ (x : ℕ). x < n) (sym (second-word i h)) (pr .second .at i h) };
-          alpha = record {
-            below = record { at = λ i h. subst (λ (x : ℕ). x < n) (sym (none-word i h)) (omega arith) };
-            zero = λ i h b. none-word i b
-          };
-          beta = record {
-            below = record { at = λ i h. subst (λ (x : ℕ). x < n) (sym (one-word i h)) (unity-small i) };
-            zero = λ i h b. one-word i b ∙ unity-zero i h
-          }
-        }
+      positive = omega arith;
+      above = two;
+      divides = dvd-refl n;
+      degree = one;
+      within = omega arith;
+      some = omega arith;
+      most = one;
+      room = omega (arith, long-m, mid-length (monic-place d e) m w₂ inside);
+      places = record {
+        a-low = omega arith;
+        a-high = omega arith;
+        b-low = omega arith;
+        b-high = omega arith;
+        al-low = omega arith;
+        al-high = omega arith;
+        be-low = omega arith;
+        be-high = omega arith;
+        polynomials = apart-low (2 * (t + 1)) (t + 1) (3 * (t + 1)) (t + 1) (omega arith);
+        multipliers = apart-low (4 * (t + 1)) (2 * (t + 1)) (6 * (t + 1)) (2 * (t + 1)) (omega arith);
+      };
+      monic = record {
+        lead = low t (omega arith) ∙ solve-lead;
+        below = record { at = λ i h. subst (λ (x : ℕ). x < n) (sym (ap (λ (x : ℕ). getD (midOf (monic-place d e) m w₂) x 0) (zero-add i) ∙ low i h)) (solve-monic .at i h) };
+      };
+      first = record { at = λ i h. subst (λ (x : ℕ). x < n) (sym (first-word i h)) (solve-monic .at i h) };
+      lead = unit-of 1 (omega arith) (record { same = ap (λ (x : ℕ). x % n) (one-mul _ ∙ first-word t (omega arith) ∙ solve-lead) });
+      second = record { at = λ i h. subst (λ (x : ℕ). x < n) (sym (second-word i h)) (pr .second .at i h) };
+      alpha = record {
+        below = record { at = λ i h. subst (λ (x : ℕ). x < n) (sym (none-word i h)) (omega arith) };
+        zero = λ i h b. none-word i b;
+      };
+      beta = record {
+        below = record { at = λ i h. subst (λ (x : ℕ). x < n) (sym (one-word i h)) (unity-small i) };
+        zero = λ i h b. one-word i b ∙ unity-zero i h;
+      };
+    }
 
     -- the polynomials of the window
     mid-h : piece (midOf (monic-place d e) m w₂) 0 (t + 1) ≡ piece w (monic-place d e) (t + 1)
@@ -214,32 +214,32 @@ module _ (n d e t : ℕ) (w w₁ : List ℕ) (two : 2 ≤ n) (one : 1 ≤ t) (wi
             (subst (λ (h : List ℕ). Completes n h (piece w 0 (e + 1)) (piece ws (t + 1) t) (1 * D)) mid-h
             (sv .completes (piece w 0 (e + 1)) 1 (omega arith) (sym (one-mul n))
             (subst (λ (f : List ℕ). Leads n 1 (piece (midOf (monic-place d e) m w₂) 0 (t + 1)) (piece w 0 (e + 1)) (piece (midOf (monic-place d e) m w₂) (4 * (t + 1)) (2 * (t + 1))) f) (mid-h ∙ sym mid-a)
-              (leads-first n (omega arith) (piece (midOf (monic-place d e) m w₂) 0 (t + 1)) (piece w 0 (e + 1)) (piece (midOf (monic-place d e) m w₂) (4 * (t + 1)) (2 * (t + 1))) alpha-zero))
+            (leads-first n (omega arith) (piece (midOf (monic-place d e) m w₂) 0 (t + 1)) (piece w 0 (e + 1)) (piece (midOf (monic-place d e) m w₂) (4 * (t + 1)) (2 * (t + 1))) alpha-zero))
             (leads-second n (omega arith) (piece (midOf (monic-place d e) m w₂) 0 (t + 1)) (piece w 0 (e + 1)) (piece (midOf (monic-place d e) m w₂) (6 * (t + 1)) (2 * (t + 1))) (pr .z)
-              (piece (midOf (monic-place d e) m w₂) (3 * (t + 1)) t) beta-one
-              (subst (λ (f : List ℕ). Divided n (piece w 0 (e + 1)) f (pr .z) (piece (midOf (monic-place d e) m w₂) (3 * (t + 1)) t)) (sym mid-h) divided))))
+            (piece (midOf (monic-place d e) m w₂) (3 * (t + 1)) t) beta-one
+            (subst (λ (f : List ℕ). Divided n (piece w 0 (e + 1)) f (pr .z) (piece (midOf (monic-place d e) m w₂) (3 * (t + 1)) t)) (sym mid-h) divided))))
 
         pub solve-certified : (x y : List ℕ) → Finished n e (monic-place d e) t (d - t) D (putMid (monic-place d e) m w₂ ws) x y
             → Certified n (L n d e) (piece w (e + 1) (d + 1)) (piece w 0 (e + 1)) x y D
         solve-certified x y fin = record {
-              reduced =
-                let i = inverse-of-negated n (omega arith) (piece w (monic-place d e + (t + 1) + t) (d + 1 - t)) (fin .j) (subst (λ (f : List ℕ). NegatedInverse n f (fin .j)) same-u₃ (fin .inverse)) in
-                reduced-unit n (omega arith) (piece w (e + 1) (d + 1)) (piece w (monic-place d e + (t + 1) + t) (d + 1 - t)) (i .0) (piece w (monic-place d e) (t + 1)) (piece w 0 (e + 1)) D (fa .equation) (i .1)
-                (reduced-rest n (omega arith) (piece w (monic-place d e) (t + 1)) (piece w 0 (e + 1)) (pr .z) (piece (midOf (monic-place d e) m w₂) (3 * (t + 1)) t) D divided
-                (subst (λ (f : List ℕ). Reduced n f (piece (midOf (monic-place d e) m w₂) (3 * (t + 1)) t) D) mid-a (sv .reduced)));
-              combination =
-                subst (λ (g : List ℕ). Combination n (piece w (e + 1) (d + 1)) g x y D) same-g₃
-                (fin .combination (piece w (e + 1) (d + 1))
-                (subst (λ (u : List ℕ). Multiplied n (piece w (e + 1) (d + 1)) u (piece (putMid (monic-place d e) m w₂ ws) (monic-place d e) (t + 1))) (sym same-u₃)
-                  (subst (Multiplied n (piece w (e + 1) (d + 1)) (piece w (monic-place d e + (t + 1) + t) (d + 1 - t))) (sym same-h₃) (fa .equation)))
-                (subst (λ (h : List ℕ). Completes n h (piece (putMid (monic-place d e) m w₂ ws) 0 (e + 1)) (piece (putMid (monic-place d e) m w₂ ws) (monic-place d e + (t + 1)) t) D) (sym same-h₃)
-                  (subst (λ (g : List ℕ). Completes n (piece w (monic-place d e) (t + 1)) g (piece (putMid (monic-place d e) m w₂ ws) (monic-place d e + (t + 1)) t) D) (sym same-g₃)
-                  (subst (λ (v : List ℕ). Completes n (piece w (monic-place d e) (t + 1)) (piece w 0 (e + 1)) v D) (sym (piece-put (monic-place d e) m w₂ inside ws lw (t + 1) t (omega (arith, long-m)))) completes))));
-              below-u = fin .below-x;
-              below-v = fin .below-y;
-              short-u = λ k h. fin .short-x k (omega (arith, cofactor-fits n d e (d - t) two (omega arith)));
-              short-v = λ k h. fin .short-y k (omega (arith, degree-fits n d e t two within))
-            }
+          reduced =
+              let i = inverse-of-negated n (omega arith) (piece w (monic-place d e + (t + 1) + t) (d + 1 - t)) (fin .j) (subst (λ (f : List ℕ). NegatedInverse n f (fin .j)) same-u₃ (fin .inverse)) in
+              reduced-unit n (omega arith) (piece w (e + 1) (d + 1)) (piece w (monic-place d e + (t + 1) + t) (d + 1 - t)) (i .0) (piece w (monic-place d e) (t + 1)) (piece w 0 (e + 1)) D (fa .equation) (i .1)
+              (reduced-rest n (omega arith) (piece w (monic-place d e) (t + 1)) (piece w 0 (e + 1)) (pr .z) (piece (midOf (monic-place d e) m w₂) (3 * (t + 1)) t) D divided
+              (subst (λ (f : List ℕ). Reduced n f (piece (midOf (monic-place d e) m w₂) (3 * (t + 1)) t) D) mid-a (sv .reduced)));
+          combination =
+              subst (λ (g : List ℕ). Combination n (piece w (e + 1) (d + 1)) g x y D) same-g₃
+              (fin .combination (piece w (e + 1) (d + 1))
+              (subst (λ (u : List ℕ). Multiplied n (piece w (e + 1) (d + 1)) u (piece (putMid (monic-place d e) m w₂ ws) (monic-place d e) (t + 1))) (sym same-u₃)
+              (subst (Multiplied n (piece w (e + 1) (d + 1)) (piece w (monic-place d e + (t + 1) + t) (d + 1 - t))) (sym same-h₃) (fa .equation)))
+              (subst (λ (h : List ℕ). Completes n h (piece (putMid (monic-place d e) m w₂ ws) 0 (e + 1)) (piece (putMid (monic-place d e) m w₂ ws) (monic-place d e + (t + 1)) t) D) (sym same-h₃)
+              (subst (λ (g : List ℕ). Completes n (piece w (monic-place d e) (t + 1)) g (piece (putMid (monic-place d e) m w₂ ws) (monic-place d e + (t + 1)) t) D) (sym same-g₃)
+              (subst (λ (v : List ℕ). Completes n (piece w (monic-place d e) (t + 1)) (piece w 0 (e + 1)) v D) (sym (piece-put (monic-place d e) m w₂ inside ws lw (t + 1) t (omega (arith, long-m)))) completes))));
+          below-u = fin .below-x;
+          below-v = fin .below-y;
+          short-u = λ k h. fin .short-x k (omega (arith, cofactor-fits n d e (d - t) two (omega arith)));
+          short-v = λ k h. fin .short-y k (omega (arith, degree-fits n d e t two within));
+        }
 
 -- ---- F is factored
 
@@ -259,10 +259,10 @@ module _ (n d e t i m : ℕ) (w : List ℕ) (two : 2 ≤ n) (room : core-room n 
 
   pub core-given : Given n d t i (midOf (e + 1) m w)
   core-given = record {
-        below = record { at = λ k h. subst (λ (x : ℕ). x < n) (sym (was (e + 1) m w core-inside (e + 1 + k) (0 + k) (omega arith) (omega arith))) (below-f .at k h) };
-        unit = ap (λ (f : List ℕ). (i * coef f t) % n) core-first ∙ ap (λ (x : ℕ). x % n) (mul-comm i _) ∙ lu .inverse .one;
-        nilpotent = λ k h. subst (λ (f : List ℕ). IsNilpotent n (coef f k)) (sym core-first) (lu .nilpotent k h)
-      }
+    below = record { at = λ k h. subst (λ (x : ℕ). x < n) (sym (was (e + 1) m w core-inside (e + 1 + k) (0 + k) (omega arith) (omega arith))) (below-f .at k h) };
+    unit = ap (λ (f : List ℕ). (i * coef f t) % n) core-first ∙ ap (λ (x : ℕ). x % n) (mul-comm i _) ∙ lu .inverse .one;
+    nilpotent = λ k h. subst (λ (f : List ℕ). IsNilpotent n (coef f k)) (sym core-first) (lu .nilpotent k h);
+  }
 
   module _ (ys : List ℕ) (ly : length ys ≡ length (midOf (e + 1) m w)) (fc : Factored n d t (midOf (e + 1) m w) ys) where
     core-around : Around (e + 1) m w (putMid (e + 1) m w ys)
@@ -292,12 +292,12 @@ module _ (n d e t i m : ℕ) (w : List ℕ) (two : 2 ≤ n) (room : core-room n 
 
     pub core-factored : FactoredAt n d e t (putMid (e + 1) m w ys)
     core-factored = record {
-          second = below-apart (apart-low 0 (e + 1) (e + 1) m (omega arith)) core-around below-g;
-          equation =
-            subst (λ (f : List ℕ). Multiplied n f (piece (putMid (e + 1) m w ys) (monic-place d e + (t + 1) + t) (d + 1 - t)) (piece (putMid (e + 1) m w ys) (monic-place d e) (t + 1))) (core-first ∙ sym core-f)
-            (subst (λ (u : List ℕ). Multiplied n (piece (midOf (e + 1) m w) 0 (d + 1)) u (piece (putMid (e + 1) m w ys) (monic-place d e) (t + 1))) (sym core-u)
-            (subst (Multiplied n (piece (midOf (e + 1) m w) 0 (d + 1)) (piece ys (d + 1 + (t + 1) + t) (d + 1 - t))) (sym core-h) (fc .equation)));
-          monic = sym (piece-at (putMid (e + 1) m w ys) (monic-place d e) (t + 1) t (omega arith)) ∙ ap (λ (f : List ℕ). coef f t) core-h ∙ fc .monic;
-          below-h = lift-below (e + 1) m w core-inside ys ly n (d + 1) (t + 1) (omega arith) (fc .below-h);
-          unit = subst (UnitPolynomial n) (sym core-u) (fc .unit)
-        }
+      second = below-apart (apart-low 0 (e + 1) (e + 1) m (omega arith)) core-around below-g;
+      equation =
+          subst (λ (f : List ℕ). Multiplied n f (piece (putMid (e + 1) m w ys) (monic-place d e + (t + 1) + t) (d + 1 - t)) (piece (putMid (e + 1) m w ys) (monic-place d e) (t + 1))) (core-first ∙ sym core-f)
+          (subst (λ (u : List ℕ). Multiplied n (piece (midOf (e + 1) m w) 0 (d + 1)) u (piece (putMid (e + 1) m w ys) (monic-place d e) (t + 1))) (sym core-u)
+          (subst (Multiplied n (piece (midOf (e + 1) m w) 0 (d + 1)) (piece ys (d + 1 + (t + 1) + t) (d + 1 - t))) (sym core-h) (fc .equation)));
+      monic = sym (piece-at (putMid (e + 1) m w ys) (monic-place d e) (t + 1) t (omega arith)) ∙ ap (λ (f : List ℕ). coef f t) core-h ∙ fc .monic;
+      below-h = lift-below (e + 1) m w core-inside ys ly n (d + 1) (t + 1) (omega arith) (fc .below-h);
+      unit = subst (UnitPolynomial n) (sym core-u) (fc .unit);
+    }

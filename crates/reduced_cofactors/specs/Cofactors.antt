@@ -34,7 +34,7 @@ pub record Finished (n e q t k c : ℕ) (w x y : List ℕ) : Type 0 where
   pub j : List ℕ
   pub inverse : NegatedInverse n (piece w (e + 1) (k + 1)) j
   pub combination : (f : List ℕ) → Multiplied n f (piece w (e + 1) (k + 1)) (piece w q (t + 1)) → Completes n (piece w q (t + 1)) (piece w 0 (e + 1)) (piece w (q + (t + 1)) t) c
-    → Combination n f (piece w 0 (e + 1)) x y c
+      → Combination n f (piece w 0 (e + 1)) x y c
   pub below-x : (i : ℕ) → coef x i < n
   pub below-y : (i : ℕ) → coef y i < n
   pub short-x : (i : ℕ) → (K n - 1) * k + (e + 1) ≤ i → coef x i ≡ 0

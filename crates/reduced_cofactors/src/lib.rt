@@ -12,7 +12,17 @@ use residue::Attempt;
 
 // The cofactors of c, from the multiplier at q + (t + 1): y is that multiplier, and x is the exact quotient over the unit polynomial of k + 1
 // words at e + 1.
-fn finish(x: &mut [u32], y: &mut [u32], w: &mut [u32], n: u32, e: usize, q: usize, t: usize, k: usize, c: u32)
+fn finish(
+    x: &mut [u32],
+    y: &mut [u32],
+    w: &mut [u32],
+    n: u32,
+    e: usize,
+    q: usize,
+    t: usize,
+    k: usize,
+    c: u32,
+)
     requires { ⌜ (2 ≤ n) × ((1 ≤ t) × ((e + 1 + (k + 1) ≤ q) × (q + 2 * (t + 1) + (t + e + 1) + ((k + 1) + (2 * (K n * k + 1) + (e + 1))) ≤ length (now w)))) ⌝ }
     requires { ⌜ ((K n - 1) * k + (e + 1) ≤ length (now x)) × (t ≤ length (now y)) ⌝ }
     requires { ⌜ (Below n q (t + 1) (now w)) × ((getD (now w) (q + t) 0 ≡ 1) × ((Below n (q + (t + 1)) t (now w)) × (UnitPolynomial n (piece (now w) (e + 1) (k + 1))))) ⌝ }
@@ -41,7 +51,15 @@ fn constant(x: &mut [u32], y: &mut [u32], w: &mut [u32], n: u32, d: usize, e: us
 }
 
 // H has degree t above 0: the stages find D and the multiplier of G.
-fn solve(x: &mut [u32], y: &mut [u32], w: &mut [u32], n: u32, d: usize, e: usize, t: usize) -> Attempt
+fn solve(
+    x: &mut [u32],
+    y: &mut [u32],
+    w: &mut [u32],
+    n: u32,
+    d: usize,
+    e: usize,
+    t: usize,
+) -> Attempt
     requires { ⌜ (2 ≤ n) × ((1 ≤ t) × ((t ≤ d) × ((core-room n d e ≤ length (now w)) × ((L n d e ≤ length (now x)) × (L n d e ≤ length (now y)))))) ⌝ }
     requires { ⌜ FactoredAt n d e t (now w) ⌝ }
     ensures { λ r. ⌜ Answers n (L n d e) (piece (now (w .entry)) (e + 1) (d + 1)) (piece (now (w .entry)) 0 (e + 1)) (now (x .exit)) (now (y .exit)) r ⌝ }
@@ -52,7 +70,18 @@ fn solve(x: &mut [u32], y: &mut [u32], w: &mut [u32], n: u32, d: usize, e: usize
     windows::copy(w, q + (t + 1) + t, e + 1, k + 1);
     reduced_quotients::prepare(w, n, e, q, t);
     let z = w.len();
-    match reduced_stages::content_stage(&mut w[q..z], n, n, t, 2 * (t + 1), t, 3 * (t + 1), 4 * (t + 1), 6 * (t + 1), 1) {
+    match reduced_stages::content_stage(
+        &mut w[q..z],
+        n,
+        n,
+        t,
+        2 * (t + 1),
+        t,
+        3 * (t + 1),
+        4 * (t + 1),
+        6 * (t + 1),
+        1,
+    ) {
         Attempt::Value(c) => {
             finish(x, y, w, n, e, q, t, k, c);
             Attempt::Value(c)
@@ -63,7 +92,16 @@ fn solve(x: &mut [u32], y: &mut [u32], w: &mut [u32], n: u32, d: usize, e: usize
 
 // The reduced resultant of F, of degree d at e + 1, and of G, of degree e at 0, with the cofactors x of F and y of G. The coefficient of F at t has
 // the inverse i, and those above it are nilpotent.
-pub fn core(x: &mut [u32], y: &mut [u32], w: &mut [u32], n: u32, d: usize, e: usize, t: usize, i: u32) -> Attempt
+pub fn core(
+    x: &mut [u32],
+    y: &mut [u32],
+    w: &mut [u32],
+    n: u32,
+    d: usize,
+    e: usize,
+    t: usize,
+    i: u32,
+) -> Attempt
     requires { ⌜ (2 ≤ n) × ((core-room n d e ≤ length (now w)) × ((L n d e ≤ length (now x)) × (L n d e ≤ length (now y)))) ⌝ }
     requires { ⌜ (Below n 0 (e + 1) (now w)) × ((Below n (e + 1) (d + 1) (now w)) × (LeadingUnit n t i (piece (now w) (e + 1) (d + 1)))) ⌝ }
     ensures { λ r. ⌜ Answers n (L n d e) (piece (now (w .entry)) (e + 1) (d + 1)) (piece (now (w .entry)) 0 (e + 1)) (now (x .exit)) (now (y .exit)) r ⌝ }

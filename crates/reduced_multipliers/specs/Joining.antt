@@ -16,15 +16,19 @@ combination-flip {n} {f} {g} {u} {v} {c} x = record { sum = λ k. ap (λ (y : �
 -- only the words modulo n matter
 pub combination-same : (n : ℕ) → 1 ≤ n → (f f′ g g′ u u′ v v′ : List ℕ) (c : ℕ) → ((k : ℕ) → coef f k % n ≡ coef f′ k % n) → ((k : ℕ) → coef g k % n ≡ coef g′ k % n)
     → ((k : ℕ) → coef u k % n ≡ coef u′ k % n) → ((k : ℕ) → coef v k % n ≡ coef v′ k % n) → Combination n f g u v c → Combination n f′ g′ u′ v′ c
-combination-same n l f f′ g g′ u u′ v v′ c ef eg eu ev x = record { sum = λ k.
-    sym (plus-mod n _ _ _ _ (convolve-mod n l (coef u) (coef u′) (coef f) (coef f′) eu ef k) (convolve-mod n l (coef v) (coef v′) (coef g) (coef g′) ev eg k)) ∙ x .sum k }
+combination-same n l f f′ g g′ u u′ v v′ c ef eg eu ev x = record {
+  sum = λ k.
+      sym (plus-mod n _ _ _ _ (convolve-mod n l (coef u) (coef u′) (coef f) (coef f′) eu ef k) (convolve-mod n l (coef v) (coef v′) (coef g) (coef g′) ev eg k)) ∙ x .sum k;
+}
 
 -- the content c of both is a factor of what they combine to
 pub combination-content : (c n D : ℕ) → 1 ≤ c → 1 ≤ n → (f f′ g g′ u v : List ℕ) → Times (c * n) c f f′ → Times (c * n) c g g′ → Combination n f′ g′ u v D → Combination (c * n) f g u v (c * D)
-combination-content c n D p q f f′ g g′ u v tf tg x = record { sum = λ k.
-    plus-mod (c * n) _ _ _ _ (times u f f′ tf k) (times v g g′ tg k)
-    ∙ ap (λ (y : ℕ). y % (c * n)) (turn (convolve (coef u) (coef f′) k) (convolve (coef v) (coef g′) k))
-    ∙ lift-mod c n _ _ p q (x .sum k) ∙ ap (λ (y : ℕ). y % (c * n)) (sym (constant-times k)) }
+combination-content c n D p q f f′ g g′ u v tf tg x = record {
+  sum = λ k.
+      plus-mod (c * n) _ _ _ _ (times u f f′ tf k) (times v g g′ tg k)
+      ∙ ap (λ (y : ℕ). y % (c * n)) (turn (convolve (coef u) (coef f′) k) (convolve (coef v) (coef g′) k))
+      ∙ lift-mod c n _ _ p q (x .sum k) ∙ ap (λ (y : ℕ). y % (c * n)) (sym (constant-times k));
+}
   where
     times : (u f f′ : List ℕ) → Times (c * n) c f f′ → (k : ℕ) → convolve (coef u) (coef f) k % (c * n) ≡ (c * convolve (coef u) (coef f′) k) % (c * n)
     times u f f′ t k =
@@ -64,8 +68,10 @@ module _ (n₁ n₂ s t : ℕ) (p₁ : 1 ≤ n₁) (p₂ : 1 ≤ n₂) (bezout :
 
   pub combination-joined : (f g u u₁ u₂ v v₁ v₂ : List ℕ) → Mixed (n₁ * n₂) a b u₁ u₂ u → Mixed (n₁ * n₂) a b v₁ v₂ v
       → Combination n₁ f g u₁ v₁ D₁ → Combination n₂ f g u₂ v₂ D₂ → Combination (n₁ * n₂) f g u v (D₁ * D₂)
-  combination-joined f g u u₁ u₂ v v₁ v₂ mu mv c₁ c₂ = record { sum = λ k.
-      plus-mod (n₁ * n₂) _ _ _ _ (mixed u u₁ u₂ f mu k) (mixed v v₁ v₂ g mv k) ∙ ap (λ (z : ℕ). z % (n₁ * n₂)) (turn _ _ _ _) ∙ joined n₁ n₂ s t p₁ p₂ bezout _ _ (one k) (two k) }
+  combination-joined f g u u₁ u₂ v v₁ v₂ mu mv c₁ c₂ = record {
+    sum = λ k.
+        plus-mod (n₁ * n₂) _ _ _ _ (mixed u u₁ u₂ f mu k) (mixed v v₁ v₂ g mv k) ∙ ap (λ (z : ℕ). z % (n₁ * n₂)) (turn _ _ _ _) ∙ joined n₁ n₂ s t p₁ p₂ bezout _ _ (one k) (two k);
+  }
     where
       mixed : (u p q f : List ℕ) → Mixed (n₁ * n₂) a b p q u → (k : ℕ) → convolve (coef u) (coef f) k % (n₁ * n₂) ≡ (a * convolve (coef p) (coef f) k + b * convolve (coef q) (coef f) k) % (n₁ * n₂)
       mixed u p q f m k =

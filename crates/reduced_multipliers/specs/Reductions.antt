@@ -82,8 +82,10 @@ reduced-unity n l f g e = record {
   all = λ C _ _. record {
     u = [];
     v = C ∷ [];
-    combination = record { sum = λ k.
-        plus-mod n _ 0 _ (constant C k) (ap (λ (x : ℕ). x % n) (none k)) (ap (λ (x : ℕ). x % n) (convolve-constant C (coef g) k) ∙ times-mod n C (coef g k) (constant 1 k) (e k) ∙ ap (λ (x : ℕ). x % n) (go C k)) ∙ ap (λ (x : ℕ). x % n) (zero-add (constant C k)) };
+    combination = record {
+      sum = λ k.
+          plus-mod n _ 0 _ (constant C k) (ap (λ (x : ℕ). x % n) (none k)) (ap (λ (x : ℕ). x % n) (convolve-constant C (coef g) k) ∙ times-mod n C (coef g k) (constant 1 k) (e k) ∙ ap (λ (x : ℕ). x % n) (go C k)) ∙ ap (λ (x : ℕ). x % n) (zero-add (constant C k));
+    };
   };
 }
   where

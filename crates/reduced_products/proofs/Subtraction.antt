@@ -27,13 +27,13 @@ pub record Subtracting (n p lp q lq dst l j : ℕ) (w₀ w : List ℕ) : Type 0 
 
 pub subtracting-start : (n p lp q lq dst l : ℕ) (w : List ℕ) → Below n dst l w → Subtracting n p lp q lq dst l 0 w w
 subtracting-start n p lp q lq dst l w b = record {
-      around = record { same = refl; low = λ k h. refl; high = λ k h. refl };
-      below = b;
-      part = λ _. 0;
-      done = λ i h. absurd (omega arith);
-      rest = λ i h. refl;
-      at = λ k. c-eq (ap (λ (x : ℕ). x + coef (piece w dst l) k) (convolve-none (coef (piece w q lq)) k) ∙ zero-add _)
-    }
+  around = record { same = refl; low = λ k h. refl; high = λ k h. refl };
+  below = b;
+  part = λ _. 0;
+  done = λ i h. absurd (omega arith);
+  rest = λ i h. refl;
+  at = λ k. c-eq (ap (λ (x : ℕ). x + coef (piece w dst l) k) (convolve-none (coef (piece w q lq)) k) ∙ zero-add _);
+}
 
 pub subtracting-end : (n p lp q lq dst l j : ℕ) (w₀ w : List ℕ) → j ≡ lp → l ≡ lp + lq - 1 → Subtracting n p lp q lq dst l j w₀ w → Subtracted n p lp q lq dst w₀ w
 subtracting-end n p lp q lq dst l j w₀ w e el s =
@@ -61,22 +61,22 @@ advance : (n p lp q lq dst l j j' : ℕ) (w₀ w w' : List ℕ) (F : ℕ → ℕ
     → ((i : ℕ) → j ≤ i → i < j' → F i ≡ coef (piece w₀ p lp) i) → ((i : ℕ) → i < j → F i ≡ 0) → ((i : ℕ) → j' ≤ i → F i ≡ 0)
     → ((k : ℕ) → Cong n (convolve F (coef (piece w₀ q lq)) k + coef (piece w' dst l) k) (coef (piece w dst l) k)) → Subtracting n p lp q lq dst l j' w₀ w'
 advance n p lp q lq dst l j j' w₀ w w' F more s around below new old none turn = record {
-      around = record {
-        same = around .same ∙ s .around .same;
-        low = λ k h. around .low k h ∙ s .around .low k h;
-        high = λ k h. around .high k h ∙ s .around .high k h
-      };
-      below = below;
-      part = λ i. s .part i + F i;
-      done = λ i h. ⊎-elim
-        (λ b. ap₂ (λ (x y : ℕ). x + y) (s .done i b) (old i b) ∙ add-zero _)
-        (λ b. ap₂ (λ (x y : ℕ). x + y) (s .rest i b) (new i b h) ∙ zero-add _)
-        (lt-or-le i j);
-      rest = λ i h. ap₂ (λ (x y : ℕ). x + y) (s .rest i (omega arith)) (none i h);
-      at = λ k.
-        c-trans (c-eq (ap (λ (x : ℕ). x + coef (piece w' dst l) k) (convolve-add (s .part) F (coef (piece w₀ q lq)) k) ∙ add-assoc _ _ _))
-        (c-trans (c-add c-refl (turn k)) (s .at k))
-    }
+  around = record {
+    same = around .same ∙ s .around .same;
+    low = λ k h. around .low k h ∙ s .around .low k h;
+    high = λ k h. around .high k h ∙ s .around .high k h;
+  };
+  below = below;
+  part = λ i. s .part i + F i;
+  done = λ i h. ⊎-elim
+      (λ b. ap₂ (λ (x y : ℕ). x + y) (s .done i b) (old i b) ∙ add-zero _)
+      (λ b. ap₂ (λ (x y : ℕ). x + y) (s .rest i b) (new i b h) ∙ zero-add _)
+      (lt-or-le i j);
+  rest = λ i h. ap₂ (λ (x y : ℕ). x + y) (s .rest i (omega arith)) (none i h);
+  at = λ k.
+      c-trans (c-eq (ap (λ (x : ℕ). x + coef (piece w' dst l) k) (convolve-add (s .part) F (coef (piece w₀ q lq)) k) ∙ add-assoc _ _ _))
+      (c-trans (c-add c-refl (turn k)) (s .at k));
+}
 
 module _ (n p lp q lq dst l j m : ℕ) (w₀ w : List ℕ) (pos : 0 < n) (some : 1 ≤ lq) (apart-p : Apart p lp dst l) (apart-q : Apart q lq dst l) (small : m < n)
     (is-m : m ≡ getD w (p + j) 0) (s : Subtracting n p lp q lq dst l j w₀ w) where
@@ -104,10 +104,10 @@ module _ (n p lp q lq dst l j m : ℕ) (w₀ w : List ℕ) (pos : 0 < n) (some :
         ⊎-elim
         (λ h. none k (risen-low j Q k h) (⊎-elim (λ b. piece-at w' dst l k b ∙ mv .low (dst + k) (omega arith) ∙ sym (piece-at w dst l k b)) (λ b. piece-over w' dst l k b ∙ sym (piece-over w dst l k b)) (lt-or-le k l)))
         (λ h. ⊎-elim
-          (λ b. middle (k - j) (omega arith) (omega arith))
-          (λ b. none k (risen-at j Q k (k - j) (omega arith) ∙ over (k - j) (omega arith))
-            (⊎-elim (λ b'. piece-at w' dst l k b' ∙ mv .high (dst + k) (omega arith) ∙ sym (piece-at w dst l k b')) (λ b'. piece-over w' dst l k b' ∙ sym (piece-over w dst l k b')) (lt-or-le k l)))
-          (lt-or-le k (j + lq)))
+        (λ b. middle (k - j) (omega arith) (omega arith))
+        (λ b. none k (risen-at j Q k (k - j) (omega arith) ∙ over (k - j) (omega arith))
+        (⊎-elim (λ b'. piece-at w' dst l k b' ∙ mv .high (dst + k) (omega arith) ∙ sym (piece-at w dst l k b')) (λ b'. piece-over w' dst l k b' ∙ sym (piece-over w dst l k b')) (lt-or-le k l)))
+        (lt-or-le k (j + lq)))
         (lt-or-le k j)
       where
         none : (k : ℕ) → risen j Q k ≡ 0 → coef (piece w' dst l) k ≡ coef (piece w dst l) k → Cong n (m * risen j Q k + coef (piece w' dst l) k) (coef (piece w dst l) k)
@@ -118,18 +118,20 @@ module _ (n p lp q lq dst l j m : ℕ) (w₀ w : List ℕ) (pos : 0 < n) (some :
             let here : dst + k ≡ dst + j + i = omega arith in
             let there : dst + j + i ≡ dst + k = omega arith in
             c-trans (c-eq (ap₂ (λ (x y : ℕ). m * x + y) (risen-at j Q k i e)
-              (piece-at w' dst l k (omega arith) ∙ ap (λ (x : ℕ). getD w' x 0) here ∙ mv .mid i b
-              ∙ ap₂ (λ (x y : ℕ). (x + (n - m) * y) % n) (ap (λ (x : ℕ). getD w x 0) there) (read i b))))
+            (piece-at w' dst l k (omega arith) ∙ ap (λ (x : ℕ). getD w' x 0) here ∙ mv .mid i b
+            ∙ ap₂ (λ (x y : ℕ). (x + (n - m) * y) % n) (ap (λ (x : ℕ). getD w x 0) there) (read i b))))
             (c-trans (back n (getD w (dst + k) 0) m (Q i) small) (c-eq (sym (piece-at w dst l k (omega arith)))))
 
     single-below : Below n dst l w'
-    single-below = record { at = λ k h. ⊎-elim
+    single-below = record {
+      at = λ k h. ⊎-elim
           (λ b. subst (λ (x : ℕ). x < n) (sym (mv .low (dst + k) (omega arith))) (s .below .at k h))
           (λ b. ⊎-elim
-            (λ b'. let here : dst + k ≡ dst + j + (k - j) = omega arith in subst (λ (x : ℕ). x < n) (sym (ap (λ (x : ℕ). getD w' x 0) here ∙ mv .mid (k - j) (omega arith))) (mod-lt _ pos))
-            (λ b'. subst (λ (x : ℕ). x < n) (sym (mv .high (dst + k) (omega arith))) (s .below .at k h))
-            (lt-or-le k (j + lq)))
-          (lt-or-le k j) }
+          (λ b'. let here : dst + k ≡ dst + j + (k - j) = omega arith in subst (λ (x : ℕ). x < n) (sym (ap (λ (x : ℕ). getD w' x 0) here ∙ mv .mid (k - j) (omega arith))) (mod-lt _ pos))
+          (λ b'. subst (λ (x : ℕ). x < n) (sym (mv .high (dst + k) (omega arith))) (s .below .at k h))
+          (lt-or-le k (j + lq)))
+          (lt-or-le k j);
+    }
 
     pub subtracting-one : Subtracting n p lp q lq dst l (j + 1) w₀ w'
     unfolding Q
@@ -177,8 +179,8 @@ module _ (n p lp q lq dst l j m : ℕ) (w₀ w : List ℕ) (pos : 0 < n) (some :
         by k (behind Q i) (Q i) ((getD w (dst + k) 0 + (n - c) * behind Q i + (n - m) * Q i) % n) (getD w (dst + k) 0)
         (first i e h) (risen-at j Q k i e)
         (other k (omega arith) (λ d. omega arith) ∙ ap (λ (x : ℕ). getD w' x 0) here ∙ mv .mid i h
-          ∙ ap₂ (λ (x y : ℕ). (x + (n - c) * behind (λ (k : ℕ). getD w (q + k) 0) i + (n - m) * y) % n) (ap (λ (x : ℕ). getD w x 0) (sym here)) (read i h)
-          ∙ ap (λ (x : ℕ). (getD w (dst + k) 0 + (n - c) * x + (n - m) * Q i) % n) (seen i h))
+        ∙ ap₂ (λ (x y : ℕ). (x + (n - c) * behind (λ (k : ℕ). getD w (q + k) 0) i + (n - m) * y) % n) (ap (λ (x : ℕ). getD w x 0) (sym here)) (read i h)
+        ∙ ap (λ (x : ℕ). (getD w (dst + k) 0 + (n - c) * x + (n - m) * Q i) % n) (seen i h))
         (piece-at w dst l k (omega arith))
         (back-two n (getD w (dst + k) 0) c (behind Q i) m (Q i) small-c small)
       where
@@ -199,8 +201,8 @@ module _ (n p lp q lq dst l j m : ℕ) (w₀ w : List ℕ) (pos : 0 < n) (some :
         by k (Q (lq - 1)) 0 ((getD w (dst + k) 0 + (n - c) * Q (lq - 1)) % n) (getD w (dst + k) 0)
         (risen-at (suc j) Q k (lq - 1) (omega arith)) (risen-at j Q k lq e ∙ over lq (omega arith))
         (piece-at (set w' (dst + (j + lq)) v) dst l k (omega arith) ∙ ap (λ (x : ℕ). getD (set w' (dst + (j + lq)) v) (dst + x) 0) e
-          ∙ getD-set-same w' (dst + (j + lq)) v 0 (omega (arith, mv .same)) ∙ is-v
-          ∙ ap₂ (λ (x y : ℕ). (x + (n - c) * y) % n) (mv .high (dst + (j + lq)) (omega arith) ∙ ap (λ (x : ℕ). getD w (dst + x) 0) (sym e)) (kept ∙ read (lq - 1) (omega arith)))
+        ∙ getD-set-same w' (dst + (j + lq)) v 0 (omega (arith, mv .same)) ∙ is-v
+        ∙ ap₂ (λ (x y : ℕ). (x + (n - c) * y) % n) (mv .high (dst + (j + lq)) (omega arith) ∙ ap (λ (x : ℕ). getD w (dst + x) 0) (sym e)) (kept ∙ read (lq - 1) (omega arith)))
         (piece-at w dst l k (omega arith))
         (c-trans (c-eq (gap (c * Q (lq - 1)) ((getD w (dst + k) 0 + (n - c) * Q (lq - 1)) % n))) (back n (getD w (dst + k) 0) c (Q (lq - 1)) small-c))
       where
@@ -218,20 +220,20 @@ module _ (n p lp q lq dst l j m : ℕ) (w₀ w : List ℕ) (pos : 0 < n) (some :
         ⊎-elim
         (λ h. nothing k (risen-low (suc j) Q k (omega arith)) (risen-low j Q k h) (other k (omega arith) (λ e. omega arith) ∙ mv .low (dst + k) (omega arith) ∙ sym (piece-at w dst l k (omega arith))))
         (λ h. ⊎-elim
-          (λ b. middle k (k - j) (omega arith) (omega arith))
-          (λ b. ⊎-elim (λ e. top k (sym e))
-            (λ e. nothing k (risen-at (suc j) Q k (k - suc j) (omega arith) ∙ over (k - suc j) (omega arith)) (risen-at j Q k (k - j) (omega arith) ∙ over (k - j) (omega arith)) (same k (λ z. omega arith) e))
-            (eq-or-lt-of-le b))
-          (lt-or-le k (j + lq)))
+        (λ b. middle k (k - j) (omega arith) (omega arith))
+        (λ b. ⊎-elim (λ e. top k (sym e))
+        (λ e. nothing k (risen-at (suc j) Q k (k - suc j) (omega arith) ∙ over (k - suc j) (omega arith)) (risen-at j Q k (k - j) (omega arith) ∙ over (k - j) (omega arith)) (same k (λ z. omega arith) e))
+        (eq-or-lt-of-le b))
+        (lt-or-le k (j + lq)))
         (lt-or-le k j)
 
     around : Around dst l w W
     unfolding W
     around = record {
-          same = length-set w' (dst + (j + lq)) v ∙ mv .same;
-          low = λ k h. getD-set-other w' (dst + (j + lq)) k v 0 (omega arith) ∙ mv .low k (omega arith);
-          high = λ k h. getD-set-other w' (dst + (j + lq)) k v 0 (omega arith) ∙ mv .high k (omega arith)
-        }
+      same = length-set w' (dst + (j + lq)) v ∙ mv .same;
+      low = λ k h. getD-set-other w' (dst + (j + lq)) k v 0 (omega arith) ∙ mv .low k (omega arith);
+      high = λ k h. getD-set-other w' (dst + (j + lq)) k v 0 (omega arith) ∙ mv .high k (omega arith);
+    }
 
     below : Below n dst l W
     unfolding W
@@ -241,9 +243,9 @@ module _ (n p lp q lq dst l j m : ℕ) (w₀ w : List ℕ) (pos : 0 < n) (some :
         rest k h d = ⊎-elim
             (λ b. subst (λ (x : ℕ). x < n) (sym (mv .low (dst + k) (omega arith))) (s .below .at k h))
             (λ b. ⊎-elim
-              (λ b'. let here : dst + k ≡ dst + j + (k - j) = omega arith in subst (λ (x : ℕ). x < n) (sym (ap (λ (x : ℕ). getD w' x 0) here ∙ mv .mid (k - j) (omega arith))) (mod-lt _ pos))
-              (λ b'. subst (λ (x : ℕ). x < n) (sym (mv .high (dst + k) (omega arith))) (s .below .at k h))
-              (lt-or-le k (j + lq)))
+            (λ b'. let here : dst + k ≡ dst + j + (k - j) = omega arith in subst (λ (x : ℕ). x < n) (sym (ap (λ (x : ℕ). getD w' x 0) here ∙ mv .mid (k - j) (omega arith))) (mod-lt _ pos))
+            (λ b'. subst (λ (x : ℕ). x < n) (sym (mv .high (dst + k) (omega arith))) (s .below .at k h))
+            (lt-or-le k (j + lq)))
             (lt-or-le k j)
 
         go : (k : ℕ) → k < l → Dec (k ≡ j + lq) → getD (set w' (dst + (j + lq)) v) (dst + k) 0 < n
@@ -257,12 +259,12 @@ module _ (n p lp q lq dst l j m : ℕ) (w₀ w : List ℕ) (pos : 0 < n) (some :
     subtracting-two =
         advance n p lp q lq dst l j (j + 2) w₀ w (set w' (dst + (j + lq)) v) (λ i. spot (suc j) c i + spot j m i) (omega arith) s around below
         (λ i h b. ⊎-elim
-          (λ e. ap₂ (λ (x y : ℕ). x + y) (spot-low (suc j) c i (omega arith)) (spot-at j m i (sym e)) ∙ zero-add m ∙ word m i (is-m ∙ ap (λ (x : ℕ). getD w (p + x) 0) e) (omega arith))
-          (λ e. let z : j + 1 ≡ i = omega arith in
-            ap₂ (λ (x y : ℕ). x + y) (spot-at (suc j) c i (omega arith)) (spot-off j m i e) ∙ add-zero c ∙ word c i (is-c ∙ ap (λ (x : ℕ). getD w (p + x) 0) z) (omega arith))
-          (eq-or-lt-of-le h))
+        (λ e. ap₂ (λ (x y : ℕ). x + y) (spot-low (suc j) c i (omega arith)) (spot-at j m i (sym e)) ∙ zero-add m ∙ word m i (is-m ∙ ap (λ (x : ℕ). getD w (p + x) 0) e) (omega arith))
+        (λ e. let z : j + 1 ≡ i = omega arith in
+        ap₂ (λ (x y : ℕ). x + y) (spot-at (suc j) c i (omega arith)) (spot-off j m i e) ∙ add-zero c ∙ word c i (is-c ∙ ap (λ (x : ℕ). getD w (p + x) 0) z) (omega arith))
+        (eq-or-lt-of-le h))
         (λ i h. ap₂ (λ (x y : ℕ). x + y) (spot-low (suc j) c i (omega arith)) (spot-low j m i h))
         (λ i h. ap₂ (λ (x y : ℕ). x + y) (spot-off (suc j) c i (omega arith)) (spot-off j m i (omega arith)))
         (λ k. c-trans (c-eq (ap (λ (x : ℕ). x + coef (piece (set w' (dst + (j + lq)) v) dst l) k)
-            (convolve-add (spot (suc j) c) (spot j m) (coef (piece w₀ q lq)) k
-            ∙ ap₂ (λ (x y : ℕ). x + y) (convolve-spot (suc j) c (coef (piece w₀ q lq)) k) (convolve-spot j m (coef (piece w₀ q lq)) k)))) (turn k))
+        (convolve-add (spot (suc j) c) (spot j m) (coef (piece w₀ q lq)) k
+        ∙ ap₂ (λ (x y : ℕ). x + y) (convolve-spot (suc j) c (coef (piece w₀ q lq)) k) (convolve-spot j m (coef (piece w₀ q lq)) k)))) (turn k))

@@ -22,19 +22,19 @@ convolve-empty F k = ap (λ (a : ℕ → ℕ). convolve a F k) (fun-ext (λ i. c
 -- t words hold what is left
 pub taken-short : (n t p lp q lq dst : ℕ) (w w' : List ℕ) → 1 ≤ lp → 1 ≤ lq → lp + lq - 1 ≤ t → Subtracted n p lp q lq dst w w' → TakenFrom n t p lp q lq dst (lp + lq - 1) w w'
 taken-short n t p lp q lq dst w w' a b h s = record {
-      around = s .around;
-      below = s .below;
-      within = h;
-      most = omega arith;
-      some = omega arith;
-      full = λ _. refl;
-      zero = λ k l m. absurd (omega arith);
-      taken = record {
-        z = [];
-        at = λ k. ap (λ (x : ℕ). (x + convolve (coef (piece w p lp)) (coef (piece w q lq)) k + coef (piece w' dst (lp + lq - 1)) k) % n) (convolve-empty (coef (piece w 0 (t + 1))) k)
-          ∙ ap (λ (x : ℕ). (x + coef (piece w' dst (lp + lq - 1)) k) % n) (zero-add _) ∙ s .divided .at k
-      }
-    }
+  around = s .around;
+  below = s .below;
+  within = h;
+  most = omega arith;
+  some = omega arith;
+  full = λ _. refl;
+  zero = λ k l m. absurd (omega arith);
+  taken = record {
+    z = [];
+    at = λ k. ap (λ (x : ℕ). (x + convolve (coef (piece w p lp)) (coef (piece w q lq)) k + coef (piece w' dst (lp + lq - 1)) k) % n) (convolve-empty (coef (piece w 0 (t + 1))) k)
+        ∙ ap (λ (x : ℕ). (x + coef (piece w' dst (lp + lq - 1)) k) % n) (zero-add _) ∙ s .divided .at k;
+  };
+}
 
 module _ (n t p lp q lq dst l : ℕ) (w w₁ w₂ w₃ : List ℕ) (pos : 1 ≤ n) (one : 1 ≤ t) (fits : dst + l ≤ length w) (is-l : l ≡ lp + lq - 1) (over : t < l) (apart : t + 1 ≤ dst)
     (s : Subtracted n p lp q lq dst w w₁) (r : Remainder n 0 t dst (l - 1) w₁ w₂) (z : Moved zeroed (dst + t) (dst + t) (l - t) w₂ w₃) where
@@ -58,9 +58,9 @@ module _ (n t p lp q lq dst l : ℕ) (w w₁ w₂ w₃ : List ℕ) (pos : 1 ≤ 
       ⊎-elim
       (λ h. piece-at w₃ dst l k (omega arith) ∙ z .low (dst + k) (omega arith) ∙ sym (piece-at w₂ dst t k h))
       (λ h. ⊎-elim
-        (λ b. piece-at w₃ dst l k b ∙ nought k h b ∙ sym (piece-over w₂ dst t k h))
-        (λ b. piece-over w₃ dst l k b ∙ sym (piece-over w₂ dst t k h))
-        (lt-or-le k l))
+      (λ b. piece-at w₃ dst l k b ∙ nought k h b ∙ sym (piece-over w₂ dst t k h))
+      (λ b. piece-over w₃ dst l k b ∙ sym (piece-over w₂ dst t k h))
+      (lt-or-le k l))
       (lt-or-le k t)
 
   shorter : l - 1 + 1 ≡ l
@@ -76,23 +76,27 @@ module _ (n t p lp q lq dst l : ℕ) (w w₁ w₂ w₃ : List ℕ) (pos : 1 ≤ 
       turn a b c = omega arith
 
       rest : Cong n (convolve (coef Z) (coef (piece w 0 (t + 1))) k + coef (piece w₃ dst l) k) (coef (piece w₁ dst l) k)
-      rest = record { same =
-          ap₂ (λ (F : ℕ → ℕ) (f : List ℕ). (convolve F (coef f) k + coef (piece w₃ dst l) k) % n) (fun-ext Z-at) (sym kept)
-          ∙ ap (λ (x : ℕ). (convolve (r .q) (coef (piece w₁ 0 (t + 1))) k + x) % n) (left k)
-          ∙ r .at k ∙ ap (λ (x : ℕ). coef (piece w₁ dst x) k % n) shorter }
+      rest = record {
+        same =
+            ap₂ (λ (F : ℕ → ℕ) (f : List ℕ). (convolve F (coef f) k + coef (piece w₃ dst l) k) % n) (fun-ext Z-at) (sym kept)
+            ∙ ap (λ (x : ℕ). (convolve (r .q) (coef (piece w₁ 0 (t + 1))) k + x) % n) (left k)
+            ∙ r .at k ∙ ap (λ (x : ℕ). coef (piece w₁ dst x) k % n) shorter;
+      }
 
   around : Around dst l w w₃
   around = record {
-        same = z .same ∙ r .around .same ∙ s .around .same;
-        low = λ k h. z .low k (omega arith) ∙ r .around .low k h ∙ s .around .low k h;
-        high = λ k h. z .high k (omega arith) ∙ r .around .high k (omega arith) ∙ s .around .high k (omega arith)
-      }
+    same = z .same ∙ r .around .same ∙ s .around .same;
+    low = λ k h. z .low k (omega arith) ∙ r .around .low k h ∙ s .around .low k h;
+    high = λ k h. z .high k (omega arith) ∙ r .around .high k (omega arith) ∙ s .around .high k (omega arith);
+  }
 
   below : Below n dst l w₃
-  below = record { at = λ k h. ⊎-elim
+  below = record {
+    at = λ k h. ⊎-elim
         (λ b. subst (λ (x : ℕ). x < n) (sym (z .low (dst + k) (omega arith))) (r .below .at k (omega arith)))
         (λ b. subst (λ (x : ℕ). x < n) (sym (nought k b h)) pos)
-        (lt-or-le k t) }
+        (lt-or-le k t);
+  }
 
   pub taken-long : TakenFrom n t p lp q lq dst t w w₃
   unfolding Z
@@ -104,10 +108,10 @@ module _ (n t p lp q lq dst l : ℕ) (w w₁ w₂ w₃ : List ℕ) (pos : 1 ≤ 
 -- the divisor at 0, and what it divides
 pub pair-at : (n t p lp q lq dst l : ℕ) (w w₁ : List ℕ) → l ≡ lp + lq - 1 → t < l → t + 1 ≤ dst → MonicAt n t w → Subtracted n p lp q lq dst w w₁ → Pair n 0 t dst (l - 1) w₁
 pair-at n t p lp q lq dst l w w₁ is-l over apart m s = record {
-      first = record { at = λ k h. subst (λ (x : ℕ). x < n) (sym (s .around .low (0 + k) (omega arith))) (m .below .at k h) };
-      second = record { at = λ k h. s .below .at k (omega arith) };
-      apart = record { ok = λ i j a b e. omega arith }
-    }
+  first = record { at = λ k h. subst (λ (x : ℕ). x < n) (sym (s .around .low (0 + k) (omega arith))) (m .below .at k h) };
+  second = record { at = λ k h. s .below .at k (omega arith) };
+  apart = record { ok = λ i j a b e. omega arith };
+}
 
 pub unit-at : (n t p lp q lq dst : ℕ) (w w₁ : List ℕ) → t + 1 ≤ dst → MonicAt n t w → Subtracted n p lp q lq dst w w₁ → (1 * getD w₁ (0 + t) 0) % n ≡ 1 % n
 unit-at n t p lp q lq dst w w₁ apart m s =

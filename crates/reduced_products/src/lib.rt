@@ -30,7 +30,16 @@ pub fn sub_product(w: &mut [u32], n: u32, p: usize, lp: usize, q: usize, lq: usi
 }
 
 // As `sub_product`, modulo the monic polynomial of degree t at 0 where t words do not hold what is left. Answers the number of words left.
-pub fn take_product(w: &mut [u32], n: u32, t: usize, p: usize, lp: usize, q: usize, lq: usize, dst: usize) -> usize
+pub fn take_product(
+    w: &mut [u32],
+    n: u32,
+    t: usize,
+    p: usize,
+    lp: usize,
+    q: usize,
+    lq: usize,
+    dst: usize,
+) -> usize
     requires { ⌜ (1 ≤ n) × ((1 ≤ lp) × ((1 ≤ lq) × ((p + lp ≤ length (now w)) × ((q + lq ≤ length (now w)) × (dst + (lp + lq - 1) ≤ length (now w)))))) ⌝ }
     requires { ⌜ (Factors n p lp q lq dst (now w)) × ((1 ≤ t) × ((t + 1 ≤ dst) × MonicAt n t (now w))) ⌝ }
     ensures { λ r. ⌜ TakenFrom n t p lp q lq dst r (now (w .entry)) (now (w .exit)) ⌝ }

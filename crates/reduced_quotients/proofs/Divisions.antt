@@ -50,11 +50,11 @@ module _ (n up k zp lz len : ℕ) (w w₁ : List ℕ) (two : 2 ≤ n) (one : 1 �
 
     pub over-factors : Factors n (up + (k + 1)) len zp lz (up + (k + 1) + len) w₂
     over-factors = record {
-          first = below-apart (apart-low (up + (k + 1)) len (up + (k + 1) + len) (len + lz - 1) (omega arith)) cleared (ng .below);
-          product = record { at = λ i h. subst (λ (x : ℕ). x < n) (sym (cl .mid i h)) (omega arith) };
-          apart-first = apart-low (up + (k + 1)) len (up + (k + 1) + len) (len + lz - 1) (omega arith);
-          apart-second = apart-low zp lz (up + (k + 1) + len) (len + lz - 1) (omega arith)
-        }
+      first = below-apart (apart-low (up + (k + 1)) len (up + (k + 1) + len) (len + lz - 1) (omega arith)) cleared (ng .below);
+      product = record { at = λ i h. subst (λ (x : ℕ). x < n) (sym (cl .mid i h)) (omega arith) };
+      apart-first = apart-low (up + (k + 1)) len (up + (k + 1) + len) (len + lz - 1) (omega arith);
+      apart-second = apart-low zp lz (up + (k + 1) + len) (len + lz - 1) (omega arith);
+    }
 
     module _ (w₃ x₀ x : List ℕ) (sb : Subtracted n (up + (k + 1)) len zp lz (up + (k + 1) + len) w₂ w₃)
         (ld : Loaded n 0 (piece w₃ (up + (k + 1) + len) (len + lz - 1)) (replicate (length x₀) 0) x) where
@@ -84,15 +84,17 @@ module _ (n up k zp lz len : ℕ) (w w₁ : List ℕ) (two : 2 ≤ n) (one : 1 �
 
       pub over-first : OverFirst n up k zp lz w x
       over-first = record {
-            j = piece w₁ (up + (k + 1)) len;
-            inverse = ng .inverse;
-            divided = record { at = λ i.
+        j = piece w₁ (up + (k + 1)) len;
+        inverse = ng .inverse;
+        divided = record {
+          at = λ i.
               c-trans (c-add (c-refl {a = convolve (coef (piece w₁ (up + (k + 1)) len)) (coef (piece w zp lz)) i}) (c-trans (c-eq (word i)) (c-mod _)))
               (c-trans (c-eq (ap₂ (λ (f g : List ℕ). convolve (coef f) (coef g) i + coef (piece w₃ (up + (k + 1) + len) (len + lz - 1)) i) (sym same-j) (sym same-z)))
-              (c-trans (record { same = sb .divided .at i }) (c-eq (none i)))) .same };
-            below = λ i. subst (λ (y : ℕ). y < n) (sym (word i)) (mod-lt _ (omega arith));
-            short = λ i h. word i ∙ ap (λ (y : ℕ). y % n) (piece-over w₃ (up + (k + 1) + len) (len + lz - 1) i (omega (arith, ng .is-len))) ∙ zero-mod n
-          }
+              (c-trans (record { same = sb .divided .at i }) (c-eq (none i)))) .same;
+        };
+        below = λ i. subst (λ (y : ℕ). y < n) (sym (word i)) (mod-lt _ (omega arith));
+        short = λ i h. word i ∙ ap (λ (y : ℕ). y % n) (piece-over w₃ (up + (k + 1) + len) (len + lz - 1) i (omega (arith, ng .is-len))) ∙ zero-mod n;
+      }
 
 -- ---- by H
 
@@ -100,10 +102,10 @@ module _ (n e q t c v : ℕ) (w w₁ : List ℕ) (two : 2 ≤ n) (one : 1 ≤ t)
     (lead : getD w (q + t) 0 ≡ 1) (below-v : Below n (q + (t + 1)) t w) (cl : Moved zeroed (q + 2 * (t + 1)) (q + 2 * (t + 1)) (t + e + 1) w w₁) (is-v : v ≡ c % n) where
   quotient-start : Around (q + 2 * (t + 1)) (t + e + 1) w (set w₁ (q + 2 * (t + 1)) v)
   quotient-start = record {
-        same = length-set w₁ (q + 2 * (t + 1)) v ∙ cl .same;
-        low = λ k h. getD-set-other w₁ (q + 2 * (t + 1)) k v 0 (omega arith) ∙ cl .low k h;
-        high = λ k h. getD-set-other w₁ (q + 2 * (t + 1)) k v 0 (omega arith) ∙ cl .high k h
-      }
+    same = length-set w₁ (q + 2 * (t + 1)) v ∙ cl .same;
+    low = λ k h. getD-set-other w₁ (q + 2 * (t + 1)) k v 0 (omega arith) ∙ cl .low k h;
+    high = λ k h. getD-set-other w₁ (q + 2 * (t + 1)) k v 0 (omega arith) ∙ cl .high k h;
+  }
 
   -- the words of the constant
   first-word : (k : ℕ) → k < t + e + 1 → getD (set w₁ (q + 2 * (t + 1)) v) (q + 2 * (t + 1) + k) 0 ≡ constant v k
@@ -122,11 +124,11 @@ module _ (n e q t c v : ℕ) (w w₁ : List ℕ) (two : 2 ≤ n) (one : 1 ≤ t)
 
   pub quotient-factors : Factors n (q + (t + 1)) t 0 (e + 1) (q + 2 * (t + 1)) (set w₁ (q + 2 * (t + 1)) v)
   quotient-factors = record {
-        first = below-apart (apart-low (q + (t + 1)) t (q + 2 * (t + 1)) (t + e + 1) (omega arith)) quotient-start below-v;
-        product = record { at = λ k h. below-start .at k (omega arith) };
-        apart-first = apart-low (q + (t + 1)) t (q + 2 * (t + 1)) (t + (e + 1) - 1) (omega arith);
-        apart-second = apart-low 0 (e + 1) (q + 2 * (t + 1)) (t + (e + 1) - 1) (omega arith)
-      }
+    first = below-apart (apart-low (q + (t + 1)) t (q + 2 * (t + 1)) (t + e + 1) (omega arith)) quotient-start below-v;
+    product = record { at = λ k h. below-start .at k (omega arith) };
+    apart-first = apart-low (q + (t + 1)) t (q + 2 * (t + 1)) (t + (e + 1) - 1) (omega arith);
+    apart-second = apart-low 0 (e + 1) (q + 2 * (t + 1)) (t + (e + 1) - 1) (omega arith);
+  }
 
   module _ (w₃ : List ℕ) (sb : Subtracted n (q + (t + 1)) t 0 (e + 1) (q + 2 * (t + 1)) (set w₁ (q + 2 * (t + 1)) v) w₃) where
     later : Around (q + 2 * (t + 1)) (t + e + 1) (set w₁ (q + 2 * (t + 1)) v) w₃
@@ -144,11 +146,13 @@ module _ (n e q t c v : ℕ) (w w₁ : List ℕ) (two : 2 ≤ n) (one : 1 ≤ t)
 
     pub quotient-pair : Pair n q t (q + 2 * (t + 1)) (t + e) w₃
     quotient-pair = record {
-          first = below-apart apart-h later (below-apart apart-h quotient-start below-h);
-          second = record { at = λ k h. ⊎-elim (λ b. sb .below .at k (omega arith))
-            (λ b. let here : t + e ≡ k = omega arith in subst (λ (x : ℕ). getD w₃ (q + 2 * (t + 1) + x) 0 < n) here (subst (λ (x : ℕ). x < n) (sym top) (omega arith))) (lt-or-le k (t + e)) };
-          apart = record { ok = λ i j a b h. omega arith }
-        }
+      first = below-apart apart-h later (below-apart apart-h quotient-start below-h);
+      second = record {
+        at = λ k h. ⊎-elim (λ b. sb .below .at k (omega arith))
+            (λ b. let here : t + e ≡ k = omega arith in subst (λ (x : ℕ). getD w₃ (q + 2 * (t + 1) + x) 0 < n) here (subst (λ (x : ℕ). x < n) (sym top) (omega arith))) (lt-or-le k (t + e));
+      };
+      apart = record { ok = λ i j a b h. omega arith };
+    }
 
     lead₃ : getD w₃ (q + t) 0 ≡ 1
     lead₃ = later .low (q + t) (omega arith) ∙ quotient-start .low (q + t) (omega arith) ∙ lead
@@ -174,9 +178,9 @@ module _ (n e q t c v : ℕ) (w w₁ : List ℕ) (two : 2 ≤ n) (one : 1 ≤ t)
       longer k = ⊎-elim
           (λ h. piece-at w₃ (q + 2 * (t + 1)) (t + e + 1) k (omega arith) ∙ sym (piece-at w₃ (q + 2 * (t + 1)) (t + (e + 1) - 1) k (omega arith)))
           (λ h. ⊎-elim
-            (λ b. let here : k ≡ t + e = omega arith in piece-at w₃ (q + 2 * (t + 1)) (t + e + 1) k b ∙ ap (λ (x : ℕ). getD w₃ (q + 2 * (t + 1) + x) 0) here ∙ top)
-            (λ b. piece-over w₃ (q + 2 * (t + 1)) (t + e + 1) k b) (lt-or-le k (t + e + 1))
-            ∙ sym (piece-over w₃ (q + 2 * (t + 1)) (t + (e + 1) - 1) k (omega arith)))
+          (λ b. let here : k ≡ t + e = omega arith in piece-at w₃ (q + 2 * (t + 1)) (t + e + 1) k b ∙ ap (λ (x : ℕ). getD w₃ (q + 2 * (t + 1) + x) 0) here ∙ top)
+          (λ b. piece-over w₃ (q + 2 * (t + 1)) (t + e + 1) k b) (lt-or-le k (t + e + 1))
+          ∙ sym (piece-over w₃ (q + 2 * (t + 1)) (t + (e + 1) - 1) k (omega arith)))
           (lt-or-le k (t + e))
 
       start-at : (k : ℕ) → coef (piece (set w₁ (q + 2 * (t + 1)) v) (q + 2 * (t + 1)) (t + (e + 1) - 1)) k % n ≡ constant c k % n
@@ -198,17 +202,19 @@ module _ (n e q t c v : ℕ) (w w₁ : List ℕ) (two : 2 ≤ n) (one : 1 ≤ t)
 
       pub exact-quotient : ExactQuotient n e q t c w w₄
       exact-quotient = record {
-            around = record {
-              same = dv .around .same ∙ sb .around .same ∙ quotient-start .same;
-              low = λ k h. dv .around .low k h ∙ later .low k h ∙ quotient-start .low k h;
-              high = λ k h. dv .around .high k (omega arith) ∙ later .high k h ∙ quotient-start .high k h
-            };
-            s = piece (set w₁ (q + 2 * (t + 1)) v) (q + 2 * (t + 1)) (t + (e + 1) - 1);
-            r = piece w₃ (q + 2 * (t + 1)) (t + e + 1);
-            start = start-at;
-            product = record { at = λ k.
+        around = record {
+          same = dv .around .same ∙ sb .around .same ∙ quotient-start .same;
+          low = λ k h. dv .around .low k h ∙ later .low k h ∙ quotient-start .low k h;
+          high = λ k h. dv .around .high k (omega arith) ∙ later .high k h ∙ quotient-start .high k h;
+        };
+        s = piece (set w₁ (q + 2 * (t + 1)) v) (q + 2 * (t + 1)) (t + (e + 1) - 1);
+        r = piece w₃ (q + 2 * (t + 1)) (t + e + 1);
+        start = start-at;
+        product = record {
+          at = λ k.
               ap₂ (λ (f g : List ℕ). (convolve (coef f) (coef g) k + coef (piece w₃ (q + 2 * (t + 1)) (t + e + 1)) k) % n) (sym same-v) (sym same-g)
-              ∙ ap (λ (x : ℕ). (convolve (coef (piece (set w₁ (q + 2 * (t + 1)) v) (q + (t + 1)) t)) (coef (piece (set w₁ (q + 2 * (t + 1)) v) 0 (e + 1))) k + x) % n) (longer k) ∙ sb .divided .at k };
-            divided = subst (λ (x : ℕ). Divided n (piece w₃ (q + 2 * (t + 1)) (t + e + 1)) (piece w q (t + 1)) (piece w₄ (q + 2 * (t + 1) + t) x) (piece w₄ (q + 2 * (t + 1)) t)) less
-              (subst (λ (f : List ℕ). Divided n (piece w₃ (q + 2 * (t + 1)) (t + e + 1)) f (piece w₄ (q + 2 * (t + 1) + t) (t + e + 1 - t)) (piece w₄ (q + 2 * (t + 1)) t)) same-h (dv .divided))
-          }
+              ∙ ap (λ (x : ℕ). (convolve (coef (piece (set w₁ (q + 2 * (t + 1)) v) (q + (t + 1)) t)) (coef (piece (set w₁ (q + 2 * (t + 1)) v) 0 (e + 1))) k + x) % n) (longer k) ∙ sb .divided .at k;
+        };
+        divided = subst (λ (x : ℕ). Divided n (piece w₃ (q + 2 * (t + 1)) (t + e + 1)) (piece w q (t + 1)) (piece w₄ (q + 2 * (t + 1) + t) x) (piece w₄ (q + 2 * (t + 1)) t)) less
+            (subst (λ (f : List ℕ). Divided n (piece w₃ (q + 2 * (t + 1)) (t + e + 1)) f (piece w₄ (q + 2 * (t + 1) + t) (t + e + 1 - t)) (piece w₄ (q + 2 * (t + 1)) t)) same-h (dv .divided));
+      }

@@ -41,11 +41,11 @@ module _ (n e q t : ℕ) (w w₁ w₂ : List ℕ) (pos : 1 ≤ n) (one : 1 ≤ t
   -- G is shorter than H
   pub rest-short : e + 1 < t → RestAt n e q t w w₂
   rest-short short = record {
-        around = start;
-        below = record { at = λ k h. small k (omega arith) };
-        z = [];
-        divided = record { at = λ k. ap (λ (x : ℕ). (x + coef (piece w₂ (q + 8 * (t + 1)) t) k) % n) (convolve-empty (coef (piece w q (t + 1))) k) ∙ ap (λ (x : ℕ). x % n) (zero-add _ ∙ same k) }
-      }
+    around = start;
+    below = record { at = λ k h. small k (omega arith) };
+    z = [];
+    divided = record { at = λ k. ap (λ (x : ℕ). (x + coef (piece w₂ (q + 8 * (t + 1)) t) k) % n) (convolve-empty (coef (piece w q (t + 1))) k) ∙ ap (λ (x : ℕ). x % n) (zero-add _ ∙ same k) };
+  }
     where
       same : (k : ℕ) → coef (piece w₂ (q + 8 * (t + 1)) t) k ≡ coef (piece w 0 (e + 1)) k
       same k = ⊎-elim
@@ -58,10 +58,10 @@ module _ (n e q t : ℕ) (w w₁ w₂ : List ℕ) (pos : 1 ≤ n) (one : 1 ≤ t
 
   pub rest-pair : Pair n q t (q + 8 * (t + 1)) e w₂
   rest-pair = record {
-        first = below-apart apart-h start below-h;
-        second = record { at = λ k h. small k (omega arith) };
-        apart = record { ok = λ i j a b h. omega arith }
-      }
+    first = below-apart apart-h start below-h;
+    second = record { at = λ k h. small k (omega arith) };
+    apart = record { ok = λ i j a b h. omega arith };
+  }
 
   pub rest-unit : (1 * getD w₂ (q + t) 0) % n ≡ 1 % n
   rest-unit = ap (λ (x : ℕ). x % n) (one-mul _ ∙ start .low (q + t) (omega arith) ∙ lead)
@@ -71,17 +71,19 @@ module _ (n e q t : ℕ) (w w₁ w₂ : List ℕ) (pos : 1 ≤ n) (one : 1 ≤ t
 
   pub rest-long : t ≤ e + 1 → (w₃ : List ℕ) → Remainder n q t (q + 8 * (t + 1)) e w₂ w₃ → RestAt n e q t w w₃
   rest-long long w₃ r = record {
-        around = record {
-          same = r .around .same ∙ start .same;
-          low = λ k h. r .around .low k h ∙ start .low k h;
-          high = λ k h. r .around .high k (omega arith) ∙ start .high k h
-        };
-        below = record { at = λ k h. r .below .at k (omega arith) };
-        z = tabulate (e + 1) (r .q);
-        divided = record { at = λ k.
+    around = record {
+      same = r .around .same ∙ start .same;
+      low = λ k h. r .around .low k h ∙ start .low k h;
+      high = λ k h. r .around .high k (omega arith) ∙ start .high k h;
+    };
+    below = record { at = λ k h. r .below .at k (omega arith) };
+    z = tabulate (e + 1) (r .q);
+    divided = record {
+      at = λ k.
           ap₂ (λ (F : ℕ → ℕ) (f : List ℕ). (convolve F (coef f) k + coef (piece w₃ (q + 8 * (t + 1)) t) k) % n) (fun-ext (coef-whole (e + 1) (r .q) (λ i h. r .top i (omega arith)))) (sym same-h)
-          ∙ r .at k ∙ ap (λ (f : List ℕ). coef f k % n) same-g }
-      }
+          ∙ r .at k ∙ ap (λ (f : List ℕ). coef f k % n) same-g;
+    };
+  }
     where
       same-h : piece w₂ q (t + 1) ≡ piece w q (t + 1)
       same-h = piece-apart apart-h start (omega arith)
@@ -117,16 +119,16 @@ module _ (n e q t : ℕ) (w w₁ w₂ w₃ w₄ : List ℕ) (pos : 1 ≤ n) (one
 
   pub prepared : Prepared n e q t w (set w₄ (q + 6 * (t + 1)) 1)
   prepared = record {
-        same = length-set w₄ (q + 6 * (t + 1)) 1 ∙ long;
-        low = low;
-        first = piece-equal w (set w₄ (q + 6 * (t + 1)) 1) q (q + 2 * (t + 1)) (t + 1) (omega arith) (omega (arith, length-set w₄ (q + 6 * (t + 1)) 1, long)) first-word;
-        second = record { at = λ k h. subst (λ (x : ℕ). x < n) (sym (second-word k h)) (rs .below .at k h) };
-        z = rs .z;
-        divided = subst (Divided n (piece w 0 (e + 1)) (piece w q (t + 1)) (rs .z))
-          (sym (piece-equal w₁ (set w₄ (q + 6 * (t + 1)) 1) (q + 8 * (t + 1)) (q + 3 * (t + 1)) t (omega (arith, rs .around .same)) (omega (arith, length-set w₄ (q + 6 * (t + 1)) 1, long)) second-word)) (rs .divided);
-        none = λ k h. getD-set-other w₄ (q + 6 * (t + 1)) (q + 4 * (t + 1) + k) 1 0 (omega arith) ∙ cl .mid k (omega arith);
-        one = λ k h. unity k h
-      }
+    same = length-set w₄ (q + 6 * (t + 1)) 1 ∙ long;
+    low = low;
+    first = piece-equal w (set w₄ (q + 6 * (t + 1)) 1) q (q + 2 * (t + 1)) (t + 1) (omega arith) (omega (arith, length-set w₄ (q + 6 * (t + 1)) 1, long)) first-word;
+    second = record { at = λ k h. subst (λ (x : ℕ). x < n) (sym (second-word k h)) (rs .below .at k h) };
+    z = rs .z;
+    divided = subst (Divided n (piece w 0 (e + 1)) (piece w q (t + 1)) (rs .z))
+        (sym (piece-equal w₁ (set w₄ (q + 6 * (t + 1)) 1) (q + 8 * (t + 1)) (q + 3 * (t + 1)) t (omega (arith, rs .around .same)) (omega (arith, length-set w₄ (q + 6 * (t + 1)) 1, long)) second-word)) (rs .divided);
+    none = λ k h. getD-set-other w₄ (q + 6 * (t + 1)) (q + 4 * (t + 1) + k) 1 0 (omega arith) ∙ cl .mid k (omega arith);
+    one = λ k h. unity k h;
+  }
     where
       unity : (k : ℕ) → k < 2 * (t + 1) → getD (set w₄ (q + 6 * (t + 1)) 1) (q + 6 * (t + 1) + k) 0 ≡ constant 1 k
       unity zero h = ap (λ (x : ℕ). getD (set w₄ (q + 6 * (t + 1)) 1) x 0) (add-zero (q + 6 * (t + 1))) ∙ getD-set-same w₄ (q + 6 * (t + 1)) 1 0 prepared-room

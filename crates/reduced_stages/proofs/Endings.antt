@@ -43,12 +43,12 @@ module _ (n ν t pa a pb al be l i : ℕ) (w w' : List ℕ) (st : Stage n ν t p
 
   pub unit-solved : Solved n ν t pa a pb a al be 1 w w'
   unit-solved = record {
-        reduced = reduced-unit-constant ν i (omega (arith, st .above)) (piece w pa (a + 1)) (piece w pb a) (λ k h. piece-over w pb a k (omega arith)) (word 0);
-        below = record { at = λ k h. subst (λ (x : ℕ). x < n) (sym (mv .mid k h)) (mod-lt _ (st .positive)) };
-        completes = λ g m p e x y.
-          subst (Completes n (piece w 0 (t + 1)) g (piece w' (t + 1) t)) (sym (mul-one m))
-          (leads-unity n m ν i p (omega (arith, st .above)) e (piece w 0 (t + 1)) g (piece w be (2 * (t + 1))) (piece w' (t + 1) t) (piece w pb a) found word y)
-      }
+    reduced = reduced-unit-constant ν i (omega (arith, st .above)) (piece w pa (a + 1)) (piece w pb a) (λ k h. piece-over w pb a k (omega arith)) (word 0);
+    below = record { at = λ k h. subst (λ (x : ℕ). x < n) (sym (mv .mid k h)) (mod-lt _ (st .positive)) };
+    completes = λ g m p e x y.
+        subst (Completes n (piece w 0 (t + 1)) g (piece w' (t + 1) t)) (sym (mul-one m))
+        (leads-unity n m ν i p (omega (arith, st .above)) e (piece w 0 (t + 1)) g (piece w be (2 * (t + 1))) (piece w' (t + 1) t) (piece w pb a) found word y);
+  }
 
 -- the leading word of B is a unit
 pub leading-inverse : (ν x g s : ℕ) → GcdCofactor ν x g s → g ≡ 1 → (s * x) % ν ≡ 1 % ν
@@ -74,12 +74,12 @@ module _ (n ν t pa a pb al be l c s l' : ℕ) (w w₁ : List ℕ) (st : Stage n
 
   pub cleared-splitter : (p q : ℕ) → Splitter (ν / c) p q → Splitter ν p q
   cleared-splitter p q x = record {
-        divides₁ = dvd-trans p (x .divides₁) less;
-        divides₂ = dvd-trans q (x .divides₂) less;
-        above₁ = x .above₁;
-        above₂ = x .above₂;
-        coprime = x .coprime
-      }
+    divides₁ = dvd-trans p (x .divides₁) less;
+    divides₂ = dvd-trans q (x .divides₂) less;
+    above₁ = x .above₁;
+    above₂ = x .above₂;
+    coprime = x .coprime;
+  }
     where
       less : ν / c ∣ ν
       less = subst (λ (x : ℕ). ν / c ∣ x) whole (dvd-mul-left (ν / c) c)
@@ -93,12 +93,12 @@ module _ (n ν t pa a pb al be l c s l' : ℕ) (w w₁ : List ℕ) (st : Stage n
 
     pub cleared-solved : Solved n ν t pa a pb a al be (c * D) w w'
     cleared-solved = record {
-          reduced = cl .change .reduced D (sv .reduced);
-          below = sv .below;
-          completes = λ g m p e x y.
-            subst (Completes n (piece w 0 (t + 1)) g (piece w' (t + 1) t)) (mul-assoc m c D)
-            (subst (λ (h : List ℕ). Completes n h g (piece w' (t + 1) t) (m * c * D)) same-h
-            (sv .completes g (m * c) (mul-pos p (cl .positive)) (e ∙ ap (λ (z : ℕ). m * z) (sym whole) ∙ sym (mul-assoc m c (ν / c)))
-            (subst (λ (h : List ℕ). Leads n (m * c) h g (piece w₁ al (2 * (t + 1))) (piece w₁ pa (a + 1))) (sym same-h) (cl .change .first g m p e x))
-            (subst (λ (h : List ℕ). Leads n (m * c) h g (piece w₁ be (2 * (t + 1))) (piece w₁ pb (s + 1))) (sym same-h) (cl .change .second g m p e y))))
-        }
+      reduced = cl .change .reduced D (sv .reduced);
+      below = sv .below;
+      completes = λ g m p e x y.
+          subst (Completes n (piece w 0 (t + 1)) g (piece w' (t + 1) t)) (mul-assoc m c D)
+          (subst (λ (h : List ℕ). Completes n h g (piece w' (t + 1) t) (m * c * D)) same-h
+          (sv .completes g (m * c) (mul-pos p (cl .positive)) (e ∙ ap (λ (z : ℕ). m * z) (sym whole) ∙ sym (mul-assoc m c (ν / c)))
+          (subst (λ (h : List ℕ). Leads n (m * c) h g (piece w₁ al (2 * (t + 1))) (piece w₁ pa (a + 1))) (sym same-h) (cl .change .first g m p e x))
+          (subst (λ (h : List ℕ). Leads n (m * c) h g (piece w₁ be (2 * (t + 1))) (piece w₁ pb (s + 1))) (sym same-h) (cl .change .second g m p e y))));
+    }

@@ -26,10 +26,10 @@ module _ (n ν t pa a pb b al be l : ℕ) (w : List ℕ) (low : b < a) (one : 1 
   -- what the division asks
   pub step-pair : Pair ν pb b pa a w
   step-pair = record {
-        first = st .second;
-        second = st .first;
-        apart = record { ok = λ i j p q e. st .places .polynomials .ok j i (omega (arith, st .within)) (omega (arith, st .within)) (sym e) }
-      }
+    first = st .second;
+    second = st .first;
+    apart = record { ok = λ i j p q e. st .places .polynomials .ok j i (omega (arith, st .within)) (omega (arith, st .within)) (sym e) };
+  }
 
   small : ν ≤ n
   small = le-of-dvd (st .positive) (st .divides)
@@ -50,11 +50,11 @@ module _ (n ν t pa a pb b al be l : ℕ) (w : List ℕ) (low : b < a) (one : 1 
     -- what the product asks
     pub step-factors : Factors n (pa + b) (a + 1 - b) be l al w₁
     step-factors = record {
-          first = record { at = λ k h. lower (subst (λ (x : ℕ). getD w₁ x 0 < ν) (sym (add-assoc pa b k)) (dv .below .at (b + k) (omega arith))) };
-          product = record { at = λ k h. below-apart apart-al (dv .around) (st .alpha .below) .at k (omega (arith, st .within, st .most, st .some)) };
-          apart-first = apart-low (pa + b) (a + 1 - b) al (a + 1 - b + l - 1) (omega (arith, st .within, st .places .a-high, st .places .al-low));
-          apart-second = record { ok = λ i j p q e. st .places .multipliers .ok j i (omega (arith, st .within, st .most)) (omega (arith, st .most)) (sym e) }
-        }
+      first = record { at = λ k h. lower (subst (λ (x : ℕ). getD w₁ x 0 < ν) (sym (add-assoc pa b k)) (dv .below .at (b + k) (omega arith))) };
+      product = record { at = λ k h. below-apart apart-al (dv .around) (st .alpha .below) .at k (omega (arith, st .within, st .most, st .some)) };
+      apart-first = apart-low (pa + b) (a + 1 - b) al (a + 1 - b + l - 1) (omega (arith, st .within, st .places .a-high, st .places .al-low));
+      apart-second = record { ok = λ i j p q e. st .places .multipliers .ok j i (omega (arith, st .within, st .most)) (omega (arith, st .most)) (sym e) };
+    }
       where
         lower : {x : ℕ} → x < ν → x < n
         lower h = omega (arith, small)
@@ -83,34 +83,36 @@ module _ (n ν t pa a pb b al be l : ℕ) (w : List ℕ) (low : b < a) (one : 1 
 
       beta₂ : Multiplier n t al l' w₂
       beta₂ = record {
-            below = record { at = λ k h. ⊎-elim
+        below = record {
+          at = λ k h. ⊎-elim
               (λ b'. tk .below .at k b')
               (λ b'. subst (λ (x : ℕ). x < n) (sym (tk .around .high (al + k) (omega arith))) (alpha₁ .below .at k h))
-              (lt-or-le k (a + 1 - b + l - 1)) };
-            zero = λ k h h'. ⊎-elim (λ b'. tk .zero k h b') (λ b'. tk .around .high (al + k) (omega arith) ∙ alpha₁ .zero k (omega arith) h') (lt-or-le k (a + 1 - b + l - 1))
-          }
+              (lt-or-le k (a + 1 - b + l - 1));
+        };
+        zero = λ k h h'. ⊎-elim (λ b'. tk .zero k h b') (λ b'. tk .around .high (al + k) (omega arith) ∙ alpha₁ .zero k (omega arith) h') (lt-or-le k (a + 1 - b + l - 1));
+      }
 
       word-b : getD w₂ (pb + b) 0 ≡ getD w (pb + b) 0
       word-b = apart-at apart-b-al (tk .around) b (omega arith) ∙ apart-at apart-b (dv .around) b (omega arith)
 
       pub step-stage : IsUnit ν (getD w (pb + b) 0) → Stage n ν t pb b pa b be al l' w₂
       step-stage u = record {
-            positive = st .positive;
-            above = st .above;
-            divides = st .divides;
-            degree = one;
-            within = omega (arith, st .within);
-            some = tk .some;
-            most = tk .within;
-            room = omega (arith, st .room, dv .around .same, tk .around .same);
-            places = places-swap (st .places);
-            monic = monic-apart (omega (arith, st .places .al-low)) (tk .around) step-monic;
-            first = below-apart apart-b-al (tk .around) (below-apart apart-b (dv .around) (st .second));
-            lead = subst (IsUnit ν) (sym word-b) u;
-            second = record { at = λ k h. below-apart apart-a-al (tk .around) (dv .below) .at k (omega arith) };
-            alpha = multiplier-more l' longer (multiplier-apart apart-be-al (tk .around) beta₁);
-            beta = beta₂
-          }
+        positive = st .positive;
+        above = st .above;
+        divides = st .divides;
+        degree = one;
+        within = omega (arith, st .within);
+        some = tk .some;
+        most = tk .within;
+        room = omega (arith, st .room, dv .around .same, tk .around .same);
+        places = places-swap (st .places);
+        monic = monic-apart (omega (arith, st .places .al-low)) (tk .around) step-monic;
+        first = below-apart apart-b-al (tk .around) (below-apart apart-b (dv .around) (st .second));
+        lead = subst (IsUnit ν) (sym word-b) u;
+        second = record { at = λ k h. below-apart apart-a-al (tk .around) (dv .below) .at k (omega arith) };
+        alpha = multiplier-more l' longer (multiplier-apart apart-be-al (tk .around) beta₁);
+        beta = beta₂;
+      }
 
       pub step-kept : Kept t w w₂
       step-kept = kept-trans (kept-around apart-h (dv .around)) (kept-around (omega (arith, st .places .al-low)) (tk .around))
@@ -151,14 +153,14 @@ module _ (n ν t pa a pb b al be l : ℕ) (w : List ℕ) (low : b < a) (one : 1 
       wide : Taken n (piece w 0 (t + 1)) (piece w be (2 * (t + 1))) q (piece w al (2 * (t + 1))) (piece w₂ al (2 * (t + 1)))
       unfolding q
       wide = record {
-            z = tk .taken .z;
-            at = λ k.
-              ap₂ (λ (h : List ℕ) (F : ℕ → ℕ). (convolve (coef (tk .taken .z)) (coef h) k + convolve (coef q) F k + coef (piece w₂ al (2 * (t + 1))) k) % n) (sym same-h₁) (fun-ext beta-is)
-              ∙ ap (λ (x : ℕ). (convolve (coef (tk .taken .z)) (coef (piece w₁ 0 (t + 1))) k + convolve (coef q) (coef (piece w₁ be l)) k + x) % n)
-                (multiplier-short beta₂ (a + 1 - b + l - 1) (tk .most) (omega (arith, st .within, st .most)) k)
-              ∙ tk .taken .at k
-              ∙ ap (λ (x : ℕ). x % n) (sym (multiplier-short alpha₁ (a + 1 - b + l - 1) (omega arith) (omega (arith, st .within, st .most)) k) ∙ ap (λ (f : List ℕ). coef f k) same-al)
-          }
+        z = tk .taken .z;
+        at = λ k.
+            ap₂ (λ (h : List ℕ) (F : ℕ → ℕ). (convolve (coef (tk .taken .z)) (coef h) k + convolve (coef q) F k + coef (piece w₂ al (2 * (t + 1))) k) % n) (sym same-h₁) (fun-ext beta-is)
+            ∙ ap (λ (x : ℕ). (convolve (coef (tk .taken .z)) (coef (piece w₁ 0 (t + 1))) k + convolve (coef q) (coef (piece w₁ be l)) k + x) % n)
+            (multiplier-short beta₂ (a + 1 - b + l - 1) (tk .most) (omega (arith, st .within, st .most)) k)
+            ∙ tk .taken .at k
+            ∙ ap (λ (x : ℕ). x % n) (sym (multiplier-short alpha₁ (a + 1 - b + l - 1) (omega arith) (omega (arith, st .within, st .most)) k) ∙ ap (λ (f : List ℕ). coef f k) same-al);
+      }
         where
           beta-is : (k : ℕ) → coef (piece w be (2 * (t + 1))) k ≡ coef (piece w₁ be l) k
           beta-is k = ap (λ (f : List ℕ). coef f k) (sym same-be₁) ∙ multiplier-short beta₁ l (omega arith) (omega (arith, st .most)) k
@@ -166,19 +168,19 @@ module _ (n ν t pa a pb b al be l : ℕ) (w : List ℕ) (low : b < a) (one : 1 
       pub step-solved : (D : ℕ) (w' : List ℕ) → Solved n ν t pb b pa b be al D w₂ w' → Solved n ν t pa a pb (b + 1) al be D w w'
       unfolding q
       step-solved D w' s = record {
-            reduced = reduced-step ν (omega (arith, st .above)) (piece w pa (a + 1)) (piece w pb (b + 1)) q (piece w₁ pa b) D (dv .divided)
-              (subst (λ (f : List ℕ). Reduced ν f (piece w₁ pa b) D) same-b (subst (λ (f : List ℕ). Reduced ν (piece w₂ pb (b + 1)) f D) same-r (s .reduced)));
-            below = s .below;
-            completes = λ g m p e x y.
-              subst (λ (h : List ℕ). Completes n h g (piece w' (t + 1) t) (m * D)) same-h
-              (s .completes g m p e
-              (subst (λ (h : List ℕ). Leads n m h g (piece w₂ be (2 * (t + 1))) (piece w₂ pb (b + 1))) (sym same-h)
-                (subst (λ (f : List ℕ). Leads n m (piece w 0 (t + 1)) g f (piece w₂ pb (b + 1))) (sym same-be) (subst (λ (f : List ℕ). Leads n m (piece w 0 (t + 1)) g (piece w be (2 * (t + 1))) f) (sym same-b) y)))
-              (subst (λ (h : List ℕ). Leads n m h g (piece w₂ al (2 * (t + 1))) (piece w₂ pa b)) (sym same-h)
-                (subst (λ (f : List ℕ). Leads n m (piece w 0 (t + 1)) g (piece w₂ al (2 * (t + 1))) f) (sym same-r)
-                (leads-taken n m ν p (omega (arith, st .above)) e (piece w 0 (t + 1)) g (piece w al (2 * (t + 1))) (piece w be (2 * (t + 1))) (piece w₂ al (2 * (t + 1))) q
-                  (piece w pa (a + 1)) (piece w pb (b + 1)) (piece w₁ pa b) wide (dv .divided) x y))))
-          }
+        reduced = reduced-step ν (omega (arith, st .above)) (piece w pa (a + 1)) (piece w pb (b + 1)) q (piece w₁ pa b) D (dv .divided)
+            (subst (λ (f : List ℕ). Reduced ν f (piece w₁ pa b) D) same-b (subst (λ (f : List ℕ). Reduced ν (piece w₂ pb (b + 1)) f D) same-r (s .reduced)));
+        below = s .below;
+        completes = λ g m p e x y.
+            subst (λ (h : List ℕ). Completes n h g (piece w' (t + 1) t) (m * D)) same-h
+            (s .completes g m p e
+            (subst (λ (h : List ℕ). Leads n m h g (piece w₂ be (2 * (t + 1))) (piece w₂ pb (b + 1))) (sym same-h)
+            (subst (λ (f : List ℕ). Leads n m (piece w 0 (t + 1)) g f (piece w₂ pb (b + 1))) (sym same-be) (subst (λ (f : List ℕ). Leads n m (piece w 0 (t + 1)) g (piece w be (2 * (t + 1))) f) (sym same-b) y)))
+            (subst (λ (h : List ℕ). Leads n m h g (piece w₂ al (2 * (t + 1))) (piece w₂ pa b)) (sym same-h)
+            (subst (λ (f : List ℕ). Leads n m (piece w 0 (t + 1)) g (piece w₂ al (2 * (t + 1))) f) (sym same-r)
+            (leads-taken n m ν p (omega (arith, st .above)) e (piece w 0 (t + 1)) g (piece w al (2 * (t + 1))) (piece w be (2 * (t + 1))) (piece w₂ al (2 * (t + 1))) q
+            (piece w pa (a + 1)) (piece w pb (b + 1)) (piece w₁ pa b) wide (dv .divided) x y))));
+      }
 
       pub step-answers : (w' : List ℕ) (r : Attempt) → Answers n ν t pb b pa b be al w₂ w' r → Answers n ν t pa a pb (b + 1) al be w w' r
       step-answers w' (Value D) s = step-solved D w' s

@@ -8,7 +8,18 @@ ghost use Rattle.reduced_stages.specs.Outcomes.{Answers};
 use residue::Attempt;
 
 // A of degree a at pa with a leading unit, B of a words at pb, modulo v; their multipliers at al and be, modulo n.
-pub fn content_stage(w: &mut [u32], n: u32, v: u32, t: usize, pa: usize, a: usize, pb: usize, al: usize, be: usize, l: usize) -> Attempt
+pub fn content_stage(
+    w: &mut [u32],
+    n: u32,
+    v: u32,
+    t: usize,
+    pa: usize,
+    a: usize,
+    pb: usize,
+    al: usize,
+    be: usize,
+    l: usize,
+) -> Attempt
     requires { ⌜ Stage n v t pa a pb a al be l (now w) ⌝ }
     ensures { λ r. ⌜ Answers n v t pa a pb a al be (now (w .entry)) (now (w .exit)) r ⌝ }
     ensures { λ _. ⌜ Kept t (now (w .entry)) (now (w .exit)) ⌝ }
@@ -24,7 +35,20 @@ pub fn content_stage(w: &mut [u32], n: u32, v: u32, t: usize, pa: usize, a: usiz
     match reduced_clearing::clear_contents(w, n, v, t, pa, a, pb, al, be, l) {
         reduced_clearing::Clearing::Done(d) => Attempt::Value(d),
         reduced_clearing::Clearing::Parts(p, q) => Attempt::Splits(p, q),
-        reduced_clearing::Clearing::Next(c, s, m) => match division_stage(w, n, v / c, t, pa, a, pb, s, 1, al, be, m) {
+        reduced_clearing::Clearing::Next(c, s, m) => match division_stage(
+            w,
+            n,
+            v / c,
+            t,
+            pa,
+            a,
+            pb,
+            s,
+            1,
+            al,
+            be,
+            m,
+        ) {
             Attempt::Value(d) => Attempt::Value(c * d),
             Attempt::Splits(p, q) => Attempt::Splits(p, q),
         },
@@ -32,7 +56,20 @@ pub fn content_stage(w: &mut [u32], n: u32, v: u32, t: usize, pa: usize, a: usiz
 }
 
 // A of degree a at pa, B of degree b at pb, whose leading word has the inverse i modulo v.
-pub fn division_stage(w: &mut [u32], n: u32, v: u32, t: usize, pa: usize, a: usize, pb: usize, b: usize, i: u32, al: usize, be: usize, l: usize) -> Attempt
+pub fn division_stage(
+    w: &mut [u32],
+    n: u32,
+    v: u32,
+    t: usize,
+    pa: usize,
+    a: usize,
+    pb: usize,
+    b: usize,
+    i: u32,
+    al: usize,
+    be: usize,
+    l: usize,
+) -> Attempt
     requires { ⌜ (Stage n v t pa a pb (b + 1) al be l (now w)) × ((1 ≤ b) × ((b < a) × ((i * getD (now w) (pb + b) 0) % v ≡ 1 % v))) ⌝ }
     ensures { λ r. ⌜ Answers n v t pa a pb (b + 1) al be (now (w .entry)) (now (w .exit)) r ⌝ }
     ensures { λ _. ⌜ Kept t (now (w .entry)) (now (w .exit)) ⌝ }

@@ -77,12 +77,12 @@ module _ (ν x k m κ g s : ℕ) (w : List ℕ) (two : 2 ≤ ν) (is-κ : κ ≡
 
   pub negate-done : (ys : List ℕ) → length ys ≡ length (midOf x m w) → Series ν k (ν - s) ((κ - 1) * k + 1) (midOf x m w) ys → Negated ν x k ((κ - 1) * k + 1) w (putMid x m w ys)
   negate-done ys ly sr = record {
-        is-len = ap (λ (y : ℕ). (y - 1) * k + 1) is-κ;
-        around = lift-around x m w inside ys ly (k + 1) ((κ - 1) * k + 1) (omega arith) (sr .around);
-        below = lift-below x m w inside ys ly ν (k + 1) ((κ - 1) * k + 1) (omega arith) (sr .below);
-        inverse = subst (λ (u : List ℕ). NegatedInverse ν u (piece (putMid x m w ys) (x + (k + 1)) ((κ - 1) * k + 1))) mid-first
-          (subst (λ (j : List ℕ). NegatedInverse ν (piece (midOf x m w) 0 (k + 1)) j) (sym (piece-put x m w inside ys ly (k + 1) ((κ - 1) * k + 1) (omega arith))) (record { at = go }))
-      }
+    is-len = ap (λ (y : ℕ). (y - 1) * k + 1) is-κ;
+    around = lift-around x m w inside ys ly (k + 1) ((κ - 1) * k + 1) (omega arith) (sr .around);
+    below = lift-below x m w inside ys ly ν (k + 1) ((κ - 1) * k + 1) (omega arith) (sr .below);
+    inverse = subst (λ (u : List ℕ). NegatedInverse ν u (piece (putMid x m w ys) (x + (k + 1)) ((κ - 1) * k + 1))) mid-first
+        (subst (λ (j : List ℕ). NegatedInverse ν (piece (midOf x m w) 0 (k + 1)) j) (sym (piece-put x m w inside ys ly (k + 1) ((κ - 1) * k + 1) (omega arith))) (record { at = go }));
+  }
     where
       exact : SeriesInverse ν k (ν - s) (piece (midOf x m w) 0 (k + 1)) (piece ys (k + 1) ((κ - 1) * k + 1))
       exact = series-exact two sr (subst (UnitPolynomial ν) (sym mid-first) up) (subst (λ (y : ℕ). (y - 1) * k < (κ - 1) * k + 1) is-κ (omega arith))

@@ -26,11 +26,11 @@ module _ (n t x len be l y : ℕ) (w w₁ : List ℕ) (pos : 1 ≤ n) (one : 1 �
 
   pub over-factors : Factors n x len be l y w₁
   over-factors = record {
-        first = below-apart (apart-low x len y (len + t) last) cleared small;
-        product = record { at = λ k h. subst (λ (z : ℕ). z < n) (sym (cl .mid k (omega arith))) pos };
-        apart-first = apart-low x len y (len + l - 1) last;
-        apart-second = apart-low be l y (len + l - 1) (omega arith)
-      }
+    first = below-apart (apart-low x len y (len + t) last) cleared small;
+    product = record { at = λ k h. subst (λ (z : ℕ). z < n) (sym (cl .mid k (omega arith))) pos };
+    apart-first = apart-low x len y (len + l - 1) last;
+    apart-second = apart-low be l y (len + l - 1) (omega arith);
+  }
 
   mu₁ : Multiplier n t be l w₁
   mu₁ = multiplier-apart (apart-low be (2 * (t + 1)) y (len + t) (omega arith)) cleared mu
@@ -72,7 +72,7 @@ module _ (n t x len be l y : ℕ) (w w₁ : List ℕ) (pos : 1 ≤ n) (one : 1 �
     whole k = ⊎-elim
         (λ h. piece-at w₃ be (2 * (t + 1)) k (omega arith) ∙ placed k h)
         (λ h. ⊎-elim (λ b. piece-at w₃ be (2 * (t + 1)) k b ∙ above k h b ∙ sym (P-zero k (omega (arith, tk .within))))
-          (λ b. piece-over w₃ be (2 * (t + 1)) k b ∙ sym (P-zero k (omega (arith, tk .within)))) (lt-or-le k (2 * (t + 1))))
+        (λ b. piece-over w₃ be (2 * (t + 1)) k b ∙ sym (P-zero k (omega (arith, tk .within)))) (lt-or-le k (2 * (t + 1))))
         (lt-or-le k t)
 
     same-h : piece w₁ 0 (t + 1) ≡ piece w 0 (t + 1)
@@ -96,21 +96,21 @@ module _ (n t x len be l y : ℕ) (w w₁ : List ℕ) (pos : 1 ≤ n) (one : 1 �
     pub over-done : OverUnit n t x len be l y r w w₃
     unfolding P
     over-done = record {
-          outside = record {
-            same = cp .same ∙ tk .around .same ∙ cl .same;
-            at = λ k p q. around-at (moved-around cp) k p ∙ around-at (tk .around) k (λ j h e. q j (omega arith) e) ∙ around-at cleared k q
-          };
-          longer = ⊎-elim (λ h. omega (arith, tk .full h)) (λ h. omega arith) (lt-or-le r t);
-          most = tk .within;
-          multiplier = record {
-            below = record { at = λ k h. ⊎-elim (λ b. subst (λ (z : ℕ). z < n) (sym (placed k b)) (P-small k)) (λ b. subst (λ (z : ℕ). z < n) (sym (above k b h)) pos) (lt-or-le k t) };
-            zero = λ k h b. ⊎-elim (λ c. placed k c ∙ P-zero k h) (λ c. above k c b) (lt-or-le k t)
-          };
-          taken = record {
-            z = tk .taken .z;
-            at = λ k.
-              ap₂ (λ (h : List ℕ) (F : ℕ → ℕ). (convolve (coef (tk .taken .z)) (coef h) k + convolve (coef (piece w x len)) F k + coef (piece w₃ be (2 * (t + 1))) k) % n) (sym same-h) (fun-ext beta-is)
-              ∙ ap₂ (λ (f : List ℕ) (v : ℕ). (convolve (coef (tk .taken .z)) (coef (piece w₁ 0 (t + 1))) k + convolve (coef f) (coef (piece w₁ be l)) k + v) % n) (sym same-x) (whole k)
-              ∙ tk .taken .at k ∙ ap (λ (v : ℕ). v % n) (none k)
-          }
-        }
+      outside = record {
+        same = cp .same ∙ tk .around .same ∙ cl .same;
+        at = λ k p q. around-at (moved-around cp) k p ∙ around-at (tk .around) k (λ j h e. q j (omega arith) e) ∙ around-at cleared k q;
+      };
+      longer = ⊎-elim (λ h. omega (arith, tk .full h)) (λ h. omega arith) (lt-or-le r t);
+      most = tk .within;
+      multiplier = record {
+        below = record { at = λ k h. ⊎-elim (λ b. subst (λ (z : ℕ). z < n) (sym (placed k b)) (P-small k)) (λ b. subst (λ (z : ℕ). z < n) (sym (above k b h)) pos) (lt-or-le k t) };
+        zero = λ k h b. ⊎-elim (λ c. placed k c ∙ P-zero k h) (λ c. above k c b) (lt-or-le k t);
+      };
+      taken = record {
+        z = tk .taken .z;
+        at = λ k.
+            ap₂ (λ (h : List ℕ) (F : ℕ → ℕ). (convolve (coef (tk .taken .z)) (coef h) k + convolve (coef (piece w x len)) F k + coef (piece w₃ be (2 * (t + 1))) k) % n) (sym same-h) (fun-ext beta-is)
+            ∙ ap₂ (λ (f : List ℕ) (v : ℕ). (convolve (coef (tk .taken .z)) (coef (piece w₁ 0 (t + 1))) k + convolve (coef f) (coef (piece w₁ be l)) k + v) % n) (sym same-x) (whole k)
+            ∙ tk .taken .at k ∙ ap (λ (v : ℕ). v % n) (none k);
+      };
+    }

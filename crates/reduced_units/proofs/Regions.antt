@@ -43,9 +43,9 @@ multiplier-more l' h m = record { below = m .below; zero = λ k a b. m .zero k (
 
 pub monic-apart : {n t b m : ℕ} {w w' : List ℕ} → t + 1 ≤ b → Around b m w w' → MonicAt n t w → MonicAt n t w'
 monic-apart {n} h r x = record {
-      lead = r .low _ (omega arith) ∙ x .lead;
-      below = record { at = λ k p. subst (λ (y : ℕ). y < n) (sym (r .low (0 + k) (omega arith))) (x .below .at k p) }
-    }
+  lead = r .low _ (omega arith) ∙ x .lead;
+  below = record { at = λ k p. subst (λ (y : ℕ). y < n) (sym (r .low (0 + k) (omega arith))) (x .below .at k p) };
+}
 
 pub kept-around : {t b m : ℕ} {w w' : List ℕ} → t + 1 ≤ b → Around b m w w' → Kept t w w'
 kept-around h r = record { same = r .same; low = λ k p. r .low k (omega arith) }
@@ -59,17 +59,17 @@ kept-piece {t} {w} {w'} p h = piece-same w w' 0 (t + 1) (omega arith) (p .same) 
 -- A and B change places
 pub places-swap : {t pa pb al be : ℕ} → Places t pa pb al be → Places t pb pa be al
 places-swap p = record {
-      a-low = p .b-low;
-      a-high = p .b-high;
-      b-low = p .a-low;
-      b-high = p .a-high;
-      al-low = p .be-low;
-      al-high = p .be-high;
-      be-low = p .al-low;
-      be-high = p .al-high;
-      polynomials = apart-swap (p .polynomials);
-      multipliers = apart-swap (p .multipliers)
-    }
+  a-low = p .b-low;
+  a-high = p .b-high;
+  b-low = p .a-low;
+  b-high = p .a-high;
+  al-low = p .be-low;
+  al-high = p .be-high;
+  be-low = p .al-low;
+  be-high = p .al-high;
+  polynomials = apart-swap (p .polynomials);
+  multipliers = apart-swap (p .multipliers);
+}
 
 -- ---- a multiplier is the polynomial of its first words, however many are read
 
@@ -78,7 +78,7 @@ multiplier-short {n} {t} {p} {l} {w} m x a b k =
     ⊎-elim
     (λ h. piece-at w p (2 * (t + 1)) k (omega arith) ∙ sym (piece-at w p x k h))
     (λ h. ⊎-elim
-      (λ q. piece-at w p (2 * (t + 1)) k q ∙ m .zero k (omega arith) q ∙ sym (piece-over w p x k h))
-      (λ q. piece-over w p (2 * (t + 1)) k q ∙ sym (piece-over w p x k h))
-      (lt-or-le k (2 * (t + 1))))
+    (λ q. piece-at w p (2 * (t + 1)) k q ∙ m .zero k (omega arith) q ∙ sym (piece-over w p x k h))
+    (λ q. piece-over w p (2 * (t + 1)) k q ∙ sym (piece-over w p x k h))
+    (lt-or-le k (2 * (t + 1))))
     (lt-or-le k x)

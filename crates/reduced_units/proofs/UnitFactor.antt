@@ -48,18 +48,18 @@ module _ (n ν t pb a be l s : ℕ) (w w₁ : List ℕ) (pos : 1 ≤ n) (two : 2
 
   monic₁ : MonicAt n t w₁
   monic₁ = record {
-        lead = word t (omega arith) (λ i q e. omega arith) ∙ monic .lead;
-        below = record { at = λ k h. subst (λ (x : ℕ). x < n) (sym (word (0 + k) (omega arith) (λ i q e. omega arith))) (monic .below .at k h) }
-      }
+    lead = word t (omega arith) (λ i q e. omega arith) ∙ monic .lead;
+    below = record { at = λ k h. subst (λ (x : ℕ). x < n) (sym (word (0 + k) (omega arith) (λ i q e. omega arith))) (monic .below .at k h) };
+  }
 
   be-word : (k : ℕ) → k < 2 * (t + 1) → getD w₁ (be + k) 0 ≡ getD w (be + k) 0
   be-word k h = word (be + k) (omega arith) (λ i q e. omega arith)
 
   mu₁ : Multiplier n t be l w₁
   mu₁ = record {
-        below = record { at = λ k h. subst (λ (x : ℕ). x < n) (sym (be-word k h)) (mu .below .at k h) };
-        zero = λ k h h'. be-word k h' ∙ mu .zero k h h'
-      }
+    below = record { at = λ k h. subst (λ (x : ℕ). x < n) (sym (be-word k h)) (mu .below .at k h) };
+    zero = λ k h h'. be-word k h' ∙ mu .zero k h h';
+  }
 
   same-be₁ : piece w₁ be (2 * (t + 1)) ≡ piece w be (2 * (t + 1))
   same-be₁ = piece-same w w₁ be (2 * (t + 1)) (omega arith) (sp .outside .same) be-word
@@ -111,17 +111,17 @@ module _ (n ν t pb a be l s : ℕ) (w w₁ : List ℕ) (pos : 1 ≤ n) (two : 2
 
       pub unit-taken : UnitTaken n ν t pb a be s l r w w₃
       unit-taken = record {
-            same = ov .outside .same ∙ ng .around .same ∙ sp .outside .same;
-            at = λ k h p q. later k h q ∙ word k h p;
-            u = piece w₁ (unit-place t a s) (a - s);
-            j = piece w₂ (unit-place t a s + (a - 1 - s + 1)) len;
-            equation = subst (Multiplied ν (piece w pb a) (piece w₁ (unit-place t a s) (a - s))) (sym same-pb) (sp .equation);
-            inverse = subst (λ (x : ℕ). NegatedInverse ν (piece w₁ (unit-place t a s) x) (piece w₂ (unit-place t a s + (a - 1 - s + 1)) len)) degree (ng .inverse);
-            monic = pb-word s (omega arith) ∙ sp .monic;
-            below = record { at = λ k h. subst (λ (x : ℕ). x < ν) (sym (pb-word k h)) (sp .below .at k h) };
-            longer = ov .longer;
-            most = ov .most;
-            multiplier = ov .multiplier;
-            taken = subst (λ (f : List ℕ). Taken n f (piece w be (2 * (t + 1))) (piece w₂ (unit-place t a s + (a - 1 - s + 1)) len) [] (piece w₃ be (2 * (t + 1)))) same-h₂
-              (subst (λ (f : List ℕ). Taken n (piece w₂ 0 (t + 1)) f (piece w₂ (unit-place t a s + (a - 1 - s + 1)) len) [] (piece w₃ be (2 * (t + 1)))) same-be₂ (ov .taken))
-          }
+        same = ov .outside .same ∙ ng .around .same ∙ sp .outside .same;
+        at = λ k h p q. later k h q ∙ word k h p;
+        u = piece w₁ (unit-place t a s) (a - s);
+        j = piece w₂ (unit-place t a s + (a - 1 - s + 1)) len;
+        equation = subst (Multiplied ν (piece w pb a) (piece w₁ (unit-place t a s) (a - s))) (sym same-pb) (sp .equation);
+        inverse = subst (λ (x : ℕ). NegatedInverse ν (piece w₁ (unit-place t a s) x) (piece w₂ (unit-place t a s + (a - 1 - s + 1)) len)) degree (ng .inverse);
+        monic = pb-word s (omega arith) ∙ sp .monic;
+        below = record { at = λ k h. subst (λ (x : ℕ). x < ν) (sym (pb-word k h)) (sp .below .at k h) };
+        longer = ov .longer;
+        most = ov .most;
+        multiplier = ov .multiplier;
+        taken = subst (λ (f : List ℕ). Taken n f (piece w be (2 * (t + 1))) (piece w₂ (unit-place t a s + (a - 1 - s + 1)) len) [] (piece w₃ be (2 * (t + 1)))) same-h₂
+            (subst (λ (f : List ℕ). Taken n (piece w₂ 0 (t + 1)) f (piece w₂ (unit-place t a s + (a - 1 - s + 1)) len) [] (piece w₃ be (2 * (t + 1)))) same-be₂ (ov .taken));
+      }

@@ -73,8 +73,8 @@ pub record Solved (n ν t pa a pb c al be D : ℕ) (w w' : List ℕ) : Type 0 wh
   pub reduced : Reduced ν (piece w pa (a + 1)) (piece w pb c) D
   pub below : Below n (t + 1) t w'
   pub completes : (g : List ℕ) (m : ℕ) → 1 ≤ m → n ≡ m * ν
-    → Leads n m (piece w 0 (t + 1)) g (piece w al (2 * (t + 1))) (piece w pa (a + 1)) → Leads n m (piece w 0 (t + 1)) g (piece w be (2 * (t + 1))) (piece w pb c)
-    → Completes n (piece w 0 (t + 1)) g (piece w' (t + 1) t) (m * D)
+      → Leads n m (piece w 0 (t + 1)) g (piece w al (2 * (t + 1))) (piece w pa (a + 1)) → Leads n m (piece w 0 (t + 1)) g (piece w be (2 * (t + 1))) (piece w pb c)
+      → Completes n (piece w 0 (t + 1)) g (piece w' (t + 1) t) (m * D)
 
 -- H is what it was
 pub record Kept (t : ℕ) (w w' : List ℕ) : Type 0 where
@@ -87,9 +87,9 @@ pub record Change (n ν r c t pa a pb x y al be : ℕ) (w w' : List ℕ) : Type 
   pub whole : ν ≡ c * r
   pub reduced : (D : ℕ) → Reduced r (piece w' pa (a + 1)) (piece w' pb y) D → Reduced ν (piece w pa (a + 1)) (piece w pb x) (c * D)
   pub first : (g : List ℕ) (m : ℕ) → 1 ≤ m → n ≡ m * ν → Leads n m (piece w 0 (t + 1)) g (piece w al (2 * (t + 1))) (piece w pa (a + 1))
-    → Leads n (m * c) (piece w 0 (t + 1)) g (piece w' al (2 * (t + 1))) (piece w' pa (a + 1))
+      → Leads n (m * c) (piece w 0 (t + 1)) g (piece w' al (2 * (t + 1))) (piece w' pa (a + 1))
   pub second : (g : List ℕ) (m : ℕ) → 1 ≤ m → n ≡ m * ν → Leads n m (piece w 0 (t + 1)) g (piece w be (2 * (t + 1))) (piece w pb x)
-    → Leads n (m * c) (piece w 0 (t + 1)) g (piece w' be (2 * (t + 1))) (piece w' pb y)
+      → Leads n (m * c) (piece w 0 (t + 1)) g (piece w' be (2 * (t + 1))) (piece w' pb y)
 
 -- the content c of B is taken out of it and of the modulus, and a unit factor out of B, which is monic of degree s now
 pub record Cleared (n ν t pa a pb al be c s l : ℕ) (w w' : List ℕ) : Type 0 where

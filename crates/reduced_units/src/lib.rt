@@ -39,7 +39,16 @@ pub fn negate_inverse(w: &mut [u32], v: u32, x: usize, k: usize) -> usize
 }
 
 // The multiplier of l words at be over the unit polynomial whose negated inverse stands at x; y is room. Answers the number of its words.
-fn over_unit(w: &mut [u32], n: u32, t: usize, x: usize, len: usize, be: usize, l: usize, y: usize) -> usize
+fn over_unit(
+    w: &mut [u32],
+    n: u32,
+    t: usize,
+    x: usize,
+    len: usize,
+    be: usize,
+    l: usize,
+    y: usize,
+) -> usize
     requires { ⌜ (1 ≤ n) × ((1 ≤ t) × ((1 ≤ len) × ((1 ≤ l) × ((l ≤ t) × ((t + 1 ≤ be) × ((be + 2 * (t + 1) ≤ x) × ((x + len ≤ y) × (y + (len + t) ≤ length (now w))))))))) ⌝ }
     requires { ⌜ (MonicAt n t (now w)) × ((Below n x len (now w)) × (Multiplier n t be l (now w))) ⌝ }
     ensures { λ r. ⌜ OverUnit n t x len be l y r (now (w .entry)) (now (w .exit)) ⌝ }
@@ -51,7 +60,18 @@ fn over_unit(w: &mut [u32], n: u32, t: usize, x: usize, len: usize, be: usize, l
 }
 
 // The unit factor of B is taken out of it and of its multiplier. Answers the number of words of the multiplier.
-pub fn take_unit(w: &mut [u32], n: u32, v: u32, t: usize, pb: usize, a: usize, be: usize, l: usize, s: usize, i: u32) -> usize
+pub fn take_unit(
+    w: &mut [u32],
+    n: u32,
+    v: u32,
+    t: usize,
+    pb: usize,
+    a: usize,
+    be: usize,
+    l: usize,
+    s: usize,
+    i: u32,
+) -> usize
     requires { ⌜ (1 ≤ n) × ((2 ≤ v) × ((v ≤ n) × ((s < a) × ((a ≤ t) × ((1 ≤ l) × ((l ≤ t) × (stage-room n t ≤ length (now w)))))))) ⌝ }
     requires { ⌜ (t + 1 ≤ pb) × ((pb + (t + 1) ≤ be) × (be + 2 * (t + 1) ≤ 8 * (t + 1))) ⌝ }
     requires { ⌜ (MonicAt n t (now w)) × ((Below v pb a (now w)) × ((LeadingUnit v s i (piece (now w) pb a)) × (Multiplier n t be l (now w)))) ⌝ }

@@ -53,7 +53,7 @@ accepted-one n f h =
       modulus = nltb→le n 2 (subst (λ (b : Bool). T (not b)) (sym (a .0)) tt);
       some = length-of f (b .0) .0;
       few = length-of f (b .0) .1;
-      residues = residues-of n f (last (all-below n f) (b .1))
+      residues = residues-of n f (last (all-below n f) (b .1));
     }
   where
     last : (t : Bool) → _≡_ {A = ℕ} (cond t 0 3) 0 → t ≡ true

@@ -74,8 +74,8 @@ module _ (n a d b e s i c t m : ℕ) (w₀ w w' : List ℕ) (pos : 0 < n) (one :
       by k (behind F j) (F j) ((getD w (b + k) 0 + (n - c) * behind F j + (n - m) * F j) % n) (getD w (b + k) 0)
       (first j q l) (risen-at s F k j q)
       (piece-at w' b (d + s) k (omega arith) ∙ ap (λ (x : ℕ). getD w' x 0) (let z : b + k ≡ b + s + j = omega arith in z) ∙ mv .mid j l
-        ∙ ap₂ (λ (x y : ℕ). (x + (n - c) * behind (λ (k : ℕ). getD w (a + k) 0) j + (n - m) * y) % n) (ap (λ (x : ℕ). getD w x 0) (let z : b + s + j ≡ b + k = omega arith in z)) (read j (omega arith))
-        ∙ ap (λ (x : ℕ). (getD w (b + k) 0 + (n - c) * x + (n - m) * F j) % n) (seen j l))
+      ∙ ap₂ (λ (x y : ℕ). (x + (n - c) * behind (λ (k : ℕ). getD w (a + k) 0) j + (n - m) * y) % n) (ap (λ (x : ℕ). getD w x 0) (let z : b + s + j ≡ b + k = omega arith in z)) (read j (omega arith))
+      ∙ ap (λ (x : ℕ). (getD w (b + k) 0 + (n - c) * x + (n - m) * F j) % n) (seen j l))
       (piece-at w b (d + (s + 2)) k (omega arith))
       (back-two n (getD w (b + k) 0) c (behind F j) m (F j) c-small m-small)
     where
@@ -126,13 +126,13 @@ module _ (n a d b e s i c t m : ℕ) (w₀ w w' : List ℕ) (pos : 0 < n) (one :
       ⊎-elim
       (λ l. nothing k (getD w (b + k) 0) (risen-low (suc s) F k (omega arith)) (risen-low s F k l) (piece-at w' b (d + s) k (omega arith) ∙ mv .low (b + k) (omega arith)) (piece-at w b (d + (s + 2)) k (omega arith)))
       (λ l. ⊎-elim
-        (λ h. middle k (k - s) (omega arith) (omega arith))
-        (λ h. ⊎-elim (λ q. second k (sym q))
-          (λ h. ⊎-elim (λ q. head k (q' q))
-            (λ q. nothing k 0 (risen-at (suc s) F k (k - suc s) (omega arith) ∙ over (k - suc s) (omega arith)) (risen-at s F k (k - s) (omega arith) ∙ over (k - s) (omega arith)) (piece-over w' b (d + s) k (omega arith)) (piece-over w b (d + (s + 2)) k (omega arith)))
-            (eq-or-lt-of-le h))
-          (eq-or-lt-of-le h))
-        (lt-or-le k (d + s)))
+      (λ h. middle k (k - s) (omega arith) (omega arith))
+      (λ h. ⊎-elim (λ q. second k (sym q))
+      (λ h. ⊎-elim (λ q. head k (q' q))
+      (λ q. nothing k 0 (risen-at (suc s) F k (k - suc s) (omega arith) ∙ over (k - suc s) (omega arith)) (risen-at s F k (k - s) (omega arith) ∙ over (k - s) (omega arith)) (piece-over w' b (d + s) k (omega arith)) (piece-over w b (d + (s + 2)) k (omega arith)))
+      (eq-or-lt-of-le h))
+      (eq-or-lt-of-le h))
+      (lt-or-le k (d + s)))
       (lt-or-le k s)
     where
       q' : suc (d + s) ≡ k → k ≡ d + s + 1
@@ -141,29 +141,29 @@ module _ (n a d b e s i c t m : ℕ) (w₀ w w' : List ℕ) (pos : 0 < n) (one :
   pub double-step : Dividing n a d b e s w₀ w'
   unfolding F Goal
   double-step = record {
-        around = record {
-          same = mv .same ∙ dv .around .same;
-          low = λ k h. mv .low k (omega arith) ∙ dv .around .low k h;
-          high = λ k h. mv .high k (omega arith) ∙ dv .around .high k h
-        };
-        below = record {
-          at = λ k h. ⊎-elim
-            (λ l. subst (λ (x : ℕ). x < n) (sym (mv .low (b + k) (omega arith))) (dv .below .at k h))
-            (λ l. ⊎-elim
-              (λ p. let j : b + k ≡ b + s + (k - s) = omega arith in
-                subst (λ (x : ℕ). x < n) (sym (ap (λ (x : ℕ). getD w' x 0) j ∙ mv .mid (k - s) (omega arith))) (mod-lt _ pos))
-              (λ p. subst (λ (x : ℕ). x < n) (sym (mv .high (b + k) (omega arith))) (dv .below .at k h))
-              (lt-or-le k (s + d)))
-            (lt-or-le k s)
-        };
-        q = λ j. dv .q j + (spot (suc s) c j + spot s m j);
-        top = λ j l. ap₂ (λ (x y : ℕ). x + y) (dv .top j l) (ap₂ (λ (x y : ℕ). x + y) (spot-off (suc s) c j (omega arith)) (spot-off s m j (omega arith)));
-        at = λ k.
-          c-trans (c-eq (ap (λ (x : ℕ). x + coef (piece w' b (d + s)) k)
-            (convolve-add (dv .q) (λ (j : ℕ). spot (suc s) c j + spot s m j) F k
-            ∙ ap (λ (x : ℕ). convolve (dv .q) F k + x) (convolve-add (spot (suc s) c) (spot s m) F k ∙ ap₂ (λ (x y : ℕ). x + y) (convolve-spot (suc s) c F k) (convolve-spot s m F k))) ∙ add-assoc _ _ _))
-          (c-trans (c-add c-refl (turn k)) (dv .at k))
-      }
+    around = record {
+      same = mv .same ∙ dv .around .same;
+      low = λ k h. mv .low k (omega arith) ∙ dv .around .low k h;
+      high = λ k h. mv .high k (omega arith) ∙ dv .around .high k h;
+    };
+    below = record {
+      at = λ k h. ⊎-elim
+          (λ l. subst (λ (x : ℕ). x < n) (sym (mv .low (b + k) (omega arith))) (dv .below .at k h))
+          (λ l. ⊎-elim
+          (λ p. let j : b + k ≡ b + s + (k - s) = omega arith in
+          subst (λ (x : ℕ). x < n) (sym (ap (λ (x : ℕ). getD w' x 0) j ∙ mv .mid (k - s) (omega arith))) (mod-lt _ pos))
+          (λ p. subst (λ (x : ℕ). x < n) (sym (mv .high (b + k) (omega arith))) (dv .below .at k h))
+          (lt-or-le k (s + d)))
+          (lt-or-le k s);
+    };
+    q = λ j. dv .q j + (spot (suc s) c j + spot s m j);
+    top = λ j l. ap₂ (λ (x y : ℕ). x + y) (dv .top j l) (ap₂ (λ (x y : ℕ). x + y) (spot-off (suc s) c j (omega arith)) (spot-off s m j (omega arith)));
+    at = λ k.
+        c-trans (c-eq (ap (λ (x : ℕ). x + coef (piece w' b (d + s)) k)
+        (convolve-add (dv .q) (λ (j : ℕ). spot (suc s) c j + spot s m j) F k
+        ∙ ap (λ (x : ℕ). convolve (dv .q) F k + x) (convolve-add (spot (suc s) c) (spot s m) F k ∙ ap₂ (λ (x y : ℕ). x + y) (convolve-spot (suc s) c F k) (convolve-spot s m F k))) ∙ add-assoc _ _ _))
+        (c-trans (c-add c-refl (turn k)) (dv .at k));
+  }
 
   -- the two quotient words that were found
   pub double-quotient : (j : ℕ) → double-step .q j ≡ dv .q j + (spot (suc s) c j + spot s m j)

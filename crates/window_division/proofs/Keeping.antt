@@ -35,16 +35,16 @@ module _ (n a d b e s j x v : ℕ) (w₀ w : List ℕ) (place : x ≡ b + (d + j
 
   store : Dividing n a d b e s w₀ (set w x v)
   store = record {
-        around = record {
-          same = length-set w x v ∙ dv .around .same;
-          low = λ k h. getD-set-other w x k v 0 (omega arith) ∙ dv .around .low k h;
-          high = λ k h. getD-set-other w x k v 0 (omega arith) ∙ dv .around .high k h
-        };
-        below = record { at = λ k h. small k h (ℕ-discrete (d + j) k) };
-        q = dv .q;
-        top = dv .top;
-        at = λ k. subst (λ (p : List ℕ). Cong n (convolve (dv .q) (coef (piece w₀ a (d + 1))) k + coef p k) (coef (piece w₀ b (e + 1)) k)) (sym same-rest) (dv .at k)
-      }
+    around = record {
+      same = length-set w x v ∙ dv .around .same;
+      low = λ k h. getD-set-other w x k v 0 (omega arith) ∙ dv .around .low k h;
+      high = λ k h. getD-set-other w x k v 0 (omega arith) ∙ dv .around .high k h;
+    };
+    below = record { at = λ k h. small k h (ℕ-discrete (d + j) k) };
+    q = dv .q;
+    top = dv .top;
+    at = λ k. subst (λ (p : List ℕ). Cong n (convolve (dv .q) (coef (piece w₀ a (d + 1))) k + coef p k) (coef (piece w₀ b (e + 1)) k)) (sym same-rest) (dv .at k);
+  }
 
   store-quotient : (k : ℕ) → store .q k ≡ dv .q k
   unfolding store
@@ -93,18 +93,18 @@ module _ (n a d b e s i c t m : ℕ) (w₀ w w' : List ℕ) (pos : 0 < n) (one :
   stands j l h =
       ⊎-elim
       (λ p. let here : b + (d + s) ≡ b + (d + j) = omega arith in
-        subst (λ (y : ℕ). getD (set (set w' (b + (d + s + 1)) c) (b + (d + s)) m) y 0 ≡ kp .dividing .q j + (spot (suc s) c j + spot s m j)) here
-        (getD-set-same (set w' (b + (d + s + 1)) c) (b + (d + s)) m 0 (omega (arith, long-next))
-        ∙ lower (kp .dividing .q j) (spot (suc s) c j) (spot s m j) (kp .low j (omega arith)) (spot-low (suc s) c j (omega arith)) (spot-at s m j (sym p))))
+      subst (λ (y : ℕ). getD (set (set w' (b + (d + s + 1)) c) (b + (d + s)) m) y 0 ≡ kp .dividing .q j + (spot (suc s) c j + spot s m j)) here
+      (getD-set-same (set w' (b + (d + s + 1)) c) (b + (d + s)) m 0 (omega (arith, long-next))
+      ∙ lower (kp .dividing .q j) (spot (suc s) c j) (spot s m j) (kp .low j (omega arith)) (spot-low (suc s) c j (omega arith)) (spot-at s m j (sym p))))
       (λ p. ⊎-elim
-        (λ r. let here : b + (d + s + 1) ≡ b + (d + j) = omega arith in
-          subst (λ (y : ℕ). getD (set (set w' (b + (d + s + 1)) c) (b + (d + s)) m) y 0 ≡ kp .dividing .q j + (spot (suc s) c j + spot s m j)) here
-          (two-at (b + (d + s + 1)) (b + (d + s)) c m w' (omega (arith, long)) (omega arith)
-          ∙ upper (kp .dividing .q j) (spot (suc s) c j) (spot s m j) (kp .low j (omega arith)) (spot-at (suc s) c j (sym r)) (spot-off s m j p)))
-        (λ r. getD-set-other (set w' (b + (d + s + 1)) c) (b + (d + s)) (b + (d + j)) m 0 (omega arith)
-          ∙ getD-set-other w' (b + (d + s + 1)) (b + (d + j)) c 0 (omega arith) ∙ mv .high (b + (d + j)) (omega arith) ∙ kp .kept j (omega arith) h
-          ∙ rest (kp .dividing .q j) (spot (suc s) c j) (spot s m j) (spot-off (suc s) c j r) (spot-off s m j (omega arith)))
-        (eq-or-lt-of-le p))
+      (λ r. let here : b + (d + s + 1) ≡ b + (d + j) = omega arith in
+      subst (λ (y : ℕ). getD (set (set w' (b + (d + s + 1)) c) (b + (d + s)) m) y 0 ≡ kp .dividing .q j + (spot (suc s) c j + spot s m j)) here
+      (two-at (b + (d + s + 1)) (b + (d + s)) c m w' (omega (arith, long)) (omega arith)
+      ∙ upper (kp .dividing .q j) (spot (suc s) c j) (spot s m j) (kp .low j (omega arith)) (spot-at (suc s) c j (sym r)) (spot-off s m j p)))
+      (λ r. getD-set-other (set w' (b + (d + s + 1)) c) (b + (d + s)) (b + (d + j)) m 0 (omega arith)
+      ∙ getD-set-other w' (b + (d + s + 1)) (b + (d + j)) c 0 (omega arith) ∙ mv .high (b + (d + j)) (omega arith) ∙ kp .kept j (omega arith) h
+      ∙ rest (kp .dividing .q j) (spot (suc s) c j) (spot s m j) (spot-off (suc s) c j r) (spot-off s m j (omega arith)))
+      (eq-or-lt-of-le p))
       (eq-or-lt-of-le l)
     where
       lower : (q x y : ℕ) → q ≡ 0 → x ≡ 0 → y ≡ m → m ≡ q + (x + y)
@@ -118,10 +118,10 @@ module _ (n a d b e s i c t m : ℕ) (w₀ w w' : List ℕ) (pos : 0 < n) (one :
 
   pub keeping-double : Keeping n a d b e s w₀ (set (set w' (b + (d + s + 1)) c) (b + (d + s)) m)
   keeping-double = record {
-        dividing = second;
-        low = λ j l. quotient-is j ∙ none (kp .dividing .q j) (spot (suc s) c j) (spot s m j) (kp .low j (omega arith)) (spot-low (suc s) c j (omega arith)) (spot-low s m j l);
-        kept = λ j l h. stands j l h ∙ sym (quotient-is j)
-      }
+    dividing = second;
+    low = λ j l. quotient-is j ∙ none (kp .dividing .q j) (spot (suc s) c j) (spot s m j) (kp .low j (omega arith)) (spot-low (suc s) c j (omega arith)) (spot-low s m j l);
+    kept = λ j l h. stands j l h ∙ sym (quotient-is j);
+  }
     where
       none : (q x y : ℕ) → q ≡ 0 → x ≡ 0 → y ≡ 0 → q + (x + y) ≡ 0
       none q x y hq hx hy = omega arith
@@ -149,32 +149,34 @@ module _ (n a d b e i c : ℕ) (w₀ w w' : List ℕ) (pos : 0 < n) (within : d 
 
   pub keeping-single : Keeping n a d b e 0 w₀ (set w' (b + (d + 0)) c)
   keeping-single = record {
-        dividing = last;
-        low = λ j l. absurd (omega arith);
-        kept = λ j l h. ⊎-elim
-          (λ p. let here : b + (d + 0) ≡ b + (d + j) = omega arith in
-            subst (λ (y : ℕ). getD (set w' (b + (d + 0)) c) y 0 ≡ last .q j) here
-            (getD-set-same w' (b + (d + 0)) c 0 (omega (arith, single-long)) ∙ sym (single-quotient j ∙ ap₂ (λ (x y : ℕ). x + y) (kp .low j (omega arith)) (spot-at 0 c j (sym p)) ∙ zero-add c)))
-          (λ p. getD-set-other w' (b + (d + 0)) (b + (d + j)) c 0 (omega arith) ∙ mv .high (b + (d + j)) (omega arith) ∙ kp .kept j (omega arith) h
-            ∙ sym (single-quotient j ∙ ap (λ (x : ℕ). kp .dividing .q j + x) (spot-off 0 c j p) ∙ add-zero _))
-          (eq-or-lt-of-le l)
-      }
+    dividing = last;
+    low = λ j l. absurd (omega arith);
+    kept = λ j l h. ⊎-elim
+        (λ p. let here : b + (d + 0) ≡ b + (d + j) = omega arith in
+        subst (λ (y : ℕ). getD (set w' (b + (d + 0)) c) y 0 ≡ last .q j) here
+        (getD-set-same w' (b + (d + 0)) c 0 (omega (arith, single-long)) ∙ sym (single-quotient j ∙ ap₂ (λ (x y : ℕ). x + y) (kp .low j (omega arith)) (spot-at 0 c j (sym p)) ∙ zero-add c)))
+        (λ p. getD-set-other w' (b + (d + 0)) (b + (d + j)) c 0 (omega arith) ∙ mv .high (b + (d + j)) (omega arith) ∙ kp .kept j (omega arith) h
+        ∙ sym (single-quotient j ∙ ap (λ (x : ℕ). kp .dividing .q j + x) (spot-off 0 c j p) ∙ add-zero _))
+        (eq-or-lt-of-le l);
+  }
 
 -- no quotient word is to come
 pub keeping-end : (n a d b e s : ℕ) (w₀ w : List ℕ) → s ≡ 0 → d ≤ e + 1 → b + e < length w₀ → Keeping n a d b e s w₀ w → Quotient n a d b e w₀ w
 keeping-end n a d b e s w₀ w z near fits kp = record {
-      around = kp .dividing .around;
-      below = kp .dividing .below;
-      divided = record { at = λ k.
+  around = kp .dividing .around;
+  below = kp .dividing .below;
+  divided = record {
+    at = λ k.
         ap (λ (F : ℕ → ℕ). (convolve F (coef (piece w₀ a (d + 1))) k + coef (piece w b d) k) % n) (fun-ext word)
-        ∙ subst (λ (x : ℕ). (convolve (kp .dividing .q) (coef (piece w₀ a (d + 1))) k + coef (piece w b x) k) % n ≡ coef (piece w₀ b (e + 1)) k % n) here (kp .dividing .at k .same) }
-    }
+        ∙ subst (λ (x : ℕ). (convolve (kp .dividing .q) (coef (piece w₀ a (d + 1))) k + coef (piece w b x) k) % n ≡ coef (piece w₀ b (e + 1)) k % n) here (kp .dividing .at k .same);
+  };
+}
   where
     here : d + s ≡ d
     here = omega arith
 
     word : (j : ℕ) → coef (piece w (b + d) (e + 1 - d)) j ≡ kp .dividing .q j
     word j = ⊎-elim
-      (λ l. piece-at w (b + d) (e + 1 - d) j l ∙ ap (λ (x : ℕ). getD w x 0) (add-assoc b d j) ∙ kp .kept j (omega arith) (omega arith))
-      (λ l. piece-over w (b + d) (e + 1 - d) j l ∙ sym (kp .dividing .top j (omega arith)))
-      (lt-or-le j (e + 1 - d))
+        (λ l. piece-at w (b + d) (e + 1 - d) j l ∙ ap (λ (x : ℕ). getD w x 0) (add-assoc b d j) ∙ kp .kept j (omega arith) (omega arith))
+        (λ l. piece-over w (b + d) (e + 1 - d) j l ∙ sym (kp .dividing .top j (omega arith)))
+        (lt-or-le j (e + 1 - d))

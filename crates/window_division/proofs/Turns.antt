@@ -103,12 +103,12 @@ pub record Dividing (n a d b e s : ℕ) (w₀ w : List ℕ) : Type 0 where
 
 pub dividing-start : (n a d b e s : ℕ) (w : List ℕ) → d + s ≡ e + 1 → Below n b (e + 1) w → Dividing n a d b e s w w
 dividing-start n a d b e s w h p = record {
-      around = record { same = refl; low = λ k l. refl; high = λ k l. refl };
-      below = p;
-      q = λ _. 0;
-      top = λ i l. refl;
-      at = λ k. c-eq (ap₂ (λ (x y : ℕ). x + coef (piece w b y) k) (convolve-none (coef (piece w a (d + 1))) k) h ∙ zero-add _)
-    }
+  around = record { same = refl; low = λ k l. refl; high = λ k l. refl };
+  below = p;
+  q = λ _. 0;
+  top = λ i l. refl;
+  at = λ k. c-eq (ap₂ (λ (x y : ℕ). x + coef (piece w b y) k) (convolve-none (coef (piece w a (d + 1))) k) h ∙ zero-add _);
+}
 
 pub start-quotient : (n a d b e s : ℕ) (w : List ℕ) (h : d + s ≡ e + 1) (p : Below n b (e + 1) w) (j : ℕ) → dividing-start n a d b e s w h p .q j ≡ 0
 unfolding dividing-start
@@ -133,19 +133,19 @@ module _ (n a d b e s i c : ℕ) (w₀ w w' : List ℕ) (pos : 0 < n) (within : 
   turn k =
       ⊎-elim
       (λ l. c-eq (ap₂ (λ (x y : ℕ). c * x + y) (risen-low s F k l) (piece-at w' b (d + s) k (omega arith) ∙ mv .low (b + k) (omega arith) ∙ sym (piece-at w b (d + (s + 1)) k (omega arith)))
-        ∙ ap (λ (x : ℕ). x + coef (piece w b (d + (s + 1))) k) (mul-zero c) ∙ zero-add _))
+      ∙ ap (λ (x : ℕ). x + coef (piece w b (d + (s + 1))) k) (mul-zero c) ∙ zero-add _))
       (λ l. ⊎-elim
-        (λ h. middle (k - s) (omega arith) (omega arith))
-        (λ h. ⊎-elim (λ q. head (sym q)) (λ q. c-eq (ap₂ (λ (x y : ℕ). c * x + y) (risen-at s F k (k - s) (omega arith) ∙ piece-over w₀ a (d + 1) (k - s) (omega arith)) (piece-over w' b (d + s) k (omega arith))
-          ∙ ap (λ (x : ℕ). x + 0) (mul-zero c) ∙ sym (piece-over w b (d + (s + 1)) k (omega arith)))) (eq-or-lt-of-le h))
-        (lt-or-le k (d + s)))
+      (λ h. middle (k - s) (omega arith) (omega arith))
+      (λ h. ⊎-elim (λ q. head (sym q)) (λ q. c-eq (ap₂ (λ (x y : ℕ). c * x + y) (risen-at s F k (k - s) (omega arith) ∙ piece-over w₀ a (d + 1) (k - s) (omega arith)) (piece-over w' b (d + s) k (omega arith))
+      ∙ ap (λ (x : ℕ). x + 0) (mul-zero c) ∙ sym (piece-over w b (d + (s + 1)) k (omega arith)))) (eq-or-lt-of-le h))
+      (lt-or-le k (d + s)))
       (lt-or-le k s)
     where
       middle : (j : ℕ) → k ≡ s + j → j < d → Cong n (c * risen s F k + coef (piece w' b (d + s)) k) (coef (piece w b (d + (s + 1))) k)
       middle j q l =
           c-trans (c-eq (ap₂ (λ (x y : ℕ). c * x + y) (risen-at s F k j q)
-            (piece-at w' b (d + s) k (omega arith) ∙ ap (λ (x : ℕ). getD w' x 0) (let z : b + k ≡ b + s + j = omega arith in z) ∙ mv .mid j l
-            ∙ ap₂ (λ (x y : ℕ). (x + (n - c) * y) % n) (ap (λ (x : ℕ). getD w x 0) (let z : b + s + j ≡ b + k = omega arith in z)) (read j (omega arith)))))
+          (piece-at w' b (d + s) k (omega arith) ∙ ap (λ (x : ℕ). getD w' x 0) (let z : b + k ≡ b + s + j = omega arith in z) ∙ mv .mid j l
+          ∙ ap₂ (λ (x y : ℕ). (x + (n - c) * y) % n) (ap (λ (x : ℕ). getD w x 0) (let z : b + s + j ≡ b + k = omega arith in z)) (read j (omega arith)))))
           (c-trans (back n (getD w (b + k) 0) c (F j) small) (c-eq (sym (piece-at w b (d + (s + 1)) k (omega arith)))))
 
       head : k ≡ d + s → Cong n (c * risen s F k + coef (piece w' b (d + s)) k) (coef (piece w b (d + (s + 1))) k)
@@ -160,27 +160,27 @@ module _ (n a d b e s i c : ℕ) (w₀ w w' : List ℕ) (pos : 0 < n) (within : 
   pub dividing-step : Dividing n a d b e s w₀ w'
   unfolding F
   dividing-step = record {
-        around = record {
-          same = mv .same ∙ dv .around .same;
-          low = λ k h. mv .low k (omega arith) ∙ dv .around .low k h;
-          high = λ k h. mv .high k (omega arith) ∙ dv .around .high k h
-        };
-        below = record {
-          at = λ k h. ⊎-elim
-            (λ l. subst (λ (x : ℕ). x < n) (sym (mv .low (b + k) (omega arith))) (dv .below .at k h))
-            (λ l. ⊎-elim
-              (λ p. let j : b + k ≡ b + s + (k - s) = omega arith in
-                subst (λ (x : ℕ). x < n) (sym (ap (λ (x : ℕ). getD w' x 0) j ∙ mv .mid (k - s) (omega arith))) (mod-lt _ pos))
-              (λ p. subst (λ (x : ℕ). x < n) (sym (mv .high (b + k) (omega arith))) (dv .below .at k h))
-              (lt-or-le k (s + d)))
-            (lt-or-le k s)
-        };
-        q = λ j. dv .q j + spot s c j;
-        top = λ j l. ap₂ (λ (x y : ℕ). x + y) (dv .top j l) (spot-off s c j (omega arith));
-        at = λ k.
-          c-trans (c-eq (ap (λ (x : ℕ). x + coef (piece w' b (d + s)) k) (convolve-add (dv .q) (spot s c) (coef (piece w₀ a (d + 1))) k ∙ ap (λ (x : ℕ). convolve (dv .q) (coef (piece w₀ a (d + 1))) k + x) (convolve-spot s c (coef (piece w₀ a (d + 1))) k)) ∙ add-assoc _ _ _))
-          (c-trans (c-add c-refl (turn k)) (dv .at k))
-      }
+    around = record {
+      same = mv .same ∙ dv .around .same;
+      low = λ k h. mv .low k (omega arith) ∙ dv .around .low k h;
+      high = λ k h. mv .high k (omega arith) ∙ dv .around .high k h;
+    };
+    below = record {
+      at = λ k h. ⊎-elim
+          (λ l. subst (λ (x : ℕ). x < n) (sym (mv .low (b + k) (omega arith))) (dv .below .at k h))
+          (λ l. ⊎-elim
+          (λ p. let j : b + k ≡ b + s + (k - s) = omega arith in
+          subst (λ (x : ℕ). x < n) (sym (ap (λ (x : ℕ). getD w' x 0) j ∙ mv .mid (k - s) (omega arith))) (mod-lt _ pos))
+          (λ p. subst (λ (x : ℕ). x < n) (sym (mv .high (b + k) (omega arith))) (dv .below .at k h))
+          (lt-or-le k (s + d)))
+          (lt-or-le k s);
+    };
+    q = λ j. dv .q j + spot s c j;
+    top = λ j l. ap₂ (λ (x y : ℕ). x + y) (dv .top j l) (spot-off s c j (omega arith));
+    at = λ k.
+        c-trans (c-eq (ap (λ (x : ℕ). x + coef (piece w' b (d + s)) k) (convolve-add (dv .q) (spot s c) (coef (piece w₀ a (d + 1))) k ∙ ap (λ (x : ℕ). convolve (dv .q) (coef (piece w₀ a (d + 1))) k + x) (convolve-spot s c (coef (piece w₀ a (d + 1))) k)) ∙ add-assoc _ _ _))
+        (c-trans (c-add c-refl (turn k)) (dv .at k));
+  }
 
   -- the quotient word that was found
   pub dividing-quotient : (j : ℕ) → dividing-step .q j ≡ dv .q j + spot s c j

@@ -7,11 +7,5 @@ use Rattle.arithmetic.proofs.mul_mod.Tie as tie
 mul-reduce : tie.Need-mul-reduce
 mul-reduce c = record { fits = below 32 (c .fits .a .fits) (c .fits .b .fits) }
 
-reduce-requires : tie.Need-reduce-requires
-reduce-requires c κs = search needs
-
-returns : tie.Need-returns
-returns c = search needs
-
 pub mul-mod-spec : {M : Type 1} → statement M
-mul-mod-spec = tie.close (tie.spec mul-reduce reduce-requires returns)
+mul-mod-spec = tie.close (tie.spec mul-reduce (λ c κs. search needs) (λ c. search needs))

@@ -3,44 +3,24 @@ use mathlib.Core.Path.{refl, sym, _∙_}
 use Rattle.evaluator.proofs.Statuses.{some-word, too-large-is, not-too-large}
 use Rattle.evaluator.proofs.length_refusal.Statement.{statement}
 use Rattle.evaluator.proofs.length_refusal.Tie as tie
-use Rattle.evaluator.proofs.length_refusal.Reads as reads
-use Rattle.evaluator.proofs.length_refusal.Lts as lts
-use Rattle.refusals.proofs.bad_length.Reads as bad-length-reads
 
--- src/lib.rt:86:8
-bad-length-requires : tie.Need-bad-length-requires
-bad-length-requires c κs = search needs
-
--- src/lib.rt:87:9
 returns : tie.Need-returns
 returns c = simp (sym (c .before .bad-length .ensures) ∙ c .if1 .taken) refl
 
--- src/lib.rt:89:8
-bad-length-requires-2 : tie.Need-bad-length-requires-2
-bad-length-requires-2 c κs = search needs
-
--- src/lib.rt:90:9
 returns-2 : tie.Need-returns-2
 returns-2 c =
     let p = sym (c .before .before .before .bad-length .ensures) ∙ c .before .before .if1 .left in
     simp (p, sym (c .before .bad-length2 .ensures) ∙ c .if2 .taken) refl
 
--- src/lib.rt:92:12
 sub-if3 : tie.Need-sub-if3
 sub-if3 c =
     let s = c .before .before in
     some-word (s .before .before .before .before .args .f .now) (sym (s .before .bad-length .ensures) ∙ s .if1 .left)
 
--- src/lib.rt:92:27
 sub-if3-2 : tie.Need-sub-if3-2
 sub-if3-2 c =
     some-word (c .before .before .before .before .before .before .args .g .now) (sym (c .before .bad-length2 .ensures) ∙ c .if2 .left)
 
--- src/lib.rt:92:12
-add-if3 : tie.Need-add-if3
-add-if3 c = search needs
-
--- src/lib.rt:93:9
 returns-3 : tie.Need-returns-3
 returns-3 c =
     let a = c .before .before .before .before .before .before .before .args in
@@ -48,7 +28,6 @@ returns-3 c =
     let q = sym (c .before .before .bad-length2 .ensures) ∙ c .before .if2 .left in
     simp (p, q, too-large-is (a .f .now) (a .g .now) (c .if3 .taken)) refl
 
--- src/lib.rt:83:1
 returns-4 : tie.Need-returns-4
 returns-4 c =
     let a = c .before .before .before .before .before .before .before .args in
@@ -60,12 +39,12 @@ pub length-refusal-spec : {M : Type 1} → statement M
 length-refusal-spec =
     tie.close
     (tie.spec
-    bad-length-requires
+    (λ c κs. search needs)
     returns
-    bad-length-requires-2
+    (λ c κs. search needs)
     returns-2
     sub-if3
     sub-if3-2
-    add-if3
+    (λ c. search needs)
     returns-3
     returns-4)

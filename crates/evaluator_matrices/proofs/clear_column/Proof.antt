@@ -4,9 +4,6 @@ use native.Mathlib.Omega.{arith}
 use Rattle.evaluator_matrices.proofs.Columns.{Clearing, clearing-start, clearing-next, clearing-end}
 use Rattle.evaluator_matrices.proofs.clear_column.Statement.{statement}
 use Rattle.evaluator_matrices.proofs.clear_column.Tie as tie
-use Rattle.evaluator_matrices.proofs.clear_column.Reads as reads
-use Rattle.evaluator_matrices.proofs.clear_column.Lts as lts
-use Rattle.evaluator_matrices.proofs.clear_entry.Reads as clear-entry-reads
 
 abbrev Inv-loop : tie.InvT-loop
 Inv-loop n size j r₀ i₀ r i = (j < i) × ((i ≤ size) × Clearing n size j i r₀ r)
@@ -14,34 +11,18 @@ Inv-loop n size j r₀ i₀ r i = (j < i) × ((i ≤ size) × Clearing n size j 
 abbrev μ-loop : tie.MeasureT-loop
 μ-loop n size j r₀ i₀ r i = size - i
 
--- src/lib.rt:136:17
-add-i : tie.Need-add-i Inv-loop μ-loop
-add-i c = search needs
-
--- src/lib.rt:137:5
 loop-holds : tie.Need-loop-holds Inv-loop μ-loop
 loop-holds c = (omega arith, (omega arith, clearing-start (c .pre .1 .0) (c .pre .1 .1)))
 
--- src/lib.rt:138:13
 clear-entry-requires : tie.Need-clear-entry-requires Inv-loop μ-loop
 clear-entry-requires c κs = let i = c .before .loop .inv in
     ((c .before .before .pre .0 .0, (i .0, omega arith)), i .1 .1 .kept .residues)
 
--- src/lib.rt:140:9
-add-i-2 : tie.Need-add-i-2 Inv-loop μ-loop
-add-i-2 c = search needs
-
--- src/lib.rt:137:5
-loop-less : tie.Need-loop-less Inv-loop μ-loop
-loop-less c = search needs
-
--- src/lib.rt:137:5
 loop-again : tie.Need-loop-again Inv-loop μ-loop
 loop-again c = let i = c .before .before .loop .inv in
     let l = c .before .before .before .pre .0 .1 .1 in
     (omega arith, (omega arith, clearing-next (i .0) (omega arith) l (i .1 .1) (c .clear-entry .ensures)))
 
--- src/lib.rt:130:1
 returns : tie.Need-returns Inv-loop μ-loop
 returns c = clearing-end (c .loop-test .left) (c .before .loop .inv .1 .1)
 
@@ -51,10 +32,10 @@ clear-column-spec =
     (tie.spec
     Inv-loop
     μ-loop
-    add-i
+    (λ c. search needs)
     loop-holds
     clear-entry-requires
-    add-i-2
-    loop-less
+    (λ c. search needs)
+    (λ c. search needs)
     loop-again
     returns)

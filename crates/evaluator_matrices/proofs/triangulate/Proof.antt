@@ -6,9 +6,6 @@ use Rattle.evaluator_matrices.specs.Elimination.{Triangular, Kept}
 use Rattle.evaluator_matrices.proofs.Columns.{triangulating-start, kept-both}
 use Rattle.evaluator_matrices.proofs.triangulate.Statement.{statement}
 use Rattle.evaluator_matrices.proofs.triangulate.Tie as tie
-use Rattle.evaluator_matrices.proofs.triangulate.Reads as reads
-use Rattle.evaluator_matrices.proofs.triangulate.Lts as lts
-use Rattle.evaluator_matrices.proofs.clear_column.Reads as clear-column-reads
 
 abbrev Inv-loop : tie.InvT-loop
 Inv-loop n size r₀ j₀ r j = (j ≤ size) × (Kept n size r₀ r × Triangular size j r)
@@ -16,29 +13,17 @@ Inv-loop n size r₀ j₀ r j = (j ≤ size) × (Kept n size r₀ r × Triangula
 abbrev μ-loop : tie.MeasureT-loop
 μ-loop n size r₀ j₀ r j = size - j
 
--- src/lib.rt:152:5
 loop-holds : tie.Need-loop-holds Inv-loop μ-loop
 loop-holds c = (omega arith, triangulating-start (c .pre .1))
 
--- src/lib.rt:153:13
 clear-column-requires : tie.Need-clear-column-requires Inv-loop μ-loop
 clear-column-requires c κs = let i = c .before .loop .inv .1 in
     ((c .before .before .pre .0 .0, (c .loop-test .taken, c .before .before .pre .0 .1)), (i .0 .residues, i .1))
 
--- src/lib.rt:155:9
-add-j : tie.Need-add-j Inv-loop μ-loop
-add-j c = search needs
-
--- src/lib.rt:152:5
-loop-less : tie.Need-loop-less Inv-loop μ-loop
-loop-less c = search needs
-
--- src/lib.rt:152:5
 loop-again : tie.Need-loop-again Inv-loop μ-loop
 loop-again c = let e = c .clear-column .ensures in
     (omega arith, (kept-both (c .before .before .loop .inv .1 .0) (e .0), e .1))
 
--- src/lib.rt:145:1
 returns : tie.Need-returns Inv-loop μ-loop
 returns c = let e : c .before .loop .j ≡ c .before .before .args .size = omega arith in
     rw e at (c .before .loop .inv .1)
@@ -46,4 +31,4 @@ returns c = let e : c .before .loop .j ≡ c .before .before .args .size = omega
 pub triangulate-spec : {M : Type 1} → statement M
 triangulate-spec =
     tie.close
-    (tie.spec Inv-loop μ-loop loop-holds clear-column-requires add-j loop-less loop-again returns)
+    (tie.spec Inv-loop μ-loop loop-holds clear-column-requires (λ c. search needs) (λ c. search needs) loop-again returns)

@@ -4,35 +4,11 @@ use Rattle.frame_reader.proofs.Holding.{part-answered}
 use Rattle.frame_reader.proofs.close.Statement.{statement}
 use Rattle.frame_reader.proofs.close.Tie as tie
 
-answer-requires : tie.Need-answer-requires
-answer-requires c κs = search needs
-
-same-length : tie.Need-same-length
-same-length c = search needs
-
-same-length-2 : tie.Need-same-length-2
-same-length-2 c = search needs
-
 returns : tie.Need-returns
 returns c =
     let at-answer = c .before .before .before .before in
     let start = at-answer .before .before .before .before .before .before .before .before in
     λ s k n. part-answered s (start .args .part .now) k (search needs) (at-answer .answer .ensures)
-
-hold-requires : tie.Need-hold-requires
-hold-requires c κs = search needs
-
-answer-held-requires : tie.Need-answer-held-requires
-answer-held-requires c κs = search needs
-
-same-length-3 : tie.Need-same-length-3
-same-length-3 c = search needs
-
-same-length-4 : tie.Need-same-length-4
-same-length-4 c = search needs
-
-same-length-5 : tie.Need-same-length-5
-same-length-5 c = search needs
 
 returns-2 : tie.Need-returns-2
 returns-2 c =
@@ -45,13 +21,13 @@ pub close-spec : {M : Type 1} → statement M
 close-spec =
     tie.close
     (tie.spec
-    answer-requires
-    same-length
-    same-length-2
+    (λ c κs. search needs)
+    (λ c. search needs)
+    (λ c. search needs)
     returns
-    hold-requires
-    answer-held-requires
-    same-length-3
-    same-length-4
-    same-length-5
+    (λ c κs. search needs)
+    (λ c κs. search needs)
+    (λ c. search needs)
+    (λ c. search needs)
+    (λ c. search needs)
     returns-2)

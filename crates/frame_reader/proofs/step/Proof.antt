@@ -17,32 +17,8 @@ Inv-loop held line₀ piece out₀ work₀ h₀ i₀ w₀ line out work h i w =
 abbrev μ-loop : tie.MeasureT-loop
 μ-loop held line₀ piece out₀ work₀ h₀ i₀ w₀ line out work h i w = length piece - i
 
-working-words-requires : tie.Need-working-words-requires Inv-loop μ-loop
-working-words-requires c κs = search needs
-
 loop-holds : tie.Need-loop-holds Inv-loop μ-loop
 loop-holds c = (search needs, λ s k. going-none s _ _ k)
-
-find-newline-requires : tie.Need-find-newline-requires Inv-loop μ-loop
-find-newline-requires c κs = search needs
-
-sub-hold : tie.Need-sub-hold Inv-loop μ-loop
-sub-hold c = search needs
-
-part-hold-start : tie.Need-part-hold-start Inv-loop μ-loop
-part-hold-start c = search needs
-
-part-hold-end : tie.Need-part-hold-end Inv-loop μ-loop
-part-hold-end c = search needs
-
-hold-requires : tie.Need-hold-requires Inv-loop μ-loop
-hold-requires c κs = search needs
-
-same-length : tie.Need-same-length Inv-loop μ-loop
-same-length c = search needs
-
-same-length-2 : tie.Need-same-length-2 Inv-loop μ-loop
-same-length-2 c = search needs
 
 returns : tie.Need-returns Inv-loop μ-loop
 returns c =
@@ -54,36 +30,6 @@ returns c =
           let g = at-loop .loop .inv .1 s k in
           going-hold g (search needs) (at-hold .hold .ensures (g .rest) (g .held) (at-find .find-newline .ensures .before)),
     )
-
-sub-close : tie.Need-sub-close Inv-loop μ-loop
-sub-close c = search needs
-
-part-close-start : tie.Need-part-close-start Inv-loop μ-loop
-part-close-start c = search needs
-
-part-close-end : tie.Need-part-close-end Inv-loop μ-loop
-part-close-end c = search needs
-
-sub-close-2 : tie.Need-sub-close-2 Inv-loop μ-loop
-sub-close-2 c = search needs
-
-part-work-start : tie.Need-part-work-start Inv-loop μ-loop
-part-work-start c = search needs
-
-part-work-end : tie.Need-part-work-end Inv-loop μ-loop
-part-work-end c = search needs
-
-close-requires : tie.Need-close-requires Inv-loop μ-loop
-close-requires c κs = search needs
-
-add-w : tie.Need-add-w Inv-loop μ-loop
-add-w c = search needs
-
-add-i : tie.Need-add-i Inv-loop μ-loop
-add-i c = search needs
-
-loop-less : tie.Need-loop-less Inv-loop μ-loop
-loop-less c = search needs
 
 loop-again : tie.Need-loop-again Inv-loop μ-loop
 loop-again c =
@@ -105,12 +51,6 @@ loop-again c =
           going-step g (at-close .close .last .1 .0) found (omega arith) (omega arith) wrote,
     )
 
-same-length-3 : tie.Need-same-length-3 Inv-loop μ-loop
-same-length-3 c = search needs
-
-same-length-4 : tie.Need-same-length-4 Inv-loop μ-loop
-same-length-4 c = search needs
-
 returns-2 : tie.Need-returns-2 Inv-loop μ-loop
 returns-2 c = (omega arith, λ s k. going-end (c .before .loop .inv .1 s k) (search needs))
 
@@ -120,27 +60,27 @@ step-spec =
     (tie.spec
     Inv-loop
     μ-loop
-    working-words-requires
+    (λ c κs. search needs)
     loop-holds
-    find-newline-requires
-    sub-hold
-    part-hold-start
-    part-hold-end
-    hold-requires
-    same-length
-    same-length-2
+    (λ c κs. search needs)
+    (λ c. search needs)
+    (λ c. search needs)
+    (λ c. search needs)
+    (λ c κs. search needs)
+    (λ c. search needs)
+    (λ c. search needs)
     returns
-    sub-close
-    part-close-start
-    part-close-end
-    sub-close-2
-    part-work-start
-    part-work-end
-    close-requires
-    add-w
-    add-i
-    loop-less
+    (λ c. search needs)
+    (λ c. search needs)
+    (λ c. search needs)
+    (λ c. search needs)
+    (λ c. search needs)
+    (λ c. search needs)
+    (λ c κs. search needs)
+    (λ c. search needs)
+    (λ c. search needs)
+    (λ c. search needs)
     loop-again
-    same-length-3
-    same-length-4
+    (λ c. search needs)
+    (λ c. search needs)
     returns-2)

@@ -6,28 +6,7 @@ use Rattle.polynomial.proofs.Quotients.{divided}
 use borrow.Author.Needs.{needs}
 use Rattle.polynomial.proofs.divide.Statement.{statement}
 use Rattle.polynomial.proofs.divide.Tie as tie
-use Rattle.polynomial.proofs.divide.Reads as reads
-use Rattle.polynomial.proofs.divide.Lts as lts
-use Rattle.polynomial.proofs.quotient_words.Reads as quotient-words-reads
-use Rattle.polynomial.proofs.remainder_words.Reads as remainder-words-reads
 
--- src/lib.rt:137:5
-quotient-words-requires : tie.Need-quotient-words-requires
-quotient-words-requires c κs = search needs
-
--- src/lib.rt:138:5
-remainder-words-requires : tie.Need-remainder-words-requires
-remainder-words-requires c κs = search needs
-
--- src/lib.rt:132:1
-same-length : tie.Need-same-length
-same-length c = search needs
-
--- src/lib.rt:132:1
-same-length-2 : tie.Need-same-length-2
-same-length-2 c = search needs
-
--- src/lib.rt:132:1
 returns : tie.Need-returns
 returns c = let s = c .before .before .before .before .before .before .before .before .before .before .before .before .before in
     let q = c .before .before .before .before .before .before .before .quotient-words in
@@ -40,4 +19,4 @@ returns c = let s = c .before .before .before .before .before .before .before .b
 pub divide-spec : {M : Type 1} → statement M
 divide-spec =
     tie.close
-    (tie.spec quotient-words-requires remainder-words-requires same-length same-length-2 returns)
+    (tie.spec (λ c κs. search needs) (λ c κs. search needs) (λ c. search needs) (λ c. search needs) returns)

@@ -7,26 +7,13 @@ use Rattle.polynomial.proofs.Answers.{late-accepted, division-refused, 
 use borrow.Author.Needs.{needs}
 use Rattle.polynomial.proofs.division.Statement.{statement}
 use Rattle.polynomial.proofs.division.Tie as tie
-use Rattle.polynomial.proofs.division.Reads as reads
-use Rattle.polynomial.proofs.division.Lts as lts
-use Rattle.bezout.proofs.cofactor.Reads as cofactor-reads
-use Rattle.polynomial.proofs.divide.Reads as divide-reads
-use Rattle.polynomial.proofs.excess.Reads as excess-reads
-use Rattle.polynomial.proofs.refusal_quotient.Reads as refusal-quotient-reads
-use Rattle.refusals.proofs.refusal_two.Reads as refusal-two-reads
 
--- src/lib.rt:166:9
-refusal-two-requires : tie.Need-refusal-two-requires
-refusal-two-requires c κs = search needs
-
--- src/lib.rt:168:9
 returns : tie.Need-returns
 returns c = let rt = c .before in
     let start = rt .before .before .before .before .before in
     let s = start .args in
     division-refused (s .n) _ (s .f .now) (s .g .now) (s .q .now) (s .r .now) (rt .refusal-two .ensures) (c .if1 .taken)
 
--- src/lib.rt:170:13
 sub-e : tie.Need-sub-e
 sub-e c = let if1 = c in
     let rt = if1 .before in
@@ -35,7 +22,6 @@ sub-e c = let if1 = c in
     let a = accepted-two (s .n) (s .f .now) (s .g .now) (sym (rt .refusal-two .ensures) ∙ if1 .if1 .left) in
     a .1 .some
 
--- src/lib.rt:171:20
 sub-excess : tie.Need-sub-excess
 sub-excess c = let if1 = c in
     let rt = if1 .before in
@@ -44,19 +30,6 @@ sub-excess c = let if1 = c in
     let a = accepted-two (s .n) (s .f .now) (s .g .now) (sym (rt .refusal-two .ensures) ∙ if1 .if1 .left) in
     a .0 .some
 
--- src/lib.rt:171:13
-excess-requires : tie.Need-excess-requires
-excess-requires c κs = search needs
-
--- src/lib.rt:171:13
-add-m : tie.Need-add-m
-add-m c = search needs
-
--- src/lib.rt:172:33
-mul-cofactor : tie.Need-mul-cofactor
-mul-cofactor c = search needs
-
--- src/lib.rt:172:33
 shared-slice-read-cofactor : tie.Need-shared-slice-read-cofactor
 shared-slice-read-cofactor c = let if1 = c .before .before in
     let rt = if1 .before in
@@ -65,7 +38,6 @@ shared-slice-read-cofactor c = let if1 = c .before .before in
     let a = accepted-two (s .n) (s .f .now) (s .g .now) (sym (rt .refusal-two .ensures) ∙ if1 .if1 .left) in
     omega (arith, a .1 .some)
 
--- src/lib.rt:172:9
 cofactor-requires : tie.Need-cofactor-requires
 cofactor-requires c κs = let if1 = c .before .before in
     let rt = if1 .before in
@@ -74,11 +46,6 @@ cofactor-requires c κs = let if1 = c .before .before in
     let a = accepted-two (s .n) (s .f .now) (s .g .now) (sym (rt .refusal-two .ensures) ∙ if1 .if1 .left) in
     omega (arith, a .1 .modulus)
 
--- src/lib.rt:173:9
-refusal-quotient-requires : tie.Need-refusal-quotient-requires
-refusal-quotient-requires c κs = search needs
-
--- src/lib.rt:175:9
 returns-2 : tie.Need-returns-2
 returns-2 c = let rq = c .before in
     let cf = rq .before in
@@ -92,15 +59,6 @@ returns-2 c = let rq = c .before in
     _ (cf .cofactor .result .s) (ex .excess .result) _ (cf .cofactor .ensures) (ex .excess .ensures) (rq .refusal-quotient .ensures)
     (c .if2 .taken)
 
--- src/lib.rt:177:26
-sub-divide : tie.Need-sub-divide
-sub-divide c = search needs
-
--- src/lib.rt:177:26
-part-divide-start : tie.Need-part-divide-start
-part-divide-start c = search needs
-
--- src/lib.rt:177:26
 part-divide-end : tie.Need-part-divide-end
 part-divide-end c = let if2 = c in
     let rq = if2 .before in
@@ -115,15 +73,6 @@ part-divide-end c = let if2 = c in
     (rq .refusal-quotient .ensures) (if2 .if2 .left) .1 .0 in
     search needs
 
--- src/lib.rt:177:40
-sub-divide-2 : tie.Need-sub-divide-2
-sub-divide-2 c = search needs
-
--- src/lib.rt:177:40
-part-divide-start-2 : tie.Need-part-divide-start-2
-part-divide-start-2 c = search needs
-
--- src/lib.rt:177:40
 part-divide-end-2 : tie.Need-part-divide-end-2
 part-divide-end-2 c = let if2 = c .before in
     let rq = if2 .before in
@@ -138,7 +87,6 @@ part-divide-end-2 c = let if2 = c .before in
     (rq .refusal-quotient .ensures) (if2 .if2 .left) .1 .1 in
     search needs
 
--- src/lib.rt:177:5
 divide-requires : tie.Need-divide-requires
 divide-requires c κs = let if2 = c .before .before in
     let rq = if2 .before in
@@ -157,15 +105,6 @@ divide-requires c κs = let if2 = c .before .before in
     (s .r .now) a
     (cf .cofactor .ensures) (b .0) (ex .excess .ensures) (omega arith) (omega arith) (omega (arith, b .1 .0)) (omega (arith, b .1 .1))
 
--- src/lib.rt:160:1
-same-length : tie.Need-same-length
-same-length c = search needs
-
--- src/lib.rt:160:1
-same-length-2 : tie.Need-same-length-2
-same-length-2 c = search needs
-
--- src/lib.rt:160:1
 returns-3 : tie.Need-returns-3
 returns-3 c = let if2 = c .before .before .before .before .before .before .before in
     let rq = if2 .before in
@@ -185,24 +124,24 @@ pub division-spec : {M : Type 1} → statement M
 division-spec =
     tie.close
     (tie.spec
-    refusal-two-requires
+    (λ c κs. search needs)
     returns
     sub-e
     sub-excess
-    excess-requires
-    add-m
-    mul-cofactor
+    (λ c κs. search needs)
+    (λ c. search needs)
+    (λ c. search needs)
     shared-slice-read-cofactor
     cofactor-requires
-    refusal-quotient-requires
+    (λ c κs. search needs)
     returns-2
-    sub-divide
-    part-divide-start
+    (λ c. search needs)
+    (λ c. search needs)
     part-divide-end
-    sub-divide-2
-    part-divide-start-2
+    (λ c. search needs)
+    (λ c. search needs)
     part-divide-end-2
     divide-requires
-    same-length
-    same-length-2
+    (λ c. search needs)
+    (λ c. search needs)
     returns-3)

@@ -8,8 +8,6 @@ use borrow.Author.Tests.{eq-eqb, ne-eqb}
 use Rattle.polynomial.specs.Counts.{extent-count, Passed, passed-none, passed-more, passed-all, passed-until}
 use Rattle.polynomial.proofs.extent_of.Statement.{statement}
 use Rattle.polynomial.proofs.extent_of.Tie as tie
-use Rattle.polynomial.proofs.extent_of.Reads as reads
-use Rattle.polynomial.proofs.extent_of.Lts as lts
 
 abbrev Inv-loop : tie.InvT-loop
 Inv-loop f k₀ k = (k ≤ length f) × Passed (λ (x : ℕ). eqb x 0) f k
@@ -17,40 +15,16 @@ Inv-loop f k₀ k = (k ≤ length f) × Passed (λ (x : ℕ). eqb x 0) f k
 abbrev μ-loop : tie.MeasureT-loop
 μ-loop f k₀ k = k
 
--- src/lib.rt:83:5
 loop-holds : tie.Need-loop-holds Inv-loop μ-loop
 loop-holds c = (omega arith, passed-none _ _)
 
--- src/lib.rt:84:14
-sub-if1 : tie.Need-sub-if1 Inv-loop μ-loop
-sub-if1 c = search needs
-
--- src/lib.rt:84:12
-mul-if1 : tie.Need-mul-if1 Inv-loop μ-loop
-mul-if1 c = search needs
-
--- src/lib.rt:84:12
-shared-slice-read-if1 : tie.Need-shared-slice-read-if1 Inv-loop μ-loop
-shared-slice-read-if1 c = search needs
-
--- src/lib.rt:85:13
 returns : tie.Need-returns Inv-loop μ-loop
 returns c = passed-until (c .before .before .before .loop .inv .1) (omega arith) (ne-eqb _ _ (c .if1 .taken))
     ∙ sym (extent-count (c .before .before .before .before .args .f .now))
 
--- src/lib.rt:87:9
-sub-k : tie.Need-sub-k Inv-loop μ-loop
-sub-k c = search needs
-
--- src/lib.rt:83:5
-loop-less : tie.Need-loop-less Inv-loop μ-loop
-loop-less c = search needs
-
--- src/lib.rt:83:5
 loop-again : tie.Need-loop-again Inv-loop μ-loop
 loop-again c = (omega arith, passed-more (c .before .before .before .loop .inv .1) (omega arith) (eq-eqb _ _ (c .if1 .left)))
 
--- src/lib.rt:79:1
 returns-2 : tie.Need-returns-2 Inv-loop μ-loop
 returns-2 c = passed-all (c .before .loop .inv .1) (omega arith) ∙ sym (extent-count (c .before .before .args .f .now))
 
@@ -61,11 +35,11 @@ extent-of-spec =
     Inv-loop
     μ-loop
     loop-holds
-    sub-if1
-    mul-if1
-    shared-slice-read-if1
+    (λ c. search needs)
+    (λ c. search needs)
+    (λ c. search needs)
     returns
-    sub-k
-    loop-less
+    (λ c. search needs)
+    (λ c. search needs)
     loop-again
     returns-2)

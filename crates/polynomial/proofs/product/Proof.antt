@@ -9,59 +9,26 @@ use Rattle.polynomial.proofs.Outcomes.{accepted-product}
 use borrow.Author.Needs.{needs}
 use Rattle.polynomial.proofs.product.Statement.{statement}
 use Rattle.polynomial.proofs.product.Tie as tie
-use Rattle.polynomial.proofs.product.Reads as reads
-use Rattle.polynomial.proofs.product.Lts as lts
-use Rattle.polynomial.proofs.product_words.Reads as product-words-reads
-use Rattle.polynomial.proofs.refusal_product.Reads as refusal-product-reads
 
--- src/lib.rt:64:9
-refusal-product-requires : tie.Need-refusal-product-requires
-refusal-product-requires c κs = search needs
-
--- src/lib.rt:66:9
 returns : tie.Need-returns
 returns c = product-refused (c .before .before .before .before .before .args .n) _
     (c .before .before .before .before .before .args .f .now) (c .before .before .before .before .before .args .g .now)
     (c .before .before .before .before .before .args .out .now) (c .before .refusal-product .ensures) (c .if1 .taken)
 
--- src/lib.rt:68:14
 sub-m : tie.Need-sub-m
 sub-m c = accepted-product (c .before .before .before .before .before .args .n) (c .before .before .before .before .before .args .f .now)
     (c .before .before .before .before .before .args .g .now) (sym (c .before .refusal-product .ensures) ∙ c .if1 .left) .0 .some
 
--- src/lib.rt:68:30
 sub-m-2 : tie.Need-sub-m-2
 sub-m-2 c = accepted-product (c .before .before .before .before .before .args .n) (c .before .before .before .before .before .args .f .now)
     (c .before .before .before .before .before .args .g .now) (sym (c .before .refusal-product .ensures) ∙ c .if1 .left) .1 .some
 
--- src/lib.rt:68:13
-add-m : tie.Need-add-m
-add-m c = search needs
-
--- src/lib.rt:68:13
-add-m-2 : tie.Need-add-m-2
-add-m-2 c = search needs
-
--- src/lib.rt:70:9
 returns-2 : tie.Need-returns-2
 returns-2 c = product-short (c .before .before .before .before .before .before .args .n) _
     (c .before .before .before .before .before .before .args .f .now) (c .before .before .before .before .before .before .args .g .now)
     (c .before .before .before .before .before .before .args .out .now) (c .before .before .refusal-product .ensures)
     (c .before .if1 .left) (c .if2 .taken)
 
--- src/lib.rt:72:28
-sub-product-words : tie.Need-sub-product-words
-sub-product-words c = search needs
-
--- src/lib.rt:72:28
-part-product-words-start : tie.Need-part-product-words-start
-part-product-words-start c = search needs
-
--- src/lib.rt:72:28
-part-product-words-end : tie.Need-part-product-words-end
-part-product-words-end c = search needs
-
--- src/lib.rt:72:5
 product-words-requires : tie.Need-product-words-requires
 product-words-requires c κs = let a = accepted-product (c .before .before .before .before .before .before .before .args .n)
     (c .before .before .before .before .before .before .before .args .f .now)
@@ -69,11 +36,6 @@ product-words-requires c κs = let a = accepted-product (c .before .before .befo
     (sym (c .before .before .before .refusal-product .ensures) ∙ c .before .before .if1 .left) .1 in
     (omega (arith, a .modulus), a .residues)
 
--- src/lib.rt:59:1
-same-length : tie.Need-same-length
-same-length c = search needs
-
--- src/lib.rt:59:1
 returns-3 : tie.Need-returns-3
 returns-3 c = let s = c .before .before .before .before .before .before .before .before .before .before in
     let out = s .args .out .now in
@@ -90,16 +52,16 @@ pub product-spec : {M : Type 1} → statement M
 product-spec =
     tie.close
     (tie.spec
-    refusal-product-requires
+    (λ c κs. search needs)
     returns
     sub-m
     sub-m-2
-    add-m
-    add-m-2
+    (λ c. search needs)
+    (λ c. search needs)
     returns-2
-    sub-product-words
-    part-product-words-start
-    part-product-words-end
+    (λ c. search needs)
+    (λ c. search needs)
+    (λ c. search needs)
     product-words-requires
-    same-length
+    (λ c. search needs)
     returns-3)

@@ -7,13 +7,6 @@ use native.Mathlib.Nat.{mod-lt, le-of-lt}
 use Rattle.polynomial.proofs.Quotients.{Quotienting, quotienting-start, quotienting-turn, quotienting-end, starts-within}
 use Rattle.polynomial.proofs.quotient_words.Statement.{statement}
 use Rattle.polynomial.proofs.quotient_words.Tie as tie
-use Rattle.polynomial.proofs.quotient_words.Reads as reads
-use Rattle.polynomial.proofs.quotient_words.Lts as lts
-use Rattle.arithmetic.proofs.mul_mod.Reads as mul-mod-reads
-use Rattle.arithmetic.proofs.sub_mod.Reads as sub-mod-reads
-use Rattle.convolution.proofs.product_word.Reads as product-word-reads
-use Rattle.polynomial.proofs.excess.Reads as excess-reads
-use Rattle.windows.proofs.wipe.Reads as wipe-reads
 
 abbrev Inv-loop : tie.InvT-loop
 Inv-loop n i f g q₀ e m s₀ q s = (s ≤ length q₀) × ((s ≤ length f - (length g - 1)) × Quotienting n s f g q₀ q)
@@ -21,19 +14,6 @@ Inv-loop n i f g q₀ e m s₀ q s = (s ≤ length q₀) × ((s ≤ length f - (
 abbrev μ-loop : tie.MeasureT-loop
 μ-loop n i f g q₀ e m s₀ q s = s
 
--- src/lib.rt:106:5
-wipe-requires : tie.Need-wipe-requires Inv-loop μ-loop
-wipe-requires c κs = search needs
-
--- src/lib.rt:107:13
-sub-e : tie.Need-sub-e Inv-loop μ-loop
-sub-e c = search needs
-
--- src/lib.rt:109:9
-excess-requires : tie.Need-excess-requires Inv-loop μ-loop
-excess-requires c κs = search needs
-
--- src/lib.rt:110:5
 loop-holds : tie.Need-loop-holds Inv-loop μ-loop
 loop-holds c = let s = c .before .before .before .before .before .before .before .before in
     let w = c .before .before .before .wipe in
@@ -43,66 +23,15 @@ loop-holds c = let s = c .before .before .before .before .before .before .before
       (omega arith, quotienting-start _ _ (length (s .args .q .now)) _ _ _ (s .pre .0 .0) (w .ensures) (c .excess .ensures)),
     )
 
--- src/lib.rt:111:9
-sub-s : tie.Need-sub-s Inv-loop μ-loop
-sub-s c = search needs
-
--- src/lib.rt:112:46
-mul-product-word : tie.Need-mul-product-word Inv-loop μ-loop
-mul-product-word c = search needs
-
--- src/lib.rt:112:46
-sub-product-word : tie.Need-sub-product-word Inv-loop μ-loop
-sub-product-word c = search needs
-
--- src/lib.rt:112:46
-part-product-word-start : tie.Need-part-product-word-start Inv-loop μ-loop
-part-product-word-start c = search needs
-
--- src/lib.rt:112:46
-part-product-word-end : tie.Need-part-product-word-end Inv-loop μ-loop
-part-product-word-end c = search needs
-
--- src/lib.rt:112:13
 product-word-requires : tie.Need-product-word-requires Inv-loop μ-loop
 product-word-requires c κs = let s = c .before .before .before .before .before .before .before .before .before .before .before .before in
     (s .pre .0 .0, s .pre .1 .0)
 
--- src/lib.rt:113:67
-add-sub-mod : tie.Need-add-sub-mod Inv-loop μ-loop
-add-sub-mod c = search needs
-
--- src/lib.rt:113:65
-mul-sub-mod : tie.Need-mul-sub-mod Inv-loop μ-loop
-mul-sub-mod c = search needs
-
--- src/lib.rt:113:65
-shared-slice-read-sub-mod : tie.Need-shared-slice-read-sub-mod Inv-loop μ-loop
-shared-slice-read-sub-mod c = search needs
-
--- src/lib.rt:113:42
 sub-mod-requires : tie.Need-sub-mod-requires Inv-loop μ-loop
 sub-mod-requires c κs = let s = c .before .before .before .before .before .before .before .before .before .before .before .before .before
     .before in
     (s .pre .0 .0, subst (λ (y : ℕ). y ≤ s .args .n) (sym (c .before .product-word .ensures)) (le-of-lt (mod-lt _ (s .pre .0 .0))))
 
--- src/lib.rt:113:16
-mul-mod-requires : tie.Need-mul-mod-requires Inv-loop μ-loop
-mul-mod-requires c κs = search needs
-
--- src/lib.rt:113:9
-mul-q : tie.Need-mul-q Inv-loop μ-loop
-mul-q c = search needs
-
--- src/lib.rt:113:9
-slice-write-q : tie.Need-slice-write-q Inv-loop μ-loop
-slice-write-q c = search needs
-
--- src/lib.rt:110:5
-loop-less : tie.Need-loop-less Inv-loop μ-loop
-loop-less c = search needs
-
--- src/lib.rt:110:5
 loop-again : tie.Need-loop-again Inv-loop μ-loop
 loop-again c = let s = c .before .before .before .before .before .before .before .before .before .before .before .before .before .before
     .before .before in
@@ -119,11 +48,6 @@ loop-again c = let s = c .before .before .before .before .before .before .before
       ),
     )
 
--- src/lib.rt:101:1
-same-length : tie.Need-same-length Inv-loop μ-loop
-same-length c = search needs
-
--- src/lib.rt:101:1
 returns : tie.Need-returns Inv-loop μ-loop
 returns c = let s = c .before .before .before .before .before .before .before .before .before .before in
     let w = c .before .before .before .before .before .wipe in
@@ -136,24 +60,24 @@ quotient-words-spec =
     (tie.spec
     Inv-loop
     μ-loop
-    wipe-requires
-    sub-e
-    excess-requires
+    (λ c κs. search needs)
+    (λ c. search needs)
+    (λ c κs. search needs)
     loop-holds
-    sub-s
-    mul-product-word
-    sub-product-word
-    part-product-word-start
-    part-product-word-end
+    (λ c. search needs)
+    (λ c. search needs)
+    (λ c. search needs)
+    (λ c. search needs)
+    (λ c. search needs)
     product-word-requires
-    add-sub-mod
-    mul-sub-mod
-    shared-slice-read-sub-mod
+    (λ c. search needs)
+    (λ c. search needs)
+    (λ c. search needs)
     sub-mod-requires
-    mul-mod-requires
-    mul-q
-    slice-write-q
-    loop-less
+    (λ c κs. search needs)
+    (λ c. search needs)
+    (λ c. search needs)
+    (λ c. search needs)
     loop-again
-    same-length
+    (λ c. search needs)
     returns)

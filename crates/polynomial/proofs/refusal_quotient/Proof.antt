@@ -4,22 +4,16 @@ use Prim.Native.Nat.{_-_}
 use borrow.Author.Tests.{eq-eqb, ne-eqb, lt-ltb, le-ltb}
 use Rattle.polynomial.proofs.refusal_quotient.Statement.{statement}
 use Rattle.polynomial.proofs.refusal_quotient.Tie as tie
-use Rattle.polynomial.proofs.refusal_quotient.Reads as reads
-use Rattle.polynomial.proofs.refusal_quotient.Lts as lts
 
--- src/lib.rt:147:9
 returns : tie.Need-returns
 returns c = simp (ne-eqb _ _ (c .if1 .taken)) refl
 
--- src/lib.rt:150:9
 returns-2 : tie.Need-returns-2
 returns-2 c = simp (eq-eqb _ _ (c .before .if1 .left), lt-ltb _ _ (c .if2 .taken)) refl
 
--- src/lib.rt:153:9
 returns-3 : tie.Need-returns-3
 returns-3 c = simp (eq-eqb _ _ (c .before .before .if1 .left), le-ltb _ _ (c .before .if2 .left), lt-ltb _ _ (c .if3 .taken)) refl
 
--- src/lib.rt:143:1
 returns-4 : tie.Need-returns-4
 returns-4 c = simp (eq-eqb _ _ (c .before .before .if1 .left), le-ltb _ _ (c .before .if2 .left), le-ltb _ _ (c .if3 .left)) refl
 

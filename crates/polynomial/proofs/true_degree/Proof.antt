@@ -7,34 +7,15 @@ use Rattle.polynomial.proofs.Outcomes.{answered-none, answered-value, p
 use borrow.Author.Needs.{needs}
 use Rattle.polynomial.proofs.true_degree.Statement.{statement}
 use Rattle.polynomial.proofs.true_degree.Tie as tie
-use Rattle.polynomial.proofs.true_degree.Reads as reads
-use Rattle.polynomial.proofs.true_degree.Lts as lts
-use Rattle.polynomial.proofs.extent_of.Reads as extent-of-reads
-use Rattle.refusals.proofs.refusal_one.Reads as refusal-one-reads
 
--- src/lib.rt:97:9
-refusal-one-requires : tie.Need-refusal-one-requires
-refusal-one-requires c κs = search needs
-
--- src/lib.rt:99:9
 returns : tie.Need-returns
 returns c = let e = c .before .refusal-one .ensures in
     (e, answered-none _ _ _ (sym e) (c .if1 .taken))
 
--- src/lib.rt:101:9
-extent-of-requires : tie.Need-extent-of-requires
-extent-of-requires c κs = search needs
-
--- src/lib.rt:103:9
 returns-2 : tie.Need-returns-2
 returns-2 c = let e = sym (c .before .before .before .refusal-one .ensures) ∙ c .before .before .if1 .left in
     (sym e, answered-value _ _ _ e (sym (ap pred (sym (c .before .extent-of .ensures) ∙ c .if2 .taken))))
 
--- src/lib.rt:105:22
-sub-t6 : tie.Need-sub-t6
-sub-t6 c = search needs
-
--- src/lib.rt:105:21
 cast-t7 : tie.Need-cast-t7
 cast-t7 c = let a = accepted-one (c .before .before .before .before .before .args .n)
     (c .before .before .before .before .before .args .f .now)
@@ -49,7 +30,6 @@ cast-t7 c = let a = accepted-one (c .before .before .before .before .before .arg
       );
     }
 
--- src/lib.rt:93:1
 returns-3 : tie.Need-returns-3
 returns-3 c = let e = sym (c .before .before .before .refusal-one .ensures) ∙ c .before .before .if1 .left in
     (sym e, answered-value _ _ _ e (sym (pred-is _) ∙ ap pred (c .before .extent-of .ensures)))
@@ -57,4 +37,4 @@ returns-3 c = let e = sym (c .before .before .before .refusal-one .ensures) ∙ 
 pub true-degree-spec : {M : Type 1} → statement M
 true-degree-spec =
     tie.close
-    (tie.spec refusal-one-requires returns extent-of-requires returns-2 sub-t6 cast-t7 returns-3)
+    (tie.spec (λ c κs. search needs) returns (λ c κs. search needs) returns-2 (λ c. search needs) cast-t7 returns-3)

@@ -7,27 +7,13 @@ use Rattle.polynomial_units.proofs.UnitAnswers.{lead-inside, inverse-sm
 use borrow.Author.Needs.{needs}
 use Rattle.polynomial_units.proofs.inverse.Statement.{statement}
 use Rattle.polynomial_units.proofs.inverse.Tie as tie
-use Rattle.polynomial_units.proofs.inverse.Reads as reads
-use Rattle.polynomial_units.proofs.inverse.Lts as lts
-use Rattle.bezout.proofs.cofactor.Reads as cofactor-reads
-use Rattle.polynomial_units.proofs.inverse_words.Reads as inverse-words-reads
-use Rattle.polynomial_units.proofs.leading_place.Reads as leading-place-reads
-use Rattle.polynomial_units.proofs.refusal_inverse.Reads as refusal-inverse-reads
-use Rattle.refusals.proofs.refusal_one.Reads as refusal-one-reads
-use Rattle.residue.proofs.modulus_of.Reads as modulus-of-reads
 
--- src/lib.rt:184:9
-refusal-one-requires : tie.Need-refusal-one-requires
-refusal-one-requires c κs = search needs
-
--- src/lib.rt:186:9
 returns : tie.Need-returns
 returns c = let ro = c .before in
     let start = ro .before .before .before .before in
     let s = start .args in
     inverse-refused (s .n) _ (s .f .now) (s .out .now) (s .work .now) (ro .refusal-one .ensures) (c .if1 .taken)
 
--- src/lib.rt:188:9
 leading-place-requires : tie.Need-leading-place-requires
 leading-place-requires c κs = let if1 = c in
     let ro = if1 .before in
@@ -36,7 +22,6 @@ leading-place-requires c κs = let if1 = c in
     let a = accepted-one (s .n) (s .f .now) (sym (ro .refusal-one .ensures) ∙ if1 .if1 .left) in
     a .modulus
 
--- src/lib.rt:189:33
 mul-cofactor : tie.Need-mul-cofactor
 mul-cofactor c = let lp = c in
     let if1 = lp .before in
@@ -53,7 +38,6 @@ mul-cofactor c = let lp = c in
       );
     }
 
--- src/lib.rt:189:33
 shared-slice-read-cofactor : tie.Need-shared-slice-read-cofactor
 shared-slice-read-cofactor c = let lp = c .before in
     let if1 = lp .before in
@@ -63,7 +47,6 @@ shared-slice-read-cofactor c = let lp = c .before in
     let a = accepted-one (s .n) (s .f .now) (sym (ro .refusal-one .ensures) ∙ if1 .if1 .left) in
     lead-inside (s .n) (lp .leading-place .result) (s .f .now) (a .some) (lp .leading-place .ensures)
 
--- src/lib.rt:189:9
 cofactor-requires : tie.Need-cofactor-requires
 cofactor-requires c κs = let if1 = c .before .before in
     let ro = if1 .before in
@@ -72,15 +55,6 @@ cofactor-requires c κs = let if1 = c .before .before in
     let a = accepted-one (s .n) (s .f .now) (sym (ro .refusal-one .ensures) ∙ if1 .if1 .left) in
     omega (arith, a .modulus)
 
--- src/lib.rt:190:9
-modulus-of-requires : tie.Need-modulus-of-requires
-modulus-of-requires c κs = search needs
-
--- src/lib.rt:191:14
-cast-l : tie.Need-cast-l
-cast-l c = search needs
-
--- src/lib.rt:191:31
 sub-l : tie.Need-sub-l
 sub-l c = let if1 = c .before .before .before .before .before in
     let ro = if1 .before in
@@ -89,7 +63,6 @@ sub-l c = let if1 = c .before .before .before .before .before in
     let a = accepted-one (s .n) (s .f .now) (sym (ro .refusal-one .ensures) ∙ if1 .if1 .left) in
     a .some
 
--- src/lib.rt:191:13
 mul-l : tie.Need-mul-l
 mul-l c = let mo = c .before in
     let cf = mo .before in
@@ -108,7 +81,6 @@ mul-l c = let mo = c .before in
       );
     }
 
--- src/lib.rt:191:13
 add-l : tie.Need-add-l
 add-l c = let mo = c .before in
     let cf = mo .before in
@@ -127,11 +99,6 @@ add-l c = let mo = c .before in
       );
     }
 
--- src/lib.rt:192:9
-refusal-inverse-requires : tie.Need-refusal-inverse-requires
-refusal-inverse-requires c κs = search needs
-
--- src/lib.rt:194:9
 returns-2 : tie.Need-returns-2
 returns-2 c = let ri = c .before in
     let mo = ri .before .before in
@@ -147,15 +114,6 @@ returns-2 c = let ri = c .before in
     (lp .leading-place .ensures) (cf .cofactor .ensures) (mo .modulus-of .ensures .1) (ri .refusal-inverse .ensures)
     (c .if2 .taken)
 
--- src/lib.rt:196:30
-sub-inverse-words : tie.Need-sub-inverse-words
-sub-inverse-words c = search needs
-
--- src/lib.rt:196:30
-part-inverse-words-start : tie.Need-part-inverse-words-start
-part-inverse-words-start c = search needs
-
--- src/lib.rt:196:30
 part-inverse-words-end : tie.Need-part-inverse-words-end
 part-inverse-words-end c = let if2 = c in
     let ri = if2 .before in
@@ -171,7 +129,6 @@ part-inverse-words-end c = let if2 = c in
     (if2 .if2 .left) .1 .0 in
     search needs
 
--- src/lib.rt:196:5
 inverse-words-requires : tie.Need-inverse-words-requires
 inverse-words-requires c κs = let if2 = c .before .before in
     let ri = if2 .before in
@@ -188,15 +145,6 @@ inverse-words-requires c κs = let if2 = c .before .before in
     (lp .leading-place .ensures) (cf .cofactor .ensures) (mo .modulus-of .ensures .1) (ri .refusal-inverse .ensures)
     (if2 .if2 .left) (start .fits .n .fits) (mo .modulus-of .result .k * (length (s .f .now) - 1) + 1 - 0) (omega arith)
 
--- src/lib.rt:178:1
-same-length : tie.Need-same-length
-same-length c = search needs
-
--- src/lib.rt:178:1
-same-length-2 : tie.Need-same-length-2
-same-length-2 c = search needs
-
--- src/lib.rt:178:1
 returns-3 : tie.Need-returns-3
 returns-3 c = let if2 = c .before .before .before .before .before .before .before in
     let ri = if2 .before in
@@ -219,23 +167,23 @@ pub inverse-spec : {M : Type 1} → statement M
 inverse-spec =
     tie.close
     (tie.spec
-    refusal-one-requires
+    (λ c κs. search needs)
     returns
     leading-place-requires
     mul-cofactor
     shared-slice-read-cofactor
     cofactor-requires
-    modulus-of-requires
-    cast-l
+    (λ c κs. search needs)
+    (λ c. search needs)
     sub-l
     mul-l
     add-l
-    refusal-inverse-requires
+    (λ c κs. search needs)
     returns-2
-    sub-inverse-words
-    part-inverse-words-start
+    (λ c. search needs)
+    (λ c. search needs)
     part-inverse-words-end
     inverse-words-requires
-    same-length
-    same-length-2
+    (λ c. search needs)
+    (λ c. search needs)
     returns-3)

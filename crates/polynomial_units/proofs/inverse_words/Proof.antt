@@ -10,22 +10,7 @@ use Rattle.polynomial_units.proofs.Parts.{loaded-is, inverse-of}
 use borrow.Author.Needs.{needs}
 use Rattle.polynomial_units.proofs.inverse_words.Statement.{statement}
 use Rattle.polynomial_units.proofs.inverse_words.Tie as tie
-use Rattle.polynomial_units.proofs.inverse_words.Reads as reads
-use Rattle.polynomial_units.proofs.inverse_words.Lts as lts
-use Rattle.window_factor.proofs.series_inverse.Reads as series-inverse-reads
-use Rattle.polynomial_units.proofs.hand_out.Reads as hand-out-reads
-use Rattle.windows.proofs.load.Reads as load-reads
-use Rattle.windows.proofs.wipe.Reads as wipe-reads
 
--- src/lib.rt:149:13
-sub-d : tie.Need-sub-d
-sub-d c = search needs
-
--- src/lib.rt:151:5
-load-requires : tie.Need-load-requires
-load-requires c κs = search needs
-
--- src/lib.rt:152:5
 series-inverse-requires : tie.Need-series-inverse-requires
 series-inverse-requires c κs = let s = c .before .before .before .before .before .before .before .before in
     let f = s .args .f .now in
@@ -40,27 +25,6 @@ series-inverse-requires c κs = let s = c .before .before .before .before .befor
           ∙ ap (λ (x : ℕ). x % s .args .n) (mul-comm (s .args .i) (coef f 0)) ∙ inv .one,
     )
 
--- src/lib.rt:153:25
-add-hand-out : tie.Need-add-hand-out
-add-hand-out c = search needs
-
--- src/lib.rt:153:5
-hand-out-requires : tie.Need-hand-out-requires
-hand-out-requires c κs = search needs
-
--- src/lib.rt:154:5
-wipe-requires : tie.Need-wipe-requires
-wipe-requires c κs = search needs
-
--- src/lib.rt:143:1
-same-length : tie.Need-same-length
-same-length c = search needs
-
--- src/lib.rt:143:1
-same-length-2 : tie.Need-same-length-2
-same-length-2 c = search needs
-
--- src/lib.rt:143:1
 returns : tie.Need-returns
 returns c = let s = c .before .before .before .before .before .before .before .before .before .before .before .before .before .before
     .before .before .before .before .before .before in
@@ -83,12 +47,12 @@ pub inverse-words-spec : {M : Type 1} → statement M
 inverse-words-spec =
     tie.close
     (tie.spec
-    sub-d
-    load-requires
+    (λ c. search needs)
+    (λ c κs. search needs)
     series-inverse-requires
-    add-hand-out
-    hand-out-requires
-    wipe-requires
-    same-length
-    same-length-2
+    (λ c. search needs)
+    (λ c κs. search needs)
+    (λ c κs. search needs)
+    (λ c. search needs)
+    (λ c. search needs)
     returns)

@@ -7,26 +7,13 @@ use Rattle.polynomial_units.proofs.UnitAnswers.{lead-inside, factors-ac
 use borrow.Author.Needs.{needs}
 use Rattle.polynomial_units.proofs.unit_times_monic.Statement.{statement}
 use Rattle.polynomial_units.proofs.unit_times_monic.Tie as tie
-use Rattle.polynomial_units.proofs.unit_times_monic.Reads as reads
-use Rattle.polynomial_units.proofs.unit_times_monic.Lts as lts
-use Rattle.bezout.proofs.cofactor.Reads as cofactor-reads
-use Rattle.polynomial_units.proofs.factor_words.Reads as factor-words-reads
-use Rattle.polynomial_units.proofs.leading_place.Reads as leading-place-reads
-use Rattle.polynomial_units.proofs.refusal_factors.Reads as refusal-factors-reads
-use Rattle.refusals.proofs.refusal_one.Reads as refusal-one-reads
 
--- src/lib.rt:125:9
-refusal-one-requires : tie.Need-refusal-one-requires
-refusal-one-requires c κs = search needs
-
--- src/lib.rt:127:9
 returns : tie.Need-returns
 returns c = let ro = c .before in
     let start = ro .before .before .before .before .before in
     let s = start .args in
     factors-refused (s .n) _ (s .f .now) (s .u .now) (s .h .now) (s .work .now) (ro .refusal-one .ensures) (c .if1 .taken)
 
--- src/lib.rt:129:9
 leading-place-requires : tie.Need-leading-place-requires
 leading-place-requires c κs = let if1 = c in
     let ro = if1 .before in
@@ -35,7 +22,6 @@ leading-place-requires c κs = let if1 = c in
     let a = accepted-one (s .n) (s .f .now) (sym (ro .refusal-one .ensures) ∙ if1 .if1 .left) in
     a .modulus
 
--- src/lib.rt:130:33
 mul-cofactor : tie.Need-mul-cofactor
 mul-cofactor c = let lp = c in
     let if1 = lp .before in
@@ -52,7 +38,6 @@ mul-cofactor c = let lp = c in
       );
     }
 
--- src/lib.rt:130:33
 shared-slice-read-cofactor : tie.Need-shared-slice-read-cofactor
 shared-slice-read-cofactor c = let lp = c .before in
     let if1 = lp .before in
@@ -62,7 +47,6 @@ shared-slice-read-cofactor c = let lp = c .before in
     let a = accepted-one (s .n) (s .f .now) (sym (ro .refusal-one .ensures) ∙ if1 .if1 .left) in
     lead-inside (s .n) (lp .leading-place .result) (s .f .now) (a .some) (lp .leading-place .ensures)
 
--- src/lib.rt:130:9
 cofactor-requires : tie.Need-cofactor-requires
 cofactor-requires c κs = let if1 = c .before .before in
     let ro = if1 .before in
@@ -71,11 +55,6 @@ cofactor-requires c κs = let if1 = c .before .before in
     let a = accepted-one (s .n) (s .f .now) (sym (ro .refusal-one .ensures) ∙ if1 .if1 .left) in
     omega (arith, a .modulus)
 
--- src/lib.rt:132:9
-refusal-factors-requires : tie.Need-refusal-factors-requires
-refusal-factors-requires c κs = search needs
-
--- src/lib.rt:134:9
 returns-2 : tie.Need-returns-2
 returns-2 c = let rf = c .before in
     let cf = rf .before in
@@ -90,15 +69,6 @@ returns-2 c = let rf = c .before in
     (lp .leading-place .ensures) (cf .cofactor .ensures) (rf .refusal-factors .ensures)
     (c .if2 .taken)
 
--- src/lib.rt:136:32
-sub-factor-words : tie.Need-sub-factor-words
-sub-factor-words c = search needs
-
--- src/lib.rt:136:32
-part-factor-words-start : tie.Need-part-factor-words-start
-part-factor-words-start c = search needs
-
--- src/lib.rt:136:32
 part-factor-words-end : tie.Need-part-factor-words-end
 part-factor-words-end c = let if2 = c in
     let rf = if2 .before in
@@ -113,15 +83,6 @@ part-factor-words-end c = let if2 = c in
     (rf .refusal-factors .ensures) (if2 .if2 .left) .1 .0 in
     search needs
 
--- src/lib.rt:136:46
-sub-factor-words-2 : tie.Need-sub-factor-words-2
-sub-factor-words-2 c = search needs
-
--- src/lib.rt:136:46
-part-factor-words-start-2 : tie.Need-part-factor-words-start-2
-part-factor-words-start-2 c = search needs
-
--- src/lib.rt:136:46
 part-factor-words-end-2 : tie.Need-part-factor-words-end-2
 part-factor-words-end-2 c = let if2 = c .before in
     let rf = if2 .before in
@@ -136,7 +97,6 @@ part-factor-words-end-2 c = let if2 = c .before in
     (rf .refusal-factors .ensures) (if2 .if2 .left) .1 .1 .0 in
     search needs
 
--- src/lib.rt:136:5
 factor-words-requires : tie.Need-factor-words-requires
 factor-words-requires c κs = let if2 = c .before .before .before in
     let rf = if2 .before in
@@ -152,7 +112,6 @@ factor-words-requires c κs = let if2 = c .before .before .before in
     (lp .leading-place .ensures) (cf .cofactor .ensures) (rf .refusal-factors .ensures)
     (if2 .if2 .left) (length (s .f .now) - 0) (length (s .f .now) - 0) (omega arith) (omega arith)
 
--- src/lib.rt:137:21
 cast-t14 : tie.Need-cast-t14
 cast-t14 c = let lp = c .before .before .before .before .before .before .before .before .before .before .before .before .before .before in
     let if1 = lp .before in
@@ -169,19 +128,6 @@ cast-t14 c = let lp = c .before .before .before .before .before .before .before 
       );
     }
 
--- src/lib.rt:116:1
-same-length : tie.Need-same-length
-same-length c = search needs
-
--- src/lib.rt:116:1
-same-length-2 : tie.Need-same-length-2
-same-length-2 c = search needs
-
--- src/lib.rt:116:1
-same-length-3 : tie.Need-same-length-3
-same-length-3 c = search needs
-
--- src/lib.rt:116:1
 returns-3 : tie.Need-returns-3
 returns-3 c = let if2 = c .before .before .before .before .before .before .before .before .before .before in
     let rf = if2 .before in
@@ -203,23 +149,23 @@ pub unit-times-monic-spec : {M : Type 1} → statement M
 unit-times-monic-spec =
     tie.close
     (tie.spec
-    refusal-one-requires
+    (λ c κs. search needs)
     returns
     leading-place-requires
     mul-cofactor
     shared-slice-read-cofactor
     cofactor-requires
-    refusal-factors-requires
+    (λ c κs. search needs)
     returns-2
-    sub-factor-words
-    part-factor-words-start
+    (λ c. search needs)
+    (λ c. search needs)
     part-factor-words-end
-    sub-factor-words-2
-    part-factor-words-start-2
+    (λ c. search needs)
+    (λ c. search needs)
     part-factor-words-end-2
     factor-words-requires
     cast-t14
-    same-length
-    same-length-2
-    same-length-3
+    (λ c. search needs)
+    (λ c. search needs)
+    (λ c. search needs)
     returns-3)

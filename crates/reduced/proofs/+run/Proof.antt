@@ -33,7 +33,6 @@ run-at t = and 5 run-kinds.ps (is 5 run-kinds.ps μ-run t) run.Pre
 abbrev run-below : ℕ → In 5 run-kinds.ps
 run-below t = and 5 run-kinds.ps (falls 5 run-kinds.ps _<_ μ-run t) run.Pre
 
--- src/lib.rt:165:11
 run-attempt-requires : (t : ℕ) → run-lts.Need-attempt-requires (
   attempt-reads.Asked,
   attempt-reads.Learnt,
@@ -46,7 +45,6 @@ run-attempt-requires : (t : ℕ) → run-lts.Need-attempt-requires (
 ) (run-at t) run.Post
 run-attempt-requires t c κs = search needs
 
--- src/lib.rt:166:32
 run-enum-known-d : (t : ℕ) → run-lts.Need-enum-known-d (
   attempt-reads.Asked,
   attempt-reads.Learnt,
@@ -59,7 +57,6 @@ run-enum-known-d : (t : ℕ) → run-lts.Need-enum-known-d (
 ) (run-at t) run.Post
 run-enum-known-d t c = search needs
 
--- src/lib.rt:167:33
 run-enum-known-p : (t : ℕ) → run-lts.Need-enum-known-p (
   attempt-reads.Asked,
   attempt-reads.Learnt,
@@ -72,7 +69,6 @@ run-enum-known-p : (t : ℕ) → run-lts.Need-enum-known-p (
 ) (run-at t) run.Post
 run-enum-known-p t c = search needs
 
--- src/lib.rt:168:17
 run-run-requires : (t : ℕ) → run-lts.Need-run-requires (
   attempt-reads.Asked,
   attempt-reads.Learnt,
@@ -103,7 +99,6 @@ run-run-requires t c κs = let s = c .before .before .before .before .before .be
     let less = factor-less n p q sp in
     (omega (arith, s .pre .0), (sp .above₁, (r .1 .0, (r .1 .1 .0, (first-room n p q sp (max d e) _ (omega (arith, r .1 .1 .1 .0)), (lp _ (omega (arith, r .1 .1 .1 .1 .0)), lp _ (omega (arith, r .1 .1 .1 .1 .1))))))))
 
--- src/lib.rt:169:17
 run-save-requires : (t : ℕ) → run-lts.Need-save-requires (
   attempt-reads.Asked,
   attempt-reads.Learnt,
@@ -139,7 +134,6 @@ run-save-requires t c κs = let s = c .before .before .before .before .before .b
     let b = lp (length (s .args .v .now)) (r .1 .1 .1 .1 .1) in
     (omega (arith, sp .above₁), (r .1 .0, (r .1 .1 .0, (omega arith, (omega arith, omega arith)))))
 
--- src/lib.rt:171:38
 run-mul-run : (t : ℕ) → run-lts.Need-mul-run (
   attempt-reads.Asked,
   attempt-reads.Learnt,
@@ -178,7 +172,6 @@ run-mul-run t c = let s = c .before .before .before .before .before .before .bef
     let wide : 2 * l ≤ length (sv .last .0) = omega arith in
     omega arith
 
--- src/lib.rt:171:31
 run-mul-run-2 : (t : ℕ) → run-lts.Need-mul-run-2 (
   attempt-reads.Asked,
   attempt-reads.Learnt,
@@ -217,7 +210,6 @@ run-mul-run-2 t c = let s = c .before .before .before .before .before .before .b
     let wide : 2 * l ≤ length (sv .last .0) = omega arith in
     omega arith
 
--- src/lib.rt:171:31
 run-sub-run : (t : ℕ) → run-lts.Need-sub-run (
   attempt-reads.Asked,
   attempt-reads.Learnt,
@@ -256,7 +248,6 @@ run-sub-run t c = let s = c .before .before .before .before .before .before .bef
     let wide : 2 * l ≤ length (sv .last .0) = omega arith in
     omega arith
 
--- src/lib.rt:171:31
 run-part-run-start : (t : ℕ) → run-lts.Need-part-run-start (
   attempt-reads.Asked,
   attempt-reads.Learnt,
@@ -295,7 +286,6 @@ run-part-run-start t c = let s = c .before .before .before .before .before .befo
     let wide : 2 * l ≤ length (sv .last .0) = omega arith in
     omega arith
 
--- src/lib.rt:171:31
 run-part-run-end : (t : ℕ) → run-lts.Need-part-run-end (
   attempt-reads.Asked,
   attempt-reads.Learnt,
@@ -308,7 +298,6 @@ run-part-run-end : (t : ℕ) → run-lts.Need-part-run-end (
 ) (run-at t) run.Post
 run-part-run-end t c = search needs
 
--- src/lib.rt:171:17
 run-run-requires-2 : (t : ℕ) → run-lts.Need-run-requires-2 (
   attempt-reads.Asked,
   attempt-reads.Learnt,
@@ -352,7 +341,6 @@ run-run-requires-2 t c κs = let s = c .before .before .before .before .before .
     let b = lq (length (s .args .v .now)) (r .1 .1 .1 .1 .1) in
     (omega (arith, s .pre .0), (sp .above₂, (r .1 .0, (r .1 .1 .0, (omega arith, (omega arith, omega arith))))))
 
--- src/lib.rt:172:13
 run-merge-requires : (t : ℕ) → run-lts.Need-merge-requires (
   attempt-reads.Asked,
   attempt-reads.Learnt,
@@ -399,7 +387,6 @@ run-merge-requires t c κs = let s = c .before .before .before .before .before .
     let b = lp (length (s .args .v .now)) (r .1 .1 .1 .1 .1) in
     ((omega arith, (omega arith, (omega arith, omega (arith, sp .product, s .fits .n)))), factors-split n p q sp)
 
--- src/lib.rt:173:13
 run-mul-result : (t : ℕ) → run-lts.Need-mul-result (
   attempt-reads.Asked,
   attempt-reads.Learnt,
@@ -444,7 +431,6 @@ run-mul-result t c = let s = c .before .before .before .before .before .before .
     let tv = two .kept .1 .0 in
     omega (arith, product-below n p q sp f g _ _ (one .ensures .0 .reduced) (two .ensures .0 .reduced), s .fits .n)
 
--- src/lib.rt:160:1
 run-same-length : (t : ℕ) → run-lts.Need-same-length (
   attempt-reads.Asked,
   attempt-reads.Learnt,
@@ -457,7 +443,6 @@ run-same-length : (t : ℕ) → run-lts.Need-same-length (
 ) (run-at t) run.Post
 run-same-length t c = search needs
 
--- src/lib.rt:160:1
 run-same-length-2 : (t : ℕ) → run-lts.Need-same-length-2 (
   attempt-reads.Asked,
   attempt-reads.Learnt,
@@ -470,7 +455,6 @@ run-same-length-2 : (t : ℕ) → run-lts.Need-same-length-2 (
 ) (run-at t) run.Post
 run-same-length-2 t c = search needs
 
--- src/lib.rt:160:1
 run-same-length-3 : (t : ℕ) → run-lts.Need-same-length-3 (
   attempt-reads.Asked,
   attempt-reads.Learnt,
@@ -483,7 +467,6 @@ run-same-length-3 : (t : ℕ) → run-lts.Need-same-length-3 (
 ) (run-at t) run.Post
 run-same-length-3 t c = search needs
 
--- src/lib.rt:160:1
 run-returns : (t : ℕ) → run-lts.Need-returns (
   attempt-reads.Asked,
   attempt-reads.Learnt,
@@ -500,7 +483,6 @@ run-returns t c = let s = c .before .before .before .before .before .before .bef
     let at = c .before .before .before .before .before .before .before .before .before .attempt in
     (subst (Attempted (s .args .n) (L (s .args .n) (length f - 1) (length g - 1)) f g (at .last .0) (at .last .1 .0)) (c .before .d .given .1) (at .ensures .0), at .ensures .1)
 
--- src/lib.rt:160:1
 run-same-length-4 : (t : ℕ) → run-lts.Need-same-length-4 (
   attempt-reads.Asked,
   attempt-reads.Learnt,
@@ -513,7 +495,6 @@ run-same-length-4 : (t : ℕ) → run-lts.Need-same-length-4 (
 ) (run-at t) run.Post
 run-same-length-4 t c = c .before .before .before .before .merge .kept .0 ∙ c .before .before .before .before .before .before .before .before .before .before .before .before .before .before .run2 .kept .0 ∙ c .before .before .before .before .before .before .before .before .before .before .before .before .before .before .before .before .before .before .before .before .before .before .before .before .before .before .before .before .before .before .run .kept .0 ∙ c .before .before .before .before .before .before .before .before .before .before .before .before .before .before .before .before .before .before .before .before .before .before .before .before .before .before .before .before .before .before .before .before .before .before .before .before .before .before .before .before .before .before .before .attempt .kept .0
 
--- src/lib.rt:160:1
 run-same-length-5 : (t : ℕ) → run-lts.Need-same-length-5 (
   attempt-reads.Asked,
   attempt-reads.Learnt,
@@ -526,7 +507,6 @@ run-same-length-5 : (t : ℕ) → run-lts.Need-same-length-5 (
 ) (run-at t) run.Post
 run-same-length-5 t c = c .before .before .before .before .merge .kept .1 .0 ∙ c .before .before .before .before .before .before .before .before .before .before .before .before .before .before .run2 .kept .1 .0 ∙ c .before .before .before .before .before .before .before .before .before .before .before .before .before .before .before .before .before .before .before .before .before .before .before .before .before .before .before .before .before .before .run .kept .1 .0 ∙ c .before .before .before .before .before .before .before .before .before .before .before .before .before .before .before .before .before .before .before .before .before .before .before .before .before .before .before .before .before .before .before .before .before .before .before .before .before .before .before .before .before .before .before .attempt .kept .1 .0
 
--- src/lib.rt:160:1
 run-same-length-6 : (t : ℕ) → run-lts.Need-same-length-6 (
   attempt-reads.Asked,
   attempt-reads.Learnt,
@@ -571,7 +551,6 @@ run-same-length-6 t c = let s = c .before .before .before .before .before .befor
     let tv = two .kept .1 .0 in
     ww ∙ sw ∙ ow ∙ aw
 
--- src/lib.rt:160:1
 run-returns-2 : (t : ℕ) → run-lts.Need-returns-2 (
   attempt-reads.Asked,
   attempt-reads.Learnt,
@@ -614,11 +593,12 @@ run-returns-2 t c = let s = c .before .before .before .before .before .before .b
     let ww = win .same in
     let tu = two .kept .0 in
     let tv = two .kept .1 .0 in
-    let mg = c .before .before .before .before .merge in
-    (run-joined n p q d e (one .result) (two .result) f g (one .last .0) (one .last .1 .0) (two .last .0) (two .last .1 .0) (mg .last .0) (mg .last .1 .0) _ (sv .last .0) (putMid (2 * l) m (sv .last .0) (two .last .1 .1 .0)) sp
-      (one .ensures .0) (two .ensures .0) (sv .ensures .1) (λ k h. win .low k (omega arith))
-      (subst (λ (x : ℕ). Merged p q x (one .result) (two .result) (putMid (2 * l) m (sv .last .0) (two .last .1 .1 .0)) (two .last .0) (mg .last .0) (two .last .1 .0) (mg .last .1 .0)) el (mg .ensures)),
-    ww ∙ sw ∙ ow ∙ aw)
+    let mg = c .before .before .before .before .merge in (
+      run-joined n p q d e (one .result) (two .result) f g (one .last .0) (one .last .1 .0) (two .last .0) (two .last .1 .0) (mg .last .0) (mg .last .1 .0) _ (sv .last .0) (putMid (2 * l) m (sv .last .0) (two .last .1 .1 .0)) sp
+          (one .ensures .0) (two .ensures .0) (sv .ensures .1) (λ k h. win .low k (omega arith))
+          (subst (λ (x : ℕ). Merged p q x (one .result) (two .result) (putMid (2 * l) m (sv .last .0) (two .last .1 .1 .0)) (two .last .0) (mg .last .0) (two .last .1 .0) (mg .last .1 .0)) el (mg .ensures)),
+      ww ∙ sw ∙ ow ∙ aw,
+    )
 
 pub +run-spec : {M : Type 1} → statement M
 +run-spec = close μ-run λ t. run-lts.spec (

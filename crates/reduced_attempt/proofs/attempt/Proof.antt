@@ -12,78 +12,31 @@ use lib.ListN.{length, replicate}
 use borrow.Author.Needs.{needs}
 use Rattle.reduced_attempt.proofs.attempt.Statement.{statement}
 use Rattle.reduced_attempt.proofs.attempt.Tie as tie
-use Rattle.reduced_attempt.proofs.attempt.Reads as reads
-use Rattle.reduced_attempt.proofs.attempt.Lts as lts
-use Rattle.reduced_attempt.proofs.common_content.Reads as common-content-reads
-use Rattle.reduced_attempt.proofs.half.Reads as half-reads
-use Rattle.reduced_attempt.proofs.split.Reads as split-reads
-use Rattle.windows.proofs.wipe.Reads as wipe-reads
 
--- src/lib.rt:87:9
-common-content-requires : tie.Need-common-content-requires
-common-content-requires c κs = search needs
-
--- src/lib.rt:89:9
-wipe-requires : tie.Need-wipe-requires
-wipe-requires c κs = search needs
-
--- src/lib.rt:90:9
-wipe-requires-2 : tie.Need-wipe-requires-2
-wipe-requires-2 c κs = search needs
-
--- src/lib.rt:91:9
-same-length : tie.Need-same-length
-same-length c = search needs
-
--- src/lib.rt:91:9
-same-length-2 : tie.Need-same-length-2
-same-length-2 c = search needs
-
--- src/lib.rt:91:9
-same-length-3 : tie.Need-same-length-3
-same-length-3 c = search needs
-
--- src/lib.rt:91:9
 returns : tie.Need-returns
 returns c = let s = c .before .before .before .before .before .before .before .before .before .before .before .before .before .before .before .before .before .before in
     let p = s .pre in
     let f = s .args .f .now in
     let g = s .args .g .now in
     let n = s .args .n in
-    let len = L n (length f - 1) (length g - 1) in
-    (subst (λ (y : List ℕ). Certified n len f g (c .before .before .before .before .before .before .wipe .last .0) y n) (sym (c .before .before .wipe2 .ensures))
-      (subst (λ (x : List ℕ). Certified n len f g x (replicate (length (s .args .v .now)) 0) n) (sym (c .before .before .before .before .before .before .wipe .ensures))
-      (none-certified n len f g (s .args .u .now) (s .args .v .now) (p .0) (subst (Common n f g) (c .before .before .before .before .before .before .before .before .if1 .taken) (c .before .before .before .before .before .before .before .before .before .before .before .common-content .ensures .0)))),
-    c .before .before .before .before .before .before .before .before .before .before .before .common-content .ensures .1)
+    let len = L n (length f - 1) (length g - 1) in (
+      subst (λ (y : List ℕ). Certified n len f g (c .before .before .before .before .before .before .wipe .last .0) y n) (sym (c .before .before .wipe2 .ensures))
+          (subst (λ (x : List ℕ). Certified n len f g x (replicate (length (s .args .v .now)) 0) n) (sym (c .before .before .before .before .before .before .wipe .ensures))
+          (none-certified n len f g (s .args .u .now) (s .args .v .now) (p .0) (subst (Common n f g) (c .before .before .before .before .before .before .before .before .if1 .taken) (c .before .before .before .before .before .before .before .before .before .before .before .common-content .ensures .0)))),
+      c .before .before .before .before .before .before .before .before .before .before .before .common-content .ensures .1,
+    )
 
--- src/lib.rt:93:11
 half-requires : tie.Need-half-requires
 half-requires c κs = let s = c .before .before .before .before .before .before .before .before .before .before .before .before .before in
     let p = s .pre in
     let f = s .args .f .now in
     let g = s .args .g .now in
     let n = s .args .n in
-    let l = c .before .before .before .before .before .before .common-content .ensures .1 in
-    ((p .0, (p .1 .0, (p .1 .1 .0, (subst (λ (x : ℕ). core-room n (length f - 1) (length g - 1) ≤ x) (sym l) (half-room n (length f - 1) (length g - 1) _ (p .1 .1 .1 .0)), (p .1 .1 .1 .1 .0, p .1 .1 .1 .1 .1))))),
-    (c .before .before .before .before .before .before .common-content .ensures .0, c .before .before .before .if1 .left))
+    let l = c .before .before .before .before .before .before .common-content .ensures .1 in (
+      (p .0, (p .1 .0, (p .1 .1 .0, (subst (λ (x : ℕ). core-room n (length f - 1) (length g - 1) ≤ x) (sym l) (half-room n (length f - 1) (length g - 1) _ (p .1 .1 .1 .0)), (p .1 .1 .1 .1 .0, p .1 .1 .1 .1 .1))))),
+      (c .before .before .before .before .before .before .common-content .ensures .0, c .before .before .before .if1 .left),
+    )
 
--- src/lib.rt:94:22
-enum-known-d : tie.Need-enum-known-d
-enum-known-d c = search needs
-
--- src/lib.rt:95:13
-same-length-4 : tie.Need-same-length-4
-same-length-4 c = search needs
-
--- src/lib.rt:95:13
-same-length-5 : tie.Need-same-length-5
-same-length-5 c = search needs
-
--- src/lib.rt:95:13
-same-length-6 : tie.Need-same-length-6
-same-length-6 c = search needs
-
--- src/lib.rt:95:13
 returns-2 : tie.Need-returns-2
 returns-2 c = let s = c .before .before .before .before .before .before .before .before .before .before .before .before .before .before .before .before .before .before .before .before .before .before .before in
     let p = s .pre in
@@ -94,11 +47,6 @@ returns-2 c = let s = c .before .before .before .before .before .before .before 
     let x = subst (TrialAnswers n (c .before .before .before .before .before .before .before .before .before .before .before .before .before .before .before .before .common-content .result) (L n (length f - 1) (length g - 1)) f g (c .before .before .before .before .before .before .before .before .before .half .last .0) (c .before .before .before .before .before .before .before .before .before .half .last .1 .0)) (c .before .d .given .1) (e .0) in
     (x, e .1 ∙ c .before .before .before .before .before .before .before .before .before .before .before .before .before .before .before .before .common-content .ensures .1)
 
--- src/lib.rt:97:25
-enum-known-p : tie.Need-enum-known-p
-enum-known-p c = search needs
-
--- src/lib.rt:98:13
 split-requires : tie.Need-split-requires
 split-requires c κs = let s = c .before .before .before .before .before .before .before .before .before .before .before .before .before .before .before .before .before .before .before .before .before .before .before in
     let p = s .pre in
@@ -109,19 +57,6 @@ split-requires c κs = let s = c .before .before .before .before .before .before
     let x = subst (TrialAnswers n (c .before .before .before .before .before .before .before .before .before .before .before .before .before .before .before .before .common-content .result) (L n (length f - 1) (length g - 1)) f g (c .before .before .before .before .before .before .before .before .before .half .last .0) (c .before .before .before .before .before .before .before .before .before .half .last .1 .0)) (c .before .p .given .1) (e .0) in
     (p .0, x)
 
--- src/lib.rt:98:13
-same-length-7 : tie.Need-same-length-7
-same-length-7 c = search needs
-
--- src/lib.rt:98:13
-same-length-8 : tie.Need-same-length-8
-same-length-8 c = search needs
-
--- src/lib.rt:98:13
-same-length-9 : tie.Need-same-length-9
-same-length-9 c = search needs
-
--- src/lib.rt:98:13
 returns-3 : tie.Need-returns-3
 returns-3 c = let s = c .before .before .before .before .before .before .before .before .before .before .before .before .before .before .before .before .before .before .before .before .before .before .before .before in
     let p = s .pre in
@@ -130,10 +65,6 @@ returns-3 c = let s = c .before .before .before .before .before .before .before 
     let n = s .args .n in
     (parted-attempted _ _ _ _ _ _ (c .split .result) (c .split .ensures), c .before .before .before .before .before .before .before .before .before .before .half .ensures .1 ∙ c .before .before .before .before .before .before .before .before .before .before .before .before .before .before .before .before .before .common-content .ensures .1)
 
-enum-told : tie.Need-enum-told
-enum-told c = search needs
-
--- src/lib.rt:102:11
 half-requires-2 : tie.Need-half-requires-2
 half-requires-2 c κs = let s = c .before .before .before .before .before .before .before .before .before .before .before .before .before .before .before .before .before .before .before .before .before .before .before .before .before in
     let p = s .pre in
@@ -141,19 +72,11 @@ half-requires-2 c κs = let s = c .before .before .before .before .before .befor
     let g = s .args .g .now in
     let n = s .args .n in
     let l = c .before .before .before .before .before .before .before .before .before .before .before .half .ensures .1 ∙ c .before .before .before .before .before .before .before .before .before .before .before .before .before .before .before .before .before .before .common-content .ensures .1 in
-    let z = length-swap n (length f - 1) (length g - 1) in
-    ((p .0, (p .1 .1 .0, (p .1 .0, (subst (λ (x : ℕ). core-room n (length g - 1) (length f - 1) ≤ x) (sym l) (half-room-swap n (length f - 1) (length g - 1) _ (p .1 .1 .1 .0)), (subst (λ (x : ℕ). x ≤ length (c .before .before .before .before .before .before .before .before .before .before .before .half .last .1 .0)) z (subst (λ (y : ℕ). L n (length f - 1) (length g - 1) ≤ y) (sym (c .before .before .before .before .before .before .before .before .before .before .before .half .kept .1 .0)) (p .1 .1 .1 .1 .1)), subst (λ (x : ℕ). x ≤ length (c .before .before .before .before .before .before .before .before .before .before .before .half .last .0)) z (subst (λ (y : ℕ). L n (length f - 1) (length g - 1) ≤ y) (sym (c .before .before .before .before .before .before .before .before .before .before .before .half .kept .0)) (p .1 .1 .1 .1 .0))))))),
-    (common-swap _ _ _ _ (c .before .before .before .before .before .before .before .before .before .before .before .before .before .before .before .before .before .before .common-content .ensures .0), c .before .before .before .before .before .before .before .before .before .before .before .before .before .before .before .if1 .left))
+    let z = length-swap n (length f - 1) (length g - 1) in (
+      (p .0, (p .1 .1 .0, (p .1 .0, (subst (λ (x : ℕ). core-room n (length g - 1) (length f - 1) ≤ x) (sym l) (half-room-swap n (length f - 1) (length g - 1) _ (p .1 .1 .1 .0)), (subst (λ (x : ℕ). x ≤ length (c .before .before .before .before .before .before .before .before .before .before .before .half .last .1 .0)) z (subst (λ (y : ℕ). L n (length f - 1) (length g - 1) ≤ y) (sym (c .before .before .before .before .before .before .before .before .before .before .before .half .kept .1 .0)) (p .1 .1 .1 .1 .1)), subst (λ (x : ℕ). x ≤ length (c .before .before .before .before .before .before .before .before .before .before .before .half .last .0)) z (subst (λ (y : ℕ). L n (length f - 1) (length g - 1) ≤ y) (sym (c .before .before .before .before .before .before .before .before .before .before .before .half .kept .0)) (p .1 .1 .1 .1 .0))))))),
+      (common-swap _ _ _ _ (c .before .before .before .before .before .before .before .before .before .before .before .before .before .before .before .before .before .before .common-content .ensures .0), c .before .before .before .before .before .before .before .before .before .before .before .before .before .before .before .if1 .left),
+    )
 
--- src/lib.rt:103:22
-enum-known-d-2 : tie.Need-enum-known-d-2
-enum-known-d-2 c = search needs
-
--- src/lib.rt:104:25
-enum-known-p-2 : tie.Need-enum-known-p-2
-enum-known-p-2 c = search needs
-
--- src/lib.rt:104:34
 split-requires-2 : tie.Need-split-requires-2
 split-requires-2 c κs = let s = c .before .before .before .before .before .before .before .before .before .before .before .before .before .before .before .before .before .before .before .before .before .before .before .before .before .before .before .before .before .before .before .before .before .before .before in
     let p = s .pre in
@@ -164,23 +87,6 @@ split-requires-2 c κs = let s = c .before .before .before .before .before .befo
     let x = subst (TrialAnswers n (c .before .before .before .before .before .before .before .before .before .before .before .before .before .before .before .before .before .before .before .before .before .before .before .before .before .before .before .before .common-content .result) (L n (length g - 1) (length f - 1)) g f (c .before .before .before .before .before .before .before .before .before .half2 .last .0) (c .before .before .before .before .before .before .before .before .before .half2 .last .1 .0)) (c .before .p2 .given .1) (e .0) in
     (p .0, x)
 
--- src/lib.rt:105:29
-enum-told-2 : tie.Need-enum-told-2
-enum-told-2 c = search needs
-
--- src/lib.rt:82:1
-same-length-10 : tie.Need-same-length-10
-same-length-10 c = search needs
-
--- src/lib.rt:82:1
-same-length-11 : tie.Need-same-length-11
-same-length-11 c = search needs
-
--- src/lib.rt:82:1
-same-length-12 : tie.Need-same-length-12
-same-length-12 c = search needs
-
--- src/lib.rt:82:1
 returns-4 : tie.Need-returns-4
 returns-4 c = let s = c .before .before .before .before .before .before .before .before .before .before .before .before .before .before .before .before .before .before .before .before .before .before .before .before .before .before .before .before .before .before .before .before .before .before .before in
     let p = s .pre in
@@ -188,23 +94,11 @@ returns-4 c = let s = c .before .before .before .before .before .before .before 
     let g = s .args .g .now in
     let n = s .args .n in
     let e = c .before .before .before .before .before .before .before .before .before .half2 .ensures in
-    let x = subst (TrialAnswers n (c .before .before .before .before .before .before .before .before .before .before .before .before .before .before .before .before .before .before .before .before .before .before .before .before .before .before .before .before .common-content .result) (L n (length g - 1) (length f - 1)) g f (c .before .before .before .before .before .before .before .before .before .half2 .last .0) (c .before .before .before .before .before .before .before .before .before .half2 .last .1 .0)) (c .before .d2 .given .1) (e .0) in
-    (subst (λ (len : ℕ). Certified n len f g (c .before .before .before .before .before .before .before .before .before .half2 .last .1 .0) (c .before .before .before .before .before .before .before .before .before .half2 .last .0) (c .before .d2 .given .0 .0)) (sym (length-swap n (length f - 1) (length g - 1))) (certified-flip _ _ _ _ _ _ _ (p .0) x),
-    e .1 ∙ c .before .before .before .before .before .before .before .before .before .before .before .before .before .before .before .before .before .before .before .before .before .half .ensures .1 ∙ c .before .before .before .before .before .before .before .before .before .before .before .before .before .before .before .before .before .before .before .before .before .before .before .before .before .before .before .before .common-content .ensures .1)
+    let x = subst (TrialAnswers n (c .before .before .before .before .before .before .before .before .before .before .before .before .before .before .before .before .before .before .before .before .before .before .before .before .before .before .before .before .common-content .result) (L n (length g - 1) (length f - 1)) g f (c .before .before .before .before .before .before .before .before .before .half2 .last .0) (c .before .before .before .before .before .before .before .before .before .half2 .last .1 .0)) (c .before .d2 .given .1) (e .0) in (
+      subst (λ (len : ℕ). Certified n len f g (c .before .before .before .before .before .before .before .before .before .half2 .last .1 .0) (c .before .before .before .before .before .before .before .before .before .half2 .last .0) (c .before .d2 .given .0 .0)) (sym (length-swap n (length f - 1) (length g - 1))) (certified-flip _ _ _ _ _ _ _ (p .0) x),
+      e .1 ∙ c .before .before .before .before .before .before .before .before .before .before .before .before .before .before .before .before .before .before .before .before .before .half .ensures .1 ∙ c .before .before .before .before .before .before .before .before .before .before .before .before .before .before .before .before .before .before .before .before .before .before .before .before .before .before .before .before .common-content .ensures .1,
+    )
 
--- src/lib.rt:82:1
-same-length-13 : tie.Need-same-length-13
-same-length-13 c = search needs
-
--- src/lib.rt:82:1
-same-length-14 : tie.Need-same-length-14
-same-length-14 c = search needs
-
--- src/lib.rt:82:1
-same-length-15 : tie.Need-same-length-15
-same-length-15 c = search needs
-
--- src/lib.rt:82:1
 returns-5 : tie.Need-returns-5
 returns-5 c = let s = c .before .before .before .before .before .before .before .before .before .before .before .before .before .before .before .before .before .before .before .before .before .before .before .before .before .before .before .before .before .before .before .before .before .before .before .before in
     let p = s .pre in
@@ -213,19 +107,6 @@ returns-5 c = let s = c .before .before .before .before .before .before .before 
     let n = s .args .n in
     (parted-attempted _ _ _ _ _ _ (c .split2 .result) (c .split2 .ensures), c .before .before .before .before .before .before .before .before .before .before .half2 .ensures .1 ∙ c .before .before .before .before .before .before .before .before .before .before .before .before .before .before .before .before .before .before .before .before .before .before .half .ensures .1 ∙ c .before .before .before .before .before .before .before .before .before .before .before .before .before .before .before .before .before .before .before .before .before .before .before .before .before .before .before .before .before .common-content .ensures .1)
 
--- src/lib.rt:82:1
-same-length-16 : tie.Need-same-length-16
-same-length-16 c = search needs
-
--- src/lib.rt:82:1
-same-length-17 : tie.Need-same-length-17
-same-length-17 c = search needs
-
--- src/lib.rt:82:1
-same-length-18 : tie.Need-same-length-18
-same-length-18 c = search needs
-
--- src/lib.rt:82:1
 returns-6 : tie.Need-returns-6
 returns-6 c = let s = c .before .before .before .before .before .before .before .before .before .before .before .before .before .before .before .before .before .before .before .before .before .before .before .before .before .before .before .before .before .before .before .before .before .before in
     let p = s .pre in
@@ -241,40 +122,40 @@ pub attempt-spec : {M : Type 1} → statement M
 attempt-spec =
     tie.close
     (tie.spec
-    common-content-requires
-    wipe-requires
-    wipe-requires-2
-    same-length
-    same-length-2
-    same-length-3
+    (λ c κs. search needs)
+    (λ c κs. search needs)
+    (λ c κs. search needs)
+    (λ c. search needs)
+    (λ c. search needs)
+    (λ c. search needs)
     returns
     half-requires
-    enum-known-d
-    same-length-4
-    same-length-5
-    same-length-6
+    (λ c. search needs)
+    (λ c. search needs)
+    (λ c. search needs)
+    (λ c. search needs)
     returns-2
-    enum-known-p
+    (λ c. search needs)
     split-requires
-    same-length-7
-    same-length-8
-    same-length-9
+    (λ c. search needs)
+    (λ c. search needs)
+    (λ c. search needs)
     returns-3
-    enum-told
+    (λ c. search needs)
     half-requires-2
-    enum-known-d-2
-    enum-known-p-2
+    (λ c. search needs)
+    (λ c. search needs)
     split-requires-2
-    enum-told-2
-    same-length-10
-    same-length-11
-    same-length-12
+    (λ c. search needs)
+    (λ c. search needs)
+    (λ c. search needs)
+    (λ c. search needs)
     returns-4
-    same-length-13
-    same-length-14
-    same-length-15
+    (λ c. search needs)
+    (λ c. search needs)
+    (λ c. search needs)
     returns-5
-    same-length-16
-    same-length-17
-    same-length-18
+    (λ c. search needs)
+    (λ c. search needs)
+    (λ c. search needs)
     returns-6)

@@ -13,13 +13,7 @@ use Rattle.windows.specs.Window.{piece}
 use borrow.Author.Needs.{needs}
 use Rattle.reduced_attempt.proofs.half.Statement.{statement}
 use Rattle.reduced_attempt.proofs.half.Tie as tie
-use Rattle.reduced_attempt.proofs.half.Reads as reads
-use Rattle.reduced_attempt.proofs.half.Lts as lts
-use Rattle.reduced_cofactors.proofs.core.Reads as core-reads
-use Rattle.window_factor.proofs.highest_of.Reads as highest-of-reads
-use Rattle.reduced_attempt.proofs.arrange.Reads as arrange-reads
 
--- src/lib.rt:55:5
 arrange-requires : tie.Need-arrange-requires
 arrange-requires c κs = let s = c .before .before .before .before .before .before in
     let p = s .pre .0 in
@@ -29,27 +23,6 @@ arrange-requires c κs = let s = c .before .before .before .before .before .befo
     let r = p .1 .1 .1 .0 in
     (omega arith, (omega arith, omega arith))
 
--- src/lib.rt:57:13
-add-m : tie.Need-add-m
-add-m c = search needs
-
--- src/lib.rt:58:30
-mul-highest-of : tie.Need-mul-highest-of
-mul-highest-of c = search needs
-
--- src/lib.rt:58:30
-sub-highest-of : tie.Need-sub-highest-of
-sub-highest-of c = search needs
-
--- src/lib.rt:58:30
-part-highest-of-start : tie.Need-part-highest-of-start
-part-highest-of-start c = search needs
-
--- src/lib.rt:58:30
-part-highest-of-end : tie.Need-part-highest-of-end
-part-highest-of-end c = search needs
-
--- src/lib.rt:58:40
 div-highest-of : tie.Need-div-highest-of
 div-highest-of c = let s = c .before .before .before .before .before .before .before .before .before .before .before in
     let p = s .pre .0 in
@@ -57,7 +30,6 @@ div-highest-of c = let s = c .before .before .before .before .before .before .be
     let ne = s .pre .1 .1 in
     common-positive _ _ _ _ (p .0) cm
 
--- src/lib.rt:58:11
 highest-of-requires : tie.Need-highest-of-requires
 highest-of-requires c κs = let s = c .before .before .before .before .before .before .before .before .before .before .before in
     let p = s .pre .0 in
@@ -65,11 +37,6 @@ highest-of-requires c κs = let s = c .before .before .before .before .before .b
     let ne = s .pre .1 .1 in
     common-above _ _ _ _ (p .0) cm ne
 
--- src/lib.rt:59:33
-enum-known-t : tie.Need-enum-known-t
-enum-known-t c = search needs
-
--- src/lib.rt:59:73
 div-core : tie.Need-div-core
 div-core c = let s = c .before .before .before .before .before .before .before .before .before .before .before .before .before .before .before .before .before .before in
     let p = s .pre .0 in
@@ -77,15 +44,6 @@ div-core c = let s = c .before .before .before .before .before .before .before .
     let ne = s .pre .1 .1 in
     common-positive _ _ _ _ (p .0) cm
 
--- src/lib.rt:59:80
-sub-core : tie.Need-sub-core
-sub-core c = search needs
-
--- src/lib.rt:59:93
-sub-core-2 : tie.Need-sub-core-2
-sub-core-2 c = search needs
-
--- src/lib.rt:59:48
 core-requires : tie.Need-core-requires
 core-requires c κs = let s = c .before .before .before .before .before .before .before .before .before .before .before .before .before .before .before .before .before .before in
     let p = s .pre .0 in
@@ -97,15 +55,11 @@ core-requires c κs = let s = c .before .before .before .before .before .before 
     let hp = subst (HighestOf (s .args .n / s .args .c) (take (length b + length a - length b) (drop (length b) (c .before .before .before .before .before .before .before .before .before .before .before .arrange .last .0)))) (c .before .before .before .before .t .given .1) (c .before .before .before .before .before .before .highest-of .ensures) in
     let ar = c .before .before .before .before .before .before .before .before .before .before .before .arrange .ensures in
     let r = room-less _ _ _ _ (p .0) cm ne (length a - 1) (length b - 1) (length (s .args .w .now)) (p .1 .1 .1 .0) in
-    let l = ar .same in
-    ((common-above _ _ _ _ (p .0) cm ne, (omega (arith, r, l), (length-less _ _ _ _ (p .0) cm ne (length a - 1) (length b - 1) _ (p .1 .1 .1 .1 .0), length-less _ _ _ _ (p .0) cm ne (length a - 1) (length b - 1) _ (p .1 .1 .1 .1 .1)))),
-    (below-second _ _ _ _ (p .0) cm _ _ (p .1 .0) (p .1 .1 .0) (p .1 .1 .1 .0) ne ar, (below-first _ _ _ _ (p .0) cm _ _ (p .1 .0) (p .1 .1 .0) (p .1 .1 .1 .0) ne ar, subst (LeadingUnit (s .args .n / s .args .c) _ _) (part-piece (c .before .before .before .before .before .before .before .before .before .before .before .arrange .last .0) (length b) (length a) _ z ∙ part-first _ _ _ _ (p .0) cm _ _ (p .1 .0) (p .1 .1 .0) (p .1 .1 .1 .0) ne ar) hp)))
+    let l = ar .same in (
+      (common-above _ _ _ _ (p .0) cm ne, (omega (arith, r, l), (length-less _ _ _ _ (p .0) cm ne (length a - 1) (length b - 1) _ (p .1 .1 .1 .1 .0), length-less _ _ _ _ (p .0) cm ne (length a - 1) (length b - 1) _ (p .1 .1 .1 .1 .1)))),
+      (below-second _ _ _ _ (p .0) cm _ _ (p .1 .0) (p .1 .1 .0) (p .1 .1 .1 .0) ne ar, (below-first _ _ _ _ (p .0) cm _ _ (p .1 .0) (p .1 .1 .0) (p .1 .1 .1 .0) ne ar, subst (LeadingUnit (s .args .n / s .args .c) _ _) (part-piece (c .before .before .before .before .before .before .before .before .before .before .before .arrange .last .0) (length b) (length a) _ z ∙ part-first _ _ _ _ (p .0) cm _ _ (p .1 .0) (p .1 .1 .0) (p .1 .1 .1 .0) ne ar) hp)),
+    )
 
--- src/lib.rt:60:36
-enum-known-d : tie.Need-enum-known-d
-enum-known-d c = search needs
-
--- src/lib.rt:60:55
 mul-t40 : tie.Need-mul-t40
 mul-t40 c = let s = c .before .before .before .before .before .before .before .before .before .before .before .before .before .before .before .before .before .before .before .before .before .before .before .before .before .before .before .before in
     let p = s .pre .0 in
@@ -120,31 +74,6 @@ mul-t40 c = let s = c .before .before .before .before .before .before .before .b
     let m = product-most _ _ _ _ (p .0) cm _ _ (p .1 .0) (p .1 .1 .0) (p .1 .1 .1 .0) ne ar _ _ _ ce in
     omega (arith, s .fits .n)
 
--- src/lib.rt:61:37
-enum-known-p : tie.Need-enum-known-p
-enum-known-p c = search needs
-
--- src/lib.rt:63:33
-enum-known-p-2 : tie.Need-enum-known-p-2
-enum-known-p-2 c = search needs
-
--- src/lib.rt:64:42
-enum-told : tie.Need-enum-told
-enum-told c = search needs
-
--- src/lib.rt:49:1
-same-length : tie.Need-same-length
-same-length c = search needs
-
--- src/lib.rt:49:1
-same-length-2 : tie.Need-same-length-2
-same-length-2 c = search needs
-
--- src/lib.rt:49:1
-same-length-3 : tie.Need-same-length-3
-same-length-3 c = search needs
-
--- src/lib.rt:49:1
 returns : tie.Need-returns
 returns c = let s = c .before .before .before .before .before .before .before .before .before .before .before .before .before .before .before .before .before .before .before .before .before .before .before .before .before .before .before .before in
     let p = s .pre .0 in
@@ -158,19 +87,6 @@ returns c = let s = c .before .before .before .before .before .before .before .b
     let ce = subst (Answers (s .args .n / s .args .c) (L (s .args .n / s .args .c) (length a - 1) (length b - 1)) (piece w1 (length b - 1 + 1) (length a - 1 + 1)) (piece w1 0 (length b - 1 + 1)) (c .before .before .before .before .before .before .before .before .before .core .last .0) (c .before .before .before .before .before .before .before .before .before .core .last .1 .0)) (c .before .d .given .1) (e .0) in
     (half-certified _ _ _ _ (p .0) cm _ _ (p .1 .0) (p .1 .1 .0) (p .1 .1 .1 .0) ne ar _ _ _ ce, e .1 ∙ ar .same)
 
--- src/lib.rt:49:1
-same-length-4 : tie.Need-same-length-4
-same-length-4 c = search needs
-
--- src/lib.rt:49:1
-same-length-5 : tie.Need-same-length-5
-same-length-5 c = search needs
-
--- src/lib.rt:49:1
-same-length-6 : tie.Need-same-length-6
-same-length-6 c = search needs
-
--- src/lib.rt:49:1
 returns-2 : tie.Need-returns-2
 returns-2 c = let s = c .before .before .before .before .before .before .before .before .before .before .before .before .before .before .before .before .before .before .before .before .before .before .before .before .before .before .before .before in
     let p = s .pre .0 in
@@ -184,11 +100,6 @@ returns-2 c = let s = c .before .before .before .before .before .before .before 
     let ce = subst (Answers (s .args .n / s .args .c) (L (s .args .n / s .args .c) (length a - 1) (length b - 1)) (piece w1 (length b - 1 + 1) (length a - 1 + 1)) (piece w1 0 (length b - 1 + 1)) (c .before .before .before .before .before .before .before .before .before .core .last .0) (c .before .before .before .before .before .before .before .before .before .core .last .1 .0)) (c .before .p .given .1) (e .0) in
     (half-splitter _ _ _ _ (p .0) cm _ _ (p .1 .0) (p .1 .1 .0) (p .1 .1 .1 .0) ne ar _ _ ce, e .1 ∙ ar .same)
 
--- src/lib.rt:49:1
-same-length-7 : tie.Need-same-length-7
-same-length-7 c = search needs
-
--- src/lib.rt:49:1
 returns-3 : tie.Need-returns-3
 returns-3 c = let s = c .before .before .before .before .before .before .before .before .before .before .before .before .before .before .before in
     let p = s .pre .0 in
@@ -201,11 +112,6 @@ returns-3 c = let s = c .before .before .before .before .before .before .before 
     let ar = c .before .before .before .before .before .before .before .before .arrange .ensures in
     (split-splitter _ _ _ _ (part-divides _ _ _ _ (p .0) cm _ _ (p .1 .0) (p .1 .1 .0) (p .1 .1 .1 .0) ne ar) hp, ar .same)
 
--- src/lib.rt:49:1
-same-length-8 : tie.Need-same-length-8
-same-length-8 c = search needs
-
--- src/lib.rt:49:1
 returns-4 : tie.Need-returns-4
 returns-4 c = let s = c .before .before .before .before .before .before .before .before .before .before .before .before .before .before in
     let p = s .pre .0 in
@@ -223,32 +129,32 @@ half-spec =
     tie.close
     (tie.spec
     arrange-requires
-    add-m
-    mul-highest-of
-    sub-highest-of
-    part-highest-of-start
-    part-highest-of-end
+    (λ c. search needs)
+    (λ c. search needs)
+    (λ c. search needs)
+    (λ c. search needs)
+    (λ c. search needs)
     div-highest-of
     highest-of-requires
-    enum-known-t
+    (λ c. search needs)
     div-core
-    sub-core
-    sub-core-2
+    (λ c. search needs)
+    (λ c. search needs)
     core-requires
-    enum-known-d
+    (λ c. search needs)
     mul-t40
-    enum-known-p
-    enum-known-p-2
-    enum-told
-    same-length
-    same-length-2
-    same-length-3
+    (λ c. search needs)
+    (λ c. search needs)
+    (λ c. search needs)
+    (λ c. search needs)
+    (λ c. search needs)
+    (λ c. search needs)
     returns
-    same-length-4
-    same-length-5
-    same-length-6
+    (λ c. search needs)
+    (λ c. search needs)
+    (λ c. search needs)
     returns-2
-    same-length-7
+    (λ c. search needs)
     returns-3
-    same-length-8
+    (λ c. search needs)
     returns-4)

@@ -15,52 +15,7 @@ use Rattle.reduced_clearing.proofs.UnitSteps.{shorter-than}
 use borrow.Author.Needs.{needs}
 use Rattle.reduced_clearing.proofs.clear_contents.Statement.{statement}
 use Rattle.reduced_clearing.proofs.clear_contents.Tie as tie
-use Rattle.reduced_clearing.proofs.clear_contents.Reads as reads
-use Rattle.reduced_clearing.proofs.clear_contents.Lts as lts
-use Rattle.reduced_clearing.proofs.take_content.Reads as take-content-reads
-use Rattle.reduced_units.proofs.take_unit.Reads as take-unit-reads
-use Rattle.window_factor.proofs.highest_of.Reads as highest-of-reads
-use Rattle.windows.proofs.clear.Reads as clear-reads
-use Rattle.windows.proofs.content.Reads as content-reads
-use Rattle.windows.proofs.copy.Reads as copy-reads
 
--- src/lib.rt:86:37
-add-content : tie.Need-add-content
-add-content c = search needs
-
--- src/lib.rt:86:30
-mul-content : tie.Need-mul-content
-mul-content c = search needs
-
--- src/lib.rt:86:30
-sub-content : tie.Need-sub-content
-sub-content c = search needs
-
--- src/lib.rt:86:30
-part-content-start : tie.Need-part-content-start
-part-content-start c = search needs
-
--- src/lib.rt:86:30
-part-content-end : tie.Need-part-content-end
-part-content-end c = search needs
-
--- src/lib.rt:86:9
-content-requires : tie.Need-content-requires
-content-requires c κs = search needs
-
--- src/lib.rt:88:27
-add-clear : tie.Need-add-clear
-add-clear c = search needs
-
--- src/lib.rt:88:9
-clear-requires : tie.Need-clear-requires
-clear-requires c κs = search needs
-
--- src/lib.rt:89:9
-same-length : tie.Need-same-length
-same-length c = search needs
-
--- src/lib.rt:89:9
 returns : tie.Need-returns
 returns c = let s = c .before .before .before .before .before .before .before .before .before in
     let st = s .pre in
@@ -69,7 +24,6 @@ returns c = let s = c .before .before .before .before .before .before .before .b
     let cv = subst (Content (s .args .v) (piece (s .args .w .now) (s .args .pb) (s .args .a))) (c .before .before .before .before .if1 .taken) ct in
     (none-solved _ _ _ _ _ _ _ _ _ _ _ st cv (c .before .before .clear .ensures), none-kept _ _ _ _ _ _ _ _ _ _ _ st cv (c .before .before .clear .ensures))
 
--- src/lib.rt:91:5
 take-content-requires : tie.Need-take-content-requires
 take-content-requires c κs = let s = c .before .before .before .before .before .before in
     let st = s .pre in
@@ -83,27 +37,6 @@ take-content-requires c κs = let s = c .before .before .before .before .before 
     let o = st .positive in
     (omega arith, (omega arith, (omega arith, (omega arith, (omega arith, omega arith)))))
 
--- src/lib.rt:94:37
-add-highest-of : tie.Need-add-highest-of
-add-highest-of c = search needs
-
--- src/lib.rt:94:30
-mul-highest-of : tie.Need-mul-highest-of
-mul-highest-of c = search needs
-
--- src/lib.rt:94:30
-sub-highest-of : tie.Need-sub-highest-of
-sub-highest-of c = search needs
-
--- src/lib.rt:94:30
-part-highest-of-start : tie.Need-part-highest-of-start
-part-highest-of-start c = search needs
-
--- src/lib.rt:94:30
-part-highest-of-end : tie.Need-part-highest-of-end
-part-highest-of-end c = search needs
-
--- src/lib.rt:94:46
 div-highest-of : tie.Need-div-highest-of
 div-highest-of c = let s = c .before .before .before .before .before .before .before .before .before .before .before in
     let st = s .pre in
@@ -111,7 +44,6 @@ div-highest-of c = let s = c .before .before .before .before .before .before .be
     let ct = subst (λ (f : List ℕ). Content (s .args .v) f (c .before .before .before .before .before .before .before .content .result)) (part-piece (s .args .w .now) (s .args .pb) (s .args .a) _ z) (c .before .before .before .before .before .before .before .content .ensures) in
     content-positive _ _ _ _ _ _ _ _ _ _ _ st ct
 
--- src/lib.rt:94:11
 highest-of-requires : tie.Need-highest-of-requires
 highest-of-requires c κs = let s = c .before .before .before .before .before .before .before .before .before .before .before in
     let st = s .pre in
@@ -119,48 +51,27 @@ highest-of-requires c κs = let s = c .before .before .before .before .before .b
     let ct = subst (λ (f : List ℕ). Content (s .args .v) f (c .before .before .before .before .before .before .before .content .result)) (part-piece (s .args .w .now) (s .args .pb) (s .args .a) _ z) (c .before .before .before .before .before .before .before .content .ensures) in
     content-above _ _ _ _ _ _ _ _ _ _ _ st ct (c .before .before .before .before .before .before .if1 .left)
 
--- src/lib.rt:95:33
-enum-known-x : tie.Need-enum-known-x
-enum-known-x c = search needs
-
--- src/lib.rt:99:33
-enum-known-p : tie.Need-enum-known-p
-enum-known-p c = search needs
-
--- src/lib.rt:100:13
-same-length-2 : tie.Need-same-length-2
-same-length-2 c = search needs
-
--- src/lib.rt:100:13
 returns-2 : tie.Need-returns-2
 returns-2 c = let s = c .before .before .before .before .before .before .before .before .before .before .before .before .before .before .before in
     let st = s .pre in
     let z : s .args .pb + s .args .a - s .args .pb ≡ s .args .a = omega arith in
     let ct = subst (λ (f : List ℕ). Content (s .args .v) f (c .before .before .before .before .before .before .before .before .before .before .before .content .result)) (part-piece (s .args .w .now) (s .args .pb) (s .args .a) _ z) (c .before .before .before .before .before .before .before .before .before .before .before .content .ensures) in
-    let hp = subst (HighestOf (s .args .v / c .before .before .before .before .before .before .before .before .before .before .before .content .result) (take (s .args .pb + s .args .a - s .args .pb) (drop (s .args .pb) (c .before .before .before .before .before .before .before .before .take-content .last .0)))) (c .before .p .given .1) (c .before .before .before .highest-of .ensures) in
-    (split-splitter _ _ _ _ (subst (λ (x : ℕ). s .args .v / c .before .before .before .before .before .before .before .before .before .before .before .content .result ∣ x) (sym (content-whole _ _ _ _ _ _ _ _ _ _ _ st ct)) (dvd-mul-left _ _)) hp,
-    content-kept _ _ _ _ _ _ _ _ _ _ _ st ct (c .before .before .before .before .before .before .before .before .before .before .if1 .left) _ (c .before .before .before .before .before .before .before .before .take-content .ensures))
+    let hp = subst (HighestOf (s .args .v / c .before .before .before .before .before .before .before .before .before .before .before .content .result) (take (s .args .pb + s .args .a - s .args .pb) (drop (s .args .pb) (c .before .before .before .before .before .before .before .before .take-content .last .0)))) (c .before .p .given .1) (c .before .before .before .highest-of .ensures) in (
+      split-splitter _ _ _ _ (subst (λ (x : ℕ). s .args .v / c .before .before .before .before .before .before .before .before .before .before .before .content .result ∣ x) (sym (content-whole _ _ _ _ _ _ _ _ _ _ _ st ct)) (dvd-mul-left _ _)) hp,
+      content-kept _ _ _ _ _ _ _ _ _ _ _ st ct (c .before .before .before .before .before .before .before .before .before .before .if1 .left) _ (c .before .before .before .before .before .before .before .before .take-content .ensures),
+    )
 
--- src/lib.rt:103:13
-enum-told : tie.Need-enum-told
-enum-told c = search needs
-
--- src/lib.rt:103:13
-same-length-3 : tie.Need-same-length-3
-same-length-3 c = search needs
-
--- src/lib.rt:103:13
 returns-3 : tie.Need-returns-3
 returns-3 c = let s = c .before .before .before .before .before .before .before .before .before .before .before .before .before .before in
     let st = s .pre in
     let z : s .args .pb + s .args .a - s .args .pb ≡ s .args .a = omega arith in
     let ct = subst (λ (f : List ℕ). Content (s .args .v) f (c .before .before .before .before .before .before .before .before .before .before .content .result)) (part-piece (s .args .w .now) (s .args .pb) (s .args .a) _ z) (c .before .before .before .before .before .before .before .before .before .before .content .ensures) in
-    let hp = subst (HighestOf (s .args .v / c .before .before .before .before .before .before .before .before .before .before .content .result) (take (s .args .pb + s .args .a - s .args .pb) (drop (s .args .pb) (c .before .before .before .before .before .before .before .take-content .last .0)))) (c .enum-told .given .1) (c .before .before .highest-of .ensures) in
-    (absurd (content-primitive _ _ _ _ _ _ _ _ _ _ _ st ct (c .before .before .before .before .before .before .before .before .before .if1 .left) _ (c .before .before .before .before .before .before .before .take-content .ensures)
-      (λ k. subst (λ (f : List ℕ). IsNilpotent (s .args .v / c .before .before .before .before .before .before .before .before .before .before .content .result) (coef f k)) (part-piece (c .before .before .before .before .before .before .before .take-content .last .0) (s .args .pb) (s .args .a) _ z) (hp .at k))),
-    content-kept _ _ _ _ _ _ _ _ _ _ _ st ct (c .before .before .before .before .before .before .before .before .before .if1 .left) _ (c .before .before .before .before .before .before .before .take-content .ensures))
+    let hp = subst (HighestOf (s .args .v / c .before .before .before .before .before .before .before .before .before .before .content .result) (take (s .args .pb + s .args .a - s .args .pb) (drop (s .args .pb) (c .before .before .before .before .before .before .before .take-content .last .0)))) (c .enum-told .given .1) (c .before .before .highest-of .ensures) in (
+      absurd (content-primitive _ _ _ _ _ _ _ _ _ _ _ st ct (c .before .before .before .before .before .before .before .before .before .if1 .left) _ (c .before .before .before .before .before .before .before .take-content .ensures)
+          (λ k. subst (λ (f : List ℕ). IsNilpotent (s .args .v / c .before .before .before .before .before .before .before .before .before .before .content .result) (coef f k)) (part-piece (c .before .before .before .before .before .before .before .take-content .last .0) (s .args .pb) (s .args .a) _ z) (hp .at k))),
+      content-kept _ _ _ _ _ _ _ _ _ _ _ st ct (c .before .before .before .before .before .before .before .before .before .if1 .left) _ (c .before .before .before .before .before .before .before .take-content .ensures),
+    )
 
--- src/lib.rt:106:29
 div-take-unit : tie.Need-div-take-unit
 div-take-unit c = let s = c .before .before .before .before .before .before .before .before .before .before .before .before .before .before .before .before in
     let st = s .pre in
@@ -168,7 +79,6 @@ div-take-unit c = let s = c .before .before .before .before .before .before .bef
     let ct = subst (λ (f : List ℕ). Content (s .args .v) f (c .before .before .before .before .before .before .before .before .before .before .before .before .content .result)) (part-piece (s .args .w .now) (s .args .pb) (s .args .a) _ z) (c .before .before .before .before .before .before .before .before .before .before .before .before .content .ensures) in
     content-positive _ _ _ _ _ _ _ _ _ _ _ st ct
 
--- src/lib.rt:106:9
 take-unit-requires : tie.Need-take-unit-requires
 take-unit-requires c κs = let s = c .before .before .before .before .before .before .before .before .before .before .before .before .before .before .before .before in
     let st = s .pre in
@@ -183,15 +93,11 @@ take-unit-requires c κs = let s = c .before .before .before .before .before .be
     let high = st .places .b-high in
     let short = st .within in
     let lu = subst (LeadingUnit (s .args .v / c .before .before .before .before .before .before .before .before .before .before .before .before .content .result) _ _) (part-piece (c .before .before .before .before .before .before .before .before .before .take-content .last .0) (s .args .pb) (s .args .a) _ z) hp in
-    let y = s1 .places in
-    ((s1 .positive, (s1 .above, (le-of-dvd (s1 .positive) (s1 .divides), (shorter-than _ _ _ _ _ _ (omega arith) lu, (s1 .within, (s1 .some, (s1 .most, s1 .room))))))),
-    ((omega arith, (omega arith, omega arith)), (s1 .monic, (s1 .second, (lu, s1 .beta)))))
+    let y = s1 .places in (
+      (s1 .positive, (s1 .above, (le-of-dvd (s1 .positive) (s1 .divides), (shorter-than _ _ _ _ _ _ (omega arith) lu, (s1 .within, (s1 .some, (s1 .most, s1 .room))))))),
+      ((omega arith, (omega arith, omega arith)), (s1 .monic, (s1 .second, (lu, s1 .beta)))),
+    )
 
--- src/lib.rt:108:30
-add-copy : tie.Need-add-copy
-add-copy c = search needs
-
--- src/lib.rt:108:9
 copy-requires : tie.Need-copy-requires
 copy-requires c κs = let s = c .before .before .before .before .before .before .before .before .before .before .before .before .before .before .before .before .before .before .before .before .before in
     let st = s .pre in
@@ -203,11 +109,6 @@ copy-requires c κs = let s = c .before .before .before .before .before .before 
     let k = content-kept _ _ _ _ _ _ _ _ _ _ _ st ct (c .before .before .before .before .before .before .before .before .before .before .before .before .before .before .before .before .if1 .left) _ (c .before .before .before .before .before .before .before .before .before .before .before .before .before .before .take-content .ensures) .same in
     ((omega arith, omega arith), record { ok = λ i j p q e. omega arith })
 
--- src/lib.rt:109:9
-same-length-4 : tie.Need-same-length-4
-same-length-4 c = search needs
-
--- src/lib.rt:109:9
 returns-4 : tie.Need-returns-4
 returns-4 c = let s = c .before .before .before .before .before .before .before .before .before .before .before .before .before .before .before .before .before .before .before .before .before .before .before .before in
     let st = s .pre in
@@ -221,15 +122,11 @@ returns-4 c = let s = c .before .before .before .before .before .before .before 
     let high = st .places .b-high in
     let short = st .within in
     let lu = subst (LeadingUnit (s .args .v / c .before .before .before .before .before .before .before .before .before .before .before .before .before .before .before .before .before .before .before .before .content .result) _ _) (part-piece (c .before .before .before .before .before .before .before .before .before .before .before .before .before .before .before .before .before .take-content .last .0) (s .args .pb) (s .args .a) _ z) hp in
-    let b = shorter-than _ _ _ _ _ _ (omega arith) lu in
-    (last-solved _ _ _ _ _ _ _ _ _ _ _ _ _ _ _ st ct ne tk b (c .before .before .before .before .before .before .before .take-unit .ensures) (c .before .before .before .before .if2 .taken) _ (c .before .before .copy .ensures),
-    last-kept _ _ _ _ _ _ _ _ _ _ _ _ _ _ _ st ct ne tk b (c .before .before .before .before .before .before .before .take-unit .ensures) (c .before .before .before .before .if2 .taken) _ (c .before .before .copy .ensures))
+    let b = shorter-than _ _ _ _ _ _ (omega arith) lu in (
+      last-solved _ _ _ _ _ _ _ _ _ _ _ _ _ _ _ st ct ne tk b (c .before .before .before .before .before .before .before .take-unit .ensures) (c .before .before .before .before .if2 .taken) _ (c .before .before .copy .ensures),
+      last-kept _ _ _ _ _ _ _ _ _ _ _ _ _ _ _ st ct ne tk b (c .before .before .before .before .before .before .before .take-unit .ensures) (c .before .before .before .before .if2 .taken) _ (c .before .before .copy .ensures),
+    )
 
--- src/lib.rt:81:1
-same-length-5 : tie.Need-same-length-5
-same-length-5 c = search needs
-
--- src/lib.rt:81:1
 returns-5 : tie.Need-returns-5
 returns-5 c = let s = c .before .before .before .before .before .before .before .before .before .before .before .before .before .before .before .before .before .before .before .before in
     let st = s .pre in
@@ -243,44 +140,45 @@ returns-5 c = let s = c .before .before .before .before .before .before .before 
     let high = st .places .b-high in
     let short = st .within in
     let lu = subst (LeadingUnit (s .args .v / c .before .before .before .before .before .before .before .before .before .before .before .before .before .before .before .before .content .result) _ _) (part-piece (c .before .before .before .before .before .before .before .before .before .before .before .before .before .take-content .last .0) (s .args .pb) (s .args .a) _ z) hp in
-    let b = shorter-than _ _ _ _ _ _ (omega arith) lu in
-    (both-cleared _ _ _ _ _ _ _ _ _ _ _ _ _ _ _ st ct ne tk b (c .before .before .before .take-unit .ensures) (pos-of-ne-zero (c .if2 .left)),
-    both-kept _ _ _ _ _ _ _ _ _ _ _ _ _ _ _ st ct ne tk b (c .before .before .before .take-unit .ensures))
+    let b = shorter-than _ _ _ _ _ _ (omega arith) lu in (
+      both-cleared _ _ _ _ _ _ _ _ _ _ _ _ _ _ _ st ct ne tk b (c .before .before .before .take-unit .ensures) (pos-of-ne-zero (c .if2 .left)),
+      both-kept _ _ _ _ _ _ _ _ _ _ _ _ _ _ _ st ct ne tk b (c .before .before .before .take-unit .ensures),
+    )
 
 pub clear-contents-spec : {M : Type 1} → statement M
 clear-contents-spec =
     tie.close
     (tie.spec
-    add-content
-    mul-content
-    sub-content
-    part-content-start
-    part-content-end
-    content-requires
-    add-clear
-    clear-requires
-    same-length
+    (λ c. search needs)
+    (λ c. search needs)
+    (λ c. search needs)
+    (λ c. search needs)
+    (λ c. search needs)
+    (λ c κs. search needs)
+    (λ c. search needs)
+    (λ c κs. search needs)
+    (λ c. search needs)
     returns
     take-content-requires
-    add-highest-of
-    mul-highest-of
-    sub-highest-of
-    part-highest-of-start
-    part-highest-of-end
+    (λ c. search needs)
+    (λ c. search needs)
+    (λ c. search needs)
+    (λ c. search needs)
+    (λ c. search needs)
     div-highest-of
     highest-of-requires
-    enum-known-x
-    enum-known-p
-    same-length-2
+    (λ c. search needs)
+    (λ c. search needs)
+    (λ c. search needs)
     returns-2
-    enum-told
-    same-length-3
+    (λ c. search needs)
+    (λ c. search needs)
     returns-3
     div-take-unit
     take-unit-requires
-    add-copy
+    (λ c. search needs)
     copy-requires
-    same-length-4
+    (λ c. search needs)
     returns-4
-    same-length-5
+    (λ c. search needs)
     returns-5)

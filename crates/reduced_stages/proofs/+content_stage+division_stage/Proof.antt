@@ -64,7 +64,6 @@ division-stage-below t =
     (falls 1 division-stage-kinds.ps _<_ μ-division-stage t)
     division-stage.Pre
 
--- src/lib.rt:75:41
 content-stage-sub-cofactor : (t : ℕ) → content-stage-lts.Need-sub-cofactor (
   cofactor-reads.Asked,
   cofactor-reads.Learnt,
@@ -77,7 +76,6 @@ content-stage-sub-cofactor : (t : ℕ) → content-stage-lts.Need-sub-cofactor (
 ) (content-stage-at t) content-stage.Post
 content-stage-sub-cofactor t c = search needs
 
--- src/lib.rt:75:35
 content-stage-add-cofactor : (t : ℕ) → content-stage-lts.Need-add-cofactor (
   cofactor-reads.Asked,
   cofactor-reads.Learnt,
@@ -90,7 +88,6 @@ content-stage-add-cofactor : (t : ℕ) → content-stage-lts.Need-add-cofactor (
 ) (content-stage-at t) content-stage.Post
 content-stage-add-cofactor t c = search needs
 
--- src/lib.rt:75:33
 content-stage-mul-cofactor : (t : ℕ) → content-stage-lts.Need-mul-cofactor (
   cofactor-reads.Asked,
   cofactor-reads.Learnt,
@@ -103,7 +100,6 @@ content-stage-mul-cofactor : (t : ℕ) → content-stage-lts.Need-mul-cofactor (
 ) (content-stage-at t) content-stage.Post
 content-stage-mul-cofactor t c = search needs
 
--- src/lib.rt:75:33
 content-stage-slice-read-cofactor : (t : ℕ) → content-stage-lts.Need-slice-read-cofactor (
   cofactor-reads.Asked,
   cofactor-reads.Learnt,
@@ -116,7 +112,6 @@ content-stage-slice-read-cofactor : (t : ℕ) → content-stage-lts.Need-slice-r
 ) (content-stage-at t) content-stage.Post
 content-stage-slice-read-cofactor t c = search needs
 
--- src/lib.rt:75:9
 content-stage-cofactor-requires : (t : ℕ) → content-stage-lts.Need-cofactor-requires (
   cofactor-reads.Asked,
   cofactor-reads.Learnt,
@@ -129,7 +124,6 @@ content-stage-cofactor-requires : (t : ℕ) → content-stage-lts.Need-cofactor-
 ) (content-stage-at t) content-stage.Post
 content-stage-cofactor-requires t c κs = search needs
 
--- src/lib.rt:78:43
 content-stage-add-scale : (t : ℕ) → content-stage-lts.Need-add-scale (
   cofactor-reads.Asked,
   cofactor-reads.Learnt,
@@ -142,7 +136,6 @@ content-stage-add-scale : (t : ℕ) → content-stage-lts.Need-add-scale (
 ) (content-stage-at t) content-stage.Post
 content-stage-add-scale t c = search needs
 
--- src/lib.rt:78:13
 content-stage-scale-requires : (t : ℕ) → content-stage-lts.Need-scale-requires (
   cofactor-reads.Asked,
   cofactor-reads.Learnt,
@@ -155,7 +148,6 @@ content-stage-scale-requires : (t : ℕ) → content-stage-lts.Need-scale-requir
 ) (content-stage-at t) content-stage.Post
 content-stage-scale-requires t c κs = search needs
 
--- src/lib.rt:79:13
 content-stage-same-length : (t : ℕ) → content-stage-lts.Need-same-length (
   cofactor-reads.Asked,
   cofactor-reads.Learnt,
@@ -168,7 +160,6 @@ content-stage-same-length : (t : ℕ) → content-stage-lts.Need-same-length (
 ) (content-stage-at t) content-stage.Post
 content-stage-same-length t c = search needs
 
--- src/lib.rt:79:13
 content-stage-returns : (t : ℕ) → content-stage-lts.Need-returns (
   cofactor-reads.Asked,
   cofactor-reads.Learnt,
@@ -184,7 +175,6 @@ content-stage-returns t c = let s = c .before .before .before .before .before .b
     let u = leading-inverse _ _ _ _ (c .before .before .before .before .before .before .before .cofactor .ensures) (c .before .before .before .before .before .if1 .taken) in
     (unit-solved _ _ _ _ _ _ _ _ _ _ _ _ st (c .before .before .before .before .if2 .taken) u (c .before .before .scale .ensures), unit-kept _ _ _ _ _ _ _ _ _ _ _ _ st (c .before .before .before .before .if2 .taken) u (c .before .before .scale .ensures))
 
--- src/lib.rt:81:54
 content-stage-sub-division-stage : (t : ℕ) → content-stage-lts.Need-sub-division-stage (
   cofactor-reads.Asked,
   cofactor-reads.Learnt,
@@ -197,7 +187,6 @@ content-stage-sub-division-stage : (t : ℕ) → content-stage-lts.Need-sub-divi
 ) (content-stage-at t) content-stage.Post
 content-stage-sub-division-stage t c = search needs
 
--- src/lib.rt:81:9
 content-stage-division-stage-requires : (t : ℕ) → content-stage-lts.Need-division-stage-requires (
   cofactor-reads.Asked,
   cofactor-reads.Learnt,
@@ -214,7 +203,6 @@ content-stage-division-stage-requires t c κs = let s = c .before .before .befor
     let z : s .args .a ≡ s .args .a - 1 + 1 = omega arith in
     (omega (arith, s .pre .0), (stage-words _ _ _ _ _ _ _ _ _ _ _ _ z st, (omega arith, (omega arith, leading-inverse _ _ _ _ (c .before .before .before .before .cofactor .ensures) (c .before .before .if1 .taken)))))
 
--- src/lib.rt:81:9
 content-stage-same-length-2 : (t : ℕ) → content-stage-lts.Need-same-length-2 (
   cofactor-reads.Asked,
   cofactor-reads.Learnt,
@@ -227,7 +215,6 @@ content-stage-same-length-2 : (t : ℕ) → content-stage-lts.Need-same-length-2
 ) (content-stage-at t) content-stage.Post
 content-stage-same-length-2 t c = search needs
 
--- src/lib.rt:81:9
 content-stage-returns-2 : (t : ℕ) → content-stage-lts.Need-returns-2 (
   cofactor-reads.Asked,
   cofactor-reads.Learnt,
@@ -244,7 +231,6 @@ content-stage-returns-2 t c = let s = c .before .before .before .before .before 
     let e = c .before .before .division-stage .ensures in
     (subst (λ (x : ℕ). Answers (s .args .n) (s .args .v) (s .args .t) (s .args .pa) (s .args .a) (s .args .pb) x (s .args .al) (s .args .be) (s .args .w .now) (c .before .before .division-stage .last .0) (c .before .before .division-stage .result)) z (e .0), e .1)
 
--- src/lib.rt:83:11
 content-stage-clear-contents-requires : (t : ℕ) → content-stage-lts.Need-clear-contents-requires (
   cofactor-reads.Asked,
   cofactor-reads.Learnt,
@@ -257,7 +243,6 @@ content-stage-clear-contents-requires : (t : ℕ) → content-stage-lts.Need-cle
 ) (content-stage-at t) content-stage.Post
 content-stage-clear-contents-requires t c κs = search needs
 
--- src/lib.rt:84:24
 content-stage-enum-known-d : (t : ℕ) → content-stage-lts.Need-enum-known-d (
   cofactor-reads.Asked,
   cofactor-reads.Learnt,
@@ -270,7 +255,6 @@ content-stage-enum-known-d : (t : ℕ) → content-stage-lts.Need-enum-known-d (
 ) (content-stage-at t) content-stage.Post
 content-stage-enum-known-d t c = search needs
 
--- src/lib.rt:85:25
 content-stage-enum-known-p : (t : ℕ) → content-stage-lts.Need-enum-known-p (
   cofactor-reads.Asked,
   cofactor-reads.Learnt,
@@ -283,7 +267,6 @@ content-stage-enum-known-p : (t : ℕ) → content-stage-lts.Need-enum-known-p (
 ) (content-stage-at t) content-stage.Post
 content-stage-enum-known-p t c = search needs
 
--- src/lib.rt:86:24
 content-stage-enum-known-c : (t : ℕ) → content-stage-lts.Need-enum-known-c (
   cofactor-reads.Asked,
   cofactor-reads.Learnt,
@@ -296,7 +279,6 @@ content-stage-enum-known-c : (t : ℕ) → content-stage-lts.Need-enum-known-c (
 ) (content-stage-at t) content-stage.Post
 content-stage-enum-known-c t c = search needs
 
--- src/lib.rt:86:63
 content-stage-div-division-stage : (t : ℕ) → content-stage-lts.Need-div-division-stage (
   cofactor-reads.Asked,
   cofactor-reads.Learnt,
@@ -313,7 +295,6 @@ content-stage-div-division-stage t c = let s = c .before .before .before .before
     let cl = subst (Clears (s .args .n) (s .args .v) (s .args .t) (s .args .pa) (s .args .a) (s .args .pb) (s .args .al) (s .args .be) (s .args .w .now) (c .before .before .before .before .before .before .clear-contents .last .0)) (v .1) (x .0) in
     cl .positive
 
--- src/lib.rt:86:42
 content-stage-division-stage-requires-2 :
     (t : ℕ) → content-stage-lts.Need-division-stage-requires-2 (
       cofactor-reads.Asked,
@@ -334,7 +315,6 @@ content-stage-division-stage-requires-2 t c κs = let s = c .before .before .bef
     let q = quotient-small _ _ _ _ _ _ _ _ _ _ _ _ _ _ (s .pre .1) cl in
     (omega (arith, s .pre .0), (cl .stage, (d, (f, ap (λ (y : ℕ). y % (s .args .v / v .0 .0)) (one-mul (getD (c .before .before .before .before .before .before .clear-contents .last .0) (s .args .pb + v .0 .1 .0) 0) ∙ cl .monic)))))
 
--- src/lib.rt:87:28
 content-stage-enum-known-d-2 : (t : ℕ) → content-stage-lts.Need-enum-known-d-2 (
   cofactor-reads.Asked,
   cofactor-reads.Learnt,
@@ -347,7 +327,6 @@ content-stage-enum-known-d-2 : (t : ℕ) → content-stage-lts.Need-enum-known-d
 ) (content-stage-at t) content-stage.Post
 content-stage-enum-known-d-2 t c = search needs
 
--- src/lib.rt:87:49
 content-stage-mul-t44 : (t : ℕ) → content-stage-lts.Need-mul-t44 (
   cofactor-reads.Asked,
   cofactor-reads.Learnt,
@@ -368,7 +347,6 @@ content-stage-mul-t44 t c = let s = c .before .before .before .before .before .b
     let p = product-most _ _ _ _ _ _ _ _ _ _ _ _ _ _ (s .pre .1) cl _ _ (x .1) sv in
     omega (arith, s .fits .v)
 
--- src/lib.rt:88:29
 content-stage-enum-known-p-2 : (t : ℕ) → content-stage-lts.Need-enum-known-p-2 (
   cofactor-reads.Asked,
   cofactor-reads.Learnt,
@@ -381,7 +359,6 @@ content-stage-enum-known-p-2 : (t : ℕ) → content-stage-lts.Need-enum-known-p
 ) (content-stage-at t) content-stage.Post
 content-stage-enum-known-p-2 t c = search needs
 
--- src/lib.rt:70:1
 content-stage-same-length-3 : (t : ℕ) → content-stage-lts.Need-same-length-3 (
   cofactor-reads.Asked,
   cofactor-reads.Learnt,
@@ -394,7 +371,6 @@ content-stage-same-length-3 : (t : ℕ) → content-stage-lts.Need-same-length-3
 ) (content-stage-at t) content-stage.Post
 content-stage-same-length-3 t c = search needs
 
--- src/lib.rt:70:1
 content-stage-returns-3 : (t : ℕ) → content-stage-lts.Need-returns-3 (
   cofactor-reads.Asked,
   cofactor-reads.Learnt,
@@ -407,7 +383,6 @@ content-stage-returns-3 : (t : ℕ) → content-stage-lts.Need-returns-3 (
 ) (content-stage-at t) content-stage.Post
 content-stage-returns-3 t c = (subst (Clears _ _ _ _ _ _ _ _ _ _) (c .before .d .given .1) (c .before .before .before .before .before .clear-contents .ensures .0), c .before .before .before .before .before .clear-contents .ensures .1)
 
--- src/lib.rt:70:1
 content-stage-same-length-4 : (t : ℕ) → content-stage-lts.Need-same-length-4 (
   cofactor-reads.Asked,
   cofactor-reads.Learnt,
@@ -420,7 +395,6 @@ content-stage-same-length-4 : (t : ℕ) → content-stage-lts.Need-same-length-4
 ) (content-stage-at t) content-stage.Post
 content-stage-same-length-4 t c = search needs
 
--- src/lib.rt:70:1
 content-stage-returns-4 : (t : ℕ) → content-stage-lts.Need-returns-4 (
   cofactor-reads.Asked,
   cofactor-reads.Learnt,
@@ -433,7 +407,6 @@ content-stage-returns-4 : (t : ℕ) → content-stage-lts.Need-returns-4 (
 ) (content-stage-at t) content-stage.Post
 content-stage-returns-4 t c = (subst (Clears _ _ _ _ _ _ _ _ _ _) (c .before .p .given .1) (c .before .before .before .before .before .clear-contents .ensures .0), c .before .before .before .before .before .clear-contents .ensures .1)
 
--- src/lib.rt:70:1
 content-stage-same-length-5 : (t : ℕ) → content-stage-lts.Need-same-length-5 (
   cofactor-reads.Asked,
   cofactor-reads.Learnt,
@@ -446,7 +419,6 @@ content-stage-same-length-5 : (t : ℕ) → content-stage-lts.Need-same-length-5
 ) (content-stage-at t) content-stage.Post
 content-stage-same-length-5 t c = search needs
 
--- src/lib.rt:70:1
 content-stage-returns-5 : (t : ℕ) → content-stage-lts.Need-returns-5 (
   cofactor-reads.Asked,
   cofactor-reads.Learnt,
@@ -466,7 +438,6 @@ content-stage-returns-5 t c = let s = c .before .before .before .before .before 
     let sv = subst (Answers (s .args .n) (s .args .v / v .0 .0) (s .args .t) (s .args .pa) (s .args .a) (s .args .pb) (v .0 .1 .0 + 1) (s .args .al) (s .args .be) (c .before .before .before .before .before .before .before .before .before .before .before .before .clear-contents .last .0) (c .before .before .before .before .before .division-stage2 .last .0)) (d .1) (y .0) in
     (cleared-solved _ _ _ _ _ _ _ _ _ _ _ _ _ _ (s .pre .1) cl _ _ (x .1) sv, kept-trans (x .1) (y .1))
 
--- src/lib.rt:70:1
 content-stage-same-length-6 : (t : ℕ) → content-stage-lts.Need-same-length-6 (
   cofactor-reads.Asked,
   cofactor-reads.Learnt,
@@ -479,7 +450,6 @@ content-stage-same-length-6 : (t : ℕ) → content-stage-lts.Need-same-length-6
 ) (content-stage-at t) content-stage.Post
 content-stage-same-length-6 t c = search needs
 
--- src/lib.rt:70:1
 content-stage-returns-6 : (t : ℕ) → content-stage-lts.Need-returns-6 (
   cofactor-reads.Asked,
   cofactor-reads.Learnt,
@@ -499,7 +469,6 @@ content-stage-returns-6 t c = let s = c .before .before .before .before .before 
     let sv = subst (Answers (s .args .n) (s .args .v / v .0 .0) (s .args .t) (s .args .pa) (s .args .a) (s .args .pb) (v .0 .1 .0 + 1) (s .args .al) (s .args .be) (c .before .before .before .before .before .before .before .before .before .before .before .before .clear-contents .last .0) (c .before .before .before .before .before .division-stage2 .last .0)) (d .1) (y .0) in
     (cleared-splitter _ _ _ _ _ _ _ _ _ _ _ _ _ _ (s .pre .1) cl _ _ sv, kept-trans (x .1) (y .1))
 
--- src/lib.rt:99:5
 division-stage-divide-keeping-requires : (t : ℕ) → division-stage-lts.Need-divide-keeping-requires (
   divide-keeping-reads.Asked,
   divide-keeping-reads.Learnt,
@@ -516,7 +485,6 @@ division-stage-divide-keeping-requires t c κs = let s = c .before .before in
     let o = st .above in
     ((omega arith, (omega arith, (omega arith, (omega arith, omega arith)))), (step-pair _ _ _ _ _ _ _ _ _ _ _ (s .pre .1 .1 .1 .0) (s .pre .1 .1 .0) st, s .pre .1 .1 .1 .1))
 
--- src/lib.rt:100:35
 division-stage-add-take-product : (t : ℕ) → division-stage-lts.Need-add-take-product (
   divide-keeping-reads.Asked,
   divide-keeping-reads.Learnt,
@@ -527,7 +495,6 @@ division-stage-add-take-product : (t : ℕ) → division-stage-lts.Need-add-take
 ) (division-stage-at t) division-stage.Post
 division-stage-add-take-product t c = search needs
 
--- src/lib.rt:100:43
 division-stage-add-take-product-2 : (t : ℕ) → division-stage-lts.Need-add-take-product-2 (
   divide-keeping-reads.Asked,
   divide-keeping-reads.Learnt,
@@ -538,7 +505,6 @@ division-stage-add-take-product-2 : (t : ℕ) → division-stage-lts.Need-add-ta
 ) (division-stage-at t) division-stage.Post
 division-stage-add-take-product-2 t c = search needs
 
--- src/lib.rt:100:43
 division-stage-sub-take-product : (t : ℕ) → division-stage-lts.Need-sub-take-product (
   divide-keeping-reads.Asked,
   divide-keeping-reads.Learnt,
@@ -549,7 +515,6 @@ division-stage-sub-take-product : (t : ℕ) → division-stage-lts.Need-sub-take
 ) (division-stage-at t) division-stage.Post
 division-stage-sub-take-product t c = search needs
 
--- src/lib.rt:100:9
 division-stage-take-product-requires : (t : ℕ) → division-stage-lts.Need-take-product-requires (
   divide-keeping-reads.Asked,
   divide-keeping-reads.Learnt,
@@ -565,11 +530,11 @@ division-stage-take-product-requires t c κs = let s = c .before .before .before
     let q = st .places in
     let e = st .within in
     let o = st .above in
-    let g = dv .around .same in
-    ((omega arith, (omega arith, (omega arith, (omega arith, (omega arith, omega arith))))),
-    (step-factors _ _ _ _ _ _ _ _ _ _ _ (s .pre .1 .1 .1 .0) (s .pre .1 .1 .0) st _ dv, (omega arith, (omega arith, step-monic _ _ _ _ _ _ _ _ _ _ _ (s .pre .1 .1 .1 .0) (s .pre .1 .1 .0) st _ dv))))
+    let g = dv .around .same in (
+      (omega arith, (omega arith, (omega arith, (omega arith, (omega arith, omega arith))))),
+      (step-factors _ _ _ _ _ _ _ _ _ _ _ (s .pre .1 .1 .1 .0) (s .pre .1 .1 .0) st _ dv, (omega arith, (omega arith, step-monic _ _ _ _ _ _ _ _ _ _ _ (s .pre .1 .1 .1 .0) (s .pre .1 .1 .0) st _ dv))),
+    )
 
--- src/lib.rt:101:5
 division-stage-content-stage-requires : (t : ℕ) → division-stage-lts.Need-content-stage-requires (
   divide-keeping-reads.Asked,
   divide-keeping-reads.Learnt,
@@ -579,11 +544,12 @@ division-stage-content-stage-requires : (t : ℕ) → division-stage-lts.Need-co
   content-stage.Post,
 ) (division-stage-at t) division-stage.Post
 division-stage-content-stage-requires t c κs = let s = c .before .before .before .before .before .before .before .before .before .before in
-    let st = s .pre .1 .0 in
-    (omega (arith, s .pre .0), step-stage _ _ _ _ _ _ _ _ _ _ _ (s .pre .1 .1 .1 .0) (s .pre .1 .1 .0) st _ (c .before .before .before .before .before .before .before .divide-keeping .ensures) _ _ (c .before .before .before .take-product .ensures)
-    (leading-unit _ _ _ (omega (arith, st .above)) (s .pre .1 .1 .1 .1)))
+    let st = s .pre .1 .0 in (
+      omega (arith, s .pre .0),
+      step-stage _ _ _ _ _ _ _ _ _ _ _ (s .pre .1 .1 .1 .0) (s .pre .1 .1 .0) st _ (c .before .before .before .before .before .before .before .divide-keeping .ensures) _ _ (c .before .before .before .take-product .ensures)
+          (leading-unit _ _ _ (omega (arith, st .above)) (s .pre .1 .1 .1 .1)),
+    )
 
--- src/lib.rt:94:1
 division-stage-same-length : (t : ℕ) → division-stage-lts.Need-same-length (
   divide-keeping-reads.Asked,
   divide-keeping-reads.Learnt,
@@ -594,7 +560,6 @@ division-stage-same-length : (t : ℕ) → division-stage-lts.Need-same-length (
 ) (division-stage-at t) division-stage.Post
 division-stage-same-length t c = search needs
 
--- src/lib.rt:94:1
 division-stage-returns : (t : ℕ) → division-stage-lts.Need-returns (
   divide-keeping-reads.Asked,
   divide-keeping-reads.Learnt,
@@ -605,9 +570,10 @@ division-stage-returns : (t : ℕ) → division-stage-lts.Need-returns (
 ) (division-stage-at t) division-stage.Post
 division-stage-returns t c = let s = c .before .before .before .before .before .before .before .before .before .before .before .before .before in
     let st = s .pre .1 .0 in
-    let e = c .before .before .content-stage .ensures in
-    (step-answers _ _ _ _ _ _ _ _ _ _ _ (s .pre .1 .1 .1 .0) (s .pre .1 .1 .0) st _ (c .before .before .before .before .before .before .before .before .before .before .divide-keeping .ensures) _ _ (c .before .before .before .before .before .before .take-product .ensures) (c .before .before .content-stage .last .0) (c .before .before .content-stage .result) (e .0),
-    kept-trans (step-kept _ _ _ _ _ _ _ _ _ _ _ (s .pre .1 .1 .1 .0) (s .pre .1 .1 .0) st _ (c .before .before .before .before .before .before .before .before .before .before .divide-keeping .ensures) _ _ (c .before .before .before .before .before .before .take-product .ensures)) (e .1))
+    let e = c .before .before .content-stage .ensures in (
+      step-answers _ _ _ _ _ _ _ _ _ _ _ (s .pre .1 .1 .1 .0) (s .pre .1 .1 .0) st _ (c .before .before .before .before .before .before .before .before .before .before .divide-keeping .ensures) _ _ (c .before .before .before .before .before .before .take-product .ensures) (c .before .before .content-stage .last .0) (c .before .before .content-stage .result) (e .0),
+      kept-trans (step-kept _ _ _ _ _ _ _ _ _ _ _ (s .pre .1 .1 .1 .0) (s .pre .1 .1 .0) st _ (c .before .before .before .before .before .before .before .before .before .before .divide-keeping .ensures) _ _ (c .before .before .before .before .before .before .take-product .ensures)) (e .1),
+    )
 
 pub +content-stage+division-stage-spec : {M : Type 1} → statement M
 +content-stage+division-stage-spec =

@@ -2,18 +2,13 @@ use mathlib.Core.Path.{refl}
 use borrow.Author.Tests.{lt-ltb, le-ltb}
 use Rattle.residue_services.proofs.refusal_residue.Statement.{statement}
 use Rattle.residue_services.proofs.refusal_residue.Tie as tie
-use Rattle.residue_services.proofs.refusal_residue.Reads as reads
-use Rattle.residue_services.proofs.refusal_residue.Lts as lts
 
--- src/lib.rt:35:9
 returns : tie.Need-returns
 returns c = simp (lt-ltb _ _ (c .if1 .taken)) refl
 
--- src/lib.rt:38:9
 returns-2 : tie.Need-returns-2
 returns-2 c = simp (le-ltb _ _ (c .before .if1 .left), lt-ltb _ _ (c .if2 .taken)) refl
 
--- src/lib.rt:31:1
 returns-3 : tie.Need-returns-3
 returns-3 c = simp (le-ltb _ _ (c .before .if1 .left), le-ltb _ _ (c .if2 .left)) refl
 

@@ -127,7 +127,6 @@ abbrev unit-part-below : ℕ → In 1 unit-part-kinds.ps
 unit-part-below t =
     and 1 unit-part-kinds.ps (falls 1 unit-part-kinds.ps _<_ μ-unit-part t) unit-part.Pre
 
--- src/lib.rt:49:9
 by-content-clear-content-requires : (t : ℕ) → by-content-lts.Need-clear-content-requires (
   clear-content-reads.Asked,
   clear-content-reads.Learnt,
@@ -144,7 +143,6 @@ by-content-clear-content-requires t c κs = let s = c .before .before .args in
     let st = c .before .before .pre .1 in
     (omega (arith, st .two), stacked-fits (s .n) (s .d) (s .e) (s .w .now) st)
 
--- src/lib.rt:51:9
 by-content-same-length : (t : ℕ) → by-content-lts.Need-same-length (
   clear-content-reads.Asked,
   clear-content-reads.Learnt,
@@ -159,7 +157,6 @@ by-content-same-length : (t : ℕ) → by-content-lts.Need-same-length (
 ) (by-content-at t) by-content.Post
 by-content-same-length t c = search needs
 
--- src/lib.rt:51:9
 by-content-returns : (t : ℕ) → by-content-lts.Need-returns (
   clear-content-reads.Asked,
   clear-content-reads.Learnt,
@@ -176,7 +173,6 @@ by-content-returns t c = let s = c .before .before .before .before .before .befo
     let st = c .before .before .before .before .before .before .pre .1 in
     content-whole (s .n) (c .before .before .before .clear-content .result) (s .d) (s .e) (s .w .now) (c .before .before .before .clear-content .last .0) (st .two) (st .one) (st .near) (stacked-fits (s .n) (s .d) (s .e) (s .w .now) st) (st .below) (c .before .before .before .clear-content .ensures) (c .if1 .taken)
 
--- src/lib.rt:53:43
 by-content-div-primitive : (t : ℕ) → by-content-lts.Need-div-primitive (
   clear-content-reads.Asked,
   clear-content-reads.Learnt,
@@ -191,7 +187,6 @@ by-content-div-primitive : (t : ℕ) → by-content-lts.Need-div-primitive (
 ) (by-content-at t) by-content.Post
 by-content-div-primitive t c = content-positive (omega (arith, c .before .before .before .before .before .before .before .pre .1 .two)) (c .before .before .before .before .clear-content .ensures .content)
 
--- src/lib.rt:53:30
 by-content-primitive-requires : (t : ℕ) → by-content-lts.Need-primitive-requires (
   clear-content-reads.Asked,
   clear-content-reads.Learnt,
@@ -207,7 +202,6 @@ by-content-primitive-requires : (t : ℕ) → by-content-lts.Need-primitive-requ
 by-content-primitive-requires t c κs = let s = c .before .before .before .before .before .before .before .args in
     (omega (arith, c .before .before .before .before .before .before .before .pre .0), cleared-asked (s .n) (c .before .before .before .before .clear-content .result) (s .d) (s .e) (s .w .now) (c .before .before .before .before .clear-content .last .0) (c .before .before .before .before .before .before .before .pre .1) (c .before .before .before .before .clear-content .ensures) (c .before .if1 .left))
 
--- src/lib.rt:53:9
 by-content-lifted-requires : (t : ℕ) → by-content-lts.Need-lifted-requires (
   clear-content-reads.Asked,
   clear-content-reads.Learnt,
@@ -229,7 +223,6 @@ by-content-lifted-requires t c κs = let s = c .before .before .before .before .
   },
 )
 
--- src/lib.rt:54:21
 by-content-power-requires : (t : ℕ) → by-content-lts.Need-power-requires (
   clear-content-reads.Asked,
   clear-content-reads.Learnt,
@@ -244,7 +237,6 @@ by-content-power-requires : (t : ℕ) → by-content-lts.Need-power-requires (
 ) (by-content-at t) by-content.Post
 by-content-power-requires t c κs = search needs
 
--- src/lib.rt:54:5
 by-content-times-requires : (t : ℕ) → by-content-lts.Need-times-requires (
   clear-content-reads.Asked,
   clear-content-reads.Learnt,
@@ -259,7 +251,6 @@ by-content-times-requires : (t : ℕ) → by-content-lts.Need-times-requires (
 ) (by-content-at t) by-content.Post
 by-content-times-requires t c κs = search needs
 
--- src/lib.rt:45:1
 by-content-same-length-2 : (t : ℕ) → by-content-lts.Need-same-length-2 (
   clear-content-reads.Asked,
   clear-content-reads.Learnt,
@@ -274,7 +265,6 @@ by-content-same-length-2 : (t : ℕ) → by-content-lts.Need-same-length-2 (
 ) (by-content-at t) by-content.Post
 by-content-same-length-2 t c = search needs
 
--- src/lib.rt:45:1
 by-content-returns-2 : (t : ℕ) → by-content-lts.Need-returns-2 (
   clear-content-reads.Asked,
   clear-content-reads.Learnt,
@@ -295,7 +285,6 @@ by-content-returns-2 t c = let s = c .before .before .before .before .before .be
     followed (c .times .ensures) (c .before .before .lifted .ensures .at (s .n / g) (resultant (s .n / g) (piece w1 (s .e + 1) (s .d + 1)) (piece w1 0 (s .e + 1))) (cleared-divides (s .n) g (s .d) (s .e) (s .w .now) w1 cl) (c .before .before .before .before .before .primitive .ensures))
     (content-times (s .n) g (s .d) (s .e) (s .w .now) w1 (st .two) (st .one) (st .near) (stacked-fits (s .n) (s .d) (s .e) (s .w .now) st) (st .below) cl (c .before .before .before .before .before .before .before .if1 .left) (c .before .power .result) (c .before .power .ensures))
 
--- src/lib.rt:21:18
 euclid-add-lead : (t : ℕ) → euclid-lts.Need-add-lead (
   power-reads.Asked,
   power-reads.Learnt,
@@ -310,7 +299,6 @@ euclid-add-lead : (t : ℕ) → euclid-lts.Need-add-lead (
 ) (euclid-at t) euclid.Post
 euclid-add-lead t c = search needs
 
--- src/lib.rt:21:16
 euclid-mul-lead : (t : ℕ) → euclid-lts.Need-mul-lead (
   power-reads.Asked,
   power-reads.Learnt,
@@ -325,7 +313,6 @@ euclid-mul-lead : (t : ℕ) → euclid-lts.Need-mul-lead (
 ) (euclid-at t) euclid.Post
 euclid-mul-lead t c = search needs
 
--- src/lib.rt:21:16
 euclid-slice-read-lead : (t : ℕ) → euclid-lts.Need-slice-read-lead (
   power-reads.Asked,
   power-reads.Learnt,
@@ -340,7 +327,6 @@ euclid-slice-read-lead : (t : ℕ) → euclid-lts.Need-slice-read-lead (
 ) (euclid-at t) euclid.Post
 euclid-slice-read-lead t c = search needs
 
--- src/lib.rt:23:31
 euclid-power-requires : (t : ℕ) → euclid-lts.Need-power-requires (
   power-reads.Asked,
   power-reads.Learnt,
@@ -355,7 +341,6 @@ euclid-power-requires : (t : ℕ) → euclid-lts.Need-power-requires (
 ) (euclid-at t) euclid.Post
 euclid-power-requires t c κs = search needs
 
--- src/lib.rt:23:9
 euclid-returns : (t : ℕ) → euclid-lts.Need-returns (
   power-reads.Asked,
   power-reads.Learnt,
@@ -371,7 +356,6 @@ euclid-returns : (t : ℕ) → euclid-lts.Need-returns (
 euclid-returns t c = let s = c .before .before .before .before .args in
     (at-constant (s .n) (s .a) (s .d) (s .b) (s .e) (s .s) (c .power .result) (s .w .now) (c .before .before .before .before .pre .1) (c .before .if1 .taken) (c .power .ensures), refl)
 
--- src/lib.rt:25:9
 euclid-cofactor-requires : (t : ℕ) → euclid-lts.Need-cofactor-requires (
   power-reads.Asked,
   power-reads.Learnt,
@@ -386,7 +370,6 @@ euclid-cofactor-requires : (t : ℕ) → euclid-lts.Need-cofactor-requires (
 ) (euclid-at t) euclid.Post
 euclid-cofactor-requires t c κs = search needs
 
--- src/lib.rt:27:9
 euclid-step-requires : (t : ℕ) → euclid-lts.Need-step-requires (
   power-reads.Asked,
   power-reads.Learnt,
@@ -402,7 +385,6 @@ euclid-step-requires : (t : ℕ) → euclid-lts.Need-step-requires (
 euclid-step-requires t c κs = let s = c .before .before .before .before .before .before .before .args in
     (omega (arith, c .before .before .before .before .before .before .before .pre .0), divisor-asked (s .n) (s .a) (s .d) (s .b) (s .e) (s .s) (c .before .before .before .cofactor .result .g) (c .before .before .before .cofactor .result .s) (s .w .now) (c .before .before .before .before .before .before .before .pre .1) (c .before .before .before .before .if1 .left) (c .before .before .before .cofactor .ensures) (c .before .if2 .taken))
 
--- src/lib.rt:27:9
 euclid-same-length : (t : ℕ) → euclid-lts.Need-same-length (
   power-reads.Asked,
   power-reads.Learnt,
@@ -417,7 +399,6 @@ euclid-same-length : (t : ℕ) → euclid-lts.Need-same-length (
 ) (euclid-at t) euclid.Post
 euclid-same-length t c = search needs
 
--- src/lib.rt:27:9
 euclid-returns-2 : (t : ℕ) → euclid-lts.Need-returns-2 (
   power-reads.Asked,
   power-reads.Learnt,
@@ -432,7 +413,6 @@ euclid-returns-2 : (t : ℕ) → euclid-lts.Need-returns-2 (
 ) (euclid-at t) euclid.Post
 euclid-returns-2 t c = (c .before .before .step .ensures, search needs)
 
--- src/lib.rt:29:28
 euclid-add-copy-pair : (t : ℕ) → euclid-lts.Need-add-copy-pair (
   power-reads.Asked,
   power-reads.Learnt,
@@ -447,7 +427,6 @@ euclid-add-copy-pair : (t : ℕ) → euclid-lts.Need-add-copy-pair (
 ) (euclid-at t) euclid.Post
 euclid-add-copy-pair t c = search needs
 
--- src/lib.rt:29:38
 euclid-add-copy-pair-2 : (t : ℕ) → euclid-lts.Need-add-copy-pair-2 (
   power-reads.Asked,
   power-reads.Learnt,
@@ -462,7 +441,6 @@ euclid-add-copy-pair-2 : (t : ℕ) → euclid-lts.Need-add-copy-pair-2 (
 ) (euclid-at t) euclid.Post
 euclid-add-copy-pair-2 t c = search needs
 
--- src/lib.rt:29:5
 euclid-copy-pair-requires : (t : ℕ) → euclid-lts.Need-copy-pair-requires (
   power-reads.Asked,
   power-reads.Learnt,
@@ -478,7 +456,6 @@ euclid-copy-pair-requires : (t : ℕ) → euclid-lts.Need-copy-pair-requires (
 euclid-copy-pair-requires t c κs = let s = c .before .before .before .before .before .before .before .args in
     copies-fit (s .n) (s .a) (s .d) (s .b) (s .e) (s .s) (s .w .now) (c .before .before .before .before .before .before .before .pre .1) (c .before .before .before .before .if1 .left)
 
--- src/lib.rt:30:16
 euclid-mul-by-content : (t : ℕ) → euclid-lts.Need-mul-by-content (
   power-reads.Asked,
   power-reads.Learnt,
@@ -493,7 +470,6 @@ euclid-mul-by-content : (t : ℕ) → euclid-lts.Need-mul-by-content (
 ) (euclid-at t) euclid.Post
 euclid-mul-by-content t c = search needs
 
--- src/lib.rt:30:16
 euclid-sub-by-content : (t : ℕ) → euclid-lts.Need-sub-by-content (
   power-reads.Asked,
   power-reads.Learnt,
@@ -508,7 +484,6 @@ euclid-sub-by-content : (t : ℕ) → euclid-lts.Need-sub-by-content (
 ) (euclid-at t) euclid.Post
 euclid-sub-by-content t c = search needs
 
--- src/lib.rt:30:16
 euclid-part-by-content-start : (t : ℕ) → euclid-lts.Need-part-by-content-start (
   power-reads.Asked,
   power-reads.Learnt,
@@ -523,7 +498,6 @@ euclid-part-by-content-start : (t : ℕ) → euclid-lts.Need-part-by-content-sta
 ) (euclid-at t) euclid.Post
 euclid-part-by-content-start t c = search needs
 
--- src/lib.rt:30:16
 euclid-part-by-content-end : (t : ℕ) → euclid-lts.Need-part-by-content-end (
   power-reads.Asked,
   power-reads.Learnt,
@@ -538,7 +512,6 @@ euclid-part-by-content-end : (t : ℕ) → euclid-lts.Need-part-by-content-end (
 ) (euclid-at t) euclid.Post
 euclid-part-by-content-end t c = search needs
 
--- src/lib.rt:30:5
 euclid-by-content-requires : (t : ℕ) → euclid-lts.Need-by-content-requires (
   power-reads.Asked,
   power-reads.Learnt,
@@ -554,7 +527,6 @@ euclid-by-content-requires : (t : ℕ) → euclid-lts.Need-by-content-requires (
 euclid-by-content-requires t c κs = let s = c .before .before .before .before .before .before .before .before .before .before .before .args in
     (omega (arith, c .before .before .before .before .before .before .before .before .before .before .before .pre .0), stacked-asked (s .n) (s .a) (s .d) (s .b) (s .e) (s .s) (s .w .now) (c .before .before .before .copy-pair .last .0) (c .before .before .before .before .before .before .before .before .before .before .before .pre .1) (c .before .before .before .before .before .before .before .before .if1 .left) (c .before .before .before .copy-pair .ensures))
 
--- src/lib.rt:16:1
 euclid-same-length-2 : (t : ℕ) → euclid-lts.Need-same-length-2 (
   power-reads.Asked,
   power-reads.Learnt,
@@ -569,7 +541,6 @@ euclid-same-length-2 : (t : ℕ) → euclid-lts.Need-same-length-2 (
 ) (euclid-at t) euclid.Post
 euclid-same-length-2 t c = search needs
 
--- src/lib.rt:16:1
 euclid-returns-3 : (t : ℕ) → euclid-lts.Need-returns-3 (
   power-reads.Asked,
   power-reads.Learnt,
@@ -585,7 +556,6 @@ euclid-returns-3 : (t : ℕ) → euclid-lts.Need-returns-3 (
 euclid-returns-3 t c = let s = c .before .before .before .before .before .before .before .before .before .before .before .before .before .before .args in
     (stacked-answer (s .n) (s .a) (s .d) (s .b) (s .e) (s .s) (s .w .now) (c .before .before .before .before .before .before .copy-pair .last .0) (c .before .before .before .before .before .before .before .before .before .before .before .before .before .before .pre .1) (c .before .before .before .before .before .before .before .before .before .before .before .if1 .left) (c .before .before .before .before .before .before .copy-pair .ensures) (c .before .before .by-content .result) (c .before .before .by-content .ensures), search needs)
 
--- src/lib.rt:84:13
 factors-add-a : (t : ℕ) → factors-lts.Need-add-a (
   unit-times-monic-reads.Asked,
   unit-times-monic-reads.Learnt,
@@ -598,7 +568,6 @@ factors-add-a : (t : ℕ) → factors-lts.Need-add-a (
 ) (factors-at t) factors.Post
 factors-add-a t c = search needs
 
--- src/lib.rt:85:13
 factors-add-l : (t : ℕ) → factors-lts.Need-add-l (
   unit-times-monic-reads.Asked,
   unit-times-monic-reads.Learnt,
@@ -611,7 +580,6 @@ factors-add-l : (t : ℕ) → factors-lts.Need-add-l (
 ) (factors-at t) factors.Post
 factors-add-l t c = search needs
 
--- src/lib.rt:86:13
 factors-add-h : (t : ℕ) → factors-lts.Need-add-h (
   unit-times-monic-reads.Asked,
   unit-times-monic-reads.Learnt,
@@ -624,7 +592,6 @@ factors-add-h : (t : ℕ) → factors-lts.Need-add-h (
 ) (factors-at t) factors.Post
 factors-add-h t c = search needs
 
--- src/lib.rt:87:18
 factors-add-v : (t : ℕ) → factors-lts.Need-add-v (
   unit-times-monic-reads.Asked,
   unit-times-monic-reads.Learnt,
@@ -637,7 +604,6 @@ factors-add-v : (t : ℕ) → factors-lts.Need-add-v (
 ) (factors-at t) factors.Post
 factors-add-v t c = search needs
 
--- src/lib.rt:87:13
 factors-add-v-2 : (t : ℕ) → factors-lts.Need-add-v-2 (
   unit-times-monic-reads.Asked,
   unit-times-monic-reads.Learnt,
@@ -650,7 +616,6 @@ factors-add-v-2 : (t : ℕ) → factors-lts.Need-add-v-2 (
 ) (factors-at t) factors.Post
 factors-add-v-2 t c = search needs
 
--- src/lib.rt:88:13
 factors-add-u : (t : ℕ) → factors-lts.Need-add-u (
   unit-times-monic-reads.Asked,
   unit-times-monic-reads.Learnt,
@@ -663,7 +628,6 @@ factors-add-u : (t : ℕ) → factors-lts.Need-add-u (
 ) (factors-at t) factors.Post
 factors-add-u t c = search needs
 
--- src/lib.rt:89:13
 factors-add-x : (t : ℕ) → factors-lts.Need-add-x (
   unit-times-monic-reads.Asked,
   unit-times-monic-reads.Learnt,
@@ -676,7 +640,6 @@ factors-add-x : (t : ℕ) → factors-lts.Need-add-x (
 ) (factors-at t) factors.Post
 factors-add-x t c = search needs
 
--- src/lib.rt:90:30
 factors-mul-unit-times-monic : (t : ℕ) → factors-lts.Need-mul-unit-times-monic (
   unit-times-monic-reads.Asked,
   unit-times-monic-reads.Learnt,
@@ -689,7 +652,6 @@ factors-mul-unit-times-monic : (t : ℕ) → factors-lts.Need-mul-unit-times-mon
 ) (factors-at t) factors.Post
 factors-mul-unit-times-monic t c = search needs
 
--- src/lib.rt:90:30
 factors-sub-unit-times-monic : (t : ℕ) → factors-lts.Need-sub-unit-times-monic (
   unit-times-monic-reads.Asked,
   unit-times-monic-reads.Learnt,
@@ -702,7 +664,6 @@ factors-sub-unit-times-monic : (t : ℕ) → factors-lts.Need-sub-unit-times-mon
 ) (factors-at t) factors.Post
 factors-sub-unit-times-monic t c = search needs
 
--- src/lib.rt:90:30
 factors-part-unit-times-monic-start : (t : ℕ) → factors-lts.Need-part-unit-times-monic-start (
   unit-times-monic-reads.Asked,
   unit-times-monic-reads.Learnt,
@@ -715,7 +676,6 @@ factors-part-unit-times-monic-start : (t : ℕ) → factors-lts.Need-part-unit-t
 ) (factors-at t) factors.Post
 factors-part-unit-times-monic-start t c = search needs
 
--- src/lib.rt:90:30
 factors-part-unit-times-monic-end : (t : ℕ) → factors-lts.Need-part-unit-times-monic-end (
   unit-times-monic-reads.Asked,
   unit-times-monic-reads.Learnt,
@@ -728,7 +688,6 @@ factors-part-unit-times-monic-end : (t : ℕ) → factors-lts.Need-part-unit-tim
 ) (factors-at t) factors.Post
 factors-part-unit-times-monic-end t c = search needs
 
--- src/lib.rt:90:5
 factors-unit-times-monic-requires : (t : ℕ) → factors-lts.Need-unit-times-monic-requires (
   unit-times-monic-reads.Asked,
   unit-times-monic-reads.Learnt,
@@ -743,7 +702,6 @@ factors-unit-times-monic-requires t c κs = let s = c .before .before .args in
     let p = c .before .before .pre .1 in
     given-in (s .n) (s .d) (s .e) (s .t) (s .i) (s .w .now) (p .0 .0) (p .0 .1) (p .1)
 
--- src/lib.rt:91:11
 factors-monic-part-requires : (t : ℕ) → factors-lts.Need-monic-part-requires (
   unit-times-monic-reads.Asked,
   unit-times-monic-reads.Learnt,
@@ -764,7 +722,6 @@ factors-monic-part-requires t c κs = let s = c .before .before .before .before 
       ),
     )
 
--- src/lib.rt:92:24
 factors-enum-known-y : (t : ℕ) → factors-lts.Need-enum-known-y (
   unit-times-monic-reads.Asked,
   unit-times-monic-reads.Learnt,
@@ -777,7 +734,6 @@ factors-enum-known-y : (t : ℕ) → factors-lts.Need-enum-known-y (
 ) (factors-at t) factors.Post
 factors-enum-known-y t c = search needs
 
--- src/lib.rt:92:68
 factors-sub-unit-part : (t : ℕ) → factors-lts.Need-sub-unit-part (
   unit-times-monic-reads.Asked,
   unit-times-monic-reads.Learnt,
@@ -790,7 +746,6 @@ factors-sub-unit-part : (t : ℕ) → factors-lts.Need-sub-unit-part (
 ) (factors-at t) factors.Post
 factors-sub-unit-part t c = search needs
 
--- src/lib.rt:92:49
 factors-unit-part-requires : (t : ℕ) → factors-lts.Need-unit-part-requires (
   unit-times-monic-reads.Asked,
   unit-times-monic-reads.Learnt,
@@ -812,7 +767,6 @@ factors-unit-part-requires t c κs = let s = c .before .before .before .before .
       ),
     )
 
--- src/lib.rt:92:30
 factors-times-requires : (t : ℕ) → factors-lts.Need-times-requires (
   unit-times-monic-reads.Asked,
   unit-times-monic-reads.Learnt,
@@ -825,7 +779,6 @@ factors-times-requires : (t : ℕ) → factors-lts.Need-times-requires (
 ) (factors-at t) factors.Post
 factors-times-requires t c κs = search needs
 
--- src/lib.rt:93:25
 factors-enum-known-p : (t : ℕ) → factors-lts.Need-enum-known-p (
   unit-times-monic-reads.Asked,
   unit-times-monic-reads.Learnt,
@@ -838,7 +791,6 @@ factors-enum-known-p : (t : ℕ) → factors-lts.Need-enum-known-p (
 ) (factors-at t) factors.Post
 factors-enum-known-p t c = search needs
 
--- src/lib.rt:79:1
 factors-same-length : (t : ℕ) → factors-lts.Need-same-length (
   unit-times-monic-reads.Asked,
   unit-times-monic-reads.Learnt,
@@ -851,7 +803,6 @@ factors-same-length : (t : ℕ) → factors-lts.Need-same-length (
 ) (factors-at t) factors.Post
 factors-same-length t c = search needs
 
--- src/lib.rt:79:1
 factors-returns : (t : ℕ) → factors-lts.Need-returns (
   unit-times-monic-reads.Asked,
   unit-times-monic-reads.Learnt,
@@ -871,7 +822,6 @@ factors-returns t c = let s = c .before .before .before .before .before .before 
     let hy = subst (λ (r : Attempt). AnswerOf (s .n) (resultant (s .n) (piece w1 (s .e + 1 + (s .d + 1)) (s .t + 1)) (piece w1 0 (s .e + 1))) r) (y .1) (h .ensures .0) in
     followed (c .times .ensures) (c .before .before .before .unit-part .ensures) (product-times (s .n) (s .d) (s .e) (s .t) (s .w .now) (u .last .0) (p .0) (p .1) (u .kept .0) (u .ensures) (h .last .0) (h .ensures .1) (y .0 .0) (hy .0))
 
--- src/lib.rt:79:1
 factors-same-length-2 : (t : ℕ) → factors-lts.Need-same-length-2 (
   unit-times-monic-reads.Asked,
   unit-times-monic-reads.Learnt,
@@ -884,7 +834,6 @@ factors-same-length-2 : (t : ℕ) → factors-lts.Need-same-length-2 (
 ) (factors-at t) factors.Post
 factors-same-length-2 t c = search needs
 
--- src/lib.rt:79:1
 factors-returns-2 : (t : ℕ) → factors-lts.Need-returns-2 (
   unit-times-monic-reads.Asked,
   unit-times-monic-reads.Learnt,
@@ -899,7 +848,6 @@ factors-returns-2 t c = let s = c .before .before .before .before .before .befor
     let w1 : List ℕ = putMid (s .e + 1) (length (s .w .now) - (s .e + 1)) (s .w .now) (c .before .before .before .before .before .before .before .before .before .unit-times-monic .last .0) in
     subst (λ (r : Attempt). AnswerOf (s .n) (resultant (s .n) (piece w1 (s .e + 1 + (s .d + 1)) (s .t + 1)) (piece w1 0 (s .e + 1))) r) (c .before .p .given .1) (c .before .before .before .before .before .monic-part .ensures .0)
 
--- src/lib.rt:104:9
 monic-part-returns : (t : ℕ) → monic-part-lts.Need-returns (
   copy-pair-reads.Asked,
   copy-pair-reads.Learnt,
@@ -909,7 +857,6 @@ monic-part-returns : (t : ℕ) → monic-part-lts.Need-returns (
 monic-part-returns t c = let s = c .before .before .args in
     (monic-constant (s .n) (s .a) (s .t) (s .e) (s .x) (s .w .now) (c .before .before .pre .1 .0) (c .before .before .pre .1 .1) (c .if1 .taken), kept-none (s .x) (s .w .now))
 
--- src/lib.rt:106:13
 monic-part-add-l : (t : ℕ) → monic-part-lts.Need-add-l (
   copy-pair-reads.Asked,
   copy-pair-reads.Learnt,
@@ -918,7 +865,6 @@ monic-part-add-l : (t : ℕ) → monic-part-lts.Need-add-l (
 ) (monic-part-at t) monic-part.Post
 monic-part-add-l t c = search needs
 
--- src/lib.rt:107:13
 monic-part-add-m : (t : ℕ) → monic-part-lts.Need-add-m (
   copy-pair-reads.Asked,
   copy-pair-reads.Learnt,
@@ -927,7 +873,6 @@ monic-part-add-m : (t : ℕ) → monic-part-lts.Need-add-m (
 ) (monic-part-at t) monic-part.Post
 monic-part-add-m t c = search needs
 
--- src/lib.rt:108:5
 monic-part-copy-pair-requires : (t : ℕ) → monic-part-lts.Need-copy-pair-requires (
   copy-pair-reads.Asked,
   copy-pair-reads.Learnt,
@@ -937,7 +882,6 @@ monic-part-copy-pair-requires : (t : ℕ) → monic-part-lts.Need-copy-pair-requ
 monic-part-copy-pair-requires t c κs = let s = c .before .before .before .args in
     part-fits (s .n) (s .a) (s .t) (s .e) (s .x) (s .w .now) (c .before .before .before .pre .1 .0)
 
--- src/lib.rt:109:10
 monic-part-mul-step : (t : ℕ) → monic-part-lts.Need-mul-step (
   copy-pair-reads.Asked,
   copy-pair-reads.Learnt,
@@ -946,7 +890,6 @@ monic-part-mul-step : (t : ℕ) → monic-part-lts.Need-mul-step (
 ) (monic-part-at t) monic-part.Post
 monic-part-mul-step t c = search needs
 
--- src/lib.rt:109:10
 monic-part-sub-step : (t : ℕ) → monic-part-lts.Need-sub-step (
   copy-pair-reads.Asked,
   copy-pair-reads.Learnt,
@@ -955,7 +898,6 @@ monic-part-sub-step : (t : ℕ) → monic-part-lts.Need-sub-step (
 ) (monic-part-at t) monic-part.Post
 monic-part-sub-step t c = search needs
 
--- src/lib.rt:109:10
 monic-part-part-step-start : (t : ℕ) → monic-part-lts.Need-part-step-start (
   copy-pair-reads.Asked,
   copy-pair-reads.Learnt,
@@ -964,7 +906,6 @@ monic-part-part-step-start : (t : ℕ) → monic-part-lts.Need-part-step-start (
 ) (monic-part-at t) monic-part.Post
 monic-part-part-step-start t c = search needs
 
--- src/lib.rt:109:10
 monic-part-part-step-end : (t : ℕ) → monic-part-lts.Need-part-step-end (
   copy-pair-reads.Asked,
   copy-pair-reads.Learnt,
@@ -973,7 +914,6 @@ monic-part-part-step-end : (t : ℕ) → monic-part-lts.Need-part-step-end (
 ) (monic-part-at t) monic-part.Post
 monic-part-part-step-end t c = search needs
 
--- src/lib.rt:109:38
 monic-part-add-step : (t : ℕ) → monic-part-lts.Need-add-step (
   copy-pair-reads.Asked,
   copy-pair-reads.Learnt,
@@ -982,7 +922,6 @@ monic-part-add-step : (t : ℕ) → monic-part-lts.Need-add-step (
 ) (monic-part-at t) monic-part.Post
 monic-part-add-step t c = search needs
 
--- src/lib.rt:109:5
 monic-part-step-requires : (t : ℕ) → monic-part-lts.Need-step-requires (
   copy-pair-reads.Asked,
   copy-pair-reads.Learnt,
@@ -992,7 +931,6 @@ monic-part-step-requires : (t : ℕ) → monic-part-lts.Need-step-requires (
 monic-part-step-requires t c κs = let s = c .before .before .before .before .before .before .before .args in
     (omega (arith, c .before .before .before .before .before .before .before .pre .0), monic-asked (s .n) (s .a) (s .t) (s .e) (s .x) (s .w .now) (c .before .before .before .copy-pair .last .0) (c .before .before .before .before .before .before .before .pre .1 .0) (c .before .before .before .copy-pair .ensures) (c .before .before .before .before .before .before .before .pre .1 .1) (c .before .before .before .before .before .if1 .left))
 
--- src/lib.rt:98:1
 monic-part-same-length : (t : ℕ) → monic-part-lts.Need-same-length (
   copy-pair-reads.Asked,
   copy-pair-reads.Learnt,
@@ -1001,7 +939,6 @@ monic-part-same-length : (t : ℕ) → monic-part-lts.Need-same-length (
 ) (monic-part-at t) monic-part.Post
 monic-part-same-length t c = search needs
 
--- src/lib.rt:98:1
 monic-part-returns-2 : (t : ℕ) → monic-part-lts.Need-returns-2 (
   copy-pair-reads.Asked,
   copy-pair-reads.Learnt,
@@ -1014,7 +951,6 @@ monic-part-returns-2 t c = let s = c .before .before .before .before .before .be
       monic-kept (s .n) (s .a) (s .t) (s .e) (s .x) (s .w .now) w1 (c .before .before .before .before .before .before .before .before .before .before .pre .1 .0) (c .before .before .before .before .before .before .copy-pair .ensures) (c .before .before .step .last .0) (c .before .before .step .kept .0),
     )
 
--- src/lib.rt:63:13
 primitive-add-a : (t : ℕ) → primitive-lts.Need-add-a (
   highest-of-reads.Asked,
   highest-of-reads.Learnt,
@@ -1025,7 +961,6 @@ primitive-add-a : (t : ℕ) → primitive-lts.Need-add-a (
 ) (primitive-at t) primitive.Post
 primitive-add-a t c = search needs
 
--- src/lib.rt:64:18
 primitive-add-s : (t : ℕ) → primitive-lts.Need-add-s (
   highest-of-reads.Asked,
   highest-of-reads.Learnt,
@@ -1036,7 +971,6 @@ primitive-add-s : (t : ℕ) → primitive-lts.Need-add-s (
 ) (primitive-at t) primitive.Post
 primitive-add-s t c = search needs
 
--- src/lib.rt:64:13
 primitive-add-s-2 : (t : ℕ) → primitive-lts.Need-add-s-2 (
   highest-of-reads.Asked,
   highest-of-reads.Learnt,
@@ -1047,7 +981,6 @@ primitive-add-s-2 : (t : ℕ) → primitive-lts.Need-add-s-2 (
 ) (primitive-at t) primitive.Post
 primitive-add-s-2 t c = search needs
 
--- src/lib.rt:65:30
 primitive-mul-highest-of : (t : ℕ) → primitive-lts.Need-mul-highest-of (
   highest-of-reads.Asked,
   highest-of-reads.Learnt,
@@ -1058,7 +991,6 @@ primitive-mul-highest-of : (t : ℕ) → primitive-lts.Need-mul-highest-of (
 ) (primitive-at t) primitive.Post
 primitive-mul-highest-of t c = search needs
 
--- src/lib.rt:65:30
 primitive-sub-highest-of : (t : ℕ) → primitive-lts.Need-sub-highest-of (
   highest-of-reads.Asked,
   highest-of-reads.Learnt,
@@ -1069,7 +1001,6 @@ primitive-sub-highest-of : (t : ℕ) → primitive-lts.Need-sub-highest-of (
 ) (primitive-at t) primitive.Post
 primitive-sub-highest-of t c = search needs
 
--- src/lib.rt:65:30
 primitive-part-highest-of-start : (t : ℕ) → primitive-lts.Need-part-highest-of-start (
   highest-of-reads.Asked,
   highest-of-reads.Learnt,
@@ -1080,7 +1011,6 @@ primitive-part-highest-of-start : (t : ℕ) → primitive-lts.Need-part-highest-
 ) (primitive-at t) primitive.Post
 primitive-part-highest-of-start t c = search needs
 
--- src/lib.rt:65:30
 primitive-part-highest-of-end : (t : ℕ) → primitive-lts.Need-part-highest-of-end (
   highest-of-reads.Asked,
   highest-of-reads.Learnt,
@@ -1091,7 +1021,6 @@ primitive-part-highest-of-end : (t : ℕ) → primitive-lts.Need-part-highest-of
 ) (primitive-at t) primitive.Post
 primitive-part-highest-of-end t c = search needs
 
--- src/lib.rt:65:11
 primitive-highest-of-requires : (t : ℕ) → primitive-lts.Need-highest-of-requires (
   highest-of-reads.Asked,
   highest-of-reads.Learnt,
@@ -1102,7 +1031,6 @@ primitive-highest-of-requires : (t : ℕ) → primitive-lts.Need-highest-of-requ
 ) (primitive-at t) primitive.Post
 primitive-highest-of-requires t c κs = search needs
 
--- src/lib.rt:66:33
 primitive-enum-known-t : (t : ℕ) → primitive-lts.Need-enum-known-t (
   highest-of-reads.Asked,
   highest-of-reads.Learnt,
@@ -1113,7 +1041,6 @@ primitive-enum-known-t : (t : ℕ) → primitive-lts.Need-enum-known-t (
 ) (primitive-at t) primitive.Post
 primitive-enum-known-t t c = search needs
 
--- src/lib.rt:68:17
 primitive-step-requires : (t : ℕ) → primitive-lts.Need-step-requires (
   highest-of-reads.Asked,
   highest-of-reads.Learnt,
@@ -1128,7 +1055,6 @@ primitive-step-requires t c κs = let s = c .before .before .before .before .bef
     let u = lent (LeadingUnit (s .n) (g .0 .0) (g .0 .1 .0)) (s .e + 1) (s .d + 1) m (s .w .now) (omega arith) (subst (HighestOf (s .n) (midOf (s .e + 1) m (s .w .now))) (g .1) (c .before .before .before .before .before .highest-of .ensures)) in
     (omega (arith, c .before .before .before .before .before .before .before .before .before .pre .0), lead-asked (s .n) (s .d) (s .e) (g .0 .0) (g .0 .1 .0) (s .w .now) (c .before .before .before .before .before .before .before .before .before .pre .1 .0) u (c .before .if1 .taken))
 
--- src/lib.rt:68:17
 primitive-same-length : (t : ℕ) → primitive-lts.Need-same-length (
   highest-of-reads.Asked,
   highest-of-reads.Learnt,
@@ -1139,7 +1065,6 @@ primitive-same-length : (t : ℕ) → primitive-lts.Need-same-length (
 ) (primitive-at t) primitive.Post
 primitive-same-length t c = search needs
 
--- src/lib.rt:68:17
 primitive-returns : (t : ℕ) → primitive-lts.Need-returns (
   highest-of-reads.Asked,
   highest-of-reads.Learnt,
@@ -1150,7 +1075,6 @@ primitive-returns : (t : ℕ) → primitive-lts.Need-returns (
 ) (primitive-at t) primitive.Post
 primitive-returns t c = c .before .before .step .ensures
 
--- src/lib.rt:70:13
 primitive-factors-requires : (t : ℕ) → primitive-lts.Need-factors-requires (
   highest-of-reads.Asked,
   highest-of-reads.Learnt,
@@ -1165,7 +1089,6 @@ primitive-factors-requires t c κs = let s = c .before .before .before .before .
     let u = lent (LeadingUnit (s .n) (g .0 .0) (g .0 .1 .0)) (s .e + 1) (s .d + 1) m (s .w .now) (omega arith) (subst (HighestOf (s .n) (midOf (s .e + 1) m (s .w .now))) (g .1) (c .before .before .before .before .before .highest-of .ensures)) in
     (omega (arith, c .before .before .before .before .before .before .before .before .before .pre .0), ((c .before .before .before .before .before .before .before .before .before .pre .1 .0, lead-below (s .n) (s .d) (s .e) (g .0 .0) (g .0 .1 .0) (s .w .now) (c .before .before .before .before .before .before .before .before .before .pre .1 .0) u (c .before .if1 .left)), u))
 
--- src/lib.rt:72:33
 primitive-enum-known-p : (t : ℕ) → primitive-lts.Need-enum-known-p (
   highest-of-reads.Asked,
   highest-of-reads.Learnt,
@@ -1176,7 +1099,6 @@ primitive-enum-known-p : (t : ℕ) → primitive-lts.Need-enum-known-p (
 ) (primitive-at t) primitive.Post
 primitive-enum-known-p t c = search needs
 
--- src/lib.rt:73:42
 primitive-enum-told : (t : ℕ) → primitive-lts.Need-enum-told (
   highest-of-reads.Asked,
   highest-of-reads.Learnt,
@@ -1187,7 +1109,6 @@ primitive-enum-told : (t : ℕ) → primitive-lts.Need-enum-told (
 ) (primitive-at t) primitive.Post
 primitive-enum-told t c = search needs
 
--- src/lib.rt:58:1
 primitive-same-length-2 : (t : ℕ) → primitive-lts.Need-same-length-2 (
   highest-of-reads.Asked,
   highest-of-reads.Learnt,
@@ -1198,7 +1119,6 @@ primitive-same-length-2 : (t : ℕ) → primitive-lts.Need-same-length-2 (
 ) (primitive-at t) primitive.Post
 primitive-same-length-2 t c = search needs
 
--- src/lib.rt:58:1
 primitive-returns-2 : (t : ℕ) → primitive-lts.Need-returns-2 (
   highest-of-reads.Asked,
   highest-of-reads.Learnt,
@@ -1209,7 +1129,6 @@ primitive-returns-2 : (t : ℕ) → primitive-lts.Need-returns-2 (
 ) (primitive-at t) primitive.Post
 primitive-returns-2 t c = c .before .before .factors .ensures
 
--- src/lib.rt:58:1
 primitive-same-length-3 : (t : ℕ) → primitive-lts.Need-same-length-3 (
   highest-of-reads.Asked,
   highest-of-reads.Learnt,
@@ -1220,7 +1139,6 @@ primitive-same-length-3 : (t : ℕ) → primitive-lts.Need-same-length-3 (
 ) (primitive-at t) primitive.Post
 primitive-same-length-3 t c = search needs
 
--- src/lib.rt:58:1
 primitive-returns-3 : (t : ℕ) → primitive-lts.Need-returns-3 (
   highest-of-reads.Asked,
   highest-of-reads.Learnt,
@@ -1233,7 +1151,6 @@ primitive-returns-3 t c = let s = c .before .before .before .before .before .bef
     let m : ℕ = s .e + 1 + (s .d + 1) - (s .e + 1) in
     subst (HighestOf (s .n) (midOf (s .e + 1) m (s .w .now))) (c .before .p .given .1) (c .before .before .before .highest-of .ensures)
 
--- src/lib.rt:58:1
 primitive-same-length-4 : (t : ℕ) → primitive-lts.Need-same-length-4 (
   highest-of-reads.Asked,
   highest-of-reads.Learnt,
@@ -1244,7 +1161,6 @@ primitive-same-length-4 : (t : ℕ) → primitive-lts.Need-same-length-4 (
 ) (primitive-at t) primitive.Post
 primitive-same-length-4 t c = search needs
 
--- src/lib.rt:58:1
 primitive-returns-4 : (t : ℕ) → primitive-lts.Need-returns-4 (
   highest-of-reads.Asked,
   highest-of-reads.Learnt,
@@ -1258,7 +1174,6 @@ primitive-returns-4 t c = let s = c .before .before .before .before .before .bef
     absurd (not-all-nilpotent (s .n) (piece (s .w .now) (s .e + 1) (s .d + 1)) (c .before .before .before .before .before .before .pre .1 .0 .two) (c .before .before .before .before .before .before .pre .1 .1)
     (lent (Nilpotents (s .n)) (s .e + 1) (s .d + 1) m (s .w .now) (omega arith) (subst (HighestOf (s .n) (midOf (s .e + 1) m (s .w .now))) (c .enum-told .given .1) (c .before .before .highest-of .ensures))))
 
--- src/lib.rt:38:18
 step-add-lead : (t : ℕ) → step-lts.Need-add-lead (
   divide-reads.Asked,
   divide-reads.Learnt,
@@ -1271,7 +1186,6 @@ step-add-lead : (t : ℕ) → step-lts.Need-add-lead (
 ) (step-at t) step.Post
 step-add-lead t c = search needs
 
--- src/lib.rt:38:16
 step-mul-lead : (t : ℕ) → step-lts.Need-mul-lead (
   divide-reads.Asked,
   divide-reads.Learnt,
@@ -1284,7 +1198,6 @@ step-mul-lead : (t : ℕ) → step-lts.Need-mul-lead (
 ) (step-at t) step.Post
 step-mul-lead t c = search needs
 
--- src/lib.rt:38:16
 step-slice-read-lead : (t : ℕ) → step-lts.Need-slice-read-lead (
   divide-reads.Asked,
   divide-reads.Learnt,
@@ -1297,7 +1210,6 @@ step-slice-read-lead : (t : ℕ) → step-lts.Need-slice-read-lead (
 ) (step-at t) step.Post
 step-slice-read-lead t c = search needs
 
--- src/lib.rt:39:5
 step-divide-requires : (t : ℕ) → step-lts.Need-divide-requires (
   divide-reads.Asked,
   divide-reads.Learnt,
@@ -1311,7 +1223,6 @@ step-divide-requires : (t : ℕ) → step-lts.Need-divide-requires (
 step-divide-requires t c κs = let s = c .before .before .before .args in
     divide-asked (s .n) (s .a) (s .d) (s .b) (s .e) (s .s) (s .i) (s .w .now) (c .before .before .before .pre .1)
 
--- src/lib.rt:40:29
 step-sub-euclid : (t : ℕ) → step-lts.Need-sub-euclid (
   divide-reads.Asked,
   divide-reads.Learnt,
@@ -1324,7 +1235,6 @@ step-sub-euclid : (t : ℕ) → step-lts.Need-sub-euclid (
 ) (step-at t) step.Post
 step-sub-euclid t c = search needs
 
--- src/lib.rt:40:9
 step-euclid-requires : (t : ℕ) → step-lts.Need-euclid-requires (
   divide-reads.Asked,
   divide-reads.Learnt,
@@ -1339,7 +1249,6 @@ step-euclid-requires t c κs = let s = c .before .before .before .before .before
     let dv = c .before .before .before .before .before .before .before .pre .1 in
     (omega (arith, c .before .before .before .before .before .before .before .pre .0, dv .one), next-asked (s .n) (s .a) (s .d) (s .b) (s .e) (s .s) (s .i) (s .w .now) (c .before .before .before .divide .last .0) dv (c .before .before .before .divide .ensures))
 
--- src/lib.rt:41:48
 step-add-power : (t : ℕ) → step-lts.Need-add-power (
   divide-reads.Asked,
   divide-reads.Learnt,
@@ -1352,7 +1261,6 @@ step-add-power : (t : ℕ) → step-lts.Need-add-power (
 ) (step-at t) step.Post
 step-add-power t c = search needs
 
--- src/lib.rt:41:48
 step-sub-power : (t : ℕ) → step-lts.Need-sub-power (
   divide-reads.Asked,
   divide-reads.Learnt,
@@ -1365,7 +1273,6 @@ step-sub-power : (t : ℕ) → step-lts.Need-sub-power (
 ) (step-at t) step.Post
 step-sub-power t c = search needs
 
--- src/lib.rt:41:21
 step-power-requires : (t : ℕ) → step-lts.Need-power-requires (
   divide-reads.Asked,
   divide-reads.Learnt,
@@ -1378,7 +1285,6 @@ step-power-requires : (t : ℕ) → step-lts.Need-power-requires (
 ) (step-at t) step.Post
 step-power-requires t c κs = search needs
 
--- src/lib.rt:41:5
 step-times-requires : (t : ℕ) → step-lts.Need-times-requires (
   divide-reads.Asked,
   divide-reads.Learnt,
@@ -1391,7 +1297,6 @@ step-times-requires : (t : ℕ) → step-lts.Need-times-requires (
 ) (step-at t) step.Post
 step-times-requires t c κs = search needs
 
--- src/lib.rt:34:1
 step-same-length : (t : ℕ) → step-lts.Need-same-length (
   divide-reads.Asked,
   divide-reads.Learnt,
@@ -1404,7 +1309,6 @@ step-same-length : (t : ℕ) → step-lts.Need-same-length (
 ) (step-at t) step.Post
 step-same-length t c = search needs
 
--- src/lib.rt:34:1
 step-returns : (t : ℕ) → step-lts.Need-returns (
   divide-reads.Asked,
   divide-reads.Learnt,
@@ -1419,7 +1323,6 @@ step-returns t c = let s = c .before .before .before .before .before .before .be
     followed (c .times .ensures) (c .before .before .before .before .euclid .ensures .0)
     (times-next (s .n) (s .a) (s .d) (s .b) (s .e) (s .s) (s .i) (s .w .now) (c .before .before .before .before .before .before .before .before .divide .last .0) (c .before .before .before .before .before .before .before .before .before .before .before .before .pre .1) (c .before .before .before .before .before .before .before .before .divide .ensures) (c .before .power .result) (c .before .power .ensures))
 
--- src/lib.rt:117:33
 unit-part-mul-cofactor : (t : ℕ) → unit-part-lts.Need-mul-cofactor (
   cofactor-reads.Asked,
   cofactor-reads.Learnt,
@@ -1432,7 +1335,6 @@ unit-part-mul-cofactor : (t : ℕ) → unit-part-lts.Need-mul-cofactor (
 ) (unit-part-at t) unit-part.Post
 unit-part-mul-cofactor t c = search needs
 
--- src/lib.rt:117:33
 unit-part-slice-read-cofactor : (t : ℕ) → unit-part-lts.Need-slice-read-cofactor (
   cofactor-reads.Asked,
   cofactor-reads.Learnt,
@@ -1445,7 +1347,6 @@ unit-part-slice-read-cofactor : (t : ℕ) → unit-part-lts.Need-slice-read-cofa
 ) (unit-part-at t) unit-part.Post
 unit-part-slice-read-cofactor t c = search needs
 
--- src/lib.rt:117:9
 unit-part-cofactor-requires : (t : ℕ) → unit-part-lts.Need-cofactor-requires (
   cofactor-reads.Asked,
   cofactor-reads.Learnt,
@@ -1458,7 +1359,6 @@ unit-part-cofactor-requires : (t : ℕ) → unit-part-lts.Need-cofactor-requires
 ) (unit-part-at t) unit-part.Post
 unit-part-cofactor-requires t c κs = search needs
 
--- src/lib.rt:118:13
 unit-part-add-l : (t : ℕ) → unit-part-lts.Need-add-l (
   cofactor-reads.Asked,
   cofactor-reads.Learnt,
@@ -1471,7 +1371,6 @@ unit-part-add-l : (t : ℕ) → unit-part-lts.Need-add-l (
 ) (unit-part-at t) unit-part.Post
 unit-part-add-l t c = search needs
 
--- src/lib.rt:119:13
 unit-part-add-m : (t : ℕ) → unit-part-lts.Need-add-m (
   cofactor-reads.Asked,
   cofactor-reads.Learnt,
@@ -1484,7 +1383,6 @@ unit-part-add-m : (t : ℕ) → unit-part-lts.Need-add-m (
 ) (unit-part-at t) unit-part.Post
 unit-part-add-m t c = search needs
 
--- src/lib.rt:120:5
 unit-part-copy-pair-reversed-requires : (t : ℕ) → unit-part-lts.Need-copy-pair-reversed-requires (
   cofactor-reads.Asked,
   cofactor-reads.Learnt,
@@ -1498,7 +1396,6 @@ unit-part-copy-pair-reversed-requires : (t : ℕ) → unit-part-lts.Need-copy-pa
 unit-part-copy-pair-reversed-requires t c κs = let s = c .before .before .before .before .args in
     part-fits (s .n) (s .a) (s .k) (s .e) (s .x) (s .w .now) (c .before .before .before .before .pre .1 .0)
 
--- src/lib.rt:121:18
 unit-part-mul-step : (t : ℕ) → unit-part-lts.Need-mul-step (
   cofactor-reads.Asked,
   cofactor-reads.Learnt,
@@ -1511,7 +1408,6 @@ unit-part-mul-step : (t : ℕ) → unit-part-lts.Need-mul-step (
 ) (unit-part-at t) unit-part.Post
 unit-part-mul-step t c = search needs
 
--- src/lib.rt:121:18
 unit-part-sub-step : (t : ℕ) → unit-part-lts.Need-sub-step (
   cofactor-reads.Asked,
   cofactor-reads.Learnt,
@@ -1524,7 +1420,6 @@ unit-part-sub-step : (t : ℕ) → unit-part-lts.Need-sub-step (
 ) (unit-part-at t) unit-part.Post
 unit-part-sub-step t c = search needs
 
--- src/lib.rt:121:18
 unit-part-part-step-start : (t : ℕ) → unit-part-lts.Need-part-step-start (
   cofactor-reads.Asked,
   cofactor-reads.Learnt,
@@ -1537,7 +1432,6 @@ unit-part-part-step-start : (t : ℕ) → unit-part-lts.Need-part-step-start (
 ) (unit-part-at t) unit-part.Post
 unit-part-part-step-start t c = search needs
 
--- src/lib.rt:121:18
 unit-part-part-step-end : (t : ℕ) → unit-part-lts.Need-part-step-end (
   cofactor-reads.Asked,
   cofactor-reads.Learnt,
@@ -1550,7 +1444,6 @@ unit-part-part-step-end : (t : ℕ) → unit-part-lts.Need-part-step-end (
 ) (unit-part-at t) unit-part.Post
 unit-part-part-step-end t c = search needs
 
--- src/lib.rt:121:46
 unit-part-add-step : (t : ℕ) → unit-part-lts.Need-add-step (
   cofactor-reads.Asked,
   cofactor-reads.Learnt,
@@ -1563,7 +1456,6 @@ unit-part-add-step : (t : ℕ) → unit-part-lts.Need-add-step (
 ) (unit-part-at t) unit-part.Post
 unit-part-add-step t c = search needs
 
--- src/lib.rt:121:9
 unit-part-step-requires : (t : ℕ) → unit-part-lts.Need-step-requires (
   cofactor-reads.Asked,
   cofactor-reads.Learnt,
@@ -1578,7 +1470,6 @@ unit-part-step-requires t c κs = let s = c .before .before .before .before .bef
     let p = c .before .before .before .before .before .before .before .before .pre .1 in
     (omega (arith, c .before .before .before .before .before .before .before .before .pre .0), unit-asked (s .n) (s .a) (s .k) (s .e) (s .x) (s .w .now) (c .before .before .before .copy-pair-reversed .last .0) (p .0) (c .before .before .before .copy-pair-reversed .ensures) (c .before .before .before .before .before .cofactor .result .g) (c .before .before .before .before .before .cofactor .result .s) (p .1 .0) (p .1 .1) (c .before .before .before .before .before .cofactor .ensures))
 
--- src/lib.rt:122:5
 unit-part-times-sign-requires : (t : ℕ) → unit-part-lts.Need-times-sign-requires (
   cofactor-reads.Asked,
   cofactor-reads.Learnt,
@@ -1594,7 +1485,6 @@ unit-part-times-sign-requires t c κs = let s = c .before .before .before .befor
     let u : List ℕ = onward w1 (s .x) in
     record { x = resultant (s .n) (piece u 0 (s .k + 1)) (piece u (s .k + 1) (s .e + 1)); is = c .before .before .step .ensures }
 
--- src/lib.rt:113:1
 unit-part-same-length : (t : ℕ) → unit-part-lts.Need-same-length (
   cofactor-reads.Asked,
   cofactor-reads.Learnt,
@@ -1607,7 +1497,6 @@ unit-part-same-length : (t : ℕ) → unit-part-lts.Need-same-length (
 ) (unit-part-at t) unit-part.Post
 unit-part-same-length t c = search needs
 
--- src/lib.rt:113:1
 unit-part-returns : (t : ℕ) → unit-part-lts.Need-returns (
   cofactor-reads.Asked,
   cofactor-reads.Learnt,

@@ -6,33 +6,19 @@ use Rattle.resultant_steps.proofs.Turned.{value-sign}
 use borrow.Author.Needs.{needs}
 use Rattle.resultant_steps.proofs.times_sign.Statement.{statement}
 use Rattle.resultant_steps.proofs.times_sign.Tie as tie
-use Rattle.resultant_steps.proofs.times_sign.Reads as reads
-use Rattle.resultant_steps.proofs.times_sign.Lts as lts
-use Rattle.resultant_steps.proofs.with_sign.Reads as with-sign-reads
 
--- src/lib.rt:100:24
-enum-known-r : tie.Need-enum-known-r
-enum-known-r c = search needs
-
--- src/lib.rt:100:45
 with-sign-requires : tie.Need-with-sign-requires
 with-sign-requires c κs = let s = c .before .before .before .args in
     let a = c .before .before .before .pre in
     subst (λ (y : Attempt). AnswerOf (s .n) (a .x) y) (c .before .r .given .1) (a .is) .1
 
--- src/lib.rt:101:25
-enum-known-r-2 : tie.Need-enum-known-r-2
-enum-known-r-2 c = search needs
-
--- src/lib.rt:95:1
 returns : tie.Need-returns
 returns c = let s = c .before .before .before .before .args in
     record { at = λ x h. value-sign (s .n) (s .d * s .e) (c .before .before .r .given .0 .0) (c .with-sign .result) (c .with-sign .ensures) x (subst (λ (y : Attempt). AnswerOf (s .n) x y) (c .before .before .r .given .1) h) }
 
--- src/lib.rt:95:1
 returns-2 : tie.Need-returns-2
 returns-2 c = record { at = λ x h. subst (λ (y : Attempt). AnswerOf (c .before .before .before .args .n) x y) (c .before .r2 .given .1) h }
 
 pub times-sign-spec : {M : Type 1} → statement M
 times-sign-spec =
-    tie.close (tie.spec enum-known-r with-sign-requires enum-known-r-2 returns returns-2)
+    tie.close (tie.spec (λ c. search needs) with-sign-requires (λ c. search needs) returns returns-2)

@@ -4,25 +4,15 @@ use mathlib.Core.Path.{_∙_}
 use borrow.Author.Needs.{needs}
 use Rattle.resultant_steps.proofs.with_sign.Statement.{statement}
 use Rattle.resultant_steps.proofs.with_sign.Tie as tie
-use Rattle.resultant_steps.proofs.with_sign.Reads as reads
-use Rattle.resultant_steps.proofs.with_sign.Lts as lts
-use Rattle.arithmetic.proofs.negate.Reads as negate-reads
 
--- src/lib.rt:25:9
 returns : tie.Need-returns
 returns c = let s = c .before in sign-first (s .args .n) (s .args .d) (s .args .e) (s .args .x) (s .pre) (c .if1 .taken)
 
--- src/lib.rt:28:9
 returns-2 : tie.Need-returns-2
 returns-2 c = let s = c .before .before in sign-second (s .args .n) (s .args .d) (s .args .e) (s .args .x) (s .pre) (c .if2 .taken)
 
--- src/lib.rt:30:5
-negate-requires : tie.Need-negate-requires
-negate-requires c κs = search needs
-
--- src/lib.rt:20:1
 returns-3 : tie.Need-returns-3
 returns-3 c = let s = c .before .before .before in c .negate .ensures ∙ sign-both (s .args .n) (s .args .d) (s .args .e) (s .args .x) (s .pre) (omega arith) (omega arith)
 
 pub with-sign-spec : {M : Type 1} → statement M
-with-sign-spec = tie.close (tie.spec returns returns-2 negate-requires returns-3)
+with-sign-spec = tie.close (tie.spec returns returns-2 (λ c κs. search needs) returns-3)

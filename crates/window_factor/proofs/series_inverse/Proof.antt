@@ -6,9 +6,6 @@ use Rattle.window_factor.specs.Factors.{Series}
 use Rattle.window_factor.proofs.SeriesTurns.{series-start, series-step}
 use Rattle.window_factor.proofs.series_inverse.Statement.{statement}
 use Rattle.window_factor.proofs.series_inverse.Tie as tie
-use Rattle.window_factor.proofs.series_inverse.Reads as reads
-use Rattle.window_factor.proofs.series_inverse.Lts as lts
-use Rattle.window_factor.proofs.series_word.Reads as series-word-reads
 
 abbrev Inv-loop : tie.InvT-loop
 Inv-loop w₀ n k i s len j₀ w j = (j ≤ len) × Series n k s j w₀ w
@@ -16,41 +13,14 @@ Inv-loop w₀ n k i s len j₀ w j = (j ≤ len) × Series n k s j w₀ w
 abbrev μ-loop : tie.MeasureT-loop
 μ-loop w₀ n k i s len j₀ w j = len - j
 
--- src/lib.rt:77:5
 loop-holds : tie.Need-loop-holds Inv-loop μ-loop
 loop-holds c = (omega arith, series-start _ _ _ _)
 
--- src/lib.rt:78:24
 series-word-requires : tie.Need-series-word-requires Inv-loop μ-loop
 series-word-requires c κs = let s = c .before .before .before .before in
     let l = c .before .before .loop in
     (omega arith, (s .pre .0 .1 .0, (omega (arith, l .inv .1 .around .same), l .inv .1 .below)))
 
--- src/lib.rt:78:11
-add-w : tie.Need-add-w Inv-loop μ-loop
-add-w c = search needs
-
--- src/lib.rt:78:11
-add-w-2 : tie.Need-add-w-2 Inv-loop μ-loop
-add-w-2 c = search needs
-
--- src/lib.rt:78:9
-mul-w : tie.Need-mul-w Inv-loop μ-loop
-mul-w c = search needs
-
--- src/lib.rt:78:9
-slice-write-w : tie.Need-slice-write-w Inv-loop μ-loop
-slice-write-w c = search needs
-
--- src/lib.rt:79:9
-add-j : tie.Need-add-j Inv-loop μ-loop
-add-j c = search needs
-
--- src/lib.rt:77:5
-loop-less : tie.Need-loop-less Inv-loop μ-loop
-loop-less c = search needs
-
--- src/lib.rt:77:5
 loop-again : tie.Need-loop-again Inv-loop μ-loop
 loop-again c = let s = c .before .before .before .before .before in
     let l = c .before .before .before .loop in (
@@ -59,11 +29,6 @@ loop-again c = let s = c .before .before .before .before .before in
           (omega arith) (s .pre .0 .0) (s .pre .0 .1 .0) (s .pre .1) (omega arith) (l .inv .1) (c .series-word .ensures),
     )
 
--- src/lib.rt:71:1
-same-length : tie.Need-same-length Inv-loop μ-loop
-same-length c = search needs
-
--- src/lib.rt:71:1
 returns : tie.Need-returns Inv-loop μ-loop
 returns c = let e : c .before .loop .j ≡ c .before .before .before .args .len = omega arith in
     rw e at (c .before .loop .inv .1)
@@ -76,12 +41,12 @@ series-inverse-spec =
     μ-loop
     loop-holds
     series-word-requires
-    add-w
-    add-w-2
-    mul-w
-    slice-write-w
-    add-j
-    loop-less
+    (λ c. search needs)
+    (λ c. search needs)
+    (λ c. search needs)
+    (λ c. search needs)
+    (λ c. search needs)
+    (λ c. search needs)
     loop-again
-    same-length
+    (λ c. search needs)
     returns)
