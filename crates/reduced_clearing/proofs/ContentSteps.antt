@@ -14,13 +14,13 @@ use Rattle.numbers.specs.Nilpotents.{nilpotent-radical}
 use Rattle.numbers.specs.Primes.{prime-of}
 use Rattle.numbers.specs.Units.{unit-of, unit-dvd}
 use Rattle.theory.specs.ReachedSteps.{Times}
-use Rattle.windows.specs.Window.{piece, Moved, mulBy, quotient-by, reduced-by, zeroed, Content, Below, Around, Apart}
+use Rattle.windows.specs.Window.{piece, Moved, mulBy, quotient-by, reduced-by, zeroed, Content, Below, Around, Apart, Kept}
 use Rattle.windows.proofs.Leaf.{lt-or-le, piece-at, piece-over, piece-same, piece-length, apart-at}
 use Rattle.windows.proofs.Lift.{moved-around}
 use Rattle.reduced_multipliers.specs.Leads.{Leads, Completes, lifted, leads-scaled, completes-none}
 use Rattle.reduced_multipliers.specs.Reductions.{UnitLead, reduced-same, reduced-lead, reduced-none}
 use Rattle.reduced_products.specs.Products.{MonicAt}
-use Rattle.reduced_units.specs.States.{Multiplier, Stage, Solved, Kept, Change}
+use Rattle.reduced_units.specs.States.{Multiplier, Stage, Solved, Change}
 use Rattle.reduced_clearing.specs.Clearings.{ContentTaken}
 use Rattle.reduced_units.proofs.Regions.{apart-low, apart-swap, below-apart, piece-apart, multiplier-apart, monic-apart, kept-around, kept-trans, kept-piece}
 
@@ -41,7 +41,7 @@ all-coefficients w p l x h d k = ⊎-elim
 -- ---- B is 0 modulo ν
 
 module _ (n ν t pa a pb al be l : ℕ) (w w' : List ℕ) (st : Stage n ν t pa a pb a al be l w) (ct : Content ν (piece w pb a) ν) (mv : Moved zeroed (t + 1) (t + 1) t w w') where
-  pub none-kept : Kept t w w'
+  pub none-kept : Kept (t + 1) w w'
   none-kept = kept-around (omega arith) (moved-around mv)
 
   empty : (k : ℕ) → coef (piece w' (t + 1) t) k ≡ 0
@@ -151,7 +151,7 @@ module _ (n ν t pa a pb al be l c : ℕ) (w : List ℕ) (st : Stage n ν t pa a
         (λ h. ap (λ (x : ℕ). x % n) (piece-over w' al (2 * (t + 1)) k h ∙ sym (mul-zero c)) ∙ ap (λ (x : ℕ). (c * x) % n) (sym (piece-over w al (2 * (t + 1)) k h)))
         (lt-or-le k (2 * (t + 1)))
 
-    pub content-kept : Kept t w w'
+    pub content-kept : Kept (t + 1) w w'
     content-kept =
         kept-trans (kept-around (omega (arith, st .places .al-low)) scaled)
         (kept-trans (kept-around (omega (arith, st .places .b-low)) divided) (kept-around (omega (arith, st .places .a-low)) reduced))

@@ -11,14 +11,14 @@ use Rattle.definitions.specs.Residues.{IsUnit, IsNilpotent, Coprime}
 use Rattle.definitions.specs.Polynomials.{coef, constant}
 use Rattle.definitions.specs.Resultants.{Reduced}
 use Rattle.theory.specs.ReachedSteps.{coef-beyond}
-use Rattle.windows.specs.Window.{piece, Moved, second, Content, Below, Around, Apart}
+use Rattle.windows.specs.Window.{piece, Moved, second, Content, Below, Around, Apart, Kept}
 use Rattle.windows.proofs.Leaf.{lt-or-le, piece-at, piece-over, piece-same, piece-length}
 use Rattle.windows.proofs.Lift.{moved-around}
 use Rattle.window_factor.specs.Factors.{SplitOf, LeadingUnit}
 use Rattle.reduced_multipliers.specs.Leads.{Leads, Completes, leads-unit, leads-completes, completes-same, inverse-of-negated}
 use Rattle.reduced_multipliers.specs.Reductions.{reduced-unit-second, reduced-unity}
 use Rattle.reduced_products.specs.Products.{MonicAt}
-use Rattle.reduced_units.specs.States.{Multiplier, Stage, Solved, Splitter, Kept, Change, Cleared}
+use Rattle.reduced_units.specs.States.{Multiplier, Stage, Solved, Splitter, Change, Cleared}
 use Rattle.reduced_units.specs.Factorings.{UnitTaken}
 use Rattle.reduced_clearing.specs.Clearings.{ContentTaken}
 use Rattle.reduced_units.proofs.Regions.{multiplier-more, kept-around, kept-trans, kept-piece, multiplier-short}
@@ -32,7 +32,7 @@ module _ (n ν t pa a pb al be l s r : ℕ) (w w' : List ℕ) (st : Stage n ν t
   long : 8 * (t + 1) ≤ length w
   long = omega (arith, st .room)
 
-  pub unit-kept : Kept t w w'
+  pub unit-kept : Kept (t + 1) w w'
   unit-kept = record { same = ut .same; low = λ k h. ut .at k (omega arith) (λ i q e. omega (arith, st .places .b-low)) (λ i q e. omega (arith, st .places .be-low)) }
 
   word-a : (k : ℕ) → k < a + 1 → getD w' (pa + k) 0 ≡ getD w (pa + k) 0
@@ -99,7 +99,7 @@ module _ (n ν t pa a pb al be l c s r : ℕ) (w w₁ w₂ : List ℕ) (st : Sta
   change₁ : Change n ν (ν / c) c t pa a pb a a al be w w₁
   change₁ = content-change n ν t pa a pb al be l c w st ct ne w₁ tk
 
-  kept₁ : Kept t w w₁
+  kept₁ : Kept (t + 1) w w₁
   kept₁ = content-kept n ν t pa a pb al be l c w st ct ne w₁ tk
 
   c-pos : 0 < c
@@ -108,7 +108,7 @@ module _ (n ν t pa a pb al be l c s r : ℕ) (w w₁ w₂ : List ℕ) (st : Sta
   same-h₁ : piece w₁ 0 (t + 1) ≡ piece w 0 (t + 1)
   same-h₁ = kept-piece kept₁ (omega (arith, st .room))
 
-  pub both-kept : Kept t w w₂
+  pub both-kept : Kept (t + 1) w w₂
   both-kept = kept-trans kept₁ (unit-kept n (ν / c) t pa a pb al be l s r w₁ w₂ stage₁ shorter ut)
 
   modulus : (m : ℕ) → n ≡ m * ν → n ≡ m * c * (ν / c)
@@ -143,7 +143,7 @@ module _ (n ν t pa a pb al be l c s r : ℕ) (w w₁ w₂ : List ℕ) (st : Sta
 
   -- it is 1
   module _ (none : s ≡ 0) (w₃ : List ℕ) (cp : Moved second be (t + 1) t w₂ w₃) where
-    pub last-kept : Kept t w w₃
+    pub last-kept : Kept (t + 1) w w₃
     last-kept = kept-trans both-kept (kept-around (omega arith) (moved-around cp))
 
     unity : (k : ℕ) → coef (piece w₂ pb (s + 1)) k ≡ constant 1 k

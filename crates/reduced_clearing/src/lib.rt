@@ -2,7 +2,8 @@
 ghost use mathlib.Core.Path.{_≡_};
 ghost use Prim.Native.Nat.{ℕ, max, _+_, _-_, _*_, _/_, _%_, _<_, _≤_, _∣_};
 ghost use lib.ListN.{length, getD};
-ghost use Rattle.reduced_units.specs.States.{Stage, Kept};
+ghost use Rattle.windows.specs.Window.{Kept};
+ghost use Rattle.reduced_units.specs.States.{Stage};
 ghost use Rattle.reduced_clearing.specs.Clearings.{ContentTaken, Clears};
 
 // What the clearing of contents and unit factors comes to: the reduced resultant; two coprime divisors of the modulus; or the content, the
@@ -48,7 +49,7 @@ pub fn clear_contents(
 ) -> Clearing
     requires { ⌜ Stage n v t pa a pb a al be l (now w) ⌝ }
     ensures { λ r. ⌜ Clears n v t pa a pb al be (now (w .entry)) (now (w .exit)) r ⌝ }
-    ensures { λ _. ⌜ Kept t (now (w .entry)) (now (w .exit)) ⌝ }
+    ensures { λ _. ⌜ Kept (t + 1) (now (w .entry)) (now (w .exit)) ⌝ }
 {
     let c = windows::content(&w[pb..pb + a], v);
     if c == v {

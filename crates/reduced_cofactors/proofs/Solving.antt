@@ -12,13 +12,13 @@ use Rattle.definitions.specs.Polynomials.{coef, constant, L, Multiplied, Divide
 use Rattle.definitions.specs.Resultants.{Combination, Reduced}
 use Rattle.numbers.specs.Units.{unit-of}
 use Rattle.theory.specs.ReducedLaws.{reduced-unit, reduced-rest}
-use Rattle.windows.specs.Window.{piece, Moved, second, Below, Around, Apart}
+use Rattle.windows.specs.Window.{piece, Moved, second, Below, Around, Apart, Kept}
 use Rattle.windows.proofs.Leaf.{lt-or-le, piece-at, piece-over, piece-same, piece-length}
 use Rattle.windows.proofs.Lift.{moved-around, moved-copy, mid-length, was, piece-mid, window, is-now, piece-put, lift-below}
 use Rattle.window_factor.specs.Factors.{LeadingUnit, Given, Factored}
 use Rattle.reduced_multipliers.specs.Leads.{Leads, Completes, NegatedInverse, leads-first, leads-second, inverse-of-negated}
 use Rattle.reduced_products.specs.Products.{MonicAt}
-use Rattle.reduced_units.specs.States.{Places, Multiplier, Stage, Solved, Kept, stage-room}
+use Rattle.reduced_units.specs.States.{Places, Multiplier, Stage, Solved, stage-room}
 use Rattle.reduced_units.proofs.Regions.{apart-low, piece-apart, below-apart}
 use Rattle.reduced_cofactors.specs.Cofactors.{Certified, Finished, FactoredAt, monic-place, core-room}
 use Rattle.reduced_quotients.specs.Quotients.{Prepared}
@@ -169,7 +169,7 @@ module _ (n d e t : ℕ) (w w₁ : List ℕ) (two : 2 ≤ n) (one : 1 ≤ t) (wi
         (subst (λ (f : List ℕ). Divided n (piece w₁ 0 (e + 1)) f (pr .z) (piece (midOf (monic-place d e) m w₂) (3 * (t + 1)) t)) same-h₁
         (subst (Divided n (piece w₁ 0 (e + 1)) (piece w₁ (monic-place d e) (t + 1)) (pr .z)) (sym mid-b) (pr .divided)))
 
-    module _ (ws : List ℕ) (lw : length ws ≡ length (midOf (monic-place d e) m w₂)) (kept : Kept t (midOf (monic-place d e) m w₂) ws) where
+    module _ (ws : List ℕ) (lw : length ws ≡ length (midOf (monic-place d e) m w₂)) (kept : Kept (t + 1) (midOf (monic-place d e) m w₂) ws) where
       around : Around (monic-place d e) m w₂ (putMid (monic-place d e) m w₂ ws)
       around = window (monic-place d e) m w₂ inside ws lw
 

@@ -12,18 +12,18 @@ use Rattle.definitions.specs.Resultants.{Reduced}
 use Rattle.numbers.specs.Congruence.{Cong}
 use Rattle.numbers.specs.Divisors.{GcdCofactor}
 use Rattle.numbers.specs.Units.{unit-of}
-use Rattle.windows.specs.Window.{piece, Moved, mulBy, Below, Around, Apart}
+use Rattle.windows.specs.Window.{piece, Moved, mulBy, Below, Around, Apart, Kept}
 use Rattle.windows.proofs.Leaf.{lt-or-le, piece-at, piece-over}
 use Rattle.windows.proofs.Lift.{moved-around}
 use Rattle.reduced_multipliers.specs.Leads.{Leads, Completes, leads-unity}
 use Rattle.reduced_multipliers.specs.Reductions.{reduced-unit-constant}
-use Rattle.reduced_units.specs.States.{Stage, Solved, Splitter, Kept, Cleared}
+use Rattle.reduced_units.specs.States.{Stage, Solved, Splitter, Cleared}
 use Rattle.reduced_units.proofs.Regions.{kept-around, kept-piece}
 
 -- B of one word, a unit: D is 1, and the multiplier of B over that word is left
 module _ (n ν t pa a pb al be l i : ℕ) (w w' : List ℕ) (st : Stage n ν t pa a pb a al be l w) (one : a ≡ 1) (unit : (i * getD w (pb + (a - 1)) 0) % ν ≡ 1 % ν)
     (mv : Moved (mulBy n i) be (t + 1) t w w') where
-  pub unit-kept : Kept t w w'
+  pub unit-kept : Kept (t + 1) w w'
   unit-kept = kept-around (omega arith) (moved-around mv)
 
   word : (k : ℕ) → (i * coef (piece w pb a) k) % ν ≡ constant 1 k % ν
@@ -84,7 +84,7 @@ module _ (n ν t pa a pb al be l c s l' : ℕ) (w w₁ : List ℕ) (st : Stage n
       less : ν / c ∣ ν
       less = subst (λ (x : ℕ). ν / c ∣ x) whole (dvd-mul-left (ν / c) c)
 
-  module _ (D : ℕ) (w' : List ℕ) (kept : Kept t w w₁) (sv : Solved n (ν / c) t pa a pb (s + 1) al be D w₁ w') where
+  module _ (D : ℕ) (w' : List ℕ) (kept : Kept (t + 1) w w₁) (sv : Solved n (ν / c) t pa a pb (s + 1) al be D w₁ w') where
     pub product-most : c * D ≤ ν
     product-most = subst (λ (x : ℕ). c * D ≤ x) whole (mul-le-mul-left c (sv .reduced .most))
 

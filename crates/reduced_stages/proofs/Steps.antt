@@ -10,13 +10,13 @@ use lib.ListN.{length, getD}
 use Rattle.definitions.specs.Residues.{IsUnit, K}
 use Rattle.definitions.specs.Polynomials.{coef, convolve, Divided}
 use Rattle.definitions.specs.Resultants.{Reduced}
-use Rattle.windows.specs.Window.{piece, Below, Around, Apart}
+use Rattle.windows.specs.Window.{piece, Below, Around, Apart, Kept}
 use Rattle.windows.proofs.Leaf.{lt-or-le, piece-at, piece-over, piece-same, apart-at}
 use Rattle.window_division.specs.Remainders.{Pair, Quotient}
 use Rattle.reduced_multipliers.specs.Leads.{Leads, Completes, Taken, leads-taken}
 use Rattle.reduced_multipliers.specs.Reductions.{reduced-step}
 use Rattle.reduced_products.specs.Products.{Factors, MonicAt, TakenFrom}
-use Rattle.reduced_units.specs.States.{Places, Multiplier, Stage, Solved, Kept}
+use Rattle.reduced_units.specs.States.{Places, Multiplier, Stage, Solved}
 use Rattle.reduced_stages.specs.Outcomes.{Answers}
 use Rattle.residue.specs.declared.Attempt.{Attempt}
 use Rattle.residue.specs.declared.Attempt.the-variants.{Value, Splits}
@@ -114,7 +114,7 @@ module _ (n ν t pa a pb b al be l : ℕ) (w : List ℕ) (low : b < a) (one : 1 
         beta = beta₂;
       }
 
-      pub step-kept : Kept t w w₂
+      pub step-kept : Kept (t + 1) w w₂
       step-kept = kept-trans (kept-around apart-h (dv .around)) (kept-around (omega (arith, st .places .al-low)) (tk .around))
 
       -- the lists

@@ -3,7 +3,8 @@
 ghost use mathlib.Core.Path.{_≡_};
 ghost use Prim.Native.Nat.{ℕ, _+_, _-_, _*_, _/_, _%_, _<_, _≤_, _∣_};
 ghost use lib.ListN.{length, getD};
-ghost use Rattle.reduced_units.specs.States.{Stage, Kept};
+ghost use Rattle.windows.specs.Window.{Kept};
+ghost use Rattle.reduced_units.specs.States.{Stage};
 ghost use Rattle.reduced_stages.specs.Outcomes.{Answers};
 use residue::Attempt;
 
@@ -22,7 +23,7 @@ pub fn content_stage(
 ) -> Attempt
     requires { ⌜ Stage n v t pa a pb a al be l (now w) ⌝ }
     ensures { λ r. ⌜ Answers n v t pa a pb a al be (now (w .entry)) (now (w .exit)) r ⌝ }
-    ensures { λ _. ⌜ Kept t (now (w .entry)) (now (w .exit)) ⌝ }
+    ensures { λ _. ⌜ Kept (t + 1) (now (w .entry)) (now (w .exit)) ⌝ }
 {
     let x = bezout::cofactor(v, w[pb + (a - 1)]);
     if x.g == 1 {
@@ -72,7 +73,7 @@ pub fn division_stage(
 ) -> Attempt
     requires { ⌜ (Stage n v t pa a pb (b + 1) al be l (now w)) × ((1 ≤ b) × ((b < a) × ((i * getD (now w) (pb + b) 0) % v ≡ 1 % v))) ⌝ }
     ensures { λ r. ⌜ Answers n v t pa a pb (b + 1) al be (now (w .entry)) (now (w .exit)) r ⌝ }
-    ensures { λ _. ⌜ Kept t (now (w .entry)) (now (w .exit)) ⌝ }
+    ensures { λ _. ⌜ Kept (t + 1) (now (w .entry)) (now (w .exit)) ⌝ }
 {
     window_division::divide_keeping(w, v, pb, b, pa, a, i);
     let m = reduced_products::take_product(w, n, t, pa + b, a + 1 - b, be, l, al);

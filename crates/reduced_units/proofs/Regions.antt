@@ -7,11 +7,11 @@ use native.Mathlib.Omega.{arith}
 use lib.ListN.{length, getD, take, drop}
 use Rattle.definitions.specs.Residues.{IsUnit}
 use Rattle.definitions.specs.Polynomials.{coef}
-use Rattle.windows.specs.Window.{piece, Below, Around, Apart}
+use Rattle.windows.specs.Window.{piece, Below, Around, Apart, Kept}
 use Rattle.windows.proofs.Leaf.{lt-or-le, piece-at, piece-over, piece-same, apart-at}
 use Rattle.reduced_multipliers.specs.Leads.{Leads}
 use Rattle.reduced_products.specs.Products.{MonicAt}
-use Rattle.reduced_units.specs.States.{Places, Multiplier, Kept}
+use Rattle.reduced_units.specs.States.{Places, Multiplier}
 
 -- the words of a part, as a polynomial
 pub part-piece : (w : List ℕ) (p a m : ℕ) → m ≡ a → take m (drop p w) ≡ piece w p a
@@ -47,13 +47,13 @@ monic-apart {n} h r x = record {
   below = record { at = λ k p. subst (λ (y : ℕ). y < n) (sym (r .low (0 + k) (omega arith))) (x .below .at k p) };
 }
 
-pub kept-around : {t b m : ℕ} {w w' : List ℕ} → t + 1 ≤ b → Around b m w w' → Kept t w w'
+pub kept-around : {t b m : ℕ} {w w' : List ℕ} → t + 1 ≤ b → Around b m w w' → Kept (t + 1) w w'
 kept-around h r = record { same = r .same; low = λ k p. r .low k (omega arith) }
 
-pub kept-trans : {t : ℕ} {w w' w'' : List ℕ} → Kept t w w' → Kept t w' w'' → Kept t w w''
+pub kept-trans : {t : ℕ} {w w' w'' : List ℕ} → Kept (t + 1) w w' → Kept (t + 1) w' w'' → Kept (t + 1) w w''
 kept-trans p q = record { same = q .same ∙ p .same; low = λ k h. q .low k h ∙ p .low k h }
 
-pub kept-piece : {t : ℕ} {w w' : List ℕ} → Kept t w w' → t + 1 ≤ length w → piece w' 0 (t + 1) ≡ piece w 0 (t + 1)
+pub kept-piece : {t : ℕ} {w w' : List ℕ} → Kept (t + 1) w w' → t + 1 ≤ length w → piece w' 0 (t + 1) ≡ piece w 0 (t + 1)
 kept-piece {t} {w} {w'} p h = piece-same w w' 0 (t + 1) (omega arith) (p .same) (λ k q. p .low (0 + k) (omega arith))
 
 -- A and B change places

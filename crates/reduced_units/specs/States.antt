@@ -76,11 +76,6 @@ pub record Solved (n ν t pa a pb c al be D : ℕ) (w w' : List ℕ) : Type 0 wh
       → Leads n m (piece w 0 (t + 1)) g (piece w al (2 * (t + 1))) (piece w pa (a + 1)) → Leads n m (piece w 0 (t + 1)) g (piece w be (2 * (t + 1))) (piece w pb c)
       → Completes n (piece w 0 (t + 1)) g (piece w' (t + 1) t) (m * D)
 
--- H is what it was
-pub record Kept (t : ℕ) (w w' : List ℕ) : Type 0 where
-  pub same : length w' ≡ length w
-  pub low : (k : ℕ) → k < t + 1 → getD w' k 0 ≡ getD w k 0
-
 -- B, of x words, and the modulus ν = c r have changed: B has y words now and the modulus is r. The reduced resultant is c times what it is now,
 -- and the multipliers lead to c times as much.
 pub record Change (n ν r c t pa a pb x y al be : ℕ) (w w' : List ℕ) : Type 0 where

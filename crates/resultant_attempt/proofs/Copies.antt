@@ -17,7 +17,7 @@ use Rattle.numbers.specs.Divisors.{GcdCofactor}
 use Rattle.numbers.specs.Units.{coprime-of-unit, gcd-of-coprime}
 use Rattle.theory.specs.Words.{coef-tabulate, length-tabulate}
 use Rattle.theory.specs.ResultantLaws.{signed, reversed, resultant-reversed, resultant-const-first}
-use Rattle.windows.specs.Window.{piece}
+use Rattle.windows.specs.Window.{piece, Kept}
 use Rattle.windows.proofs.Leaf.{piece-at, piece-length}
 use Rattle.windows.proofs.Lift.{mid-length, window}
 use Rattle.resultant_steps.specs.Answers.{AnswerOf}
@@ -27,7 +27,7 @@ use Rattle.resultant_steps.proofs.Degrees.{deg-of, resultant-lt}
 use Rattle.resultant_steps.proofs.SideBySide.{beside-below, beside-first, beside-second, beside-lead, pair-of, onward}
 use Rattle.resultant_steps.proofs.Signs.{signed-twice}
 use Rattle.resultant_attempt.specs.Rooms.{room-copies}
-use Rattle.resultant_attempt.specs.Stages.{Placed, Divisor, Stacked, Part, Kept}
+use Rattle.resultant_attempt.specs.Stages.{Placed, Divisor, Stacked, Part}
 
 -- ---- f and g
 

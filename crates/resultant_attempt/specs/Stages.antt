@@ -4,7 +4,6 @@
 --   Divisor            the same, the leading word of f with the inverse i
 --   Stacked            g at 0 and f above it, and room above both
 --   Part               a factor of f at a, g at 0, and room from x on
---   Kept x w w'        the words below x are kept
 use mathlib.Core.Path.{_≡_}
 use mathlib.Core.List.{List}
 use Prim.Native.Nat.{ℕ, _+_, _-_, _*_, _%_, _<_, _≤_}
@@ -46,8 +45,3 @@ pub record Part (n a d e x : ℕ) (w : List ℕ) : Type 0 where
   pub fits : x + (d + 1 + (e + 1) + room (d - 1) d) ≤ length w
   pub below-first : Below n a (d + 1) w
   pub below-second : Below n 0 (e + 1) w
-
--- the words below x are kept
-pub record Kept (x : ℕ) (w w' : List ℕ) : Type 0 where
-  pub same : length w' ≡ length w
-  pub low : (k : ℕ) → k < x → getD w' k 0 ≡ getD w k 0

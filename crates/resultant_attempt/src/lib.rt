@@ -9,11 +9,11 @@ ghost use Prim.Native.Nat.{_+_, _-_, _/_, _<_, _≤_};
 ghost use lib.ListN.{length, getD};
 ghost use Rattle.definitions.specs.Residues.{IsUnit};
 ghost use Rattle.definitions.specs.Resultants.{resultant};
-ghost use Rattle.windows.specs.Window.{piece};
+ghost use Rattle.windows.specs.Window.{piece, Kept};
 ghost use Rattle.resultant_steps.specs.Answers.{AnswerOf};
 ghost use Rattle.resultant_steps.specs.Layouts.{Primitive};
 ghost use Rattle.window_factor.specs.Factors.{LeadingUnit};
-ghost use Rattle.resultant_attempt.specs.Stages.{Placed, Divisor, Stacked, Part, Kept};
+ghost use Rattle.resultant_attempt.specs.Stages.{Placed, Divisor, Stacked, Part};
 use residue::Attempt;
 
 // The resultant of f of degree d at a and g of degree e at b. Both are lost, and so are the words from s on.

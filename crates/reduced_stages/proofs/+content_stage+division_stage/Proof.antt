@@ -1,8 +1,9 @@
+use Rattle.windows.specs.Window.{Kept}
 use Rattle.reduced_stages.proofs.Steps.{step-answers}
 use Rattle.reduced_stages.proofs.Endings.{unit-kept, unit-solved, leading-inverse, leading-unit, stage-words, quotient-small, cleared-splitter, product-most, cleared-solved}
 use Rattle.reduced_stages.proofs.Steps.{step-pair, step-monic, step-factors, step-stage, step-kept, step-solved}
 use Rattle.reduced_units.proofs.Regions.{kept-trans}
-use Rattle.reduced_units.specs.States.{Stage, Kept}
+use Rattle.reduced_units.specs.States.{Stage}
 use Rattle.reduced_clearing.specs.Clearings.{Clears}
 use Rattle.reduced_stages.specs.Outcomes.{Answers}
 use Rattle.residue.specs.declared.Attempt.{Attempt}
