@@ -57,13 +57,17 @@ cofactor-most n f g h a b =
     omega (arith, mul-le-mul {n₁ = K n} {m₁ = max (pred (length f)) (pred (length g))} {n₂ = 31} {m₂ = 48} (omega arith) (omega arith))
 
 -- refusals 6 and 7 do not come
+abbrev later : ℕ → List ℕ → List ℕ → ℕ → List Tested
+later n f g l = (6, short 1489 (L n (deg f) (deg g))) ∷ (6, short 1489 (L n (deg f) (deg g))) ∷ (7, short l 8192) ∷ []
+
 nothing-short : (n : ℕ) (f g : List ℕ) (l : ℕ) → n < 2 ^ 32 → 8192 ≤ l → first-refusal (refusals-two narrow n f g) ≡ 0
-    → first-refusal ((6, short 1489 (L n (deg f) (deg g))) ∷ (6, short 1489 (L n (deg f) (deg g))) ∷ (7, short l 8192) ∷ []) ≡ 0
+    → first-refusal (later n f g l) ≡ 0
 nothing-short n f g l small h z =
     let b = accepted-two narrow n f g z in
     let m : ℕ = L n (deg f) (deg g) in
     let e = cofactor-most n f g small (b .0) (b .1) in
-    sym (long-enough 6 1489 m _ 0 e (long-enough 6 1489 m _ 0 e (sym (enough-work l h))))
+    sym (long-enough 6 1489 m ((6, short 1489 m) ∷ (7, short l 8192) ∷ []) 0 e
+    (long-enough 6 1489 m ((7, short l 8192) ∷ []) 0 e (sym (enough-work l h))))
 
 result-known : (s n : ℕ) (f g u u' v v' : List ℕ) (x : ℕ) → ReducedLeft s n f g u u' v v' x
     → (s ≡ 0 → Reduced n f g x) × ((s ≡ 0 → ⊥) → x ≡ 0)
@@ -84,7 +88,7 @@ reduced-served {k} {n} {x} {r} {f} {g} {u} {u'} {v} {v'} {w} one some small lu l
         status =
             a .status-is
             ∙ ap₂ (λ (y z : ℕ). reduced-status narrow n f g y z (length w)) lu lv
-            ∙ first-all (refusals-two narrow n f g) _ (nothing-short n f g (length w) small l);
+            ∙ first-all (refusals-two narrow n f g) (later n f g (length w)) (nothing-short n f g (length w) small l);
         value = λ z. value-reduced k n f g x one some (q .0 z);
         refused = q .1;
       };
