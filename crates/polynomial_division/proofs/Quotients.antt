@@ -13,7 +13,7 @@ use Rattle.theory.specs.Words.{total-cong, coef-out, coef-tabulate, length-tabu
 use Rattle.convolution.specs.Sums.{total-none, convolve-shift, convolve-first}
 use Rattle.windows.proofs.Leaf.{lt-or-le}
 use Rattle.polynomial_division.specs.Stages.{QuotientWords, difference}
-use Rattle.polynomial_division.proofs.Outcomes.{deg-is}
+use Rattle.polynomial_tests.specs.Buffers.{deg-is}
 
 -- the words from s on are made; those below are 0
 pub record Quotienting (n s : ℕ) (f g q₀ q : List ℕ) : Type 0 where

@@ -1,27 +1,32 @@
-use mathlib.Core.Path.{sym, _∙_}
+use mathlib.Core.Path.{_≡_, sym, _∙_}
 use Prim.Native.Nat.{_+_, _-_}
 use native.Mathlib.Omega.{arith}
-use Rattle.refusals.proofs.Accepted.{accepted-one}
-use Rattle.polynomial_degree.proofs.Outcomes.{leading-none, leading-some, degree-inside}
+use Rattle.refusals.specs.Refusals.{narrow}
+use Rattle.refusals.specs.Conditions.{accepted-one}
+use Rattle.polynomial_degree.proofs.Degrees.{leading-refused, leading-done, degree-inside}
 use borrow.Author.Needs.{needs}
 use Rattle.polynomial_degree.proofs.leading.Statement.{statement}
 use Rattle.polynomial_degree.proofs.leading.Tie as tie
 
 returns : tie.Need-returns
-returns c = let d = c .before .before .before .true-degree .ensures in
-    leading-none _ _ _ (d .0) (c .before .if1 .taken)
+returns c = let td = c .before .before .before in
+    let s = td .before .before .args in
+    leading-refused (s .n) _ _ (s .f .now) (td .true-degree .ensures) (λ e. omega arith)
 
 part-result-end-2 : tie.Need-part-result-end-2
-part-result-end-2 c = let s = c .before .before .before .before .before in
-    let d = c .before .before .before .true-degree .ensures in
-    let e = sym (d .0) ∙ c .before .if1 .left in
-    let z = degree-inside _ _ (s .args .f .now) e (d .1) (accepted-one (s .args .n) (s .args .f .now) e .some) in
+part-result-end-2 c = let if1 = c .before in
+    let td = if1 .before .before in
+    let s = td .before .before .args in
+    let accepted : td .true-degree .result .status ≡ 0 = omega arith in
+    let a = accepted-one narrow (s .n) (s .f .now) (sym (td .true-degree .ensures .status-is) ∙ accepted) in
+    let z = degree-inside (s .n) _ _ (s .f .now) (td .true-degree .ensures) accepted (a .some) in
     search needs
 
 returns-2 : tie.Need-returns-2
-returns-2 c = let d = c .before .before .before .before .true-degree .ensures in
-    leading-some _ _ (c .before .before .before .before .true-degree .result .value + 1 - 0) _ (sym (d .0) ∙ c .before .before .if1 .left)
-    (d .1) (omega arith)
+returns-2 c = let if1 = c .before .before in
+    let td = if1 .before .before in
+    let s = td .before .before .args in
+    leading-done (s .n) _ _ (s .f .now) (td .true-degree .ensures) (omega arith) (td .true-degree .result .value + 1 - 0) (omega arith)
 
 pub leading-spec : {M : Type 1} → statement M
 leading-spec =

@@ -1,38 +1,40 @@
-use mathlib.Core.Path.{sym, ap, _∙_}
-use Prim.Native.Nat.{pred, _-_}
+use mathlib.Core.Path.{sym, _∙_}
+use Prim.Native.Nat.{_-_}
 use native.Mathlib.Omega.{arith}
-use Rattle.refusals.proofs.Accepted.{accepted-one}
-use Rattle.polynomial_degree.specs.Counts.{extent-length}
-use Rattle.polynomial_degree.proofs.Outcomes.{answered-none, answered-value, pred-is}
+use Rattle.refusals.specs.Refusals.{narrow}
+use Rattle.refusals.specs.Conditions.{accepted-one}
+use Rattle.polynomial_tests.specs.Counts.{extent-length}
+use Rattle.polynomial_degree.proofs.Degrees.{degree-refused, degree-none, degree-some}
 use borrow.Author.Needs.{needs}
 use Rattle.polynomial_degree.proofs.true_degree.Statement.{statement}
 use Rattle.polynomial_degree.proofs.true_degree.Tie as tie
 
 returns : tie.Need-returns
-returns c = let e = c .before .refusal-one .ensures in
-    (e, answered-none _ _ _ (sym e) (c .if1 .taken))
+returns c = let ro = c .before in
+    let s = ro .before .before .args in
+    degree-refused (s .n) _ (s .f .now) (ro .refusal-one .ensures) (c .if1 .taken)
 
 returns-2 : tie.Need-returns-2
-returns-2 c = let e = sym (c .before .before .before .refusal-one .ensures) ∙ c .before .before .if1 .left in
-    (sym e, answered-value _ _ _ e (sym (ap pred (sym (c .before .extent-of .ensures) ∙ c .if2 .taken))))
+returns-2 c = let eo = c .before in
+    let if1 = eo .before in
+    let ro = if1 .before in
+    let s = ro .before .before .args in
+    degree-none (s .n) _ (s .f .now) (ro .refusal-one .ensures) (if1 .if1 .left) _ (eo .extent-of .ensures) (c .if2 .taken)
 
 cast-t7 : tie.Need-cast-t7
-cast-t7 c = let a = accepted-one (c .before .before .before .before .before .args .n)
-    (c .before .before .before .before .before .args .f .now)
-    (sym (c .before .before .before .refusal-one .ensures) ∙ c .before .before .if1 .left) in
-    record {
-      fits = omega (
-        arith,
-        a .few,
-        extent-length (c .before .before .before .before .before .args .f .now),
-        c .before .extent-of
-            .ensures,
-      );
-    }
+cast-t7 c = let eo = c .before in
+    let if1 = eo .before in
+    let ro = if1 .before in
+    let s = ro .before .before .args in
+    let a = accepted-one narrow (s .n) (s .f .now) (sym (ro .refusal-one .ensures) ∙ if1 .if1 .left) in
+    record { fits = omega (arith, a .few, extent-length (s .f .now), eo .extent-of .ensures) }
 
 returns-3 : tie.Need-returns-3
-returns-3 c = let e = sym (c .before .before .before .refusal-one .ensures) ∙ c .before .before .if1 .left in
-    (sym e, answered-value _ _ _ e (sym (pred-is _) ∙ ap pred (c .before .extent-of .ensures)))
+returns-3 c = let eo = c .before in
+    let if1 = eo .before in
+    let ro = if1 .before in
+    let s = ro .before .before .args in
+    degree-some (s .n) _ (s .f .now) (ro .refusal-one .ensures) (if1 .if1 .left) _ (eo .extent-of .ensures)
 
 pub true-degree-spec : {M : Type 1} → statement M
 true-degree-spec =

@@ -11,10 +11,10 @@ returns : tie.Need-returns
 returns c = let s = c .before .before .before .before .before .before .before .before .before .before .before .before .before in
     let q = c .before .before .before .before .before .before .before .quotient-words in
     let r = c .before .before .remainder-words in
-    divided (s .args .n) (s .args .f .now) (s .args .g .now) (q .last .1 .1 .1 .1 .0) (r .last .1 .1 .1 .1 .0) (s .pre .0 .0)
-    (s .pre .0 .1 .1 .0) (q .ensures)
+    divided (s .args .n) (s .args .f .now) (s .args .g .now) (q .last .1 .1 .1 .1 .0) (r .last .1 .1 .1 .1 .0) (s .pre .0 .modulus)
+    (s .pre .0 .some-g) (q .ensures)
     (r .ensures ∙ ap (λ (l : ℕ). tabulate l (λ (k : ℕ). difference (s .args .n) (coef (s .args .f .now) k)
-    (convolve (coef (q .last .1 .1 .1 .1 .0)) (coef (s .args .g .now)) k))) (s .pre .1 .0))
+    (convolve (coef (q .last .1 .1 .1 .1 .0)) (coef (s .args .g .now)) k))) (s .pre .1))
 
 pub divide-spec : {M : Type 1} → statement M
 divide-spec =

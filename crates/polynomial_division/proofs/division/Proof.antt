@@ -2,7 +2,8 @@ use mathlib.Core.Path.{sym, _∙_}
 use Prim.Native.Nat.{_+_, _-_}
 use native.Mathlib.Omega.{arith}
 use lib.ListN.{length}
-use Rattle.refusals.proofs.Accepted.{accepted-two}
+use Rattle.refusals.specs.Refusals.{narrow}
+use Rattle.refusals.specs.Conditions.{accepted-two}
 use Rattle.polynomial_division.proofs.Answers.{late-accepted, division-refused, division-late, division-asked, division-done}
 use borrow.Author.Needs.{needs}
 use Rattle.polynomial_division.proofs.division.Statement.{statement}
@@ -19,7 +20,7 @@ sub-e c = let if1 = c in
     let rt = if1 .before in
     let start = rt .before .before .before .before .before in
     let s = start .args in
-    let a = accepted-two (s .n) (s .f .now) (s .g .now) (sym (rt .refusal-two .ensures) ∙ if1 .if1 .left) in
+    let a = accepted-two narrow (s .n) (s .f .now) (s .g .now) (sym (rt .refusal-two .ensures) ∙ if1 .if1 .left) in
     a .1 .some
 
 sub-excess : tie.Need-sub-excess
@@ -27,7 +28,7 @@ sub-excess c = let if1 = c in
     let rt = if1 .before in
     let start = rt .before .before .before .before .before in
     let s = start .args in
-    let a = accepted-two (s .n) (s .f .now) (s .g .now) (sym (rt .refusal-two .ensures) ∙ if1 .if1 .left) in
+    let a = accepted-two narrow (s .n) (s .f .now) (s .g .now) (sym (rt .refusal-two .ensures) ∙ if1 .if1 .left) in
     a .0 .some
 
 shared-slice-read-cofactor : tie.Need-shared-slice-read-cofactor
@@ -35,7 +36,7 @@ shared-slice-read-cofactor c = let if1 = c .before .before in
     let rt = if1 .before in
     let start = rt .before .before .before .before .before in
     let s = start .args in
-    let a = accepted-two (s .n) (s .f .now) (s .g .now) (sym (rt .refusal-two .ensures) ∙ if1 .if1 .left) in
+    let a = accepted-two narrow (s .n) (s .f .now) (s .g .now) (sym (rt .refusal-two .ensures) ∙ if1 .if1 .left) in
     omega (arith, a .1 .some)
 
 cofactor-requires : tie.Need-cofactor-requires
@@ -43,7 +44,7 @@ cofactor-requires c κs = let if1 = c .before .before in
     let rt = if1 .before in
     let start = rt .before .before .before .before .before in
     let s = start .args in
-    let a = accepted-two (s .n) (s .f .now) (s .g .now) (sym (rt .refusal-two .ensures) ∙ if1 .if1 .left) in
+    let a = accepted-two narrow (s .n) (s .f .now) (s .g .now) (sym (rt .refusal-two .ensures) ∙ if1 .if1 .left) in
     omega (arith, a .1 .modulus)
 
 returns-2 : tie.Need-returns-2
@@ -54,7 +55,7 @@ returns-2 c = let rq = c .before in
     let rt = if1 .before in
     let start = rt .before .before .before .before .before in
     let s = start .args in
-    let a = accepted-two (s .n) (s .f .now) (s .g .now) (sym (rt .refusal-two .ensures) ∙ if1 .if1 .left) in
+    let a = accepted-two narrow (s .n) (s .f .now) (s .g .now) (sym (rt .refusal-two .ensures) ∙ if1 .if1 .left) in
     division-late (s .n) _ (s .f .now) (s .g .now) (s .q .now) (s .r .now) (rt .refusal-two .ensures) (if1 .if1 .left) (a .0 .modulus)
     _ (cf .cofactor .result .s) (ex .excess .result) _ (cf .cofactor .ensures) (ex .excess .ensures) (rq .refusal-quotient .ensures)
     (c .if2 .taken)
@@ -96,12 +97,12 @@ divide-requires c κs = let if2 = c .before .before in
     let rt = if1 .before in
     let start = rt .before .before .before .before .before in
     let s = start .args in
-    let a = accepted-two (s .n) (s .f .now) (s .g .now) (sym (rt .refusal-two .ensures) ∙ if1 .if1 .left) in
+    let a = accepted-two narrow (s .n) (s .f .now) (s .g .now) (sym (rt .refusal-two .ensures) ∙ if1 .if1 .left) in
     let b = late-accepted (cf .cofactor .result .g) (length (s .q .now)) (ex .excess .result + 1) (length (s .r .now))
     (length (s .g .now) - 1) _
     (rq .refusal-quotient .ensures) (if2 .if2 .left) in
     let x = ex .excess .result in
-    division-asked (s .n) _ (cf .cofactor .result .s) x (x + 1 - 0) (length (s .g .now) - 1 - 0) (s .f .now) (s .g .now) (s .q .now)
+    division-asked (s .n) _ (cf .cofactor .result .s) x (x + 1) (length (s .g .now) - 1) (s .f .now) (s .g .now) (s .q .now)
     (s .r .now) a
     (cf .cofactor .ensures) (b .0) (ex .excess .ensures) (omega arith) (omega arith) (omega (arith, b .1 .0)) (omega (arith, b .1 .1))
 
@@ -114,7 +115,7 @@ returns-3 c = let if2 = c .before .before .before .before .before .before .befor
     let rt = if1 .before in
     let start = rt .before .before .before .before .before in
     let s = start .args in
-    let a = accepted-two (s .n) (s .f .now) (s .g .now) (sym (rt .refusal-two .ensures) ∙ if1 .if1 .left) in
+    let a = accepted-two narrow (s .n) (s .f .now) (s .g .now) (sym (rt .refusal-two .ensures) ∙ if1 .if1 .left) in
     division-done (s .n) _ (s .f .now) (s .g .now) (s .q .now) (s .r .now) (rt .refusal-two .ensures) (if1 .if1 .left) (a .0 .modulus)
     _ (cf .cofactor .result .s) (ex .excess .result) _ (cf .cofactor .ensures) (ex .excess .ensures) (rq .refusal-quotient .ensures)
     (if2 .if2 .left) (ex .excess .result + 1 - 0) (length (s .g .now) - 1 - 0) (omega arith)

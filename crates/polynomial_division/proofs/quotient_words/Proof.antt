@@ -18,19 +18,19 @@ loop-holds : tie.Need-loop-holds Inv-loop μ-loop
 loop-holds c = let s = c .before .before .before .before .before .before .before .before in
     let w = c .before .before .before .wipe in
     let l : length (w .last .0) ≡ length (s .args .q .now) = search needs in (
-      starts-within (s .args .f .now) (s .args .g .now) (length (w .last .0)) (c .excess .result) (s .pre .0 .1 .0)
-          (l ∙ s .pre .0 .1 .1 .1) (c .excess .ensures),
-      (omega arith, quotienting-start _ _ (length (s .args .q .now)) _ _ _ (s .pre .0 .0) (w .ensures) (c .excess .ensures)),
+      starts-within (s .args .f .now) (s .args .g .now) (length (w .last .0)) (c .excess .result) (s .pre .some-f)
+          (l ∙ s .pre .length-q) (c .excess .ensures),
+      (omega arith, quotienting-start _ _ (length (s .args .q .now)) _ _ _ (s .pre .modulus) (w .ensures) (c .excess .ensures)),
     )
 
 product-word-requires : tie.Need-product-word-requires Inv-loop μ-loop
 product-word-requires c κs = let s = c .before .before .before .before .before .before .before .before .before .before .before .before in
-    (s .pre .0 .0, s .pre .1 .0)
+    (s .pre .modulus, s .pre .residues)
 
 sub-mod-requires : tie.Need-sub-mod-requires Inv-loop μ-loop
 sub-mod-requires c κs = let s = c .before .before .before .before .before .before .before .before .before .before .before .before .before
     .before in
-    (s .pre .0 .0, subst (λ (y : ℕ). y ≤ s .args .n) (sym (c .before .product-word .ensures)) (le-of-lt (mod-lt _ (s .pre .0 .0))))
+    (s .pre .modulus, subst (λ (y : ℕ). y ≤ s .args .n) (sym (c .before .product-word .ensures)) (le-of-lt (mod-lt _ (s .pre .modulus))))
 
 loop-again : tie.Need-loop-again Inv-loop μ-loop
 loop-again c = let s = c .before .before .before .before .before .before .before .before .before .before .before .before .before .before
@@ -42,7 +42,7 @@ loop-again c = let s = c .before .before .before .before .before .before .before
         omega arith,
         quotienting-turn (s .args .n) (s .args .i) (l .s - 1)
             (length (c .before .before .before .before .before .before .before .before .before .before .before .wipe .last .0) -
-            (l .s - 1)) _ _ _ (s .args .f .now) (s .args .g .now) _ (l .q) (s .pre .0 .0) (omega arith) (omega arith) (s .pre .1 .1)
+            (l .s - 1)) _ _ _ (s .args .f .now) (s .args .g .now) _ (l .q) (s .pre .modulus) (omega arith) (omega arith) (s .pre .inverse)
             (rw e at (l .inv .1 .1)) (omega (arith, l .inv .1 .1 .same)) (c .before .before .before .product-word .ensures)
             (c .before .sub-mod .ensures) (c .mul-mod .ensures),
       ),
@@ -52,7 +52,7 @@ returns : tie.Need-returns Inv-loop μ-loop
 returns c = let s = c .before .before .before .before .before .before .before .before .before .before in
     let w = c .before .before .before .before .before .wipe in
     let l : length (w .last .0) ≡ length (s .args .q .now) = search needs in
-    quotienting-end _ _ _ _ _ _ (omega arith) (s .pre .0 .1 .0) (l ∙ s .pre .0 .1 .1 .1) (c .before .loop .inv .1 .1)
+    quotienting-end _ _ _ _ _ _ (omega arith) (s .pre .some-f) (l ∙ s .pre .length-q) (c .before .loop .inv .1 .1)
 
 pub quotient-words-spec : {M : Type 1} → statement M
 quotient-words-spec =

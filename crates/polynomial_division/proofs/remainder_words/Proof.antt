@@ -7,7 +7,7 @@ use lib.ListN.{length}
 use native.Mathlib.Nat.{mod-lt, le-of-lt}
 use Rattle.definitions.specs.Polynomials.{coef, convolve}
 use Rattle.polynomial_division.specs.Stages.{difference}
-use Rattle.polynomial_division.proofs.Buffers.{Filled, filled-none, filled-step, filled-end}
+use Rattle.polynomial_tests.specs.Buffers.{Filled, filled-none, filled-step, filled-end}
 use Rattle.polynomial_division.proofs.remainder_words.Statement.{statement}
 use Rattle.polynomial_division.proofs.remainder_words.Tie as tie
 
