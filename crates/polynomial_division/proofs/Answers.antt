@@ -1,7 +1,7 @@
 -- What `division` returns, at each of its ends.
 --
 --   late, late-accepted              what the code tests after the refusals 1, 2 and 3, and what is known where none of it applies
---   division-refused, division-late, division-asked, division-done
+--   division-refused, division-late, top-inverse, division-done
 use mathlib.Core.Path.{_≡_, refl, sym, ap, ap₂, subst, _∙_}
 use mathlib.Core.Bool.{Bool, not}
 use mathlib.Core.List.{List, [], _∷_}
@@ -9,17 +9,16 @@ use Prim.Native.Nat.{ℕ, zero, suc, _-_, _+_, _*_, _%_, _≤_}
 use native.Mathlib.Numerals.{add-one}
 use native.Mathlib.Omega.{arith}
 use borrow.Author.Tests.{eqb-true, not-false, not-true, eqb-false}
-use borrow.Rule.Slice.PartMut.{putMid, midOf, mid-len}
+use borrow.Rule.Slice.PartMut.{putMid}
 use lib.Dec.{eqb}
 use lib.ListN.{length, getD, take}
 use Rattle.definitions.specs.Polynomials.{coef, deg, quotient-length, Division}
 use Rattle.numbers.specs.Divisors.{GcdCofactor}
 use Rattle.refusals.specs.Refusals.{narrow, Tested, short, first-refusal, refusals-two}
-use Rattle.refusals.specs.Conditions.{Accepted, Fails, status-zero, short-fails}
+use Rattle.refusals.specs.Conditions.{Fails, status-zero, short-fails}
 use Rattle.refusals.proofs.Statuses.{refused-early, passed-on}
 use Rattle.polynomial_tests.specs.Buffers.{deg-is, placed-take, placed-drop}
 use Rattle.polynomial_tests.specs.UnitTests.{is-unit, unit-gcd}
-use Rattle.polynomial_division.specs.Stages.{QuotientAsked}
 use Rattle.polynomial_division.specs.DivisionService.{DivisionLeft, DivisionAnswer}
 
 -- u is the divisor's common part with n
@@ -93,19 +92,6 @@ module _ (n s : ℕ) (f g q r : List ℕ) (is : s ≡ first-refusal (refusals-tw
           };
         }
 
--- what the division of the lent parts asks: k and l are their lengths
-pub division-asked : (n u v x k l : ℕ) (f g q r : List ℕ) → Accepted narrow n f × Accepted narrow n g
-    → GcdCofactor n (getD g (length g - 1) 0) u v → u ≡ 1 → x ≡ length f - 1 - (length g - 1) → k ≡ x + 1 → l ≡ length g - 1
-    → k ≤ length q → l ≤ length r
-    → QuotientAsked n v f g (midOf 0 (k - 0) q) × (length (midOf 0 (l - 0) r) ≡ deg g)
-division-asked n u v x k l f g q r a cf one ex ek el bq br = (
-  record {
-    modulus = omega (arith, a .0 .modulus);
-    some-f = a .0 .some;
-    some-g = a .1 .some;
-    length-q = mid-len 0 k q bq ∙ (let z : k - 0 ≡ k = omega arith in z) ∙ ek ∙ quotient-is f g x ex;
-    residues = a .1 .residues;
-    inverse = ap (λ (e : ℕ). (v * coef g e) % n) (deg-is g) ∙ cf .bezout ∙ ap (λ (y : ℕ). y % n) one;
-  },
-  mid-len 0 l r br ∙ (let z : l - 0 ≡ l = omega arith in z) ∙ el ∙ sym (deg-is g),
-)
+-- the inverse of the divisor's top word
+pub top-inverse : (n u v : ℕ) (g : List ℕ) → GcdCofactor n (getD g (length g - 1) 0) u v → u ≡ 1 → (v * coef g (deg g)) % n ≡ 1 % n
+top-inverse n u v g cf one = ap (λ (e : ℕ). (v * coef g e) % n) (deg-is g) ∙ cf .bezout ∙ ap (λ (y : ℕ). y % n) one

@@ -1,10 +1,11 @@
 use mathlib.Core.Path.{sym, _∙_}
 use Prim.Native.Nat.{_+_, _-_}
 use native.Mathlib.Omega.{arith}
-use lib.ListN.{length}
+use lib.ListN.{length, length-take, length-drop}
 use Rattle.refusals.specs.Refusals.{narrow}
 use Rattle.refusals.specs.Conditions.{accepted-two}
-use Rattle.polynomial_division.proofs.Answers.{late-accepted, division-refused, division-late, division-asked, division-done}
+use Rattle.polynomial_division.proofs.Answers.{late-accepted, division-refused, division-late, quotient-is, top-inverse, division-done}
+use Rattle.polynomial_tests.specs.Buffers.{deg-is}
 use borrow.Author.Needs.{needs}
 use Rattle.polynomial_division.proofs.division.Statement.{statement}
 use Rattle.polynomial_division.proofs.division.Tie as tie
@@ -101,10 +102,17 @@ divide-requires c κs = let if2 = c .before .before in
     let b = late-accepted (cf .cofactor .result .g) (length (s .q .now)) (ex .excess .result + 1) (length (s .r .now))
     (length (s .g .now) - 1) _
     (rq .refusal-quotient .ensures) (if2 .if2 .left) in
-    let x = ex .excess .result in
-    division-asked (s .n) _ (cf .cofactor .result .s) x (x + 1) (length (s .g .now) - 1) (s .f .now) (s .g .now) (s .q .now)
-    (s .r .now) a
-    (cf .cofactor .ensures) (b .0) (ex .excess .ensures) (omega arith) (omega arith) (omega (arith, b .1 .0)) (omega (arith, b .1 .1))
+    let m = quotient-is (s .f .now) (s .g .now) (ex .excess .result) (ex .excess .ensures) in (
+      record {
+        modulus = omega (arith, a .0 .modulus);
+        some-f = a .0 .some;
+        some-g = a .1 .some;
+        length-q = simp (length-take, length-drop) (omega (arith, b .1 .0, m));
+        residues = a .1 .residues;
+        inverse = top-inverse (s .n) _ (cf .cofactor .result .s) (s .g .now) (cf .cofactor .ensures) (b .0);
+      },
+      simp (length-take, length-drop) (omega (arith, b .1 .1, deg-is (s .g .now))),
+    )
 
 returns-3 : tie.Need-returns-3
 returns-3 c = let if2 = c .before .before .before .before .before .before .before in
