@@ -6,11 +6,13 @@
 --   joined-exists, joined-unique
 use mathlib.Core.Path.{_≡_, sym, _∙_}
 use Prim.Native.Nat.{ℕ, _+_, _-_, _*_, _%_, _<_, _≤_}
-use native.Mathlib.Nat.{mod-lt, mod-eq-of-lt, mod-mod-of-dvd, le-of-lt, zero-mod, zero-mul, one-mul, mul-comm, add-zero, mul-pos, dvd-mul-left, dvd-mul-right, add-sub-of-le}
+use native.Mathlib.Nat.{mod-lt, mod-eq-of-lt, mod-mod-of-dvd, le-of-lt, zero-mod, zero-mul, one-mul}
+use native.Mathlib.Nat.{mul-comm, add-zero, mul-pos, dvd-mul-left, dvd-mul-right, add-sub-of-le}
 use native.Mathlib.Decide.{decLe}
 use native.Mathlib.Omega.{arith}
 use Rattle.definitions.specs.Residues.{Coprime}
-use Rattle.numbers.specs.Congruence.{Cong, c-refl, c-sym, c-trans, c-eq, c-add, c-mul, c-mod, c-dvd, c-zero, dvd-difference, c-difference}
+use Rattle.numbers.specs.Congruence.{Cong, c-refl, c-sym, c-trans, c-eq, c-add, c-mul}
+use Rattle.numbers.specs.Congruence.{c-mod, c-dvd, c-zero, dvd-difference, c-difference}
 use Rattle.numbers.specs.Coprimality.{coprime-product}
 use Rattle.numbers.specs.Units.{unit-of-coprime}
 

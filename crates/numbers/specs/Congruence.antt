@@ -4,7 +4,9 @@
 --   ring          the ruleset by which `simp` compares sums of products
 use mathlib.Core.Path.{_≡_, refl, sym, ap, subst, _∙_}
 use Prim.Native.Nat.{ℕ, zero, suc, _+_, _-_, _*_, _/_, _%_, _^_, _<_, _≤_, _∣_}
-use native.Mathlib.Nat.{mod-lt, mod-mod, add-mod, mod-self, zero-mod, mul-add-mod-self-left, div-add-mod, add-zero, zero-add, add-sub-of-le, add-assoc, add-comm, add-left-comm, mul-comm, mul-assoc, mul-left-comm, add-mul, mul-add, pow-zero, pow-suc, mod-mod-of-dvd, mod-eq-zero-of-dvd, dvd-of-mod-eq-zero, mul-div-cancel'}
+use native.Mathlib.Nat.{mod-lt, mod-mod, add-mod, mod-self, zero-mod, mul-add-mod-self-left, div-add-mod, add-zero, zero-add}
+use native.Mathlib.Nat.{add-sub-of-le, add-assoc, add-comm, add-left-comm, mul-comm, mul-assoc, mul-left-comm, add-mul, mul-add}
+use native.Mathlib.Nat.{pow-zero, pow-suc, mod-mod-of-dvd, mod-eq-zero-of-dvd, dvd-of-mod-eq-zero, mul-div-cancel'}
 use native.Mathlib.Omega.{arith}
 
 -- the laws of + and *, by which `simp` brings both sides of an equation to one form

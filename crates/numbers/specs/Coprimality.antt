@@ -5,7 +5,8 @@
 --   coprime-times       coprime to a and to b, hence to a b
 use mathlib.Core.Path.{_≡_, sym, subst, _∙_}
 use Prim.Native.Nat.{ℕ, zero, suc, _*_, _/_, _^_, _≤_, _∣_}
-use native.Mathlib.Nat.{dvd-trans, mul-dvd-mul-right, mul-div-cancel', mul-comm, mul-zero, one-mul, pow-zero, pow-suc, dvd-one, pos-of-dvd-of-pos}
+use native.Mathlib.Nat.{dvd-trans, mul-dvd-mul-right, mul-div-cancel', mul-comm, mul-zero}
+use native.Mathlib.Nat.{one-mul, pow-zero, pow-suc, dvd-one, pos-of-dvd-of-pos}
 use Rattle.definitions.specs.Residues.{Coprime}
 use Rattle.numbers.specs.Congruence.{c-refl, c-sym, c-trans, c-eq, c-mul, c-zero, dvd-c, ring}
 use Rattle.numbers.specs.Units.{unit-of-coprime}

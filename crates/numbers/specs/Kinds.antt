@@ -9,7 +9,10 @@
 use mathlib.Core.Path.{_≡_, sym, ap, subst, _∙_}
 use mathlib.Core.Logic.{_⊎_, inl, inr}
 use Prim.Native.Nat.{ℕ, zero, suc, _*_, _/_, _^_, _<_, _≤_, _∣_}
-use native.Mathlib.Nat.{dvd-refl, dvd-trans, mul-dvd-mul, mod-eq-zero-of-dvd, div-mul-cancel, mul-div-cancel, mul-div-cancel', pow-suc, pow-zero, mul-assoc, mul-one, mul-comm, one-mul, zero-mul, pos-of-ne-zero, pos-of-dvd-of-pos, lt-of-lt-of-le, le-mul-of-pos-right, dvd-mul-right, dvd-mul-left, dvd-of-mod-eq-zero, dvd-antisymm, div-lt-self, eq-of-mul-eq-mul-left, le-of-lt}
+use native.Mathlib.Nat.{dvd-refl, dvd-trans, mul-dvd-mul, mod-eq-zero-of-dvd, div-mul-cancel, mul-div-cancel}
+use native.Mathlib.Nat.{mul-div-cancel', pow-suc, pow-zero, mul-assoc, mul-one, mul-comm, one-mul, zero-mul}
+use native.Mathlib.Nat.{pos-of-ne-zero, pos-of-dvd-of-pos, lt-of-lt-of-le, le-mul-of-pos-right, dvd-mul-right}
+use native.Mathlib.Nat.{dvd-mul-left, dvd-of-mod-eq-zero, dvd-antisymm, div-lt-self, eq-of-mul-eq-mul-left, le-of-lt}
 use native.Mathlib.Decide.{decLt, ℕ-discrete}
 use native.Mathlib.Omega.{arith}
 use Rattle.definitions.specs.Residues.{IsUnit, IsNilpotent, Coprime, Splitting}

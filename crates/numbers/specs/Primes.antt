@@ -9,7 +9,8 @@
 use mathlib.Core.Path.{_≡_, sym, subst, _∙_}
 use mathlib.Core.Logic.{_⊎_, inl, inr, ⊎-elim}
 use Prim.Native.Nat.{ℕ, zero, suc, _+_, _-_, _*_, _/_, _^_, _≤_, _<_, _∣_}
-use native.Mathlib.Nat.{dvd-refl, dvd-trans, le-of-dvd, pos-of-dvd-of-pos, mul-div-cancel', mul-comm, mul-dvd-mul, mul-le-mul-right, one-dvd, mul-zero, mul-one, eq-or-lt-of-le, le-antisymm}
+use native.Mathlib.Nat.{dvd-refl, dvd-trans, le-of-dvd, pos-of-dvd-of-pos, mul-div-cancel', mul-comm}
+use native.Mathlib.Nat.{mul-dvd-mul, mul-le-mul-right, one-dvd, mul-zero, mul-one, eq-or-lt-of-le, le-antisymm}
 use native.Mathlib.Decide.{decDvd, ℕ-discrete}
 use native.Mathlib.Omega.{arith}
 use Rattle.definitions.specs.Residues.{IsUnit, Coprime}

@@ -2,7 +2,8 @@
 use mathlib.Core.Path.{_≡_, sym, ap, subst, _∙_}
 use mathlib.Core.Logic.{⊎-elim}
 use Prim.Native.Nat.{ℕ, zero, suc, _*_, _%_, _^_, _≤_, _∣_}
-use native.Mathlib.Nat.{mod-eq-of-lt, mod-lt, mul-mod-right, mul-comm, mul-one, one-mul, mul-zero, eq-or-lt-of-le, pow-suc, pow-zero, dvd-one, dvd-trans, dvd-mul-right}
+use native.Mathlib.Nat.{mod-eq-of-lt, mod-lt, mul-mod-right, mul-comm, mul-one, one-mul, mul-zero}
+use native.Mathlib.Nat.{eq-or-lt-of-le, pow-suc, pow-zero, dvd-one, dvd-trans, dvd-mul-right}
 use native.Mathlib.Omega.{arith}
 use Rattle.definitions.specs.Residues.{Inverse, IsUnit, Coprime}
 use Rattle.numbers.specs.Congruence.{Cong, c-refl, c-sym, c-trans, c-eq, c-mul, c-mod, c-dvd, c-zero, dvd-c, ring}

@@ -8,7 +8,8 @@ use Rattle.definitions.specs.Polynomials.{coef, convolve, constant}
 use Rattle.definitions.specs.Resultants.{Combination}
 use Rattle.algebra.specs.Residues.{mul-mod-l}
 use Rattle.theory.specs.ResultantLaws.{joined}
-use Rattle.theory.specs.ReachedSteps.{plus-mod, times-mod, lift-mod, convolve-mod, convolve-scale, convolve-scale-left, convolve-add-left, Times}
+use Rattle.theory.specs.ReachedSteps.{plus-mod, times-mod, lift-mod, convolve-mod, convolve-scale}
+use Rattle.theory.specs.ReachedSteps.{convolve-scale-left, convolve-add-left, Times}
 
 pub combination-flip : {n : ℕ} {f g u v : List ℕ} {c : ℕ} → Combination n f g u v c → Combination n g f v u c
 combination-flip {n} {f} {g} {u} {v} {c} x = record { sum = λ k. ap (λ (y : ℕ). y % n) (add-comm (convolve (coef v) (coef g) k) (convolve (coef u) (coef f) k)) ∙ x .sum k }

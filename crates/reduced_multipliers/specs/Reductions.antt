@@ -5,14 +5,16 @@
 use mathlib.Core.Path.{_≡_, refl, sym, _∙_, ap, ap₂, fun-ext, subst}
 use mathlib.Core.List.{List, [], _∷_}
 use Prim.Native.Nat.{ℕ, zero, suc, _<_, _≤_, _%_, _/_, _∣_, _+_, _*_, _-_}
-use native.Mathlib.Nat.{mod-eq-of-lt, mod-mod-of-dvd, dvd-mul-left, dvd-mul-right, one-dvd, mul-pos, mul-one, one-mul, mul-mod-right, mul-comm, zero-add}
+use native.Mathlib.Nat.{mod-eq-of-lt, mod-mod-of-dvd, dvd-mul-left, dvd-mul-right, one-dvd}
+use native.Mathlib.Nat.{mul-pos, mul-one, one-mul, mul-mod-right, mul-comm, zero-add}
 use native.Mathlib.Omega.{arith}
 use lib.ListN.{length, getD, List·getD-eq-default}
 use Rattle.definitions.specs.Residues.{IsUnit, Inverse}
 use Rattle.definitions.specs.Polynomials.{coef, convolve, tabulate, constant, Multiplied, Divided}
 use Rattle.definitions.specs.Resultants.{Combination, Reached, Reduced}
 use Rattle.algebra.specs.Residues.{mul-mod-l, mul-mod-r}
-use Rattle.theory.specs.ReachedSteps.{plus-mod, times-mod, convolve-mod, convolve-scale, convolve-scale-left, coef-whole, coef-beyond, Times}
+use Rattle.theory.specs.ReachedSteps.{plus-mod, times-mod, convolve-mod, convolve-scale}
+use Rattle.theory.specs.ReachedSteps.{convolve-scale-left, coef-whole, coef-beyond, Times}
 use Rattle.theory.specs.ReducedLaws.{InversePolynomial, reduced-monic, reduced-unit, reduced-rest, reduced-flip, reduced-one}
 use Rattle.theory.specs.Words.{convolve-zero, convolve-suc, total-cong}
 

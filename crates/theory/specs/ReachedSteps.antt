@@ -14,7 +14,9 @@ use mathlib.Core.Path.{_≡_, refl, sym, _∙_, ap, ap₂, fun-ext, subst}
 use mathlib.Core.List.{List}
 use Prim.Native.Nat.{ℕ, zero, suc, _<_, _≤_, _%_, _/_, _∣_, _+_, _*_, _-_}
 use native.Mathlib.Decide.{Fin·val-path, decLt}
-use native.Mathlib.Nat.{zero-div, mod-lt, mod-eq-of-lt, add-mod, zero-lt-suc, div-add-mod, add-mul-mod-self-left, mod-mod-of-dvd, mul-mod-right, dvd-mod-iff, dvd-mul-right, dvd-of-mod-eq-zero, mul-div-cancel', mul-le-mul, mul-pos, eq-of-mul-eq-mul-left}
+use native.Mathlib.Nat.{zero-div, mod-lt, mod-eq-of-lt, add-mod, zero-lt-suc, div-add-mod}
+use native.Mathlib.Nat.{add-mul-mod-self-left, mod-mod-of-dvd, mul-mod-right, dvd-mod-iff, dvd-mul-right}
+use native.Mathlib.Nat.{dvd-of-mod-eq-zero, mul-div-cancel', mul-le-mul, mul-pos, eq-of-mul-eq-mul-left}
 use native.Mathlib.Omega.{arith}
 use lib.ListN.{length, List·getD-eq-default}
 use Rattle.definitions.specs.Polynomials.{coef, total, convolve, tabulate, constant}

@@ -15,7 +15,8 @@ use mathlib.Core.Path.{_≡_, sym, _∙_, ap, ap₂, fun-ext, subst}
 use mathlib.Core.List.{List, []}
 use Prim.Native.Nat.{ℕ, zero, suc, _<_, _≤_, _%_, _/_, _∣_, _+_, _*_}
 use native.Mathlib.Decide.{Fin·val-path}
-use native.Mathlib.Nat.{mod-one, mod-mod-of-dvd, dvd-refl, dvd-trans, dvd-add, one-dvd, dvd-mod-iff, dvd-mul-left, dvd-mul-right, mul-dvd-mul, mul-dvd-mul-left, dvd-of-mul-dvd-mul-left, mul-div-cancel', mul-le-mul, mul-pos}
+use native.Mathlib.Nat.{mod-one, mod-mod-of-dvd, dvd-refl, dvd-trans, dvd-add, one-dvd, dvd-mod-iff, dvd-mul-left, dvd-mul-right}
+use native.Mathlib.Nat.{mul-dvd-mul, mul-dvd-mul-left, dvd-of-mul-dvd-mul-left, mul-div-cancel', mul-le-mul, mul-pos}
 use native.Mathlib.Omega.{arith}
 use lib.ListN.{length}
 use Rattle.definitions.specs.Polynomials.{Multiplied, Divided, coef, convolve, tabulate, constant}
@@ -24,7 +25,8 @@ use Rattle.algebra.specs.Ideal.{exchange, unit-in, unit-out, rest-in, rest-out}
 use Rattle.algebra.specs.Residues.{toRes, Res-ring}
 use Rattle.algebra.specs.Series.{conv, const}
 use Rattle.theory.specs.ReachedLaws.{words-finite, constant-is, to-ring, from-ring, only-any, all-any}
-use Rattle.theory.specs.ReachedSteps.{plus-mod, times-mod, lift-mod, convolve-scale-left, convolve-add-left, coef-whole, coef-beyond, Times, content-divides, content-down, content-up, monic-divides, monic-down, monic-up}
+use Rattle.theory.specs.ReachedSteps.{plus-mod, times-mod, lift-mod, convolve-scale-left, convolve-add-left, coef-whole, coef-beyond}
+use Rattle.theory.specs.ReachedSteps.{Times, content-divides, content-down, content-up, monic-divides, monic-down, monic-up}
 use Rattle.theory.specs.Words.{words, convolve-is, divided-is, multiplied-is}
 
 -- D is multiplied by c when the modulus is

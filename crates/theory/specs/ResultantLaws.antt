@@ -26,11 +26,13 @@ use Rattle.algebra.specs.Reduction.{reduce-hom, lower-reduce}
 use Rattle.algebra.specs.Residues.{Res, toRes, Res-ring, mul-mod-l}
 use Rattle.algebra.specs.Reverse.{rv, rv-at, rv-out}
 use Rattle.algebra.specs.Ring.{pw}
-use Rattle.algebra.specs.SentLaws.{Rs-drop-first, Rs-drop-second, Rs-scale-first, Rs-scale-second, Rs-swap, Rs-reverse, Rs-const-first, Rs-const-second, Rs-divide, Rs-short, Rs, Rs-add-second}
+use Rattle.algebra.specs.SentLaws.{Rs-drop-first, Rs-drop-second, Rs-scale-first, Rs-scale-second, Rs-swap, Rs-reverse}
+use Rattle.algebra.specs.SentLaws.{Rs-const-first, Rs-const-second, Rs-divide, Rs-short, Rs, Rs-add-second}
 use Rattle.algebra.specs.Series.{conv}
 use Rattle.algebra.specs.Sum.{sgn}
 use Rattle.theory.specs.ReachedSteps.{Times, times-mod, plus-mod, lift-mod}
-use Rattle.theory.specs.Words.{words, words-out, convolve-is, resultant-is, coef-tabulate, length-tabulate, divided-is, multiplied-is, words-cong, residue-reduce, words-product, deg-product}
+use Rattle.theory.specs.Words.{words, words-out, convolve-is, resultant-is, coef-tabulate, length-tabulate}
+use Rattle.theory.specs.Words.{divided-is, multiplied-is, words-cong, residue-reduce, words-product, deg-product}
 
 -- x with the sign (-1)^k, modulo n
 abbrev pub signed : ℕ → ℕ → ℕ → ℕ
