@@ -92,7 +92,8 @@ dvd-c {m} {a} c = dvd-of-mod-eq-zero m (c .same ∙ zero-mod m)
 
 -- to be congruent is to differ by a multiple of n
 pub dvd-difference : {n x y : ℕ} → 0 < n → x ≤ y → Cong n x y → n ∣ y - x
-dvd-difference {n} {x} {y} pos l c = dvd-c (c-cancel x pos (c-trans (c-eq {b = y} (omega arith)) (c-trans (c-sym c) (c-eq (sym (zero-add x))))))
+dvd-difference {n} {x} {y} pos l c =
+    dvd-c (c-cancel x pos (c-trans (c-eq {b = y} (omega arith)) (c-trans (c-sym c) (c-eq (sym (zero-add x))))))
 
 pub c-difference : {n x y : ℕ} → x ≤ y → n ∣ y - x → Cong n x y
 c-difference {n} {x} {y} l d =

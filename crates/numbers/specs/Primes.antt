@@ -62,7 +62,11 @@ rise n m pos v ne =
     let q : ℕ = n / m in
     let e : m * q ≡ n = mul-div-cancel' m v in
     let f = prime-of q (above q e) in
-    record { p = f .p; prime = f .prime; divides = subst (λ (x : ℕ). f .p * m ∣ x) (mul-comm q m ∙ e) (mul-dvd-mul (f .p) m (f .divides) (dvd-refl m)) }
+    record {
+      p = f .p;
+      prime = f .prime;
+      divides = subst (λ (x : ℕ). f .p * m ∣ x) (mul-comm q m ∙ e) (mul-dvd-mul (f .p) m (f .divides) (dvd-refl m));
+    }
   where
     above : (q : ℕ) → m * q ≡ n → 1 < q
     above zero e = absurd (let z = mul-zero m in omega arith)
