@@ -8,7 +8,7 @@
 use mathlib.Core.Path.{_≡_, sym, _∙_}
 use Prim.Native.Nat.{ℕ, _+_, _-_, _*_, _%_, _<_, _≤_}
 use native.Mathlib.Nat.{mod-lt, mod-eq-of-lt, mod-mod-of-dvd, le-of-lt, zero-mod, zero-mul, one-mul}
-use native.Mathlib.Nat.{mul-comm, add-zero, mul-pos, dvd-mul-left, dvd-mul-right, add-sub-of-le}
+use native.Mathlib.Nat.{add-zero, mul-pos, dvd-mul-left, dvd-mul-right, add-sub-of-le}
 use native.Mathlib.Decide.{decLe}
 use native.Mathlib.Omega.{arith}
 use Rattle.definitions.specs.Residues.{Coprime}
@@ -71,12 +71,14 @@ joined-exists {n₁} {n₂} l₁ l₂ c x y =
     let n : ℕ = n₁ * n₂ in
     let z : ℕ = y % n in
     let e = idempotent-exists l₁ l₂ c in
-    let j = joined-of x z l₁ l₂ (le-of-lt (mod-lt y (mul-pos l₁ l₂))) (e .1) in
-    ((z + e .0 * ((x + (n - z)) % n)) % n, record {
-      below = j .below;
-      first = j .first;
-      second = j .second ∙ mod-mod-of-dvd n₂ y (dvd-mul-left n₂ n₁);
-    })
+    let j = joined-of x z l₁ l₂ (le-of-lt (mod-lt y (mul-pos l₁ l₂))) (e .1) in (
+      (z + e .0 * ((x + (n - z)) % n)) % n,
+      record {
+        below = j .below;
+        first = j .first;
+        second = j .second ∙ mod-mod-of-dvd n₂ y (dvd-mul-left n₂ n₁);
+      },
+    )
 
 pub chinese-same : {n₁ n₂ x y : ℕ} → 1 ≤ n₁ → 1 ≤ n₂ → Coprime n₁ n₂ → Cong n₁ x y → Cong n₂ x y → Cong (n₁ * n₂) x y
 chinese-same {n₁} {n₂} {x} {y} l₁ l₂ c p q = pick (decLe x y)

@@ -18,7 +18,8 @@ use native.Mathlib.Omega.{arith}
 use Rattle.definitions.specs.Residues.{IsUnit, IsNilpotent, Coprime, Splitting}
 use Rattle.numbers.specs.Congruence.{c-dvd}
 use Rattle.numbers.specs.Divisors.{IsGcd, GcdCofactor, HasCofactor, bezout-exists, gcd-exists}
-use Rattle.numbers.specs.Units.{cofactor-inverse, unit-of-coprime, coprime-of-gcd, coprime-of-unit, unit-dvd, inverse-times, unit-divides-power}
+use Rattle.numbers.specs.Units.{cofactor-inverse, unit-of-coprime, coprime-of-gcd, coprime-of-unit, unit-dvd}
+use Rattle.numbers.specs.Units.{inverse-times, unit-divides-power}
 use Rattle.numbers.specs.Coprimality.{coprime-sym, coprime-dvd, coprime-divides, coprime-power}
 
 pub record Parts (n a m h : ℕ) : Type 0 where
