@@ -60,5 +60,6 @@ combination-coprime {n₁} {n₂} p₁ p₂ c a b D₁ D₂ a₁ a₂ b₁ b₂ 
 pub combination-joined : (n₁ n₂ s t : ℕ) → 1 ≤ n₁ → 1 ≤ n₂ → (s * n₁ + t * n₂) % (n₁ * n₂) ≡ 1 % (n₁ * n₂) → (a b D₁ D₂ : ℕ)
     → a % n₁ ≡ D₂ % n₁ → a % n₂ ≡ 0 → b % n₁ ≡ 0 → b % n₂ ≡ D₁ % n₂
     → (f g u u₁ u₂ v v₁ v₂ : List ℕ) → Mixed (n₁ * n₂) a b u₁ u₂ u → Mixed (n₁ * n₂) a b v₁ v₂ v
-    → Combination n₁ f g u₁ v₁ D₁ → Combination n₂ f g u₂ v₂ D₂ → Combination (n₁ * n₂) f g u v (D₁ * D₂)
+    → Combination n₁ f g u₁ v₁ D₁ → Combination n₂ f g u₂ v₂ D₂
+    → Combination (n₁ * n₂) f g u v (D₁ * D₂)
 combination-joined n₁ n₂ s t p₁ p₂ bezout = combination-coprime p₁ p₂ (coprime-of-bezout s t (record { same = bezout }))
