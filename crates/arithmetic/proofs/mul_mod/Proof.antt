@@ -1,4 +1,4 @@
--- `arith::mul_mod` meets its contract: the product of two 32-bit numbers fits 64 bits. Assumes nothing.
+-- The product of two 32-bit numbers fits 64 bits.
 use borrow.Author.Needs.{needs}
 use Rattle.arithmetic.proofs.Widths.{below}
 use Rattle.arithmetic.proofs.mul_mod.Statement.{statement}
