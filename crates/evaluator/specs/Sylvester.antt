@@ -1,7 +1,7 @@
 -- Sylvester's matrix in the corner of eight rows of eight words.
 --
---   Filled f g m         m holds Sylvester's matrix of f and g
---   FilledRow f g r x    x is row r of it
+--   HoldsSylvester f g m         m holds Sylvester's matrix of f and g
+--   HoldsSylvesterRow f g r x    x is row r of it
 use mathlib.Core.Path.{_≡_}
 use mathlib.Core.List.{List}
 use Prim.Native.Nat.{ℕ, _<_}
@@ -10,8 +10,8 @@ use lib.ListN.{getD}
 use Rattle.definitions.specs.Resultants.{sylvester}
 use Rattle.evaluator_matrices.specs.Elimination.{cell}
 
-pub record Filled (f g : List ℕ) (m : List (List ℕ)) : Type 0 where
+pub record HoldsSylvester (f g : List ℕ) (m : List (List ℕ)) : Type 0 where
   pub at : (r c : ℕ) → r < 8 → c < 8 → pos (cell m r c) ≡ sylvester f g r c
 
-pub record FilledRow (f g : List ℕ) (r : ℕ) (x : List ℕ) : Type 0 where
+pub record HoldsSylvesterRow (f g : List ℕ) (r : ℕ) (x : List ℕ) : Type 0 where
   pub at : (c : ℕ) → c < 8 → pos (getD x c 0) ≡ sylvester f g r c

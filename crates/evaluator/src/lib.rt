@@ -13,7 +13,7 @@ ghost use Rattle.definitions.specs.Polynomials.{deg};
 ghost use Rattle.definitions.specs.Resultants.{entry, sylvester};
 ghost use Rattle.refusals.specs.Refusals.{narrow};
 ghost use Rattle.evaluator.specs.EvaluatorService.{bad-lengths, bad-words, evaluator-status, EvaluatorAnswer};
-ghost use Rattle.evaluator.specs.Sylvester.{Filled, FilledRow};
+ghost use Rattle.evaluator.specs.Sylvester.{HoldsSylvester, HoldsSylvesterRow};
 use refusals::Answer;
 
 // Zero top words count: "the top word may be zero".
@@ -55,7 +55,7 @@ fn sylvester_word(f: &[u32], g: &[u32], r: usize, c: usize) -> u32
 fn sylvester_row(f: &[u32], g: &[u32], r: usize) -> [u32; 8]
     requires { ⌜ (1 ≤ length (now f)) × (length (now f) ≤ 9) ⌝ }
     requires { ⌜ (1 ≤ length (now g)) × ((length (now g) ≤ 9) × (r < 8)) ⌝ }
-    ensures { λ x. ⌜ FilledRow (now (f .entry)) (now (g .entry)) r x ⌝ }
+    ensures { λ x. ⌜ HoldsSylvesterRow (now (f .entry)) (now (g .entry)) r x ⌝ }
 {
     let mut x: [u32; 8] = [0; 8];
     let mut c: usize = 0;
@@ -70,7 +70,7 @@ fn sylvester_row(f: &[u32], g: &[u32], r: usize) -> [u32; 8]
 fn sylvester_matrix(f: &[u32], g: &[u32]) -> [[u32; 8]; 8]
     requires { ⌜ (1 ≤ length (now f)) × (length (now f) ≤ 9) ⌝ }
     requires { ⌜ (1 ≤ length (now g)) × (length (now g) ≤ 9) ⌝ }
-    ensures { λ m. ⌜ Filled (now (f .entry)) (now (g .entry)) m ⌝ }
+    ensures { λ m. ⌜ HoldsSylvester (now (f .entry)) (now (g .entry)) m ⌝ }
 {
     let mut m: [[u32; 8]; 8] = [[0; 8]; 8];
     let mut r: usize = 0;

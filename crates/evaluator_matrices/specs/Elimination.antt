@@ -1,14 +1,14 @@
 -- Eight rows of eight words, and what the steps of the elimination promise. m is the matrix before a step, m′ the one after it.
 --
---   cell m r c             the word of row r at column c
---   ResidueCells n m       every word is below n
+--   cell m r c               the word of row r at column c
+--   ResidueCells n m         every word is below n
 --   LessMultiple n q x y z   the row z is x less q times y
---   Combined n i j m m′    only the rows i and j are changed, each to a combination of both, and no leading minor that has both changes
---   RowReduced n i h j     row i lost so many times row h that a remainder is left at column j
---   Exchanged n i j        rows i and j changed places, and one of them its sign
---   Cleared n i j          as Combined, and row i has 0 at column j
---   Triangular k j m       of the first k rows the columns before j have zeros below the diagonal
---   Kept n k m m′          the leading minor of size k is kept
+--   Combined n i j m m′      only the rows i and j are changed, each to a combination of both, and no leading minor that has both changes
+--   RowReduced n i h j       row i lost so many times row h that a remainder is left at column j
+--   Exchanged n i j          rows i and j changed places, and one of them its sign
+--   EntryCleared n i j       as Combined, and row i has 0 at column j
+--   Triangular k j m         of the first k rows the columns before j have zeros below the diagonal
+--   MinorKept n k m m′       the leading minor of size k is kept
 use mathlib.Core.Path.{_≡_}
 use mathlib.Core.Logic.{_≢_}
 use mathlib.Core.List.{List, []}
@@ -41,13 +41,13 @@ pub record Exchanged (n i j : ℕ) (m m′ : List (List ℕ)) : Type 0 where
   pub first : (c : ℕ) → c < 8 → cell m′ i c ≡ ((n - 1) * cell m j c) % n
   pub second : (c : ℕ) → c < 8 → cell m′ j c ≡ cell m i c
 
-pub record Cleared (n i j : ℕ) (m m′ : List (List ℕ)) : Type 0 where
+pub record EntryCleared (n i j : ℕ) (m m′ : List (List ℕ)) : Type 0 where
   pub combined : Combined n i j m m′
   pub zero : cell m′ i j ≡ 0
 
 pub record Triangular (k j : ℕ) (m : List (List ℕ)) : Type 0 where
   pub at : (r c : ℕ) → r < k → c < j → c < r → cell m r c ≡ 0
 
-pub record Kept (n k : ℕ) (m m′ : List (List ℕ)) : Type 0 where
+pub record MinorKept (n k : ℕ) (m m′ : List (List ℕ)) : Type 0 where
   pub residues : ResidueCells n m′
   pub minor : leading-minor n k (cell m′) ≡ leading-minor n k (cell m)

@@ -11,7 +11,8 @@ ghost use mathlib.Core.Path.{_≡_};
 ghost use mathlib.Core.Logic.{_≢_};
 ghost use Prim.Native.Nat.{_+_, _<_, _≤_};
 ghost use Rattle.evaluator_matrices.specs.LeadingMinors.{leading-minor};
-ghost use Rattle.evaluator_matrices.specs.Elimination.{cell, ResidueCells, LessMultiple, RowReduced, Exchanged, Cleared, Triangular, Kept};
+ghost use Rattle.evaluator_matrices.specs.Elimination.{cell, ResidueCells, LessMultiple, RowReduced, Exchanged};
+ghost use Rattle.evaluator_matrices.specs.Elimination.{EntryCleared, Triangular, MinorKept};
 
 // x less q times y.
 fn subtract_multiple(n: u32, x: [u32; 8], q: u32, y: [u32; 8]) -> [u32; 8]
@@ -56,7 +57,7 @@ fn exchange(m: [[u32; 8]; 8], n: u32, i: usize, j: usize) -> [[u32; 8]; 8]
 fn clear_entry(m: [[u32; 8]; 8], n: u32, i: usize, j: usize) -> [[u32; 8]; 8]
     requires { ⌜ (2 ≤ n) × ((j < i) × (i < 8)) ⌝ }
     requires { ⌜ ResidueCells n m ⌝ }
-    ensures { λ r. ⌜ Cleared n i j m r ⌝ }
+    ensures { λ r. ⌜ EntryCleared n i j m r ⌝ }
 {
     let mut r = m;
     while r[i][j] != 0 {
@@ -74,7 +75,7 @@ fn clear_entry(m: [[u32; 8]; 8], n: u32, i: usize, j: usize) -> [[u32; 8]; 8]
 fn clear_column(m: [[u32; 8]; 8], n: u32, size: usize, j: usize) -> [[u32; 8]; 8]
     requires { ⌜ (2 ≤ n) × ((j < size) × (size ≤ 8)) ⌝ }
     requires { ⌜ ResidueCells n m × Triangular size j m ⌝ }
-    ensures { λ r. ⌜ Kept n size m r × Triangular size (j + 1) r ⌝ }
+    ensures { λ r. ⌜ MinorKept n size m r × Triangular size (j + 1) r ⌝ }
 {
     let mut r = m;
     let mut i = j + 1;
@@ -89,7 +90,7 @@ fn clear_column(m: [[u32; 8]; 8], n: u32, size: usize, j: usize) -> [[u32; 8]; 8
 fn triangulate(m: [[u32; 8]; 8], n: u32, size: usize) -> [[u32; 8]; 8]
     requires { ⌜ (2 ≤ n) × (size ≤ 8) ⌝ }
     requires { ⌜ ResidueCells n m ⌝ }
-    ensures { λ r. ⌜ Kept n size m r × Triangular size size r ⌝ }
+    ensures { λ r. ⌜ MinorKept n size m r × Triangular size size r ⌝ }
 {
     let mut r = m;
     let mut j: usize = 0;

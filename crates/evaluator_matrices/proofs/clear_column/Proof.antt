@@ -1,12 +1,12 @@
 use borrow.Author.Needs.{needs}
 use Prim.Native.Nat.{_-_, _<_, _≤_}
 use native.Mathlib.Omega.{arith}
-use Rattle.evaluator_matrices.proofs.Columns.{Clearing, clearing-start, clearing-next, clearing-end}
+use Rattle.evaluator_matrices.proofs.Columns.{ColumnClearing, clearing-start, clearing-next, clearing-end}
 use Rattle.evaluator_matrices.proofs.clear_column.Statement.{statement}
 use Rattle.evaluator_matrices.proofs.clear_column.Tie as tie
 
 abbrev Inv-loop : tie.InvT-loop
-Inv-loop n size j r₀ i₀ r i = (j < i) × ((i ≤ size) × Clearing n size j i r₀ r)
+Inv-loop n size j r₀ i₀ r i = (j < i) × ((i ≤ size) × ColumnClearing n size j i r₀ r)
 
 abbrev μ-loop : tie.MeasureT-loop
 μ-loop n size j r₀ i₀ r i = size - i

@@ -2,13 +2,13 @@ use borrow.Author.Needs.{needs}
 use mathlib.Core.Path.{_≡_}
 use Prim.Native.Nat.{_-_, _≤_}
 use native.Mathlib.Omega.{arith}
-use Rattle.evaluator_matrices.specs.Elimination.{Triangular, Kept}
+use Rattle.evaluator_matrices.specs.Elimination.{Triangular, MinorKept}
 use Rattle.evaluator_matrices.proofs.Columns.{triangulating-start, kept-both}
 use Rattle.evaluator_matrices.proofs.triangulate.Statement.{statement}
 use Rattle.evaluator_matrices.proofs.triangulate.Tie as tie
 
 abbrev Inv-loop : tie.InvT-loop
-Inv-loop n size r₀ j₀ r j = (j ≤ size) × (Kept n size r₀ r × Triangular size j r)
+Inv-loop n size r₀ j₀ r j = (j ≤ size) × (MinorKept n size r₀ r × Triangular size j r)
 
 abbrev μ-loop : tie.MeasureT-loop
 μ-loop n size r₀ j₀ r j = size - j
