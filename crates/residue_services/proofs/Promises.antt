@@ -1,17 +1,20 @@
 -- What is known once no refusal applies, and what a service promises in its two cases. The status r is that of the refusals t.
 --
 --   residue-accepted, residues-accepted    what is known where none applies
+--   first-status, second-status            the status of two residues from that of each
 --   refused-residue, residue-answered      the services with one value
 --   refused-gcd, gcd-answered              the gcd with cofactors
 --   refused-kind, kind-answered            the kind
 use mathlib.Core.Path.{_≡_, refl, sym, _∙_}
+use mathlib.Core.Bool.{Bool, true, false, not}
 use mathlib.Core.List.{List, [], _∷_}
 use Prim.Native.Nat.{ℕ, zero, suc, _≤_, _<_}
 use native.Mathlib.Omega.{arith}
+use lib.Dec.{ltb}
 use Rattle.definitions.specs.Residues.{GcdWithCofactors}
-use Rattle.refusals.specs.Refusals.{Width, Tested, first-refusal}
+use Rattle.refusals.specs.Refusals.{Width, Tested, bad-modulus, first-refusal}
 use Rattle.refusals.specs.Conditions.{ServedModulus, status-zero}
-use Rattle.refusals.proofs.Statuses.{refused-value, answered-value}
+use Rattle.refusals.proofs.Statuses.{refused-early, refused-value, answered-value}
 use Rattle.residue.specs.declared.Kind.{Kind}
 use Rattle.residue.specs.declared.Kind.the-variants.{Unit as Unit', Nilpotent, Splits}
 use Rattle.residue.specs.Kinds.{KindOf}
@@ -28,6 +31,21 @@ pub residues-accepted : (W : Width) (n a b : ℕ) → first-refusal (refusals-re
 residues-accepted W n a b h =
     let p = status-zero (refusals-residues W n a b) (ServedModulus W n ∷ (a < n) ∷ (b < n) ∷ []) (residues-listed W n a b) .0 h in
     (p .0 .least, (p .1 .0, p .1 .1 .0))
+
+-- the first residue's refusal stands for both; where it passes, the second's status does
+pub first-status : (W : Width) (n a b r : ℕ) → r ≡ first-refusal (refusals-residue W n a) → (r ≡ 0 → ⊥)
+    → r ≡ first-refusal (refusals-residues W n a b)
+first-status W n a b r e f = refused-early (refusals-residue W n a) ((3, not (ltb b n)) ∷ []) r e f
+
+pub second-status : (W : Width) (n a b r s : ℕ) → r ≡ first-refusal (refusals-residue W n a) → r ≡ 0
+    → s ≡ first-refusal (refusals-residue W n b) → s ≡ first-refusal (refusals-residues W n a b)
+second-status W n a b r s e z h = go (bad-modulus W n) (ltb a n) (sym e ∙ z) h
+  where
+    go : (m p : Bool) → first-refusal ((1, m) ∷ (3, not p) ∷ []) ≡ 0 → s ≡ first-refusal ((1, m) ∷ (3, not (ltb b n)) ∷ [])
+        → s ≡ first-refusal ((1, m) ∷ (3, not p) ∷ (3, not (ltb b n)) ∷ [])
+    go true p z h = absurd (omega arith)
+    go false true z h = h
+    go false false z h = absurd (omega arith)
 
 pub refused-residue : (t : List Tested) (x r : ℕ) → r ≡ first-refusal t → (r ≡ 0 → ⊥) → ResidueAnswer t x 0 r
 refused-residue t x r e f = record { status-is = e; value-is = refused-value r x f }

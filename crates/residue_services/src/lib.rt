@@ -31,29 +31,25 @@ pub enum KindAnswer {
 fn refusal_residue(n: u32, a: u32) -> u32
     ensures { λ r. ⌜ r ≡ first-refusal (refusals-residue narrow n a) ⌝ }
 {
-    if refusals::bad_modulus(n) {
+    let bad = refusals::bad_modulus(n);
+    if bad {
         return 1;
     }
-    if a < n {
-        return 0;
+    if a >= n {
+        return 3;
     }
-    3
+    0
 }
 
 // Refusals 1 and 3 of two residues; 0 where neither applies.
 fn refusal_residues(n: u32, a: u32, b: u32) -> u32
     ensures { λ r. ⌜ r ≡ first-refusal (refusals-residues narrow n a b) ⌝ }
 {
-    if refusals::bad_modulus(n) {
-        return 1;
+    let first = refusal_residue(n, a);
+    if first != 0 {
+        return first;
     }
-    if a >= n {
-        return 3;
-    }
-    if b < n {
-        return 0;
-    }
-    3
+    refusal_residue(n, b)
 }
 
 // a + b modulo n.
