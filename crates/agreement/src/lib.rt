@@ -15,5 +15,8 @@ pub fn both(n: u32, f: &[u32], g: &[u32], work: &mut [u32]) -> Agreement
 {
     let evaluator = evaluator::evaluate(n, f, g);
     let resultant = resultant_service::resultant(n, f, g, work);
-    Agreement { evaluator, resultant }
+    Agreement {
+        evaluator,
+        resultant,
+    }
 }

@@ -13,7 +13,7 @@ ghost use Rattle.definitions.specs.Polynomials.{deg};
 ghost use Rattle.definitions.specs.Resultants.{entry, sylvester};
 ghost use Rattle.refusals.specs.Refusals.{narrow};
 ghost use Rattle.evaluator.specs.EvaluatorService.{bad-lengths, bad-words, evaluator-status, EvaluatorAnswer};
-ghost use Rattle.evaluator.specs.Sylvester.{HoldsSylvester, HoldsSylvesterRow};
+ghost use Rattle.evaluator.specs.Sylvester.{RowWords, ServedRows, HoldsSylvester, HoldsSylvesterRow};
 use refusals::Answer;
 
 // Zero top words count: "the top word may be zero".
@@ -26,7 +26,7 @@ fn sent_degree(f: &[u32]) -> usize
 
 // "highest coefficient first, each row one column further right": row i of f, at column j.
 fn shifted(f: &[u32], i: usize, j: usize) -> u32
-    requires { ⌜ (1 ≤ length (now f)) × ((length (now f) ≤ 9) × ((i < 8) × (j < 8))) ⌝ }
+    requires { ⌜ RowWords (now f) × ((i < 8) × (j < 8)) ⌝ }
     ensures { λ x. ⌜ pos x ≡ entry (deg (now (f .entry))) (now (f .entry)) i j ⌝ }
 {
     let d = sent_degree(f);
@@ -41,8 +41,7 @@ fn shifted(f: &[u32], i: usize, j: usize) -> u32
 
 // "first e rows hold f, … then d rows hold g likewise": row r, at column c.
 fn sylvester_word(f: &[u32], g: &[u32], r: usize, c: usize) -> u32
-    requires { ⌜ (1 ≤ length (now f)) × (length (now f) ≤ 9) ⌝ }
-    requires { ⌜ (1 ≤ length (now g)) × ((length (now g) ≤ 9) × ((r < 8) × (c < 8))) ⌝ }
+    requires { ⌜ ServedRows (now f) (now g) × ((r < 8) × (c < 8)) ⌝ }
     ensures { λ x. ⌜ pos x ≡ sylvester (now (f .entry)) (now (g .entry)) r c ⌝ }
 {
     let e = sent_degree(g);
@@ -53,8 +52,7 @@ fn sylvester_word(f: &[u32], g: &[u32], r: usize, c: usize) -> u32
 }
 
 fn sylvester_row(f: &[u32], g: &[u32], r: usize) -> [u32; 8]
-    requires { ⌜ (1 ≤ length (now f)) × (length (now f) ≤ 9) ⌝ }
-    requires { ⌜ (1 ≤ length (now g)) × ((length (now g) ≤ 9) × (r < 8)) ⌝ }
+    requires { ⌜ ServedRows (now f) (now g) × (r < 8) ⌝ }
     ensures { λ x. ⌜ HoldsSylvesterRow (now (f .entry)) (now (g .entry)) r x ⌝ }
 {
     let mut x: [u32; 8] = [0; 8];
@@ -68,8 +66,7 @@ fn sylvester_row(f: &[u32], g: &[u32], r: usize) -> [u32; 8]
 
 // Sylvester's matrix in the sent degrees. Its d + e rows and columns stand in the corner, and what lies beyond them does not count.
 fn sylvester_matrix(f: &[u32], g: &[u32]) -> [[u32; 8]; 8]
-    requires { ⌜ (1 ≤ length (now f)) × (length (now f) ≤ 9) ⌝ }
-    requires { ⌜ (1 ≤ length (now g)) × (length (now g) ≤ 9) ⌝ }
+    requires { ⌜ ServedRows (now f) (now g) ⌝ }
     ensures { λ m. ⌜ HoldsSylvester (now (f .entry)) (now (g .entry)) m ⌝ }
 {
     let mut m: [[u32; 8]; 8] = [[0; 8]; 8];

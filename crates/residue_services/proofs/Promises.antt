@@ -20,7 +20,15 @@ use Rattle.residue.specs.declared.Kind.the-variants.{Unit as Unit', Nilpotent, 
 use Rattle.residue.specs.Kinds.{KindOf}
 use Rattle.residue_services.specs.declared.KindAnswer.the-variants.{Known, Refused}
 use Rattle.residue_services.specs.Services.{
-  refusals-residue, refusals-residues, ResidueAnswer, GcdPromised, kind-values, TrueValues, KindPromised, residue-listed, residues-listed,
+  refusals-residue,
+  refusals-residues,
+  ResidueAnswer,
+  GcdPromised,
+  kind-values,
+  TrueValues,
+  KindPromised,
+  residue-listed,
+  residues-listed,
 }
 
 pub residue-accepted : (W : Width) (n a : ℕ) → first-refusal (refusals-residue W n a) ≡ 0 → (2 ≤ n) × (a < n)

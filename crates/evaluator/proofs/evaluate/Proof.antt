@@ -23,7 +23,10 @@ sub-size-2 c = let a = c .before .before .before .before .args in
 sylvester-matrix-requires : tie.Need-sylvester-matrix-requires
 sylvester-matrix-requires c κs = let a = c .before .before .before .before .args in
     let s = evaluable narrow (a .n) (a .f .now) (a .g .now) (sym (c .before .refusal .ensures) ∙ c .if1 .left) in
-    ((s .first-some, omega (arith, s .small)), (s .second-some, omega (arith, s .small)))
+    record {
+      first = record { some = s .first-some; few = omega (arith, s .small) };
+      second = record { some = s .second-some; few = omega (arith, s .small) };
+    }
 
 determinant-requires : tie.Need-determinant-requires
 determinant-requires c κs = let a = c .before .before .before .before .before .args in

@@ -12,15 +12,15 @@ abbrev μ-loop : tie.MeasureT-loop
 μ-loop n size j r₀ i₀ r i = size - i
 
 loop-holds : tie.Need-loop-holds Inv-loop μ-loop
-loop-holds c = (omega arith, (omega arith, clearing-start (c .pre .1 .0) (c .pre .1 .1)))
+loop-holds c = (omega arith, (omega arith, clearing-start (c .pre .residues) (c .pre .cleared)))
 
 clear-entry-requires : tie.Need-clear-entry-requires Inv-loop μ-loop
 clear-entry-requires c κs = let i = c .before .loop .inv in
-    ((c .before .before .pre .0 .0, (i .0, omega arith)), i .1 .1 .kept .residues)
+    record { modulus = c .before .before .pre .modulus; below = i .0; row = omega arith; residues = i .1 .1 .kept .residues }
 
 loop-again : tie.Need-loop-again Inv-loop μ-loop
 loop-again c = let i = c .before .before .loop .inv in
-    let l = c .before .before .before .pre .0 .1 .1 in
+    let l = c .before .before .before .pre .size in
     (omega arith, (omega arith, clearing-next (i .0) (omega arith) l (i .1 .1) (c .clear-entry .ensures)))
 
 returns : tie.Need-returns Inv-loop μ-loop

@@ -18,7 +18,8 @@ loop-holds c = (omega arith, triangulating-start (c .pre .1))
 
 clear-column-requires : tie.Need-clear-column-requires Inv-loop μ-loop
 clear-column-requires c κs = let i = c .before .loop .inv .1 in
-    ((c .before .before .pre .0 .0, (c .loop-test .taken, c .before .before .pre .0 .1)), (i .0 .residues, i .1))
+    let p = c .before .before .pre .0 in
+    record { modulus = p .0; column = c .loop-test .taken; size = p .1; residues = i .0 .residues; cleared = i .1 }
 
 loop-again : tie.Need-loop-again Inv-loop μ-loop
 loop-again c = let e = c .clear-column .ensures in
