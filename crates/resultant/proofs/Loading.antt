@@ -17,7 +17,7 @@ use Rattle.theory.specs.ReachedSteps.{coef-beyond}
 use Rattle.theory.specs.ResultantLaws.{signed, resultant-cong, resultant-swap}
 use Rattle.windows.specs.Window.{piece, Loaded}
 use Rattle.windows.proofs.Leaf.{lt-or-le, piece-at, piece-length}
-use Rattle.resultant_steps.specs.Answers.{AnswerOf}
+use Rattle.resultant_steps.specs.AttemptAnswers.{ValueOrSplit}
 use Rattle.residue.specs.declared.Attempt.{Attempt}
 use Rattle.resultant_steps.proofs.Degrees.{deg-of}
 use Rattle.resultant_attempt.specs.Rooms.{room}
@@ -105,10 +105,10 @@ module _ (n : ℕ) (f g w w₁ w₂ : List ℕ) (two : 2 ≤ n) (one : 1 ≤ len
       resultant-cong m F f G g (ap pred length-F) (ap pred length-G) (λ k. subst (λ (x : ℕ). coef F k % x ≡ coef f k % x) h (same-F k))
       (λ k. subst (λ (x : ℕ). coef G k % x ≡ coef g k % x) h (same-G k))
 
-  pub loaded-answer : (r : Attempt) → AnswerOf n (resultant n (piece w₂ 0 (length f - 1 + 1)) (piece w₂ (length f) (length g - 1 + 1))) r
-      → AnswerOf n (resultant n f g) r
+  pub loaded-answer : (r : Attempt) → ValueOrSplit n (resultant n (piece w₂ 0 (length f - 1 + 1)) (piece w₂ (length f) (length g - 1 + 1))) r
+      → ValueOrSplit n (resultant n f g) r
   unfolding F G
-  loaded-answer r = subst (λ (x : ℕ). AnswerOf n x r) (same-resultant n refl)
+  loaded-answer r = subst (λ (x : ℕ). ValueOrSplit n x r) (same-resultant n refl)
 
 -- f and g in the other order
 pub swapped-sign : (n : ℕ) (f g w : List ℕ) → 2 ≤ n → Served f g w → signed n ((length f - 1) * (length g - 1)) (resultant n g f) ≡ resultant n f g

@@ -7,7 +7,7 @@ ghost use mathlib.Core.Path.{_≡_};
 ghost use Prim.Native.Nat.{_+_, _-_, _<_, _≤_};
 ghost use lib.ListN.{length};
 ghost use Rattle.definitions.specs.Resultants.{resultant};
-ghost use Rattle.resultant_steps.specs.Answers.{AnswerOf};
+ghost use Rattle.resultant_steps.specs.AttemptAnswers.{ValueOrSplit};
 ghost use Rattle.resultant_attempt.specs.Rooms.{room};
 ghost use Rattle.resultant.specs.Sizes.{Served};
 use residue::Attempt;
@@ -16,7 +16,7 @@ use residue::Attempt;
 fn ordered(w: &mut [u32], n: u32, f: &[u32], g: &[u32]) -> Attempt
     requires { ⌜ (2 ≤ n) × ((1 ≤ length (now f)) × (length (now f) ≤ length (now g))) ⌝ }
     requires { ⌜ length (now f) + length (now g) + room (length (now f) - 1) (length (now g) - 1) ≤ length (now w) ⌝ }
-    ensures { λ r. ⌜ AnswerOf n (resultant n (now (f .entry)) (now (g .entry))) r ⌝ }
+    ensures { λ r. ⌜ ValueOrSplit n (resultant n (now (f .entry)) (now (g .entry))) r ⌝ }
 {
     let l = f.len();
     let m = g.len();
@@ -28,7 +28,7 @@ fn ordered(w: &mut [u32], n: u32, f: &[u32], g: &[u32]) -> Attempt
 // The one with fewer words goes first; a swap costs the sign (-1)^(d e).
 fn once(w: &mut [u32], n: u32, f: &[u32], g: &[u32]) -> Attempt
     requires { ⌜ (2 ≤ n) × Served (now f) (now g) (now w) ⌝ }
-    ensures { λ r. ⌜ AnswerOf n (resultant n (now (f .entry)) (now (g .entry))) r ⌝ }
+    ensures { λ r. ⌜ ValueOrSplit n (resultant n (now (f .entry)) (now (g .entry))) r ⌝ }
 {
     let l = f.len();
     let m = g.len();

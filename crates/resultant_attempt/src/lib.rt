@@ -10,7 +10,7 @@ ghost use lib.ListN.{length, getD};
 ghost use Rattle.definitions.specs.Residues.{IsUnit};
 ghost use Rattle.definitions.specs.Resultants.{resultant};
 ghost use Rattle.windows.specs.Window.{piece, Kept};
-ghost use Rattle.resultant_steps.specs.Answers.{AnswerOf};
+ghost use Rattle.resultant_steps.specs.AttemptAnswers.{ValueOrSplit};
 ghost use Rattle.resultant_steps.specs.Layouts.{Primitive};
 ghost use Rattle.window_factor.specs.Factors.{LeadingUnit};
 ghost use Rattle.resultant_attempt.specs.Stages.{Placed, Divisor, Stacked, Part};
@@ -19,7 +19,7 @@ use residue::Attempt;
 // The resultant of f of degree d at a and g of degree e at b. Both are lost, and so are the words from s on.
 pub fn euclid(w: &mut [u32], n: u32, a: usize, d: usize, b: usize, e: usize, s: usize) -> Attempt
     requires { ⌜ Placed n a d b e s (now w) ⌝ }
-    ensures { λ r. ⌜ AnswerOf n (resultant n (piece (now (w .entry)) a (d + 1)) (piece (now (w .entry)) b (e + 1))) r ⌝ }
+    ensures { λ r. ⌜ ValueOrSplit n (resultant n (piece (now (w .entry)) a (d + 1)) (piece (now (w .entry)) b (e + 1))) r ⌝ }
     ensures { λ _. ⌜ length (now (w .exit)) ≡ length (now (w .entry)) ⌝ }
 {
     let lead = w[a + d];
@@ -37,7 +37,7 @@ pub fn euclid(w: &mut [u32], n: u32, a: usize, d: usize, b: usize, e: usize, s: 
 // The same, where the leading word of f has the inverse i: a division, and the remainder and f after it.
 fn step(w: &mut [u32], n: u32, a: usize, d: usize, b: usize, e: usize, s: usize, i: u32) -> Attempt
     requires { ⌜ Divisor n a d b e s i (now w) ⌝ }
-    ensures { λ r. ⌜ AnswerOf n (resultant n (piece (now (w .entry)) a (d + 1)) (piece (now (w .entry)) b (e + 1))) r ⌝ }
+    ensures { λ r. ⌜ ValueOrSplit n (resultant n (piece (now (w .entry)) a (d + 1)) (piece (now (w .entry)) b (e + 1))) r ⌝ }
 {
     let lead = w[a + d];
     window_division::divide(w, n, a, d, b, e, i);
@@ -48,7 +48,7 @@ fn step(w: &mut [u32], n: u32, a: usize, d: usize, b: usize, e: usize, s: usize,
 // The same for g at 0 and f above it, whose leading word is no unit: the content of f is taken out first.
 fn by_content(w: &mut [u32], n: u32, d: usize, e: usize) -> Attempt
     requires { ⌜ Stacked n d e (now w) ⌝ }
-    ensures { λ r. ⌜ AnswerOf n (resultant n (piece (now (w .entry)) (e + 1) (d + 1)) (piece (now (w .entry)) 0 (e + 1))) r ⌝ }
+    ensures { λ r. ⌜ ValueOrSplit n (resultant n (piece (now (w .entry)) (e + 1) (d + 1)) (piece (now (w .entry)) 0 (e + 1))) r ⌝ }
 {
     let c = resultant_steps::clear_content(w, n, d, e);
     if c == n {
@@ -62,7 +62,7 @@ fn by_content(w: &mut [u32], n: u32, d: usize, e: usize) -> Attempt
 fn primitive(w: &mut [u32], n: u32, d: usize, e: usize) -> Attempt
     requires { ⌜ Stacked n d e (now w) ⌝ }
     requires { ⌜ Primitive n (piece (now w) (e + 1) (d + 1)) ⌝ }
-    ensures { λ r. ⌜ AnswerOf n (resultant n (piece (now (w .entry)) (e + 1) (d + 1)) (piece (now (w .entry)) 0 (e + 1))) r ⌝ }
+    ensures { λ r. ⌜ ValueOrSplit n (resultant n (piece (now (w .entry)) (e + 1) (d + 1)) (piece (now (w .entry)) 0 (e + 1))) r ⌝ }
 {
     let a = e + 1;
     let s = a + (d + 1);
@@ -83,7 +83,7 @@ fn primitive(w: &mut [u32], n: u32, d: usize, e: usize) -> Attempt
 fn factors(w: &mut [u32], n: u32, d: usize, e: usize, t: usize, i: u32) -> Attempt
     requires { ⌜ (Stacked n d e (now w)) × (t < d) ⌝ }
     requires { ⌜ LeadingUnit n t i (piece (now w) (e + 1) (d + 1)) ⌝ }
-    ensures { λ r. ⌜ AnswerOf n (resultant n (piece (now (w .entry)) (e + 1) (d + 1)) (piece (now (w .entry)) 0 (e + 1))) r ⌝ }
+    ensures { λ r. ⌜ ValueOrSplit n (resultant n (piece (now (w .entry)) (e + 1) (d + 1)) (piece (now (w .entry)) 0 (e + 1))) r ⌝ }
 {
     let a = e + 1;
     let l = d + 1;
@@ -101,7 +101,7 @@ fn factors(w: &mut [u32], n: u32, d: usize, e: usize, t: usize, i: u32) -> Attem
 // The resultant of the monic polynomial of degree t at a and of g at 0, worked from x on.
 fn monic_part(w: &mut [u32], n: u32, a: usize, t: usize, e: usize, x: usize) -> Attempt
     requires { ⌜ (Part n a t e x (now w)) × (getD (now w) (a + t) 0 ≡ 1) ⌝ }
-    ensures { λ r. ⌜ AnswerOf n (resultant n (piece (now (w .entry)) a (t + 1)) (piece (now (w .entry)) 0 (e + 1))) r ⌝ }
+    ensures { λ r. ⌜ ValueOrSplit n (resultant n (piece (now (w .entry)) a (t + 1)) (piece (now (w .entry)) 0 (e + 1))) r ⌝ }
     ensures { λ _. ⌜ Kept x (now (w .entry)) (now (w .exit)) ⌝ }
 {
     if t == 0 {
@@ -116,7 +116,7 @@ fn monic_part(w: &mut [u32], n: u32, a: usize, t: usize, e: usize, x: usize) -> 
 // The same for a polynomial of degree k whose constant is a unit: both are reversed, which brings the unit to the lead.
 fn unit_part(w: &mut [u32], n: u32, a: usize, k: usize, e: usize, x: usize) -> Attempt
     requires { ⌜ (Part n a k e x (now w)) × ((1 ≤ k) × (IsUnit n (getD (now w) a 0))) ⌝ }
-    ensures { λ r. ⌜ AnswerOf n (resultant n (piece (now (w .entry)) a (k + 1)) (piece (now (w .entry)) 0 (e + 1))) r ⌝ }
+    ensures { λ r. ⌜ ValueOrSplit n (resultant n (piece (now (w .entry)) a (k + 1)) (piece (now (w .entry)) 0 (e + 1))) r ⌝ }
 {
     let i = bezout::cofactor(n, w[a]);
     let l = k + 1;

@@ -4,9 +4,9 @@ use borrow.Rule.Slice.PartMut.{midOf, putMid}
 use Rattle.resultant_steps.proofs.SideBySide.{onward}
 use Rattle.resultant_steps.proofs.Contents.{content-positive, content-whole, content-times}
 use Rattle.resultant_steps.proofs.Turned.{followed}
-use Rattle.resultant_steps.specs.Answers.{AnswerOf}
+use Rattle.resultant_steps.specs.AttemptAnswers.{ValueOrSplit}
 use Rattle.residue.specs.declared.Attempt.{Attempt}
-use Rattle.window_factor.specs.Factors.{HighestOf, LeadingUnit, Nilpotents}
+use Rattle.window_factor.specs.Factors.{HighestOf, LeadingUnit, AllNilpotents}
 use Rattle.resultant_attempt.proofs.Remaining.{at-constant, divisor-asked, divide-asked, next-asked, times-next}
 use Rattle.resultant_attempt.proofs.Copies.{copies-fit, stacked-asked, stacked-answer, part-fits, monic-constant, monic-asked, monic-answer, monic-kept, kept-none, unit-asked, unit-sign}
 use Rattle.resultant_attempt.proofs.Leads.{stacked-fits, cleared-asked, cleared-divides, not-all-nilpotent, lent, lead-asked, lead-below, given-in}
@@ -819,7 +819,7 @@ factors-returns t c = let s = c .before .before .before .before .before .before 
     let h = c .before .before .before .before .before .before .before .before .before .before .monic-part in
     let w1 : List ℕ = putMid (s .e + 1) (length (s .w .now) - (s .e + 1)) (s .w .now) (u .last .0) in
     let y = c .before .before .before .before .before .before .y .given in
-    let hy = subst (λ (r : Attempt). AnswerOf (s .n) (resultant (s .n) (piece w1 (s .e + 1 + (s .d + 1)) (s .t + 1)) (piece w1 0 (s .e + 1))) r) (y .1) (h .ensures .0) in
+    let hy = subst (λ (r : Attempt). ValueOrSplit (s .n) (resultant (s .n) (piece w1 (s .e + 1 + (s .d + 1)) (s .t + 1)) (piece w1 0 (s .e + 1))) r) (y .1) (h .ensures .0) in
     followed (c .times .ensures) (c .before .before .before .unit-part .ensures) (product-times (s .n) (s .d) (s .e) (s .t) (s .w .now) (u .last .0) (p .0) (p .1) (u .kept .0) (u .ensures) (h .last .0) (h .ensures .1) (y .0 .0) (hy .0))
 
 factors-same-length-2 : (t : ℕ) → factors-lts.Need-same-length-2 (
@@ -846,7 +846,7 @@ factors-returns-2 : (t : ℕ) → factors-lts.Need-returns-2 (
 ) (factors-at t) factors.Post
 factors-returns-2 t c = let s = c .before .before .before .before .before .before .before .before .before .before .before .before .args in
     let w1 : List ℕ = putMid (s .e + 1) (length (s .w .now) - (s .e + 1)) (s .w .now) (c .before .before .before .before .before .before .before .before .before .unit-times-monic .last .0) in
-    subst (λ (r : Attempt). AnswerOf (s .n) (resultant (s .n) (piece w1 (s .e + 1 + (s .d + 1)) (s .t + 1)) (piece w1 0 (s .e + 1))) r) (c .before .p .given .1) (c .before .before .before .before .before .monic-part .ensures .0)
+    subst (λ (r : Attempt). ValueOrSplit (s .n) (resultant (s .n) (piece w1 (s .e + 1 + (s .d + 1)) (s .t + 1)) (piece w1 0 (s .e + 1))) r) (c .before .p .given .1) (c .before .before .before .before .before .monic-part .ensures .0)
 
 monic-part-returns : (t : ℕ) → monic-part-lts.Need-returns (
   copy-pair-reads.Asked,
@@ -1172,7 +1172,7 @@ primitive-returns-4 : (t : ℕ) → primitive-lts.Need-returns-4 (
 primitive-returns-4 t c = let s = c .before .before .before .before .before .before .args in
     let m : ℕ = s .e + 1 + (s .d + 1) - (s .e + 1) in
     absurd (not-all-nilpotent (s .n) (piece (s .w .now) (s .e + 1) (s .d + 1)) (c .before .before .before .before .before .before .pre .1 .0 .two) (c .before .before .before .before .before .before .pre .1 .1)
-    (lent (Nilpotents (s .n)) (s .e + 1) (s .d + 1) m (s .w .now) (omega arith) (subst (HighestOf (s .n) (midOf (s .e + 1) m (s .w .now))) (c .enum-told .given .1) (c .before .before .highest-of .ensures))))
+    (lent (AllNilpotents (s .n)) (s .e + 1) (s .d + 1) m (s .w .now) (omega arith) (subst (HighestOf (s .n) (midOf (s .e + 1) m (s .w .now))) (c .enum-told .given .1) (c .before .before .highest-of .ensures))))
 
 step-add-lead : (t : ℕ) → step-lts.Need-add-lead (
   divide-reads.Asked,
