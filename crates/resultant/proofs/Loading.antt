@@ -3,11 +3,11 @@
 --   placed-asked      what the attempt at them asks
 --   loaded-answer     its answer is about the sent polynomials
 --   swapped-sign      the resultant of g and f, with the sign (-1)^(d e)
---   working-enough    8192 words are enough for 49 words each
+--   ordered-asked, swapped-asked   what one attempt asks, in either order
 use mathlib.Core.Path.{_≡_, refl, sym, ap, ap₂, subst, _∙_}
 use mathlib.Core.List.{List}
 use mathlib.Core.Logic.{⊎-elim}
-use Prim.Native.Nat.{ℕ, zero, suc, pred, _+_, _-_, _*_, _%_, _≤_, _<_}
+use Prim.Native.Nat.{ℕ, zero, suc, pred, max, _+_, _-_, _*_, _%_, _≤_, _<_}
 use native.Mathlib.Omega.{arith}
 use native.Mathlib.Nat.{mod-lt, mod-mod, mul-le-mul}
 use lib.ListN.{length, getD}
@@ -15,40 +15,33 @@ use Rattle.definitions.specs.Polynomials.{coef}
 use Rattle.definitions.specs.Resultants.{resultant}
 use Rattle.theory.specs.ReachedSteps.{coef-beyond}
 use Rattle.theory.specs.ResultantLaws.{signed, resultant-cong, resultant-swap}
-use Rattle.windows.specs.Window.{piece, Loaded}
+use Rattle.windows.specs.Window.{piece, Loaded, Scratch}
 use Rattle.windows.proofs.Leaf.{lt-or-le, piece-at, piece-length}
 use Rattle.resultant_steps.specs.AttemptAnswers.{ValueOrSplit}
 use Rattle.residue.specs.declared.Attempt.{Attempt}
 use Rattle.resultant_steps.proofs.Degrees.{deg-of}
 use Rattle.resultant_attempt.specs.Rooms.{room}
 use Rattle.resultant_attempt.specs.Stages.{Placed}
-use Rattle.resultant.specs.Sizes.{Served}
+use Rattle.resultant.specs.Sizes.{RunSizes, OrderedSizes, resultant-room}
 
--- enough working words for f of l words and g of m
-pub working-enough : (l m k : ℕ) → 1 ≤ l → l ≤ 49 → 1 ≤ m → m ≤ 49 → 8192 ≤ k → l + m + room (l - 1) (m - 1) ≤ k
-working-enough l m k l₁ l₂ m₁ m₂ h = omega (arith, mul-le-mul less less)
-  where
-    less : l - 1 ≤ 48
-    less = omega arith
+pub sizes-same : {f g w w' : List ℕ} → Scratch w w' → RunSizes f g w → RunSizes f g w'
+sizes-same h s = record { some-f = s .some-f; some-g = s .some-g; working = omega (arith, h .same, s .working) }
 
-pub served-same : {f g w w' : List ℕ} → length w' ≡ length w → Served f g w → Served f g w'
-served-same h s = record { least-f = s .least-f; most-f = s .most-f; least-g = s .least-g; most-g = s .most-g; working = omega (arith, s .working) }
+-- the room for the larger degree M serves degrees d and e below it
+smaller-room : (d e M k : ℕ) → d ≤ M → e ≤ M → resultant-room M ≤ k → d + 1 + (e + 1) + room d e ≤ k
+smaller-room d e M k hd he h = omega (arith, mul-le-mul hd hd)
 
-pub ordered-asked : (n : ℕ) (f g w : List ℕ) → 2 ≤ n → Served f g w → length f ≤ length g
-    → ((2 ≤ n) × ((1 ≤ length f) × (length f ≤ length g))) × (length f + length g + room (length f - 1) (length g - 1) ≤ length w)
-ordered-asked n f g w two s l = (
-  (two, (s .least-f, l)),
-  working-enough (length f) (length g) (length w) (s .least-f) (s .most-f)
-      (s .least-g) (s .most-g) (s .working),
-)
+pub ordered-asked : {f g w : List ℕ} → RunSizes f g w → length f ≤ length g → OrderedSizes f g w
+ordered-asked {f} {g} {w} s l =
+    let z = smaller-room (length f - 1) (length g - 1) (max (length f - 1) (length g - 1)) (length w) (omega arith) (omega arith) (s .working) in
+    record { some = s .some-f; near = l; working = omega (arith, z, s .some-f, s .some-g) }
 
-pub swapped-asked : (n : ℕ) (f g w : List ℕ) → 2 ≤ n → Served f g w → length g < length f
-    → ((2 ≤ n) × ((1 ≤ length g) × (length g ≤ length f))) × (length g + length f + room (length g - 1) (length f - 1) ≤ length w)
-swapped-asked n f g w two s l =
-    ordered-asked n g f w two (record { least-f = s .least-g; most-f = s .most-g; least-g = s .least-f; most-g = s .most-f; working = s .working }) (omega arith)
+pub swapped-asked : {f g w : List ℕ} → RunSizes f g w → length g < length f → OrderedSizes g f w
+swapped-asked {f} {g} {w} s l =
+    let z = smaller-room (length g - 1) (length f - 1) (max (length f - 1) (length g - 1)) (length w) (omega arith) (omega arith) (s .working) in
+    record { some = s .some-g; near = omega arith; working = omega (arith, z, s .some-f, s .some-g) }
 
-module _ (n : ℕ) (f g w w₁ w₂ : List ℕ) (two : 2 ≤ n) (one : 1 ≤ length f) (near : length f ≤ length g)
-    (fits : length f + length g + room (length f - 1) (length g - 1) ≤ length w) (lf : Loaded n 0 f w w₁) (lg : Loaded n (length f) g w₁ w₂) where
+module _ (n : ℕ) (f g w w₁ w₂ : List ℕ) (two : 2 ≤ n) (sz : OrderedSizes f g w) (lf : Loaded n 0 f w w₁) (lg : Loaded n (length f) g w₁ w₂) where
   first : (k : ℕ) → k < length f → getD w₂ (0 + k) 0 ≡ coef f k % n
   first k l = lg .low (0 + k) (omega arith) ∙ lf .mid k l
 
@@ -111,10 +104,10 @@ module _ (n : ℕ) (f g w w₁ w₂ : List ℕ) (two : 2 ≤ n) (one : 1 ≤ len
   loaded-answer r = subst (λ (x : ℕ). ValueOrSplit n x r) (same-resultant n refl)
 
 -- f and g in the other order
-pub swapped-sign : (n : ℕ) (f g w : List ℕ) → 2 ≤ n → Served f g w → signed n ((length f - 1) * (length g - 1)) (resultant n g f) ≡ resultant n f g
+pub swapped-sign : (n : ℕ) (f g w : List ℕ) → 2 ≤ n → RunSizes f g w → signed n ((length f - 1) * (length g - 1)) (resultant n g f) ≡ resultant n f g
 swapped-sign zero f g w two s = absurd (omega arith)
 swapped-sign (suc m) f g w two s =
-    let lf : length f ≡ length f - 1 + 1 = omega (arith, s .least-f) in
-    let lg : length g ≡ length g - 1 + 1 = omega (arith, s .least-g) in
+    let lf : length f ≡ length f - 1 + 1 = omega (arith, s .some-f) in
+    let lg : length g ≡ length g - 1 + 1 = omega (arith, s .some-g) in
     ap (λ (x : ℕ). signed (suc m) x (resultant (suc m) g f))
     (sym (ap₂ (λ (x y : ℕ). x * y) (deg-of f (length f - 1) lf) (deg-of g (length g - 1) lg))) ∙ sym (resultant-swap m f g)

@@ -1,15 +1,20 @@
 // One attempt at a resultant modulo n: it ends in the value, or in a split of n. The degree d of f, at most that of g, falls.
 //
+//   w, n   the buffer and the modulus
+//   a, d   the place and the degree of f; b, e those of g; i the inverse of a leading word
+//   s, x   from these places on the buffer is free
+//   h, v   the places of the monic factor of f, of degree t, and of the room after it; u the place of the unit factor
+//
 //   euclid                  the attempt; it divides while each leading word is a unit, with no copies
 //   step                    one division
 //   by_content, primitive   a leading word that is no unit: the content, and the highest coefficient that is not nilpotent
 //   factors                 f as a unit polynomial times a monic one; monic_part and unit_part are the attempts at the two
 ghost use mathlib.Core.Path.{_≡_};
-ghost use Prim.Native.Nat.{_+_, _-_, _/_, _<_, _≤_};
-ghost use lib.ListN.{length, getD};
+ghost use Prim.Native.Nat.{_+_, _<_, _≤_};
+ghost use lib.ListN.{getD};
 ghost use Rattle.definitions.specs.Residues.{IsUnit};
 ghost use Rattle.definitions.specs.Resultants.{resultant};
-ghost use Rattle.windows.specs.Window.{piece, Kept};
+ghost use Rattle.windows.specs.Window.{piece, Kept, Scratch};
 ghost use Rattle.resultant_steps.specs.AttemptAnswers.{ValueOrSplit};
 ghost use Rattle.resultant_steps.specs.Layouts.{Primitive};
 ghost use Rattle.window_factor.specs.Factors.{LeadingUnit};
@@ -20,7 +25,7 @@ use residue::Attempt;
 pub fn euclid(w: &mut [u32], n: u32, a: usize, d: usize, b: usize, e: usize, s: usize) -> Attempt
     requires { ⌜ Placed n a d b e s (now w) ⌝ }
     ensures { λ r. ⌜ ValueOrSplit n (resultant n (piece (now (w .entry)) a (d + 1)) (piece (now (w .entry)) b (e + 1))) r ⌝ }
-    ensures { λ _. ⌜ length (now (w .exit)) ≡ length (now (w .entry)) ⌝ }
+    ensures { λ _. ⌜ Scratch (now (w .entry)) (now (w .exit)) ⌝ }
 {
     let lead = w[a + d];
     if d == 0 {
