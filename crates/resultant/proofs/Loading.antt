@@ -3,11 +3,11 @@
 --   placed-asked      what the attempt at them asks
 --   loaded-answer     its answer is about the sent polynomials
 --   swapped-sign      the resultant of g and f, with the sign (-1)^(d e)
---   ordered-asked, swapped-asked   what one attempt asks, in either order
+--   sizes-same        the sizes after a run that loses the working words
 use mathlib.Core.Path.{_≡_, refl, sym, ap, ap₂, subst, _∙_}
 use mathlib.Core.List.{List}
 use mathlib.Core.Logic.{⊎-elim}
-use Prim.Native.Nat.{ℕ, zero, suc, pred, max, _+_, _-_, _*_, _%_, _≤_, _<_}
+use Prim.Native.Nat.{ℕ, zero, suc, pred, _+_, _-_, _*_, _%_, _≤_, _<_}
 use native.Mathlib.Omega.{arith}
 use native.Mathlib.Nat.{mod-lt, mod-mod, mul-le-mul}
 use lib.ListN.{length, getD}
@@ -22,26 +22,26 @@ use Rattle.residue.specs.declared.Attempt.{Attempt}
 use Rattle.resultant_steps.proofs.Degrees.{deg-of}
 use Rattle.resultant_attempt.specs.Rooms.{room}
 use Rattle.resultant_attempt.specs.Stages.{Placed}
-use Rattle.resultant.specs.Sizes.{RunSizes, OrderedSizes, resultant-room}
+use Rattle.resultant.specs.Sizes.{RunSizes}
 
 pub sizes-same : {f g w w' : List ℕ} → Scratch w w' → RunSizes f g w → RunSizes f g w'
-sizes-same h s = record { some-f = s .some-f; some-g = s .some-g; working = omega (arith, h .same, s .working) }
+sizes-same h s = record {
+  least-f = s .least-f;
+  most-f = s .most-f;
+  least-g = s .least-g;
+  most-g = s .most-g;
+  working = omega (arith, h .same, s .working);
+}
 
--- the room for the larger degree M serves degrees d and e below it
-smaller-room : (d e M k : ℕ) → d ≤ M → e ≤ M → resultant-room M ≤ k → d + 1 + (e + 1) + room d e ≤ k
-smaller-room d e M k hd he h = omega (arith, mul-le-mul hd hd)
+module _ (n : ℕ) (f g w w₁ w₂ : List ℕ) (two : 2 ≤ n) (s : RunSizes f g w) (near : length f ≤ length g)
+    (lf : Loaded n 0 f w w₁) (lg : Loaded n (length f) g w₁ w₂) where
+  less : length f - 1 ≤ 48
+  less = omega (arith, s .most-f)
 
-pub ordered-asked : {f g w : List ℕ} → RunSizes f g w → length f ≤ length g → OrderedSizes f g w
-ordered-asked {f} {g} {w} s l =
-    let z = smaller-room (length f - 1) (length g - 1) (max (length f - 1) (length g - 1)) (length w) (omega arith) (omega arith) (s .working) in
-    record { some = s .some-f; near = l; working = omega (arith, z, s .some-f, s .some-g) }
+  -- the attempt's room
+  fits : length f + length g + room (length f - 1) (length g - 1) ≤ length w
+  fits = omega (arith, s .working, s .least-f, s .most-f, s .least-g, s .most-g, mul-le-mul less less)
 
-pub swapped-asked : {f g w : List ℕ} → RunSizes f g w → length g < length f → OrderedSizes g f w
-swapped-asked {f} {g} {w} s l =
-    let z = smaller-room (length g - 1) (length f - 1) (max (length f - 1) (length g - 1)) (length w) (omega arith) (omega arith) (s .working) in
-    record { some = s .some-g; near = omega arith; working = omega (arith, z, s .some-f, s .some-g) }
-
-module _ (n : ℕ) (f g w w₁ w₂ : List ℕ) (two : 2 ≤ n) (sz : OrderedSizes f g w) (lf : Loaded n 0 f w w₁) (lg : Loaded n (length f) g w₁ w₂) where
   first : (k : ℕ) → k < length f → getD w₂ (0 + k) 0 ≡ coef f k % n
   first k l = lg .low (0 + k) (omega arith) ∙ lf .mid k l
 
@@ -57,7 +57,7 @@ module _ (n : ℕ) (f g w w₁ w₂ : List ℕ) (two : 2 ≤ n) (sz : OrderedSiz
     near = omega arith;
     first = omega arith;
     second = omega arith;
-    fits = omega (arith, lf .same, lg .same);
+    fits = omega (arith, lf .same, lg .same, fits);
     pair = record {
       first = record { at = λ k l. subst (λ (x : ℕ). x < n) (sym (first k (omega arith))) (mod-lt (coef f k) (omega arith)) };
       second = record { at = λ k l. subst (λ (x : ℕ). x < n) (sym (lg .mid k (omega arith))) (mod-lt (coef g k) (omega arith)) };
@@ -107,7 +107,7 @@ module _ (n : ℕ) (f g w w₁ w₂ : List ℕ) (two : 2 ≤ n) (sz : OrderedSiz
 pub swapped-sign : (n : ℕ) (f g w : List ℕ) → 2 ≤ n → RunSizes f g w → signed n ((length f - 1) * (length g - 1)) (resultant n g f) ≡ resultant n f g
 swapped-sign zero f g w two s = absurd (omega arith)
 swapped-sign (suc m) f g w two s =
-    let lf : length f ≡ length f - 1 + 1 = omega (arith, s .some-f) in
-    let lg : length g ≡ length g - 1 + 1 = omega (arith, s .some-g) in
+    let lf : length f ≡ length f - 1 + 1 = omega (arith, s .least-f) in
+    let lg : length g ≡ length g - 1 + 1 = omega (arith, s .least-g) in
     ap (λ (x : ℕ). signed (suc m) x (resultant (suc m) g f))
     (sym (ap₂ (λ (x y : ℕ). x * y) (deg-of f (length f - 1) lf) (deg-of g (length g - 1) lg))) ∙ sym (resultant-swap m f g)
