@@ -3,7 +3,7 @@
 //   a, d   the divisor: d + 1 words from a on
 //   b, e   the dividend: e + 1 words from b on, where remainder and quotient are left
 //   i      the inverse of the divisor's leading word
-//   s      how many words of the quotient are still to come
+//   s      how many words of the quotient are still to come; c and k, or c and m, are the next two of them
 //
 //   divide          the remainder alone
 //   divide_keeping  the remainder and the quotient
@@ -24,8 +24,8 @@ pub fn divide(w: &mut [u32], n: u32, a: usize, d: usize, b: usize, e: usize, i: 
         s -= 2;
         let c = arithmetic::mul_mod(n, i, w[b + (d + s + 1)]);
         let t = arithmetic::mul_add_mod(n, w[b + (d + s)], n - c, w[a + (d - 1)]);
-        let m = arithmetic::mul_mod(n, i, t);
-        windows::add_pair(w, n, n - c, n - m, a, b + s, d);
+        let k = arithmetic::mul_mod(n, i, t);
+        windows::add_pair(w, n, n - c, n - k, a, b + s, d);
     }
     if s == 0 {
         return;
