@@ -5,7 +5,7 @@
 use mathlib.Core.List.{List}
 use Prim.Native.Nat.{ℕ, _+_, _*_, _/_}
 use Rattle.windows.specs.Window.{Moved, mulBy, quotient-by, reduced-by}
-use Rattle.reduced_units.specs.States.{Solved, Splitter, Cleared}
+use Rattle.reduced_units.specs.States.{Solved, Splitter, UnitCleared}
 use Rattle.reduced_clearing.specs.declared.Clearing.{Clearing}
 use Rattle.reduced_clearing.specs.declared.Clearing.the-variants.{Done, Parts, Next}
 
@@ -19,4 +19,4 @@ pub record ContentTaken (n ν c t pa a pb al : ℕ) (w w' : List ℕ) : Type 0 w
 abbrev pub Clears : ℕ → ℕ → ℕ → ℕ → ℕ → ℕ → ℕ → ℕ → List ℕ → List ℕ → Clearing → Type 0
 Clears n ν t pa a pb al be w w' (Done D) = Solved n ν t pa a pb a al be D w w'
 Clears n ν t pa a pb al be w w' (Parts p q) = Splitter ν p q
-Clears n ν t pa a pb al be w w' (Next c s l) = Cleared n ν t pa a pb al be c s l w w'
+Clears n ν t pa a pb al be w w' (Next c s l) = UnitCleared n ν t pa a pb al be c s l w w'

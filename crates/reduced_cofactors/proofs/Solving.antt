@@ -17,8 +17,8 @@ use Rattle.windows.proofs.Leaf.{lt-or-le, piece-at, piece-over, piece-same, pie
 use Rattle.windows.proofs.Lift.{moved-around, moved-copy, mid-length, was, piece-mid, window, is-now, piece-put, lift-below}
 use Rattle.window_factor.specs.Factors.{LeadingUnit, Given, Factored}
 use Rattle.reduced_multipliers.specs.Leads.{Leads, Completes, NegatedInverse, leads-first, leads-second, inverse-of-negated}
-use Rattle.reduced_products.specs.Products.{MonicAt}
-use Rattle.reduced_units.specs.States.{Places, Multiplier, Stage, Solved, stage-room}
+use Rattle.reduced_products.specs.Products.{MonicAtZero}
+use Rattle.reduced_units.specs.States.{PlacesApart, Multiplier, Stage, Solved, stage-room}
 use Rattle.reduced_units.proofs.Regions.{apart-low, piece-apart, below-apart}
 use Rattle.reduced_cofactors.specs.Cofactors.{Certified, Finished, FactoredAt, monic-place, core-room}
 use Rattle.reduced_quotients.specs.Quotients.{Prepared}

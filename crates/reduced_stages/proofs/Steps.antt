@@ -15,8 +15,8 @@ use Rattle.windows.proofs.Leaf.{lt-or-le, piece-at, piece-over, piece-same, apa
 use Rattle.window_division.specs.Remainders.{Pair, Quotient}
 use Rattle.reduced_multipliers.specs.Leads.{Leads, Completes, Taken, leads-taken}
 use Rattle.reduced_multipliers.specs.Reductions.{reduced-step}
-use Rattle.reduced_products.specs.Products.{Factors, MonicAt, TakenFrom}
-use Rattle.reduced_units.specs.States.{Places, Multiplier, Stage, Solved}
+use Rattle.reduced_products.specs.Products.{Factors, MonicAtZero, TakenFrom}
+use Rattle.reduced_units.specs.States.{PlacesApart, Multiplier, Stage, Solved}
 use Rattle.reduced_stages.specs.Outcomes.{Answers}
 use Rattle.residue.specs.declared.Attempt.{Attempt}
 use Rattle.residue.specs.declared.Attempt.the-variants.{Value, Splits}
@@ -44,7 +44,7 @@ module _ (n ν t pa a pb b al be l : ℕ) (w : List ℕ) (low : b < a) (one : 1 
     apart-be : Apart be (2 * (t + 1)) pa (a + 1)
     apart-be = apart-swap (apart-low pa (a + 1) be (2 * (t + 1)) (omega (arith, st .within, st .places .a-high, st .places .be-low)))
 
-    pub step-monic : MonicAt n t w₁
+    pub step-monic : MonicAtZero n t w₁
     step-monic = monic-apart apart-h (dv .around) (st .monic)
 
     -- what the product asks
