@@ -36,7 +36,16 @@ pub fn content_stage(w: &mut [u32], n: u32, v: u32, p: Places, a: usize, l: usiz
     match reduced_clearing::clear_contents(w, n, v, p, a, l) {
         reduced_clearing::Clearing::Done(d) => Attempt::Value(d),
         reduced_clearing::Clearing::Parts(f, g) => Attempt::Splits(f, g),
-        reduced_clearing::Clearing::Next(c, s, m) => match division_stage(w, n, v / c, p, a, s, 1, m) {
+        reduced_clearing::Clearing::Next(c, s, m) => match division_stage(
+            w,
+            n,
+            v / c,
+            p,
+            a,
+            s,
+            1,
+            m,
+        ) {
             Attempt::Value(d) => Attempt::Value(c * d),
             Attempt::Splits(f, g) => Attempt::Splits(f, g),
         },
@@ -61,6 +70,12 @@ pub fn division_stage(
 {
     window_division::divide_keeping(w, v, p.pb, b, p.pa, a, i);
     let m = reduced_products::take_product(w, n, p.t, p.pa + b, a + 1 - b, p.be, l, p.al);
-    let exchanged = Places { t: p.t, pa: p.pb, pb: p.pa, al: p.be, be: p.al };
+    let exchanged = Places {
+        t: p.t,
+        pa: p.pb,
+        pb: p.pa,
+        al: p.be,
+        be: p.al,
+    };
     content_stage(w, n, v, exchanged, b, m)
 }

@@ -201,8 +201,7 @@ content-stage-division-stage-requires : (t : ℕ) → content-stage-lts.Need-div
 content-stage-division-stage-requires t c κs = let s = c .before .before .before .before .before .before .before in
     let st = s .pre .1 in
     let d = st .degree in
-    let z : s .args .a ≡ s .args .a - 1 + 1 = omega arith in
-    (
+    let z : s .args .a ≡ s .args .a - 1 + 1 = omega arith in (
       omega (arith, s .pre .0),
       record {
         stage = stage-words _ _ _ _ _ _ _ _ _ _ _ _ z st;
@@ -321,8 +320,7 @@ content-stage-division-stage-requires-2 t c κs = let s = c .before .before .bef
     let cl = subst (Clears (s .args .n) (s .args .v) (s .args .p) (s .args .a) (s .args .w .now) (c .before .before .before .before .before .before .clear-contents .last .0)) (v .1) (x .0) in
     let d = cl .degree in
     let f = cl .shorter in
-    let q = quotient-small _ _ _ _ _ _ _ _ _ _ _ _ _ _ (s .pre .1) cl in
-    (
+    let q = quotient-small _ _ _ _ _ _ _ _ _ _ _ _ _ _ (s .pre .1) cl in (
       omega (arith, s .pre .0),
       record {
         stage = cl .stage;
