@@ -19,16 +19,7 @@ use residue::Attempt;
 
 // The cofactors of c, from the multiplier at q + (t + 1): y is that multiplier, and x is the exact quotient over the unit polynomial of
 // k + 1 words at e + 1.
-fn finish(
-    x: &mut [u32],
-    y: &mut [u32],
-    w: &mut [u32],
-    n: u32,
-    d: usize,
-    e: usize,
-    t: usize,
-    c: u32,
-)
+fn finish(x: &mut [u32], y: &mut [u32], w: &mut [u32], n: u32, d: usize, e: usize, t: usize, c: u32)
     requires { ⌜ (t ≤ d) × (FinishAsked n e (monic-place d e) t (d - t) (now w) (now x) (now y)) ⌝ }
     ensures { λ _. ⌜ Finished n e (monic-place d e) t (d - t) c (now (w .entry)) (now (x .exit)) (now (y .exit)) ⌝ }
     ensures { λ _. ⌜ Scratch (now (w .entry)) (now (w .exit)) ⌝ }

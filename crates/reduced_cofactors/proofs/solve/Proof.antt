@@ -42,8 +42,7 @@ finish-requires c κs = let s = c .before .before .before .before .before .befor
     let m = length (c .before .before .before .before .before .before .before .before .before .before .before .before .prepare .last .0) - q in
     let k = c .before .before .before .before .before .before .before .before .content-stage .kept .0 in
     let an = c .before .before .before .before .before .before .before .before .content-stage .ensures in
-    let sv = subst (StageAnswer (s .args .n) (s .args .n) (first-places (s .args .t)) (s .args .t) (s .args .t) (midOf q m (c .before .before .before .before .before .before .before .before .before .before .before .before .prepare .last .0)) (c .before .before .before .before .before .before .before .before .content-stage .last .0)) (c .before .before .before .before .c .given .1) (an .0) in
-    (
+    let sv = subst (StageAnswer (s .args .n) (s .args .n) (first-places (s .args .t)) (s .args .t) (s .args .t) (midOf q m (c .before .before .before .before .before .before .before .before .before .before .before .before .prepare .last .0)) (c .before .before .before .before .before .before .before .before .content-stage .last .0)) (c .before .before .before .before .c .given .1) (an .0) in (
       y,
       record {
         above = p .above;
