@@ -10,6 +10,7 @@
 //   t       the degree of H, monic, where F = U H with a unit polynomial U of degree k = d - t
 //   q       the place of H, behind G at 0 and F at e + 1
 //   x, y    the cofactors of F and of G
+//   w       the window: what it holds afterwards is for no caller to use
 ghost use Prim.Native.Nat.{_-_, _≤_};
 ghost use Rattle.windows.specs.Window.{Scratch};
 ghost use Rattle.reduced_cofactors.specs.Cofactors.{CoreSpace, CoreAsked, CoreCertified, CoreAnswer};

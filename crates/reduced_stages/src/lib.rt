@@ -9,7 +9,8 @@
 //   p.al      the multiplier of A
 //   p.be      the multiplier of B
 //
-// The multipliers have l words, modulo n; A and B are polynomials modulo v, a divisor of n.
+// The multipliers have l words, modulo n; A and B are polynomials modulo v, a divisor of n. A stage keeps H and leaves the multiplier
+// found; the other words of the window are room, of which nothing is promised afterwards.
 ghost use Prim.Native.Nat.{_+_};
 ghost use Rattle.windows.specs.Window.{Kept};
 ghost use Rattle.reduced_units.specs.States.{StageAt};

@@ -21,6 +21,7 @@ ghost use Rattle.window_factor.specs.Factors.{LeadingUnit};
 ghost use Rattle.reduced_units.specs.States.{StageAt};
 ghost use Rattle.reduced_units.specs.Factorings.{SplitAsked, UnitSplit, Negated, OverAsked, OverUnit, UnitTaken};
 
+// Where a stage finds A, B and their multipliers.
 pub struct Places {
     pub t: usize,
     pub pa: usize,
