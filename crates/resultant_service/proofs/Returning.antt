@@ -2,12 +2,13 @@
 use mathlib.Core.Path.{_≡_, refl, sym, _∙_}
 use mathlib.Core.List.{List, [], _∷_}
 use Prim.Native.Nat.{ℕ, _≤_, _<_}
+use native.Mathlib.Omega.{arith}
 use lib.ListN.{length, replicate}
 use Rattle.definitions.specs.Resultants.{resultant}
 use Rattle.refusals.specs.Refusals.{narrow, short, first-refusal, refusals-two}
 use Rattle.refusals.specs.Conditions.{accepted-two}
 use Rattle.refusals.proofs.Statuses.{refused-early, passed-on, too-short, long-enough, refused-value, left-refused}
-use Rattle.resultant.specs.Sizes.{Served}
+use Rattle.resultant.specs.Sizes.{RunSizes}
 use Rattle.resultant_service.specs.ResultantService.{ResultantAnswer}
 
 module _ (n : ℕ) (f g work : List ℕ) (s : ℕ) (e : s ≡ first-refusal (refusals-two narrow n f g)) where
@@ -35,7 +36,7 @@ module _ (n : ℕ) (f g work : List ℕ) (s : ℕ) (e : s ≡ first-refusal (ref
       work-is = ew;
     }
 
-    pub served : 8192 ≤ length work → (2 ≤ n) × Served f g work
+    pub served : 8192 ≤ length work → (2 ≤ n) × RunSizes f g work
     served h =
         let a = accepted-two narrow n f g (sym e ∙ z) in
-        (a .0 .modulus, record { least-f = a .0 .some; most-f = a .0 .few; least-g = a .1 .some; most-g = a .1 .few; working = h })
+        (a .0 .modulus, record { least-f = a .0 .some; most-f = a .0 .few; least-g = a .1 .some; most-g = a .1 .few; working = omega arith })

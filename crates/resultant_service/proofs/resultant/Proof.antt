@@ -20,7 +20,7 @@ returns-3 c =
     let r = c .before .before .before .before .before .before .before .before .before .before in
     done _ _ _ _ (r .refusal-two .result) (r .refusal-two .ensures) (c .before .before .before .before .before .before .before .before .before .if1 .left) (c .before .before .before .before .before .before .before .before .if2 .left)
     (c .before .before .before .before .before .before .run .result) _ (c .before .before .before .before .before .before .run .ensures .0)
-    (c .before .before .wipe .ensures ∙ ap (λ (l : ℕ). replicate l 0) (c .before .before .before .before .before .before .run .ensures .1))
+    (c .before .before .wipe .ensures ∙ ap (λ (l : ℕ). replicate l 0) (c .before .before .before .before .before .before .run .ensures .1 .same))
 
 pub resultant-spec : {M : Type 1} → statement M
 resultant-spec =
