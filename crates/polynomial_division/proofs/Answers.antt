@@ -8,17 +8,16 @@ use mathlib.Core.List.{List, [], _∷_}
 use Prim.Native.Nat.{ℕ, zero, suc, _-_, _+_, _*_, _%_, _≤_}
 use native.Mathlib.Numerals.{add-one}
 use native.Mathlib.Omega.{arith}
-use borrow.Author.Tests.{eqb-true, not-false, not-true, eqb-false}
 use borrow.Rule.Slice.PartMut.{putMid}
 use lib.Dec.{eqb}
 use lib.ListN.{length, getD, take}
 use Rattle.definitions.specs.Polynomials.{coef, deg, quotient-length, Division}
 use Rattle.numbers.specs.Divisors.{GcdCofactor}
 use Rattle.refusals.specs.Refusals.{narrow, Tested, short, first-refusal, refusals-two}
-use Rattle.refusals.specs.Conditions.{Fails, status-zero, short-fails}
+use Rattle.refusals.specs.Conditions.{status-zero, short-fails}
 use Rattle.refusals.proofs.Statuses.{refused-early, passed-on}
 use Rattle.polynomial_tests.specs.Buffers.{deg-is, placed-take, placed-drop}
-use Rattle.polynomial_tests.specs.UnitTests.{is-unit, unit-gcd}
+use Rattle.polynomial_tests.specs.UnitTests.{is-unit, unit-gcd, equal-fails}
 use Rattle.polynomial_division.specs.DivisionService.{DivisionLeft, DivisionAnswer}
 
 -- u is the divisor's common part with n
@@ -27,12 +26,8 @@ late u lq m lr e = (4, not (eqb u 1)) ∷ (6, short lq m) ∷ (6, short lr e) �
 
 pub late-accepted : (u lq m lr e t : ℕ) → t ≡ first-refusal (late u lq m lr e) → t ≡ 0 → (u ≡ 1) × ((m ≤ lq) × (e ≤ lr))
 late-accepted u lq m lr e t is z =
-    let one : Fails (not (eqb u 1)) (u ≡ 1) = record {
-      passed = λ h. eqb-true u 1 (not-false (eqb u 1) h);
-      failed = λ h. eqb-false u 1 (not-true (eqb u 1) h);
-    } in
     let p = status-zero (late u lq m lr e) ((u ≡ 1) ∷ (m ≤ lq) ∷ (e ≤ lr) ∷ [])
-    ((omega arith, one), ((omega arith, short-fails lq m), ((omega arith, short-fails lr e), tt))) .0 (sym is ∙ z) in
+    ((omega arith, equal-fails u 1), ((omega arith, short-fails lq m), ((omega arith, short-fails lr e), tt))) .0 (sym is ∙ z) in
     (p .0, (p .1 .0, p .1 .1 .0))
 
 -- the length of the quotient, as the code has it
