@@ -85,8 +85,8 @@ fn factor_words(
     work: &mut [u32],
 )
     requires { ⌜ FactorsAsked n t i (now f) (now u) (now h) (now work) ⌝ }
-    ensures { λ _. ⌜ UnitTimesMonic n (now (f .entry)) t (now (u .exit)) (now (h .exit)) ⌝ }
     ensures { λ _. ⌜ now (work .exit) ≡ replicate (length (now (work .entry))) 0 ⌝ }
+    ensures { λ _. ⌜ UnitTimesMonic n (now (f .entry)) t (now (u .exit)) (now (h .exit)) ⌝ }
 {
     let d = f.len() - 1;
     windows::load(work, 0, f, n);

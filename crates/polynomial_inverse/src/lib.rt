@@ -16,8 +16,8 @@ use refusals::Answer;
 // The inverse of the unit polynomial f, the inverse of whose constant is i, in the K d + 1 words of out.
 fn inverse_words(n: u32, f: &[u32], i: u32, out: &mut [u32], work: &mut [u32])
     requires { ⌜ InverseAsked n i (now f) (now out) (now work) ⌝ }
-    ensures { λ _. ⌜ InverseOf n (now (f .entry)) (now (out .exit)) ⌝ }
     ensures { λ _. ⌜ now (work .exit) ≡ replicate (length (now (work .entry))) 0 ⌝ }
+    ensures { λ _. ⌜ InverseOf n (now (f .entry)) (now (out .exit)) ⌝ }
 {
     let d = f.len() - 1;
     let m = out.len();

@@ -30,6 +30,7 @@ returns c = let s = c .before .before .before .before .before .before .before .b
     .before .before .before .before .before .load .ensures in
     let fc = c .before .before .before .before .before .before .before .before .before .before .before .before .before .before .before
     .before .unit-times-monic .ensures in (
+      c .before .before .wipe .ensures ∙ ap (λ (x : ℕ). replicate x 0) (fc .around .same ∙ ld .same),
       factors-of (s .args .n) d (s .args .t) (s .args .i) f (s .args .work .now)
           (c .before .before .before .before .before .before .before .before .before .before .before .before .before .before .before
           .before .before .before .before .before .load .last .0)
@@ -37,7 +38,6 @@ returns c = let s = c .before .before .before .before .before .before .before .b
           .before .unit-times-monic .last .0) _ _ (s .pre .modulus) e (s .pre .room) (s .pre .residues) (s .pre .lead) ld fc
           _ _ (s .pre .length-u) (s .pre .length-h) (c .before .before .before .before .before .before .before .before .before .before .before .hand-out
           .ensures) (c .before .before .before .before .before .before .hand-out2 .ensures),
-      c .before .before .wipe .ensures ∙ ap (λ (x : ℕ). replicate x 0) (fc .around .same ∙ ld .same),
     )
 
 pub factor-words-spec : {M : Type 1} → statement M

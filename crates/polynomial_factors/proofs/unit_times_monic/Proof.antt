@@ -151,8 +151,8 @@ returns-3 c = let if2 = c .before .before .before .before .before .before .befor
     (lp .leading-place .result) (cf .cofactor .result .g) (cf .cofactor .result .s) _
     (lp .leading-place .ensures) (cf .cofactor .ensures) (rf .refusal-factors .ensures)
     (if2 .if2 .left) (length (s .f .now) - 0) (length (s .f .now) - 0) (omega arith)
-    (omega arith) _ _ _ (c .before .before .before .before .before .before .factor-words .ensures .0)
-    (c .before .before .before .before .before .before .factor-words .ensures .1)
+    (omega arith) _ _ _ (c .before .before .before .before .before .before .factor-words .ensures .1)
+    (c .before .before .before .before .before .before .factor-words .ensures .0)
 
 pub unit-times-monic-spec : {M : Type 1} → statement M
 unit-times-monic-spec =

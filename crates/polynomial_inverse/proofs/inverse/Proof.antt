@@ -176,8 +176,8 @@ returns-3 c = let if2 = c .before .before .before .before .before .before .befor
     (lp .leading-place .result) (cf .cofactor .result .g) (cf .cofactor .result .s) (mo .modulus-of .result .k) _
     (lp .leading-place .ensures) (cf .cofactor .ensures) (mo .modulus-of .ensures .1) (ri .refusal-inverse .ensures)
     (if2 .if2 .left) (mo .modulus-of .result .k * (length (s .f .now) - 1) + 1 - 0)
-    (omega arith) _ _ (c .before .before .before .before .inverse-words .ensures .0)
-    (c .before .before .before .before .inverse-words .ensures .1)
+    (omega arith) _ _ (c .before .before .before .before .inverse-words .ensures .1)
+    (c .before .before .before .before .inverse-words .ensures .0)
 
 pub inverse-spec : {M : Type 1} → statement M
 inverse-spec =

@@ -19,7 +19,7 @@ series-inverse-requires c κs = let s = c .before .before .before .before .befor
     let e : d + 1 ≡ length f = omega arith in
     let ld = c .before .before .before .load .ensures in
     let inv = s .pre .inverse in (
-      (inv .below, (omega (arith, inv .below), omega (arith, ld .same, s .pre .room))),
+      (omega (arith, inv .below, s .pre .modulus), (omega (arith, inv .below), omega (arith, ld .same, s .pre .room))),
       ap (λ (p : List ℕ). (s .args .i * coef p 0) % s .args .n)
           (loaded-is (s .args .n) d f (s .args .work .now) (c .before .before .before .load .last .0) e (omega (arith, s .pre .room))
           (s .pre .residues) ld)
@@ -35,12 +35,12 @@ returns c = let s = c .before .before .before .before .before .before .before .b
     let ld = c .before .before .before .before .before .before .before .before .before .before .before .before .before .before .before
     .load .ensures in
     let sr = c .before .before .before .before .before .before .before .before .before .before .before .series-inverse .ensures in (
+      c .before .before .wipe .ensures ∙ ap (λ (x : ℕ). replicate x 0) (sr .around .same ∙ ld .same),
       inverse-of (s .args .n) d (s .args .i) (length (s .args .out .now)) f (s .args .work .now)
           (c .before .before .before .before .before .before .before .before .before .before .before .before .before .before .before .load
           .last .0) (c .before .before .before .before .before .before .before .before .before .before .before .series-inverse .last .0) _
           (s .pre .modulus) e (s .pre .length-out) (s .pre .room) (s .pre .residues) (s .pre .unit) (s .pre .inverse) ld sr
           (c .before .before .before .before .before .before .hand-out .ensures),
-      c .before .before .wipe .ensures ∙ ap (λ (x : ℕ). replicate x 0) (sr .around .same ∙ ld .same),
     )
 
 pub inverse-words-spec : {M : Type 1} → statement M
