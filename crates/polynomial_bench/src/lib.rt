@@ -6,7 +6,8 @@ use refusals::Answer;
 
 #[no_mangle]
 pub extern "C" fn polynomial_bench_product(n: u32, f: &[u32], g: &[u32], out: &mut [u32]) -> Answer
-    ensures { λ r. ⌜ ProductAnswer narrow n (now (f .entry)) (now (g .entry)) (now (out .entry)) (now (out .exit)) (r .value) (r .status) ⌝ }
+    ensures { λ r. ⌜ ProductAnswer narrow n (now (f .entry)) (now (g .entry)) (now (out .entry)) (now (out .exit))
+        (r .value) (r .status) ⌝ }
 {
     polynomial_product::product(n, f, g, out)
 }

@@ -40,7 +40,8 @@ left-refused (suc t) n f g q r h = (refl, refl)
 
 module _ (n s : ℕ) (f g q r : List ℕ) (is : s ≡ first-refusal (refusals-two narrow n f g)) where
   tests : List Tested
-  tests = (4, not (is-unit n (coef g (deg g)))) ∷ (6, short (length q) (quotient-length (deg f) (deg g))) ∷ (6, short (length r) (deg g)) ∷ []
+  tests =
+      (4, not (is-unit n (coef g (deg g)))) ∷ (6, short (length q) (quotient-length (deg f) (deg g))) ∷ (6, short (length r) (deg g)) ∷ []
 
   pub division-refused : (s ≡ 0 → ⊥) → DivisionAnswer narrow n f g q q r r 0 s
   unfolding tests

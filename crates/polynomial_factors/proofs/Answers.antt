@@ -32,8 +32,7 @@ pub record LateAccepted (g lu lh len l : ℕ) : Type 0 where
 
 pub late-accepted : (g lu lh len l r : ℕ) → r ≡ first-refusal (late g lu lh len l) → r ≡ 0 → LateAccepted g lu lh len l
 late-accepted g lu lh len l r is z =
-    let p = status-zero (late g lu lh len l) ((g ≡ 1) ∷ (len ≤ lu) ∷ (len ≤ lh) ∷ (8192 ≤ l) ∷ [])
-    (
+    let p = status-zero (late g lu lh len l) ((g ≡ 1) ∷ (len ≤ lu) ∷ (len ≤ lh) ∷ (8192 ≤ l) ∷ []) (
       (omega arith, equal-fails g 1),
       ((omega arith, short-fails lu len), ((omega arith, short-fails lh len), ((omega arith, short-fails l 8192), tt))),
     ) .0 (sym is ∙ z) in

@@ -75,15 +75,7 @@ pub fn hand_out(out: &mut [u32], w: &[u32], a: usize, len: usize)
 // ---- unit times monic
 
 // f = u h, where coefficient t has the inverse i and those above it are nilpotent; u and h have as many words as f.
-fn factor_words(
-    n: u32,
-    f: &[u32],
-    t: usize,
-    i: u32,
-    u: &mut [u32],
-    h: &mut [u32],
-    work: &mut [u32],
-)
+fn factor_words(n: u32, f: &[u32], t: usize, i: u32, u: &mut [u32], h: &mut [u32], work: &mut [u32])
     requires { ⌜ FactorsAsked n t i (now f) (now u) (now h) (now work) ⌝ }
     ensures { λ _. ⌜ now (work .exit) ≡ replicate (length (now (work .entry))) 0 ⌝ }
     ensures { λ _. ⌜ UnitTimesMonic n (now (f .entry)) t (now (u .exit)) (now (h .exit)) ⌝ }

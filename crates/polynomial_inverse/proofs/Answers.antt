@@ -15,7 +15,7 @@ use borrow.Rule.Slice.PartMut.{putMid}
 use lib.Dec.{T, eqb}
 use lib.ListN.{length, getD, replicate}
 use Rattle.definitions.specs.Residues.{K, Inverse}
-use Rattle.definitions.specs.Polynomials.{coef, deg, UnitPolynomial, InverseOf}
+use Rattle.definitions.specs.Polynomials.{coef, UnitPolynomial, InverseOf}
 use Rattle.numbers.specs.Divisors.{GcdCofactor}
 use Rattle.numbers.specs.Units.{cofactor-inverse}
 use Rattle.numbers.specs.Logarithm.{K-below}

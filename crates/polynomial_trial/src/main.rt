@@ -6,7 +6,7 @@
 // Results are lent one word too few, as many as needed, or more; some polynomials are too long or hold a word that is no residue;
 // some working buffers are one word too short.
 ghost use mathlib.Core.Path.{_≡_};
-ghost use Prim.Native.Nat.{_+_, _-_, _*_, _≤_};
+ghost use Prim.Native.Nat.{_≤_};
 ghost use lib.ListN.{length};
 ghost use Rattle.polynomial_trial.specs.Sizes.{Lengths, Rooms};
 use refusals::Answer;
@@ -200,7 +200,10 @@ fn run(
     requires { ⌜ (cut ≤ length (now a)) × (end ≤ length (now work)) ⌝ }
 {
     let r = apply(service, n, f, g, &mut a[0..cut], b, &mut work[0..end]);
-    let s = mix_words(mix(mix(h, r.value), r.status), polynomial_degree::leading(n, f));
+    let s = mix_words(
+        mix(mix(h, r.value), r.status),
+        polynomial_degree::leading(n, f),
+    );
     mix_words(mix_words(mix_words(s, a), b), work)
 }
 

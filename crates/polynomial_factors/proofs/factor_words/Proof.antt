@@ -36,8 +36,8 @@ returns c = let s = c .before .before .before .before .before .before .before .b
           .before .before .before .before .before .load .last .0)
           (c .before .before .before .before .before .before .before .before .before .before .before .before .before .before .before
           .before .unit-times-monic .last .0) _ _ (s .pre .modulus) e (s .pre .room) (s .pre .residues) (s .pre .lead) ld fc
-          _ _ (s .pre .length-u) (s .pre .length-h) (c .before .before .before .before .before .before .before .before .before .before .before .hand-out
-          .ensures) (c .before .before .before .before .before .before .hand-out2 .ensures),
+          _ _ (s .pre .length-u) (s .pre .length-h)
+          (c .before .before .before .before .before .before .before .before .before .before .before .hand-out .ensures) (c .before .before .before .before .before .before .hand-out2 .ensures),
     )
 
 pub factor-words-spec : {M : Type 1} → statement M

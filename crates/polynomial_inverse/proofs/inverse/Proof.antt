@@ -147,7 +147,8 @@ inverse-words-requires c κs = let if2 = c .before .before in
     (length (s .work .now)) _ (ri .refusal-inverse .ensures) (if2 .if2 .left) in
     let u = inverse-unit (s .n) _ (s .f .now) (s .out .now) (s .work .now) (ro .refusal-one .ensures) (if1 .if1 .left) a
     (lp .leading-place .result) (cf .cofactor .result .g) (cf .cofactor .result .s) k _
-    (lp .leading-place .ensures) (cf .cofactor .ensures) (mo .modulus-of .ensures .1) (ri .refusal-inverse .ensures) (b .one) (b .constant) in
+    (lp .leading-place .ensures) (cf .cofactor .ensures) (mo .modulus-of .ensures .1) (ri .refusal-inverse .ensures)
+    (b .one) (b .constant) in
     let e = length-is (s .n) k (s .f .now) (mo .modulus-of .ensures .1) in
     let l = length-small (s .n) k (length (s .f .now)) (omega (arith, a .modulus)) (start .fits .n .fits) (mo .modulus-of .ensures .1)
     (a .few) in
