@@ -34,9 +34,9 @@ late-accepted u lq m lr e t is z =
 pub quotient-is : (f g : List ℕ) (x : ℕ) → x ≡ length f - 1 - (length g - 1) → x + 1 ≡ quotient-length (deg f) (deg g)
 quotient-is f g x e = add-one x ∙ ap suc (e ∙ sym (ap₂ (λ (a b : ℕ). a - b) (deg-is f) (deg-is g)))
 
-left-refused : (t n : ℕ) (f g q r : List ℕ) → (t ≡ 0 → ⊥) → DivisionLeft t n f g q q r r
-left-refused zero n f g q r h = absurd (h refl)
-left-refused (suc t) n f g q r h = (refl, refl)
+nothing-left : (t n : ℕ) (f g q r : List ℕ) → (t ≡ 0 → ⊥) → DivisionLeft t n f g q q r r
+nothing-left zero n f g q r h = absurd (h refl)
+nothing-left (suc t) n f g q r h = (refl, refl)
 
 module _ (n s : ℕ) (f g q r : List ℕ) (is : s ≡ first-refusal (refusals-two narrow n f g)) where
   tests : List Tested
@@ -48,7 +48,7 @@ module _ (n s : ℕ) (f g q r : List ℕ) (is : s ≡ first-refusal (refusals-tw
   division-refused h = record {
     status-is = refused-early (refusals-two narrow n f g) tests s is h;
     value-is = refl;
-    result = left-refused s n f g q r h;
+    result = nothing-left s n f g q r h;
   }
 
   module _ (z : s ≡ 0) (two : 2 ≤ n) (u v x t : ℕ) (cf : GcdCofactor n (getD g (length g - 1) 0) u v)
@@ -67,7 +67,7 @@ module _ (n s : ℕ) (f g q r : List ℕ) (is : s ≡ first-refusal (refusals-tw
     division-late h = record {
       status-is = passed-on (refusals-two narrow n f g) tests s t is z (et ∙ late-is);
       value-is = refl;
-      result = left-refused t n f g q r h;
+      result = nothing-left t n f g q r h;
     }
 
     pub division-done : t ≡ 0 → (k l : ℕ) → k ≡ x + 1 → l ≡ length g - 1 → (ys zs : List ℕ) → Division n f g ys zs
