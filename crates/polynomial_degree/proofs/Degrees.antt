@@ -7,7 +7,7 @@ use native.Mathlib.Omega.{arith}
 use lib.ListN.{length, take}
 use Rattle.definitions.specs.Polynomials.{extent, true-degree}
 use Rattle.refusals.specs.Refusals.{narrow, answered}
-use Rattle.refusals.proofs.Statuses.{refused-value, answered-value}
+use Rattle.refusals.proofs.Statuses.{refused-value}
 use Rattle.polynomial_tests.specs.Buffers.{pred-is}
 use Rattle.polynomial_tests.specs.Counts.{extent-length}
 use Rattle.polynomial_degree.specs.DegreeService.{degree-status, TrueDegreeAnswer, leading-part, LeadingAnswer}

@@ -8,17 +8,16 @@ use mathlib.Core.List.{List, [], _∷_}
 use Prim.Native.Nat.{ℕ, zero, suc, _-_, _+_, _*_, _%_, _≤_}
 use native.Mathlib.Numerals.{add-one}
 use native.Mathlib.Omega.{arith}
-use borrow.Author.Tests.{eqb-true, not-false, not-true, eqb-false}
 use borrow.Rule.Slice.PartMut.{putMid}
 use lib.Dec.{eqb}
 use lib.ListN.{length, getD, take}
 use Rattle.definitions.specs.Polynomials.{coef, deg, quotient-length, Division}
 use Rattle.numbers.specs.Divisors.{GcdCofactor}
 use Rattle.refusals.specs.Refusals.{narrow, Tested, short, first-refusal, refusals-two}
-use Rattle.refusals.specs.Conditions.{Fails, status-zero, short-fails}
+use Rattle.refusals.specs.Conditions.{status-zero, short-fails}
 use Rattle.refusals.proofs.Statuses.{refused-early, passed-on}
 use Rattle.polynomial_tests.specs.Buffers.{deg-is, placed-take, placed-drop}
-use Rattle.polynomial_tests.specs.UnitTests.{is-unit, unit-gcd}
+use Rattle.polynomial_tests.specs.UnitTests.{is-unit, unit-gcd, equal-fails}
 use Rattle.polynomial_division.specs.DivisionService.{DivisionLeft, DivisionAnswer}
 
 -- u is the divisor's common part with n
@@ -27,32 +26,29 @@ late u lq m lr e = (4, not (eqb u 1)) ∷ (6, short lq m) ∷ (6, short lr e) �
 
 pub late-accepted : (u lq m lr e t : ℕ) → t ≡ first-refusal (late u lq m lr e) → t ≡ 0 → (u ≡ 1) × ((m ≤ lq) × (e ≤ lr))
 late-accepted u lq m lr e t is z =
-    let one : Fails (not (eqb u 1)) (u ≡ 1) = record {
-      passed = λ h. eqb-true u 1 (not-false (eqb u 1) h);
-      failed = λ h. eqb-false u 1 (not-true (eqb u 1) h);
-    } in
     let p = status-zero (late u lq m lr e) ((u ≡ 1) ∷ (m ≤ lq) ∷ (e ≤ lr) ∷ [])
-    ((omega arith, one), ((omega arith, short-fails lq m), ((omega arith, short-fails lr e), tt))) .0 (sym is ∙ z) in
+    ((omega arith, equal-fails u 1), ((omega arith, short-fails lq m), ((omega arith, short-fails lr e), tt))) .0 (sym is ∙ z) in
     (p .0, (p .1 .0, p .1 .1 .0))
 
 -- the length of the quotient, as the code has it
 pub quotient-is : (f g : List ℕ) (x : ℕ) → x ≡ length f - 1 - (length g - 1) → x + 1 ≡ quotient-length (deg f) (deg g)
 quotient-is f g x e = add-one x ∙ ap suc (e ∙ sym (ap₂ (λ (a b : ℕ). a - b) (deg-is f) (deg-is g)))
 
-left-refused : (t n : ℕ) (f g q r : List ℕ) → (t ≡ 0 → ⊥) → DivisionLeft t n f g q q r r
-left-refused zero n f g q r h = absurd (h refl)
-left-refused (suc t) n f g q r h = (refl, refl)
+nothing-left : (t n : ℕ) (f g q r : List ℕ) → (t ≡ 0 → ⊥) → DivisionLeft t n f g q q r r
+nothing-left zero n f g q r h = absurd (h refl)
+nothing-left (suc t) n f g q r h = (refl, refl)
 
 module _ (n s : ℕ) (f g q r : List ℕ) (is : s ≡ first-refusal (refusals-two narrow n f g)) where
   tests : List Tested
-  tests = (4, not (is-unit n (coef g (deg g)))) ∷ (6, short (length q) (quotient-length (deg f) (deg g))) ∷ (6, short (length r) (deg g)) ∷ []
+  tests =
+      (4, not (is-unit n (coef g (deg g)))) ∷ (6, short (length q) (quotient-length (deg f) (deg g))) ∷ (6, short (length r) (deg g)) ∷ []
 
   pub division-refused : (s ≡ 0 → ⊥) → DivisionAnswer narrow n f g q q r r 0 s
   unfolding tests
   division-refused h = record {
     status-is = refused-early (refusals-two narrow n f g) tests s is h;
     value-is = refl;
-    result = left-refused s n f g q r h;
+    result = nothing-left s n f g q r h;
   }
 
   module _ (z : s ≡ 0) (two : 2 ≤ n) (u v x t : ℕ) (cf : GcdCofactor n (getD g (length g - 1) 0) u v)
@@ -71,7 +67,7 @@ module _ (n s : ℕ) (f g q r : List ℕ) (is : s ≡ first-refusal (refusals-tw
     division-late h = record {
       status-is = passed-on (refusals-two narrow n f g) tests s t is z (et ∙ late-is);
       value-is = refl;
-      result = left-refused t n f g q r h;
+      result = nothing-left t n f g q r h;
     }
 
     pub division-done : t ≡ 0 → (k l : ℕ) → k ≡ x + 1 → l ≡ length g - 1 → (ys zs : List ℕ) → Division n f g ys zs

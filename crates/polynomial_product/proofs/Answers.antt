@@ -35,11 +35,18 @@ some-word f h = length-fails f .passed h .some
 pub product-length : (f g : List ℕ) → length f - 1 + (length g - 1) + 1 ≡ suc (deg f + deg g)
 product-length f g = add-one (length f - 1 + (length g - 1)) ∙ ap suc (degrees-are f g)
 
-pub accepted-sent : (n s : ℕ) (f g : List ℕ) → s ≡ first-refusal (product-sent narrow n f g) → s ≡ 0 → Accepted narrow n f × Accepted narrow n g
+pub accepted-sent : (n s : ℕ) (f g : List ℕ) → s ≡ first-refusal (product-sent narrow n f g) → s ≡ 0
+    → Accepted narrow n f × Accepted narrow n g
 accepted-sent n s f g is z =
     let p = status-zero (product-sent narrow n f g) (sent-conditions narrow n f g) (sent-listed narrow n f g) .0 (sym is ∙ z) in (
       record { modulus = p .0 .least; bounded = p .0 .most; some = p .1 .0 .some; few = p .1 .0 .few; residues = p .1 .1 .1 .1 .0 },
-      record { modulus = p .0 .least; bounded = p .0 .most; some = p .1 .1 .0 .some; few = p .1 .1 .0 .few; residues = p .1 .1 .1 .1 .1 .0 },
+      record {
+        modulus = p .0 .least;
+        bounded = p .0 .most;
+        some = p .1 .1 .0 .some;
+        few = p .1 .1 .0 .few;
+        residues = p .1 .1 .1 .1 .1 .0;
+      },
     )
 
 module _ (n s : ℕ) (f g out : List ℕ) (is : s ≡ first-refusal (product-sent narrow n f g)) where

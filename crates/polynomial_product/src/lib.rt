@@ -50,7 +50,8 @@ fn product_words(n: u32, f: &[u32], g: &[u32], out: &mut [u32])
 
 // "Product of f and g, of sent degrees d and e: … Its sent degree is d + e, also when its top word comes out zero."
 pub fn product(n: u32, f: &[u32], g: &[u32], out: &mut [u32]) -> Answer
-    ensures { λ r. ⌜ ProductAnswer narrow n (now (f .entry)) (now (g .entry)) (now (out .entry)) (now (out .exit)) (r .value) (r .status) ⌝ }
+    ensures { λ r. ⌜ ProductAnswer narrow n (now (f .entry)) (now (g .entry)) (now (out .entry)) (now (out .exit))
+        (r .value) (r .status) ⌝ }
 {
     let s = refusal_product(n, f, g);
     if s != 0 {

@@ -7,6 +7,7 @@
 --   unit-test, nilpotent-test, lead-test, polynomial-test, and test-unit, …     each test and its meaning are one
 --   lead-unique                 the coefficient t of "unit times monic" is at the leading place
 --   UnitSomewhere               "some coefficient t is a unit and all above it are nilpotent"
+--   fails, equal-fails          a test that is its condition
 --   unit-fails, lead-fails, polynomial-fails    the refusals 4 and 5, each under its condition and no other, modulo any n
 use mathlib.Core.Path.{_≡_, refl, sym, ap, subst, _∙_}
 use mathlib.Core.Bool.{Bool, true, false, not, cond}
@@ -174,8 +175,11 @@ apart : {t : Bool} {A : Type 0} → t ≡ true → t ≡ false → A
 apart {t} p q = absurd (subst T (sym p ∙ q) tt)
 
 -- a condition, and the refusal that comes where its test is false
-fails : (t : Bool) {P : Type 0} → (t ≡ true → P) → (P → t ≡ true) → Fails (not t) P
+pub fails : (t : Bool) {P : Type 0} → (t ≡ true → P) → (P → t ≡ true) → Fails (not t) P
 fails t to from = record { passed = λ e. to (not-false t e); failed = λ e p. apart (from p) (not-true t e) }
+
+pub equal-fails : (a b : ℕ) → Fails (not (eqb a b)) (a ≡ b)
+equal-fails a b = fails (eqb a b) (eqb-true a b) (eq-eqb a b)
 
 -- "4: division, the divisor's top word is not a unit."
 pub unit-fails : (n a : ℕ) → Fails (not (is-unit n a)) (IsUnit n a)

@@ -1,6 +1,5 @@
 use native.Mathlib.Omega.{arith}
 use mathlib.Core.Path.{refl}
-use Prim.Native.Nat.{_-_}
 use borrow.Author.Tests.{eq-eqb, ne-eqb, lt-ltb, le-ltb}
 use Rattle.polynomial_division.proofs.refusal_quotient.Statement.{statement}
 use Rattle.polynomial_division.proofs.refusal_quotient.Tie as tie

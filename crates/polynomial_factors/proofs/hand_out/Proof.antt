@@ -4,7 +4,7 @@ use native.Mathlib.Omega.{arith}
 use lib.ListN.{length}
 use Rattle.definitions.specs.Polynomials.{coef}
 use Rattle.windows.specs.Window.{piece}
-use Rattle.polynomial.proofs.Buffers.{Filled, filled-none, filled-step, filled-end}
+use Rattle.polynomial_tests.specs.Buffers.{Filled, filled-none, filled-step, filled-end}
 use Rattle.polynomial_factors.proofs.hand_out.Statement.{statement}
 use Rattle.polynomial_factors.proofs.hand_out.Tie as tie
 

@@ -1,9 +1,11 @@
 use mathlib.Core.Path.{sym, _∙_}
 use Prim.Native.Nat.{_-_}
 use native.Mathlib.Omega.{arith}
-use lib.ListN.{length}
-use Rattle.refusals.proofs.Accepted.{accepted-one}
-use Rattle.polynomial_factors.proofs.UnitAnswers.{lead-inside, factors-accepted, factors-refused, factors-late, factors-asked, factors-done}
+use lib.ListN.{length, length-take, length-drop}
+use Rattle.refusals.specs.Refusals.{narrow}
+use Rattle.refusals.specs.Conditions.{accepted-one}
+use Rattle.polynomial_factors.proofs.Leads.{lead-inside, leading}
+use Rattle.polynomial_factors.proofs.Answers.{late-accepted, factors-refused, factors-late, factors-done}
 use borrow.Author.Needs.{needs}
 use Rattle.polynomial_factors.proofs.unit_times_monic.Statement.{statement}
 use Rattle.polynomial_factors.proofs.unit_times_monic.Tie as tie
@@ -19,7 +21,7 @@ leading-place-requires c κs = let if1 = c in
     let ro = if1 .before in
     let start = ro .before .before .before .before .before in
     let s = start .args in
-    let a = accepted-one (s .n) (s .f .now) (sym (ro .refusal-one .ensures) ∙ if1 .if1 .left) in
+    let a = accepted-one narrow (s .n) (s .f .now) (sym (ro .refusal-one .ensures) ∙ if1 .if1 .left) in
     a .modulus
 
 mul-cofactor : tie.Need-mul-cofactor
@@ -28,7 +30,7 @@ mul-cofactor c = let lp = c in
     let ro = if1 .before in
     let start = ro .before .before .before .before .before in
     let s = start .args in
-    let a = accepted-one (s .n) (s .f .now) (sym (ro .refusal-one .ensures) ∙ if1 .if1 .left) in
+    let a = accepted-one narrow (s .n) (s .f .now) (sym (ro .refusal-one .ensures) ∙ if1 .if1 .left) in
     record {
       fits = omega (
         arith,
@@ -44,7 +46,7 @@ shared-slice-read-cofactor c = let lp = c .before in
     let ro = if1 .before in
     let start = ro .before .before .before .before .before in
     let s = start .args in
-    let a = accepted-one (s .n) (s .f .now) (sym (ro .refusal-one .ensures) ∙ if1 .if1 .left) in
+    let a = accepted-one narrow (s .n) (s .f .now) (sym (ro .refusal-one .ensures) ∙ if1 .if1 .left) in
     lead-inside (s .n) (lp .leading-place .result) (s .f .now) (a .some) (lp .leading-place .ensures)
 
 cofactor-requires : tie.Need-cofactor-requires
@@ -52,7 +54,7 @@ cofactor-requires c κs = let if1 = c .before .before in
     let ro = if1 .before in
     let start = ro .before .before .before .before .before in
     let s = start .args in
-    let a = accepted-one (s .n) (s .f .now) (sym (ro .refusal-one .ensures) ∙ if1 .if1 .left) in
+    let a = accepted-one narrow (s .n) (s .f .now) (sym (ro .refusal-one .ensures) ∙ if1 .if1 .left) in
     omega (arith, a .modulus)
 
 returns-2 : tie.Need-returns-2
@@ -63,7 +65,7 @@ returns-2 c = let rf = c .before in
     let ro = if1 .before in
     let start = ro .before .before .before .before .before in
     let s = start .args in
-    let a = accepted-one (s .n) (s .f .now) (sym (ro .refusal-one .ensures) ∙ if1 .if1 .left) in
+    let a = accepted-one narrow (s .n) (s .f .now) (sym (ro .refusal-one .ensures) ∙ if1 .if1 .left) in
     factors-late (s .n) _ (s .f .now) (s .u .now) (s .h .now) (s .work .now) (ro .refusal-one .ensures) (if1 .if1 .left) a
     (lp .leading-place .result) (cf .cofactor .result .g) (cf .cofactor .result .s) _
     (lp .leading-place .ensures) (cf .cofactor .ensures) (rf .refusal-factors .ensures)
@@ -78,9 +80,9 @@ part-factor-words-end c = let if2 = c in
     let ro = if1 .before in
     let start = ro .before .before .before .before .before in
     let s = start .args in
-    let z = factors-accepted (cf .cofactor .result .g) (length (s .u .now)) (length (s .h .now)) (length (s .f .now))
+    let z = late-accepted (cf .cofactor .result .g) (length (s .u .now)) (length (s .h .now)) (length (s .f .now))
     (length (s .work .now)) _
-    (rf .refusal-factors .ensures) (if2 .if2 .left) .1 .0 in
+    (rf .refusal-factors .ensures) (if2 .if2 .left) .room-u in
     search needs
 
 part-factor-words-end-2 : tie.Need-part-factor-words-end-2
@@ -92,9 +94,9 @@ part-factor-words-end-2 c = let if2 = c .before in
     let ro = if1 .before in
     let start = ro .before .before .before .before .before in
     let s = start .args in
-    let z = factors-accepted (cf .cofactor .result .g) (length (s .u .now)) (length (s .h .now)) (length (s .f .now))
+    let z = late-accepted (cf .cofactor .result .g) (length (s .u .now)) (length (s .h .now)) (length (s .f .now))
     (length (s .work .now)) _
-    (rf .refusal-factors .ensures) (if2 .if2 .left) .1 .1 .0 in
+    (rf .refusal-factors .ensures) (if2 .if2 .left) .room-h in
     search needs
 
 factor-words-requires : tie.Need-factor-words-requires
@@ -106,11 +108,18 @@ factor-words-requires c κs = let if2 = c .before .before .before in
     let ro = if1 .before in
     let start = ro .before .before .before .before .before in
     let s = start .args in
-    let a = accepted-one (s .n) (s .f .now) (sym (ro .refusal-one .ensures) ∙ if1 .if1 .left) in
-    factors-asked (s .n) _ (s .f .now) (s .u .now) (s .h .now) (s .work .now) (ro .refusal-one .ensures) (if1 .if1 .left) a
-    (lp .leading-place .result) (cf .cofactor .result .g) (cf .cofactor .result .s) _
-    (lp .leading-place .ensures) (cf .cofactor .ensures) (rf .refusal-factors .ensures)
-    (if2 .if2 .left) (length (s .f .now) - 0) (length (s .f .now) - 0) (omega arith) (omega arith)
+    let a = accepted-one narrow (s .n) (s .f .now) (sym (ro .refusal-one .ensures) ∙ if1 .if1 .left) in
+    let b = late-accepted (cf .cofactor .result .g) (length (s .u .now)) (length (s .h .now)) (length (s .f .now)) (length (s .work .now)) _
+    (rf .refusal-factors .ensures) (if2 .if2 .left) in
+    record {
+      modulus = a .modulus;
+      residues = a .residues;
+      lead = leading (s .n) (lp .leading-place .result) (cf .cofactor .result .g) (cf .cofactor .result .s) (s .f .now) (a .modulus)
+          (a .some) (lp .leading-place .ensures) (cf .cofactor .ensures) (b .one);
+      length-u = simp (length-take, length-drop) (omega (arith, b .room-u));
+      length-h = simp (length-take, length-drop) (omega (arith, b .room-h));
+      room = omega (arith, b .working, a .few);
+    }
 
 cast-t14 : tie.Need-cast-t14
 cast-t14 c = let lp = c .before .before .before .before .before .before .before .before .before .before .before .before .before .before in
@@ -118,7 +127,7 @@ cast-t14 c = let lp = c .before .before .before .before .before .before .before 
     let ro = if1 .before in
     let start = ro .before .before .before .before .before in
     let s = start .args in
-    let a = accepted-one (s .n) (s .f .now) (sym (ro .refusal-one .ensures) ∙ if1 .if1 .left) in
+    let a = accepted-one narrow (s .n) (s .f .now) (sym (ro .refusal-one .ensures) ∙ if1 .if1 .left) in
     record {
       fits = omega (
         arith,
@@ -137,13 +146,13 @@ returns-3 c = let if2 = c .before .before .before .before .before .before .befor
     let ro = if1 .before in
     let start = ro .before .before .before .before .before in
     let s = start .args in
-    let a = accepted-one (s .n) (s .f .now) (sym (ro .refusal-one .ensures) ∙ if1 .if1 .left) in
+    let a = accepted-one narrow (s .n) (s .f .now) (sym (ro .refusal-one .ensures) ∙ if1 .if1 .left) in
     factors-done (s .n) _ (s .f .now) (s .u .now) (s .h .now) (s .work .now) (ro .refusal-one .ensures) (if1 .if1 .left) a
     (lp .leading-place .result) (cf .cofactor .result .g) (cf .cofactor .result .s) _
     (lp .leading-place .ensures) (cf .cofactor .ensures) (rf .refusal-factors .ensures)
     (if2 .if2 .left) (length (s .f .now) - 0) (length (s .f .now) - 0) (omega arith)
-    (omega arith) _ _ _ (c .before .before .before .before .before .before .factor-words .ensures .0)
-    (c .before .before .before .before .before .before .factor-words .ensures .1)
+    (omega arith) _ _ _ (c .before .before .before .before .before .before .factor-words .ensures .1)
+    (c .before .before .before .before .before .before .factor-words .ensures .0)
 
 pub unit-times-monic-spec : {M : Type 1} → statement M
 unit-times-monic-spec =

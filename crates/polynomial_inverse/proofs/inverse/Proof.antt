@@ -1,9 +1,11 @@
 use mathlib.Core.Path.{sym, _∙_}
 use Prim.Native.Nat.{_+_, _-_, _*_}
 use native.Mathlib.Omega.{arith}
-use lib.ListN.{length}
-use Rattle.refusals.proofs.Accepted.{accepted-one}
-use Rattle.polynomial_inverse.proofs.UnitAnswers.{lead-inside, inverse-small, inverse-accepted, inverse-refused, inverse-late, inverse-asked, inverse-done}
+use lib.ListN.{length, length-take, length-drop}
+use Rattle.refusals.specs.Refusals.{narrow}
+use Rattle.refusals.specs.Conditions.{accepted-one}
+use Rattle.polynomial_factors.proofs.Leads.{lead-inside}
+use Rattle.polynomial_inverse.proofs.Answers.{late-accepted, length-is, length-small, inverse-refused, inverse-late, inverse-unit, inverse-done}
 use borrow.Author.Needs.{needs}
 use Rattle.polynomial_inverse.proofs.inverse.Statement.{statement}
 use Rattle.polynomial_inverse.proofs.inverse.Tie as tie
@@ -19,7 +21,7 @@ leading-place-requires c κs = let if1 = c in
     let ro = if1 .before in
     let start = ro .before .before .before .before in
     let s = start .args in
-    let a = accepted-one (s .n) (s .f .now) (sym (ro .refusal-one .ensures) ∙ if1 .if1 .left) in
+    let a = accepted-one narrow (s .n) (s .f .now) (sym (ro .refusal-one .ensures) ∙ if1 .if1 .left) in
     a .modulus
 
 mul-cofactor : tie.Need-mul-cofactor
@@ -28,7 +30,7 @@ mul-cofactor c = let lp = c in
     let ro = if1 .before in
     let start = ro .before .before .before .before in
     let s = start .args in
-    let a = accepted-one (s .n) (s .f .now) (sym (ro .refusal-one .ensures) ∙ if1 .if1 .left) in
+    let a = accepted-one narrow (s .n) (s .f .now) (sym (ro .refusal-one .ensures) ∙ if1 .if1 .left) in
     record {
       fits = omega (
         arith,
@@ -44,7 +46,7 @@ shared-slice-read-cofactor c = let lp = c .before in
     let ro = if1 .before in
     let start = ro .before .before .before .before in
     let s = start .args in
-    let a = accepted-one (s .n) (s .f .now) (sym (ro .refusal-one .ensures) ∙ if1 .if1 .left) in
+    let a = accepted-one narrow (s .n) (s .f .now) (sym (ro .refusal-one .ensures) ∙ if1 .if1 .left) in
     lead-inside (s .n) (lp .leading-place .result) (s .f .now) (a .some) (lp .leading-place .ensures)
 
 cofactor-requires : tie.Need-cofactor-requires
@@ -52,7 +54,7 @@ cofactor-requires c κs = let if1 = c .before .before in
     let ro = if1 .before in
     let start = ro .before .before .before .before in
     let s = start .args in
-    let a = accepted-one (s .n) (s .f .now) (sym (ro .refusal-one .ensures) ∙ if1 .if1 .left) in
+    let a = accepted-one narrow (s .n) (s .f .now) (sym (ro .refusal-one .ensures) ∙ if1 .if1 .left) in
     omega (arith, a .modulus)
 
 sub-l : tie.Need-sub-l
@@ -60,7 +62,7 @@ sub-l c = let if1 = c .before .before .before .before .before in
     let ro = if1 .before in
     let start = ro .before .before .before .before in
     let s = start .args in
-    let a = accepted-one (s .n) (s .f .now) (sym (ro .refusal-one .ensures) ∙ if1 .if1 .left) in
+    let a = accepted-one narrow (s .n) (s .f .now) (sym (ro .refusal-one .ensures) ∙ if1 .if1 .left) in
     a .some
 
 mul-l : tie.Need-mul-l
@@ -71,11 +73,11 @@ mul-l c = let mo = c .before in
     let ro = if1 .before in
     let start = ro .before .before .before .before in
     let s = start .args in
-    let a = accepted-one (s .n) (s .f .now) (sym (ro .refusal-one .ensures) ∙ if1 .if1 .left) in
+    let a = accepted-one narrow (s .n) (s .f .now) (sym (ro .refusal-one .ensures) ∙ if1 .if1 .left) in
     record {
       fits = omega (
         arith,
-        inverse-small (s .n) (mo .modulus-of .result .k) (length (s .f .now)) (omega (arith, a .modulus))
+        length-small (s .n) (mo .modulus-of .result .k) (length (s .f .now)) (omega (arith, a .modulus))
             (start .fits .n .fits)
             (mo .modulus-of .ensures .1) (a .few),
       );
@@ -89,11 +91,11 @@ add-l c = let mo = c .before in
     let ro = if1 .before in
     let start = ro .before .before .before .before in
     let s = start .args in
-    let a = accepted-one (s .n) (s .f .now) (sym (ro .refusal-one .ensures) ∙ if1 .if1 .left) in
+    let a = accepted-one narrow (s .n) (s .f .now) (sym (ro .refusal-one .ensures) ∙ if1 .if1 .left) in
     record {
       fits = omega (
         arith,
-        inverse-small (s .n) (mo .modulus-of .result .k) (length (s .f .now)) (omega (arith, a .modulus))
+        length-small (s .n) (mo .modulus-of .result .k) (length (s .f .now)) (omega (arith, a .modulus))
             (start .fits .n .fits)
             (mo .modulus-of .ensures .1) (a .few),
       );
@@ -108,7 +110,7 @@ returns-2 c = let ri = c .before in
     let ro = if1 .before in
     let start = ro .before .before .before .before in
     let s = start .args in
-    let a = accepted-one (s .n) (s .f .now) (sym (ro .refusal-one .ensures) ∙ if1 .if1 .left) in
+    let a = accepted-one narrow (s .n) (s .f .now) (sym (ro .refusal-one .ensures) ∙ if1 .if1 .left) in
     inverse-late (s .n) _ (s .f .now) (s .out .now) (s .work .now) (ro .refusal-one .ensures) (if1 .if1 .left) a
     (lp .leading-place .result) (cf .cofactor .result .g) (cf .cofactor .result .s) (mo .modulus-of .result .k) _
     (lp .leading-place .ensures) (cf .cofactor .ensures) (mo .modulus-of .ensures .1) (ri .refusal-inverse .ensures)
@@ -124,9 +126,9 @@ part-inverse-words-end c = let if2 = c in
     let ro = if1 .before in
     let start = ro .before .before .before .before in
     let s = start .args in
-    let z = inverse-accepted (cf .cofactor .result .g) (lp .leading-place .result) (length (s .out .now))
+    let z = late-accepted (cf .cofactor .result .g) (lp .leading-place .result) (length (s .out .now))
     (mo .modulus-of .result .k * (length (s .f .now) - 1) + 1) (length (s .work .now)) _ (ri .refusal-inverse .ensures)
-    (if2 .if2 .left) .1 .0 in
+    (if2 .if2 .left) .room in
     search needs
 
 inverse-words-requires : tie.Need-inverse-words-requires
@@ -139,11 +141,26 @@ inverse-words-requires c κs = let if2 = c .before .before in
     let ro = if1 .before in
     let start = ro .before .before .before .before in
     let s = start .args in
-    let a = accepted-one (s .n) (s .f .now) (sym (ro .refusal-one .ensures) ∙ if1 .if1 .left) in
-    inverse-asked (s .n) _ (s .f .now) (s .out .now) (s .work .now) (ro .refusal-one .ensures) (if1 .if1 .left) a
-    (lp .leading-place .result) (cf .cofactor .result .g) (cf .cofactor .result .s) (mo .modulus-of .result .k) _
+    let a = accepted-one narrow (s .n) (s .f .now) (sym (ro .refusal-one .ensures) ∙ if1 .if1 .left) in
+    let k = mo .modulus-of .result .k in
+    let b = late-accepted (cf .cofactor .result .g) (lp .leading-place .result) (length (s .out .now)) (k * (length (s .f .now) - 1) + 1)
+    (length (s .work .now)) _ (ri .refusal-inverse .ensures) (if2 .if2 .left) in
+    let u = inverse-unit (s .n) _ (s .f .now) (s .out .now) (s .work .now) (ro .refusal-one .ensures) (if1 .if1 .left) a
+    (lp .leading-place .result) (cf .cofactor .result .g) (cf .cofactor .result .s) k _
     (lp .leading-place .ensures) (cf .cofactor .ensures) (mo .modulus-of .ensures .1) (ri .refusal-inverse .ensures)
-    (if2 .if2 .left) (start .fits .n .fits) (mo .modulus-of .result .k * (length (s .f .now) - 1) + 1 - 0) (omega arith)
+    (b .one) (b .constant) in
+    let e = length-is (s .n) k (s .f .now) (mo .modulus-of .ensures .1) in
+    let l = length-small (s .n) k (length (s .f .now)) (omega (arith, a .modulus)) (start .fits .n .fits) (mo .modulus-of .ensures .1)
+    (a .few) in
+    record {
+      modulus = a .modulus;
+      some = a .some;
+      residues = a .residues;
+      unit = u .0;
+      inverse = u .1;
+      length-out = simp (length-take, length-drop) (omega (arith, b .room, e));
+      room = simp (length-take, length-drop) (omega (arith, b .working, b .room, a .few, l));
+    }
 
 returns-3 : tie.Need-returns-3
 returns-3 c = let if2 = c .before .before .before .before .before .before .before in
@@ -155,13 +172,13 @@ returns-3 c = let if2 = c .before .before .before .before .before .before .befor
     let ro = if1 .before in
     let start = ro .before .before .before .before in
     let s = start .args in
-    let a = accepted-one (s .n) (s .f .now) (sym (ro .refusal-one .ensures) ∙ if1 .if1 .left) in
+    let a = accepted-one narrow (s .n) (s .f .now) (sym (ro .refusal-one .ensures) ∙ if1 .if1 .left) in
     inverse-done (s .n) _ (s .f .now) (s .out .now) (s .work .now) (ro .refusal-one .ensures) (if1 .if1 .left) a
     (lp .leading-place .result) (cf .cofactor .result .g) (cf .cofactor .result .s) (mo .modulus-of .result .k) _
     (lp .leading-place .ensures) (cf .cofactor .ensures) (mo .modulus-of .ensures .1) (ri .refusal-inverse .ensures)
     (if2 .if2 .left) (mo .modulus-of .result .k * (length (s .f .now) - 1) + 1 - 0)
-    (omega arith) _ _ (c .before .before .before .before .inverse-words .ensures .0)
-    (c .before .before .before .before .inverse-words .ensures .1)
+    (omega arith) _ _ (c .before .before .before .before .inverse-words .ensures .1)
+    (c .before .before .before .before .inverse-words .ensures .0)
 
 pub inverse-spec : {M : Type 1} → statement M
 inverse-spec =

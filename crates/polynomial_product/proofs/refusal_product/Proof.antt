@@ -1,6 +1,5 @@
 use native.Mathlib.Omega.{arith}
 use borrow.Author.Tests.{not-true, not-false}
-use Prim.Native.Nat.{_-_}
 use mathlib.Core.Path.{refl, sym, _∙_}
 use Rattle.polynomial_product.proofs.Answers.{some-word, degrees-over, degrees-within}
 use borrow.Author.Needs.{needs}
@@ -26,7 +25,11 @@ returns-3 c = let if3 = c in
     let bl = if2 .before in
     let if1 = bl .before in
     let bm = if1 .before in
-    simp (sym (bm .bad-modulus .ensures) ∙ if1 .if1 .left, sym (bl .bad-length .ensures) ∙ if2 .if2 .left, sym (bl2 .bad-length2 .ensures) ∙ if3 .if3 .taken) refl
+    simp (
+      sym (bm .bad-modulus .ensures) ∙ if1 .if1 .left,
+      sym (bl .bad-length .ensures) ∙ if2 .if2 .left,
+      sym (bl2 .bad-length2 .ensures) ∙ if3 .if3 .taken,
+    ) refl
 
 sub-if4 : tie.Need-sub-if4
 sub-if4 c = let if3 = c in
@@ -57,7 +60,12 @@ returns-4 c = let if4 = c in
     let if1 = bl .before in
     let bm = if1 .before in
     let s = bm .before .before .before .args in
-    simp (sym (bm .bad-modulus .ensures) ∙ if1 .if1 .left, sym (bl .bad-length .ensures) ∙ if2 .if2 .left, sym (bl2 .bad-length2 .ensures) ∙ if3 .if3 .left, degrees-over (s .f .now) (s .g .now) (omega arith)) refl
+    simp (
+      sym (bm .bad-modulus .ensures) ∙ if1 .if1 .left,
+      sym (bl .bad-length .ensures) ∙ if2 .if2 .left,
+      sym (bl2 .bad-length2 .ensures) ∙ if3 .if3 .left,
+      degrees-over (s .f .now) (s .g .now) (omega arith),
+    ) refl
 
 returns-5 : tie.Need-returns-5
 returns-5 c = let if5 = c in
@@ -70,7 +78,13 @@ returns-5 c = let if5 = c in
     let if1 = bl .before in
     let bm = if1 .before in
     let s = bm .before .before .before .args in
-    simp (sym (bm .bad-modulus .ensures) ∙ if1 .if1 .left, sym (bl .bad-length .ensures) ∙ if2 .if2 .left, sym (bl2 .bad-length2 .ensures) ∙ if3 .if3 .left, degrees-within (s .f .now) (s .g .now) (omega arith), sym (ab .all-below .ensures) ∙ not-true _ (if5 .if5 .taken)) refl
+    simp (
+      sym (bm .bad-modulus .ensures) ∙ if1 .if1 .left,
+      sym (bl .bad-length .ensures) ∙ if2 .if2 .left,
+      sym (bl2 .bad-length2 .ensures) ∙ if3 .if3 .left,
+      degrees-within (s .f .now) (s .g .now) (omega arith),
+      sym (ab .all-below .ensures) ∙ not-true _ (if5 .if5 .taken),
+    ) refl
 
 returns-6 : tie.Need-returns-6
 returns-6 c = let if6 = c in
@@ -85,7 +99,14 @@ returns-6 c = let if6 = c in
     let if1 = bl .before in
     let bm = if1 .before in
     let s = bm .before .before .before .args in
-    simp (sym (bm .bad-modulus .ensures) ∙ if1 .if1 .left, sym (bl .bad-length .ensures) ∙ if2 .if2 .left, sym (bl2 .bad-length2 .ensures) ∙ if3 .if3 .left, degrees-within (s .f .now) (s .g .now) (omega arith), sym (ab .all-below .ensures) ∙ not-false _ (if5 .if5 .left), sym (ab2 .all-below2 .ensures) ∙ if6 .if6 .taken) refl
+    simp (
+      sym (bm .bad-modulus .ensures) ∙ if1 .if1 .left,
+      sym (bl .bad-length .ensures) ∙ if2 .if2 .left,
+      sym (bl2 .bad-length2 .ensures) ∙ if3 .if3 .left,
+      degrees-within (s .f .now) (s .g .now) (omega arith),
+      sym (ab .all-below .ensures) ∙ not-false _ (if5 .if5 .left),
+      sym (ab2 .all-below2 .ensures) ∙ if6 .if6 .taken,
+    ) refl
 
 returns-7 : tie.Need-returns-7
 returns-7 c = let if6 = c in
@@ -100,7 +121,14 @@ returns-7 c = let if6 = c in
     let if1 = bl .before in
     let bm = if1 .before in
     let s = bm .before .before .before .args in
-    simp (sym (bm .bad-modulus .ensures) ∙ if1 .if1 .left, sym (bl .bad-length .ensures) ∙ if2 .if2 .left, sym (bl2 .bad-length2 .ensures) ∙ if3 .if3 .left, degrees-within (s .f .now) (s .g .now) (omega arith), sym (ab .all-below .ensures) ∙ not-false _ (if5 .if5 .left), sym (ab2 .all-below2 .ensures) ∙ if6 .if6 .left) refl
+    simp (
+      sym (bm .bad-modulus .ensures) ∙ if1 .if1 .left,
+      sym (bl .bad-length .ensures) ∙ if2 .if2 .left,
+      sym (bl2 .bad-length2 .ensures) ∙ if3 .if3 .left,
+      degrees-within (s .f .now) (s .g .now) (omega arith),
+      sym (ab .all-below .ensures) ∙ not-false _ (if5 .if5 .left),
+      sym (ab2 .all-below2 .ensures) ∙ if6 .if6 .left,
+    ) refl
 
 pub refusal-product-spec : {M : Type 1} → statement M
 refusal-product-spec =

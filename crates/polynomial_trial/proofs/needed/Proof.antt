@@ -15,8 +15,8 @@ add-result-3 c = let z = longest (c .before .modulus-of .result .k) (c .before .
     (omega arith) in
     record { fits = omega arith }
 
-returns-5 : tie.Need-returns-5
-returns-5 c = let z = longest (c .before .modulus-of .result .k) (c .before .before .before .before .before .args .l) (omega arith)
+returns-6 : tie.Need-returns-6
+returns-6 c = let z = longest (c .before .modulus-of .result .k) (c .before .before .before .before .before .args .l) (omega arith)
     (omega arith) in
     (omega arith, omega arith)
 
@@ -27,7 +27,7 @@ needed-spec =
     (λ c. search needs)
     (λ c. search needs)
     (λ c. search needs)
-    (λ c κs. search needs)
+    (λ c. search needs)
     (λ c. search needs)
     (λ c. search needs)
     (λ c. search needs)
@@ -37,4 +37,4 @@ needed-spec =
     (λ c. search needs)
     mul-result
     add-result-3
-    returns-5)
+    returns-6)
