@@ -1,13 +1,13 @@
 -- The resultant's promise at each place where it returns.
-use mathlib.Core.Path.{_≡_, refl, sym, _∙_}
+use mathlib.Core.Path.{_≡_, refl, sym, ap, _∙_}
 use mathlib.Core.List.{List, [], _∷_}
 use Prim.Native.Nat.{ℕ, _≤_, _<_}
 use native.Mathlib.Omega.{arith}
 use lib.ListN.{length, replicate}
 use Rattle.definitions.specs.Resultants.{resultant}
-use Rattle.refusals.specs.Refusals.{narrow, short, first-refusal, refusals-two}
+use Rattle.refusals.specs.Refusals.{narrow, short, first-refusal, refusals-two, left}
 use Rattle.refusals.specs.Conditions.{accepted-two}
-use Rattle.refusals.proofs.Statuses.{refused-early, passed-on, too-short, long-enough, refused-value, left-refused}
+use Rattle.refusals.proofs.Statuses.{refused-early, passed-on, too-short, long-enough, refused-value, answered-value, left-refused}
 use Rattle.resultant.specs.Sizes.{RunSizes}
 use Rattle.resultant_service.specs.ResultantService.{ResultantAnswer}
 
@@ -28,12 +28,12 @@ module _ (n : ℕ) (f g work : List ℕ) (s : ℕ) (e : s ≡ first-refusal (ref
     }
 
     pub done : 8192 ≤ length work → (r : ℕ) (work' : List ℕ) → r ≡ resultant n f g → work' ≡ replicate (length work) 0
-        → ResultantAnswer narrow n f g work work' r 0
-    done h r work' er ew = record {
-      status-is = passed-on (refusals-two narrow n f g) ((7, short (length work) 8192) ∷ []) s 0 e z
+        → (x y : ℕ) → (x ≡ r) × (y ≡ 0) → ResultantAnswer narrow n f g work work' x y
+    done h r work' er ew x y i = record {
+      status-is = i .1 ∙ passed-on (refusals-two narrow n f g) ((7, short (length work) 8192) ∷ []) s 0 e z
           (long-enough 7 (length work) 8192 [] 0 h refl);
-      value-is = er;
-      work-is = ew;
+      value-is = answered-value y (resultant n f g) x (i .1) (i .0 ∙ er);
+      work-is = ew ∙ ap (λ (t : ℕ). left t work) (sym (i .1));
     }
 
     pub served : 8192 ≤ length work → (2 ≤ n) × RunSizes f g work

@@ -17,10 +17,13 @@ run-requires c κs = served _ _ _ _ (c .before .before .before .refusal-two .res
 
 returns-3 : tie.Need-returns-3
 returns-3 c =
-    let r = c .before .before .before .before .before .before .before .before .before .before in
-    done _ _ _ _ (r .refusal-two .result) (r .refusal-two .ensures) (c .before .before .before .before .before .before .before .before .before .if1 .left) (c .before .before .before .before .before .before .before .before .if2 .left)
-    (c .before .before .before .before .before .before .run .result) _ (c .before .before .before .before .before .before .run .ensures .0)
-    (c .before .before .wipe .ensures ∙ ap (λ (l : ℕ). replicate l 0) (c .before .before .before .before .before .before .run .ensures .1 .same))
+    let last = c .before .before in
+    let r = last .before .before .before .before in
+    let two = r .before .before in
+    let i = two .before in
+    done _ _ _ _ (i .before .refusal-two .result) (i .before .refusal-two .ensures) (i .if1 .left) (two .if2 .left) (r .run .result) _
+    (r .run .ensures .0) (last .answered .ensures .1 ∙ ap (λ (l : ℕ). replicate l 0) (r .run .ensures .1 .same)) _ _
+    (last .answered .ensures .0)
 
 pub resultant-spec : {M : Type 1} → statement M
 resultant-spec =
