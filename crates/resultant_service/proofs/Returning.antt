@@ -36,7 +36,15 @@ module _ (n : ℕ) (f g work : List ℕ) (s : ℕ) (e : s ≡ first-refusal (ref
       work-is = ew ∙ ap (λ (t : ℕ). left t work) (sym (i .1));
     }
 
-    pub served : 8192 ≤ length work → (2 ≤ n) × RunSizes f g work
+    pub modulus-two : 2 ≤ n
+    modulus-two = accepted-two narrow n f g (sym e ∙ z) .0 .modulus
+
+    pub served : 8192 ≤ length work → RunSizes f g work
     served h =
         let a = accepted-two narrow n f g (sym e ∙ z) in
-        (a .0 .modulus, record { least-f = a .0 .some; most-f = a .0 .few; least-g = a .1 .some; most-g = a .1 .few; working = omega arith })
+        record { least-f = a .0 .some; most-f = a .0 .few; least-g = a .1 .some; most-g = a .1 .few; working = omega arith }
+
+    pub served-turned : 8192 ≤ length work → RunSizes g f work
+    served-turned h =
+        let a = served h in
+        record { least-f = a .least-g; most-f = a .most-g; least-g = a .least-f; most-g = a .most-f; working = a .working }

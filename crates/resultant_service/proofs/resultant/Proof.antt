@@ -1,7 +1,7 @@
 use mathlib.Core.Path.{_∙_, ap}
 use Prim.Native.Nat.{ℕ}
 use lib.ListN.{replicate}
-use Rattle.resultant_service.proofs.Returning.{refused, work-short, done, served}
+use Rattle.resultant_service.proofs.Returning.{refused, work-short, done, modulus-two, served, served-turned}
 use borrow.Author.Needs.{needs}
 use Rattle.resultant_service.proofs.resultant.Statement.{statement}
 use Rattle.resultant_service.proofs.resultant.Tie as tie
@@ -12,8 +12,20 @@ returns c = refused _ _ _ _ (c .before .refusal-two .result) (c .before .refusal
 returns-2 : tie.Need-returns-2
 returns-2 c = work-short _ _ _ _ (c .before .before .refusal-two .result) (c .before .before .refusal-two .ensures) (c .before .if1 .left) (c .if2 .taken)
 
+-- whichever of the two comes first
 run-requires : tie.Need-run-requires
-run-requires c κs = served _ _ _ _ (c .before .before .before .refusal-two .result) (c .before .before .before .refusal-two .ensures) (c .before .before .if1 .left) (c .before .if2 .left)
+run-requires c κs =
+    let two = c .before in
+    let i = two .before in
+    let s = i .before .refusal-two .result in
+    let e = i .before .refusal-two .ensures in
+    let x = i .before .before .before .before .before .args in (
+      modulus-two (x .n) (x .f .now) (x .g .now) (x .work .now) s e (i .if1 .left),
+      search (
+        served (x .n) (x .f .now) (x .g .now) (x .work .now) s e (i .if1 .left) (two .if2 .left),
+        served-turned (x .n) (x .f .now) (x .g .now) (x .work .now) s e (i .if1 .left) (two .if2 .left),
+      ),
+    )
 
 returns-3 : tie.Need-returns-3
 returns-3 c =
