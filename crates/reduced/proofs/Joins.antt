@@ -21,10 +21,10 @@ use Rattle.windows.specs.Window.{piece, Around}
 use Rattle.windows.proofs.Leaf.{lt-or-le, piece-at, piece-over}
 use Rattle.windows.proofs.Lift.{window}
 use Rattle.window_factor.specs.Factors.{SplitOf}
-use Rattle.reduced_multipliers.specs.Joining.{Mixed as MixedModulo, combination-content, combination-flip, combination-same, combination-joined}
+use Rattle.reduced_multipliers.specs.Joining.{combination-content, combination-flip, combination-same, combination-joined}
 use Rattle.reduced_cofactors.specs.Cofactors.{Certified, core-room}
 use Rattle.reduced_quotients.proofs.Divisions.{zeros-at}
-use Rattle.reduced.specs.Runs.{Mixed, Saved, Merged, run-room}
+use Rattle.reduced.specs.Runs.{MixedWords, Saved, Merged, run-room}
 
 -- ---- rooms
 
@@ -84,7 +84,7 @@ scalar-second p q r y x none e =
     c-trans (c-trans (c-eq e) (c-dvd (dvd-mul-left q p) (c-mod (r * y)))) (c-trans (c-mul (record { same = none ∙ sym (zero-mod q) }) (c-refl {a = y})) (c-eq (zero-mul y))) .same ∙ zero-mod q
 
 pub merged-of : (p q l D₁ D₂ r s a b : ℕ) (w u u' v v' : List ℕ) → r % p ≡ 1 % p → r % q ≡ 0 → s % q ≡ 1 % q → s % p ≡ 0 → a ≡ (r * D₂) % (p * q) → b ≡ (s * D₁) % (p * q)
-    → Mixed (p * q) a b (piece w 0 l) u u' → Mixed (p * q) a b (piece w l l) v v' → Merged p q l D₁ D₂ w u u' v v'
+    → MixedWords (p * q) a b (piece w 0 l) u u' → MixedWords (p * q) a b (piece w l l) v v' → Merged p q l D₁ D₂ w u u' v v'
 merged-of p q l D₁ D₂ r s a b w u u' v v' r₁ r₂ s₂ s₁ ea eb mu mv = record {
   a = a;
   b = b;

@@ -15,7 +15,7 @@ use Rattle.numbers.specs.Congruence.{Cong, c-refl, c-trans, c-eq, c-add, c-mod}
 use Rattle.theory.specs.ReachedSteps.{coef-beyond}
 use Rattle.windows.specs.Window.{piece, Moved, mulBy, Loaded}
 use Rattle.windows.proofs.Leaf.{lt-or-le, piece-at, piece-length}
-use Rattle.reduced.specs.Runs.{Mixed, Saved}
+use Rattle.reduced.specs.Runs.{MixedWords, Saved}
 
 -- ---- mixing: the first j words have gained a times those of s
 
@@ -35,7 +35,7 @@ adding-step {n} {a} {j} {s} {u₀} {u} {v} x inside e = record {
   rest = λ k h. getD-set-other u j k v 0 (omega arith) ∙ x .rest k (omega arith);
 }
 
-pub mixed-end : (n a b j z : ℕ) (s u u₁ u₂ : List ℕ) → z ≡ length u → length s ≤ length u → j ≡ length s → Moved (mulBy n b) 0 0 z u u₁ → Adding n a j s u₁ u₂ → Mixed n a b s u u₂
+pub mixed-end : (n a b j z : ℕ) (s u u₁ u₂ : List ℕ) → z ≡ length u → length s ≤ length u → j ≡ length s → Moved (mulBy n b) 0 0 z u u₁ → Adding n a j s u₁ u₂ → MixedWords n a b s u u₂
 mixed-end n a b j z s u u₁ u₂ ez short ej mv ad = record {
   at = λ k. ⊎-elim
       (λ h. ad .done k (omega arith) ∙ ap (λ (x : ℕ). (x + a * coef s k) % n) (scaled k) ∙ turn (b * coef u k) (a * coef s k))
@@ -59,6 +59,7 @@ saved-of n l u v w w₁ w₂ fits fu fv lu lv = record {
   same = lv .same ∙ lu .same;
   first = λ k h. lv .low k h ∙ ap (λ (x : ℕ). getD w₁ x 0) (sym (zero-add k)) ∙ lu .mid k (omega (arith, piece-length u 0 l (omega arith))) ∙ ap (λ (x : ℕ). x % n) (word u k h);
   second = λ k h. lv .mid k (omega (arith, piece-length v 0 l (omega arith))) ∙ ap (λ (x : ℕ). x % n) (word v k h);
+  high = λ k h. lv .high k (omega (arith, piece-length v 0 l (omega arith))) ∙ lu .high k (omega (arith, piece-length u 0 l (omega arith)));
 }
   where
     word : (f : List ℕ) (k : ℕ) → k < l → coef (piece f 0 l) k ≡ coef f k

@@ -24,11 +24,11 @@ use Rattle.window_factor.specs.Factors.{SplitOf}
 use Rattle.reduced_multipliers.specs.Joining.{Mixed as MixedModulo, combination-content, combination-flip, combination-same, combination-joined}
 use Rattle.reduced_cofactors.specs.Cofactors.{Certified, core-room}
 use Rattle.reduced_quotients.proofs.Divisions.{zeros-at}
-use Rattle.reduced_attempt.specs.Attempts.{Common, attempt-room}
+use Rattle.reduced_attempt.specs.Attempts.{CommonContent, attempt-room}
 
 -- ---- both polynomials are 0 modulo n
 
-pub none-certified : (n len : ℕ) (f g x y : List ℕ) → 2 ≤ n → Common n f g n → Certified n len f g (replicate (length x) 0) (replicate (length y) 0) n
+pub none-certified : (n len : ℕ) (f g x y : List ℕ) → 2 ≤ n → CommonContent n f g n → Certified n len f g (replicate (length x) 0) (replicate (length y) 0) n
 none-certified n len f g x y two cm = record {
   reduced = subst (λ (z : ℕ). Reduced z f g z) (mul-one n) (reduced-content n 1 1 f [] g [] (omega arith) (omega arith) (times f (cm .divides-f)) (times g (cm .divides-g)) (reduced-one [] []));
   combination = subst (λ (z : ℕ). Combination z f g (replicate (length x) 0) (replicate (length y) 0) z) (mul-one n)
