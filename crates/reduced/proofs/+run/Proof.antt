@@ -404,7 +404,7 @@ run-mul-result t c = let s = c .before .before .before .before .before .before .
     let ww = win .same in
     let tu = two .kept .0 in
     let tv = two .kept .1 .0 in
-    omega (arith, product-below n p q sp f g _ _ (one .ensures .0 .reduced) (two .ensures .0 .reduced), one .fits, s .fits .n)
+    omega (arith, product-below n p q sp f g _ _ (one .ensures .0 .reduced) (two .ensures .0 .reduced), one .ensures .0 .reduced .most, factor-less n p q sp, s .fits .n)
 
 run-returns : (t : ℕ) → run-lts.Need-returns (
   attempt-reads.Asked,
