@@ -5,8 +5,8 @@
 //   save, merge, mix   the cofactors of the first factor are saved, and joined with those of the second
 //   run                D and the cofactors
 ghost use mathlib.Core.Path.{_≡_};
-ghost use Prim.Native.Nat.{ℕ, max, _+_, _-_, _*_, _/_, _%_, _<_, _≤_, _∣_};
-ghost use lib.ListN.{length, getD};
+ghost use Prim.Native.Nat.{_+_, _-_, _*_, _<_, _≤_};
+ghost use lib.ListN.{length};
 ghost use Rattle.definitions.specs.Polynomials.{L};
 ghost use Rattle.windows.specs.Window.{Scratch};
 ghost use Rattle.reduced_cofactors.specs.Cofactors.{Certified};

@@ -1,12 +1,12 @@
 -- The half of an attempt that factors the first polynomial: words over the common content, and back.
-use mathlib.Core.Path.{_≡_, refl, sym, ap, ap₂, subst, _∙_, fun-ext}
-use mathlib.Core.List.{List, []}
+use mathlib.Core.Path.{_≡_, sym, ap, ap₂, subst, _∙_}
+use mathlib.Core.List.{List}
 use mathlib.Core.Logic.{⊎-elim}
 use Prim.Native.Nat.{ℕ, zero, suc, max, _+_, _-_, _*_, _/_, _%_, _^_, _≤_, _<_, _∣_}
 use native.Mathlib.Omega.{arith}
 use native.Mathlib.Nat.{mod-lt, mod-mod, zero-mod, zero-add, zero-div, mul-zero, mul-one, mul-le-mul-left, mul-le-mul-right, mul-div-cancel', mul-dvd-mul-left, dvd-zero, dvd-trans, dvd-refl, dvd-mul-left, pos-of-dvd-of-pos, le-of-dvd, dvd-of-mod-eq-zero}
-use lib.ListN.{length, getD, take, drop}
-use Rattle.definitions.specs.Residues.{K, Inverse, IsUnit, IsNilpotent, Coprime, Splitting}
+use lib.ListN.{length, getD}
+use Rattle.definitions.specs.Residues.{K, Inverse, IsNilpotent, Splitting}
 use Rattle.definitions.specs.Polynomials.{coef, L}
 use Rattle.definitions.specs.Resultants.{Combination, Reduced}
 use Rattle.numbers.specs.Coprimality.{coprime-power, coprime-sym}
@@ -18,7 +18,7 @@ use Rattle.theory.specs.ReachedSteps.{Times, coef-beyond}
 use Rattle.theory.specs.ReducedLaws.{reduced-content}
 use Rattle.windows.specs.Window.{piece, Moved, quotient-by, Loaded, Content, Below}
 use Rattle.windows.proofs.Leaf.{lt-or-le, piece-at, piece-over, piece-length}
-use Rattle.window_factor.specs.Factors.{LeadingUnit, SplitOf, Nilpotents as NilpotentWords}
+use Rattle.window_factor.specs.Factors.{SplitOf, Nilpotents as NilpotentWords}
 use Rattle.reduced_multipliers.specs.Joining.{combination-content}
 use Rattle.reduced_units.specs.States.{Splitter}
 use Rattle.reduced_cofactors.specs.Cofactors.{Certified, core-room}

@@ -5,9 +5,8 @@
 //   half             the attempt where the first polynomial is the one that is factored
 //   split            two coprime divisors of n, made two coprime factors
 //   attempt          both halves in turn
-ghost use mathlib.Core.Path.{_≡_};
-ghost use Prim.Native.Nat.{ℕ, max, _+_, _-_, _*_, _/_, _%_, _<_, _≤_, _∣_};
-ghost use lib.ListN.{length, getD};
+ghost use Prim.Native.Nat.{_+_, _-_, _*_, _/_, _≤_};
+ghost use lib.ListN.{length};
 ghost use Rattle.windows.specs.Window.{Scratch};
 ghost use Rattle.reduced_units.specs.States.{Splitter};
 ghost use Rattle.reduced_attempt.specs.Attempts.{CommonContent, Arranged, HalfAsked, TrialAnswers};

@@ -1,17 +1,15 @@
 use Rattle.reduced.proofs.Joins.{factor-less, second-less, first-length, second-length, first-room, second-room, product-below, factors-split, run-joined}
-use Rattle.reduced.specs.Runs.{Saved, Merged, run-room}
+use Rattle.reduced.specs.Runs.{Saved, Merged}
 use Rattle.reduced_attempt.specs.Attempts.{Attempted}
-use Rattle.reduced_cofactors.specs.Cofactors.{Certified}
 use Rattle.definitions.specs.Polynomials.{L}
 use Rattle.windows.proofs.Lift.{mid-length, window}
 use native.Mathlib.Omega.{arith}
-use mathlib.Core.List.{List}
 use Prim.Native.Nat.{max}
-use lib.ListN.{length, getD}
-use borrow.Rule.Slice.PartMut.{putMid, midOf}
+use lib.ListN.{length}
+use borrow.Rule.Slice.PartMut.{putMid}
 use borrow.Author.Needs.{needs}
-use mathlib.Core.Path.{_≡_, refl, sym, ap, subst, _∙_}
-use Prim.Native.Nat.{_+_, _*_, _-_, _%_, _≤_}
+use mathlib.Core.Path.{_≡_, subst, _∙_}
+use Prim.Native.Nat.{_+_, _*_, _-_, _≤_}
 use Prim.Native.Nat.{ℕ, _<_}
 use borrow.Fn.Kinds.{In}
 use borrow.Fn.PlainCycle.{Measures, is, falls, and}

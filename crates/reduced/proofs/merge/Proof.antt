@@ -3,10 +3,9 @@ use Rattle.reduced.specs.Runs.{MixedWords}
 use Rattle.reduced_units.proofs.Regions.{part-piece}
 use Rattle.numbers.specs.Coprimality.{coprime-sym}
 use native.Mathlib.Omega.{arith}
-use native.Mathlib.Nat.{mul-comm}
-use mathlib.Core.Path.{_≡_, refl, sym, ap, subst, _∙_}
+use mathlib.Core.Path.{_≡_, subst}
 use mathlib.Core.List.{List}
-use Prim.Native.Nat.{ℕ, _+_, _*_, _-_, _%_, _≤_, _<_}
+use Prim.Native.Nat.{ℕ, _+_, _*_, _-_}
 use borrow.Author.Needs.{needs}
 use Rattle.reduced.proofs.merge.Statement.{statement}
 use Rattle.reduced.proofs.merge.Tie as tie

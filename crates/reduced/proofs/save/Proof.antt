@@ -1,11 +1,10 @@
 use Rattle.reduced.proofs.Mixing.{saved-of}
-use Rattle.windows.specs.Window.{Loaded, piece}
-use Rattle.definitions.specs.Polynomials.{L}
+use Rattle.windows.specs.Window.{Loaded}
 use Rattle.reduced_units.proofs.Regions.{part-piece}
 use native.Mathlib.Omega.{arith}
-use mathlib.Core.Path.{_≡_, refl, sym, ap, subst, _∙_}
+use mathlib.Core.Path.{_≡_, sym, subst}
 use mathlib.Core.List.{List}
-use Prim.Native.Nat.{ℕ, _+_, _*_, _-_, _%_, _≤_, _<_}
+use Prim.Native.Nat.{ℕ, _*_, _-_, _≤_}
 use lib.ListN.{length}
 use borrow.Author.Needs.{needs}
 use Rattle.reduced.proofs.save.Statement.{statement}

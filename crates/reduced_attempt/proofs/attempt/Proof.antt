@@ -1,13 +1,13 @@
 use Rattle.reduced_cofactors.specs.Cofactors.{Certified, core-room}
-use Rattle.reduced_attempt.proofs.Whole.{none-certified, certified-flip, half-room, half-room-swap, length-swap, words-fit}
+use Rattle.reduced_attempt.proofs.Whole.{none-certified, certified-flip, half-room, half-room-swap, length-swap}
 use Rattle.reduced_attempt.proofs.Halves.{common-swap, common-primitive}
-use Rattle.reduced_attempt.specs.Attempts.{CommonContent, TrialAnswers, Attempted, Parted}
+use Rattle.reduced_attempt.specs.Attempts.{CommonContent, TrialAnswers}
 use Rattle.reduced_attempt.proofs.Parting.{parted-attempted}
 use Rattle.definitions.specs.Polynomials.{L}
 use native.Mathlib.Omega.{arith}
-use mathlib.Core.Path.{_≡_, refl, sym, ap, subst, _∙_}
+use mathlib.Core.Path.{sym, subst, _∙_}
 use mathlib.Core.List.{List}
-use Prim.Native.Nat.{ℕ, _+_, _*_, _-_, _%_, _≤_, _<_}
+use Prim.Native.Nat.{ℕ, _-_, _≤_}
 use lib.ListN.{length, replicate}
 use borrow.Author.Needs.{needs}
 use Rattle.reduced_attempt.proofs.attempt.Statement.{statement}

@@ -1,9 +1,8 @@
 use native.Mathlib.Omega.{arith}
-use mathlib.Core.Path.{_≡_, refl, sym, ap, subst, _∙_}
-use mathlib.Core.List.{List}
-use Prim.Native.Nat.{ℕ, _+_, _*_, _-_, _/_, _%_, _≤_, _<_}
-use lib.ListN.{length, getD, take, drop}
-use Rattle.reduced_attempt.proofs.Halves.{common-positive, common-above, common-most, room-less, length-less, below-second, below-first, part-first, arranged-nilpotents, product-most, half-certified, half-splitter, part-divides}
+use mathlib.Core.Path.{_≡_, subst, _∙_}
+use Prim.Native.Nat.{_+_, _-_, _/_}
+use lib.ListN.{length, take, drop}
+use Rattle.reduced_attempt.proofs.Halves.{common-positive, common-above, room-less, length-less, below-second, below-first, part-first, arranged-nilpotents, product-most, half-certified, half-splitter, part-divides}
 use Rattle.reduced_units.proofs.Regions.{part-piece}
 use Rattle.reduced_clearing.proofs.UnitSteps.{split-splitter}
 use Rattle.window_factor.specs.Factors.{HighestOf, LeadingUnit, Nilpotents as NilpotentWords}

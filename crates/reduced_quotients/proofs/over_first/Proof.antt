@@ -2,10 +2,9 @@ use Rattle.reduced_quotients.proofs.Divisions.{over-room, over-bounds, 
 use Rattle.reduced_units.proofs.Regions.{part-piece}
 use Rattle.windows.specs.Window.{piece, Loaded}
 use native.Mathlib.Omega.{arith}
-use mathlib.Core.Path.{_≡_, refl, sym, ap, subst, _∙_}
+use mathlib.Core.Path.{_≡_, subst, _∙_}
 use mathlib.Core.List.{List}
-use Prim.Native.Nat.{ℕ, _+_, _*_, _-_, _%_, _≤_, _<_}
-use lib.ListN.{length}
+use Prim.Native.Nat.{ℕ, _+_, _-_}
 use borrow.Author.Needs.{needs}
 use Rattle.reduced_quotients.proofs.over_first.Statement.{statement}
 use Rattle.reduced_quotients.proofs.over_first.Tie as tie

@@ -1,5 +1,4 @@
-use Rattle.reduced_quotients.proofs.Preparing.{prepared-room, prepared}
-use native.Mathlib.Omega.{arith}
+use Rattle.reduced_quotients.proofs.Preparing.{prepared}
 use native.Mathlib.Nat.{le-of-lt}
 use borrow.Author.Needs.{needs}
 use Rattle.reduced_quotients.proofs.prepare.Statement.{statement}
