@@ -13,7 +13,6 @@ use Prim.Native.Nat.{ℕ, max, _+_, _-_, _*_, _/_, _%_, _<_, _≤_, _∣_}
 use lib.ListN.{length, getD}
 use Rattle.definitions.specs.Residues.{K, IsNilpotent}
 use Rattle.definitions.specs.Polynomials.{coef, L}
-use Rattle.windows.specs.Window.{Scratch}
 use Rattle.window_factor.specs.Factors.{SplitOf}
 use Rattle.reduced_units.specs.States.{Splitter}
 use Rattle.residue.specs.declared.Attempt.{Attempt}
@@ -50,12 +49,12 @@ pub record HalfAsked (n c : ℕ) (a b x y w : List ℕ) : Type 0 where
   pub content : CommonContent n a b c
   pub proper : c ≡ n → ⊥
 
--- D with cofactors x and y; two coprime divisors of n; or no coefficient of a is more than nilpotent. In the last two, x and y hold nothing
--- that may be used.
-abbrev pub TrialAnswers : ℕ → ℕ → List ℕ → List ℕ → List ℕ → List ℕ → Trial → Type 0
-TrialAnswers n c a b x y (Found D) = Certified n (L n (length a - 1) (length b - 1)) a b x y D
-TrialAnswers n c a b x y (Divisors p q) = Splitter n p q
-TrialAnswers n c a b x y Nilpotent = NilpotentOver n c a
+-- D with cofactors x' and y'; two coprime divisors of n; or no coefficient of a is more than nilpotent. In the last two, the buffers x and y
+-- are left as found.
+abbrev pub TrialAnswers : ℕ → ℕ → List ℕ → List ℕ → List ℕ → List ℕ → List ℕ → List ℕ → Trial → Type 0
+TrialAnswers n c a b x y x' y' (Found D) = Certified n (L n (length a - 1) (length b - 1)) a b x' y' D
+TrialAnswers n c a b x y x' y' (Divisors p q) = Splitter n p q × ((x' ≡ x) × (y' ≡ y))
+TrialAnswers n c a b x y x' y' Nilpotent = NilpotentOver n c a × ((x' ≡ x) × (y' ≡ y))
 
 -- n is a product of two coprime factors
 abbrev pub Parted : ℕ → Attempt → Type 0
@@ -75,14 +74,7 @@ pub record AttemptAsked (n : ℕ) (f g u v w : List ℕ) : Type 0 where
   pub first : L n (length f - 1) (length g - 1) ≤ length u
   pub second : L n (length f - 1) (length g - 1) ≤ length v
 
--- "At a splitting coefficient, each of the two factors is worked as a modulus of its own": of u and v nothing is promised then but the
--- number of their words.
-pub record SplitLeft (n p q : ℕ) (u u' v v' : List ℕ) : Type 0 where
-  pub split : SplitOf n p q
-  pub first : Scratch u u'
-  pub second : Scratch v v'
-
--- D, every word of u' and v' a word of its cofactors; or the two factors
+-- D with its cofactors u' and v' in the buffers u and v; or, "At a splitting coefficient", the two factors, and the buffers as found
 abbrev pub Attempted : ℕ → List ℕ → List ℕ → List ℕ → List ℕ → List ℕ → List ℕ → Attempt → Type 0
-Attempted n f g u u' v v' (Value D) = Certified n (L n (length f - 1) (length g - 1)) f g u' v' D
-Attempted n f g u u' v v' (Splits p q) = SplitLeft n p q u u' v v'
+Attempted n f g u v u' v' (Value D) = Certified n (L n (length f - 1) (length g - 1)) f g u' v' D
+Attempted n f g u v u' v' (Splits p q) = SplitOf n p q × ((u' ≡ u) × (v' ≡ v))

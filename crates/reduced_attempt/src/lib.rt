@@ -49,7 +49,8 @@ fn arrange(w: &mut [u32], n: u32, c: u32, a: &[u32], b: &[u32])
 // The reduced resultant of a and b, c their common content, with the cofactors x of a and y of b, if a can be factored.
 fn half(x: &mut [u32], y: &mut [u32], w: &mut [u32], n: u32, c: u32, a: &[u32], b: &[u32]) -> Trial
     requires { ⌜ HalfAsked n c (now a) (now b) (now x) (now y) (now w) ⌝ }
-    ensures { λ r. ⌜ TrialAnswers n c (now (a .entry)) (now (b .entry)) (now (x .exit)) (now (y .exit)) r ⌝ }
+    ensures { λ r. ⌜ TrialAnswers n c (now (a .entry)) (now (b .entry)) (now (x .entry)) (now (y .entry))
+        (now (x .exit)) (now (y .exit)) r ⌝ }
     ensures { λ _. ⌜ Scratch (now (w .entry)) (now (w .exit)) ⌝ }
 {
     arrange(w, n, c, a, b);
@@ -89,7 +90,7 @@ fn split(n: u32, p: u32, q: u32) -> Attempt
 // The reduced resultant of f and g with its cofactors, or n as a product of two coprime factors.
 pub fn attempt(u: &mut [u32], v: &mut [u32], w: &mut [u32], n: u32, f: &[u32], g: &[u32]) -> Attempt
     requires { ⌜ AttemptAsked n (now f) (now g) (now u) (now v) (now w) ⌝ }
-    ensures { λ r. ⌜ Attempted n (now (f .entry)) (now (g .entry)) (now (u .entry)) (now (u .exit)) (now (v .entry)) (now (v .exit)) r ⌝ }
+    ensures { λ r. ⌜ Attempted n (now (f .entry)) (now (g .entry)) (now (u .entry)) (now (v .entry)) (now (u .exit)) (now (v .exit)) r ⌝ }
     ensures { λ _. ⌜ Scratch (now (w .entry)) (now (w .exit)) ⌝ }
 {
     let c = common_content(w, n, f, g);

@@ -64,7 +64,7 @@ run-run-requires t c κs = let s = c .before .before .before .before .before .be
     let p = c .before .before .before .before .p .given .0 .0 in
     let q = c .before .before .before .before .p .given .0 .1 .0 in
     let at = c .before .before .before .before .before .before .before .before .before .before .before .before .attempt in
-    let sp = subst (Attempted n f g (s .args .u .now) (at .last .0) (s .args .v .now) (at .last .1 .0)) (c .before .before .before .before .p .given .1) (at .ensures .0) .split in
+    let sp = subst (Attempted n f g (s .args .u .now) (s .args .v .now) (at .last .0) (at .last .1 .0)) (c .before .before .before .before .p .given .1) (at .ensures .0) .0 in
     let lp = first-length n p q sp d e in
     let lq = second-length n p q sp d e in
     let room = second-room n p q sp d e (length (s .args .w .now)) (r .room) in
@@ -104,7 +104,7 @@ run-save-requires t c κs = let s = c .before .before .before .before .before .b
     let p = c .before .before .before .before .before .before .before .before .before .before .before .before .before .before .p .given .0 .0 in
     let q = c .before .before .before .before .before .before .before .before .before .before .before .before .before .before .p .given .0 .1 .0 in
     let at = c .before .before .before .before .before .before .before .before .before .before .before .before .before .before .before .before .before .before .before .before .before .before .attempt in
-    let sp = subst (Attempted n f g (s .args .u .now) (at .last .0) (s .args .v .now) (at .last .1 .0)) (c .before .before .before .before .before .before .before .before .before .before .before .before .before .before .p .given .1) (at .ensures .0) .split in
+    let sp = subst (Attempted n f g (s .args .u .now) (s .args .v .now) (at .last .0) (at .last .1 .0)) (c .before .before .before .before .before .before .before .before .before .before .before .before .before .before .p .given .1) (at .ensures .0) .0 in
     let lp = first-length n p q sp d e in
     let lq = second-length n p q sp d e in
     let room = second-room n p q sp d e (length (s .args .w .now)) (r .room) in
@@ -139,7 +139,7 @@ run-mul-run t c = let s = c .before .before .before .before .before .before .bef
     let p = c .before .before .before .before .before .before .before .before .before .before .before .before .before .before .before .before .before .before .before .p .given .0 .0 in
     let q = c .before .before .before .before .before .before .before .before .before .before .before .before .before .before .before .before .before .before .before .p .given .0 .1 .0 in
     let at = c .before .before .before .before .before .before .before .before .before .before .before .before .before .before .before .before .before .before .before .before .before .before .before .before .before .before .before .attempt in
-    let sp = subst (Attempted n f g (s .args .u .now) (at .last .0) (s .args .v .now) (at .last .1 .0)) (c .before .before .before .before .before .before .before .before .before .before .before .before .before .before .before .before .before .before .before .p .given .1) (at .ensures .0) .split in
+    let sp = subst (Attempted n f g (s .args .u .now) (s .args .v .now) (at .last .0) (at .last .1 .0)) (c .before .before .before .before .before .before .before .before .before .before .before .before .before .before .before .before .before .before .before .p .given .1) (at .ensures .0) .0 in
     let lp = first-length n p q sp d e in
     let lq = second-length n p q sp d e in
     let room = second-room n p q sp d e (length (s .args .w .now)) (r .room) in
@@ -177,7 +177,7 @@ run-mul-run-2 t c = let s = c .before .before .before .before .before .before .b
     let p = c .before .before .before .before .before .before .before .before .before .before .before .before .before .before .before .before .before .before .before .p .given .0 .0 in
     let q = c .before .before .before .before .before .before .before .before .before .before .before .before .before .before .before .before .before .before .before .p .given .0 .1 .0 in
     let at = c .before .before .before .before .before .before .before .before .before .before .before .before .before .before .before .before .before .before .before .before .before .before .before .before .before .before .before .attempt in
-    let sp = subst (Attempted n f g (s .args .u .now) (at .last .0) (s .args .v .now) (at .last .1 .0)) (c .before .before .before .before .before .before .before .before .before .before .before .before .before .before .before .before .before .before .before .p .given .1) (at .ensures .0) .split in
+    let sp = subst (Attempted n f g (s .args .u .now) (s .args .v .now) (at .last .0) (at .last .1 .0)) (c .before .before .before .before .before .before .before .before .before .before .before .before .before .before .before .before .before .before .before .p .given .1) (at .ensures .0) .0 in
     let lp = first-length n p q sp d e in
     let lq = second-length n p q sp d e in
     let room = second-room n p q sp d e (length (s .args .w .now)) (r .room) in
@@ -215,7 +215,7 @@ run-sub-run t c = let s = c .before .before .before .before .before .before .bef
     let p = c .before .before .before .before .before .before .before .before .before .before .before .before .before .before .before .before .before .before .before .p .given .0 .0 in
     let q = c .before .before .before .before .before .before .before .before .before .before .before .before .before .before .before .before .before .before .before .p .given .0 .1 .0 in
     let at = c .before .before .before .before .before .before .before .before .before .before .before .before .before .before .before .before .before .before .before .before .before .before .before .before .before .before .before .attempt in
-    let sp = subst (Attempted n f g (s .args .u .now) (at .last .0) (s .args .v .now) (at .last .1 .0)) (c .before .before .before .before .before .before .before .before .before .before .before .before .before .before .before .before .before .before .before .p .given .1) (at .ensures .0) .split in
+    let sp = subst (Attempted n f g (s .args .u .now) (s .args .v .now) (at .last .0) (at .last .1 .0)) (c .before .before .before .before .before .before .before .before .before .before .before .before .before .before .before .before .before .before .before .p .given .1) (at .ensures .0) .0 in
     let lp = first-length n p q sp d e in
     let lq = second-length n p q sp d e in
     let room = second-room n p q sp d e (length (s .args .w .now)) (r .room) in
@@ -253,7 +253,7 @@ run-part-run-start t c = let s = c .before .before .before .before .before .befo
     let p = c .before .before .before .before .before .before .before .before .before .before .before .before .before .before .before .before .before .before .before .p .given .0 .0 in
     let q = c .before .before .before .before .before .before .before .before .before .before .before .before .before .before .before .before .before .before .before .p .given .0 .1 .0 in
     let at = c .before .before .before .before .before .before .before .before .before .before .before .before .before .before .before .before .before .before .before .before .before .before .before .before .before .before .before .attempt in
-    let sp = subst (Attempted n f g (s .args .u .now) (at .last .0) (s .args .v .now) (at .last .1 .0)) (c .before .before .before .before .before .before .before .before .before .before .before .before .before .before .before .before .before .before .before .p .given .1) (at .ensures .0) .split in
+    let sp = subst (Attempted n f g (s .args .u .now) (s .args .v .now) (at .last .0) (at .last .1 .0)) (c .before .before .before .before .before .before .before .before .before .before .before .before .before .before .before .before .before .before .before .p .given .1) (at .ensures .0) .0 in
     let lp = first-length n p q sp d e in
     let lq = second-length n p q sp d e in
     let room = second-room n p q sp d e (length (s .args .w .now)) (r .room) in
@@ -291,7 +291,7 @@ run-run-requires-2 t c κs = let s = c .before .before .before .before .before .
     let p = c .before .before .before .before .before .before .before .before .before .before .before .before .before .before .before .before .before .before .before .before .p .given .0 .0 in
     let q = c .before .before .before .before .before .before .before .before .before .before .before .before .before .before .before .before .before .before .before .before .p .given .0 .1 .0 in
     let at = c .before .before .before .before .before .before .before .before .before .before .before .before .before .before .before .before .before .before .before .before .before .before .before .before .before .before .before .before .attempt in
-    let sp = subst (Attempted n f g (s .args .u .now) (at .last .0) (s .args .v .now) (at .last .1 .0)) (c .before .before .before .before .before .before .before .before .before .before .before .before .before .before .before .before .before .before .before .before .p .given .1) (at .ensures .0) .split in
+    let sp = subst (Attempted n f g (s .args .u .now) (s .args .v .now) (at .last .0) (at .last .1 .0)) (c .before .before .before .before .before .before .before .before .before .before .before .before .before .before .before .before .before .before .before .before .p .given .1) (at .ensures .0) .0 in
     let lp = first-length n p q sp d e in
     let lq = second-length n p q sp d e in
     let room = second-room n p q sp d e (length (s .args .w .now)) (r .room) in
@@ -334,7 +334,7 @@ run-merge-requires t c κs = let s = c .before .before .before .before .before .
     let p = c .before .before .before .before .before .before .before .before .before .before .before .before .before .before .before .before .before .before .before .before .before .before .before .before .before .before .before .before .before .before .p .given .0 .0 in
     let q = c .before .before .before .before .before .before .before .before .before .before .before .before .before .before .before .before .before .before .before .before .before .before .before .before .before .before .before .before .before .before .p .given .0 .1 .0 in
     let at = c .before .before .before .before .before .before .before .before .before .before .before .before .before .before .before .before .before .before .before .before .before .before .before .before .before .before .before .before .before .before .before .before .before .before .before .before .before .before .attempt in
-    let sp = subst (Attempted n f g (s .args .u .now) (at .last .0) (s .args .v .now) (at .last .1 .0)) (c .before .before .before .before .before .before .before .before .before .before .before .before .before .before .before .before .before .before .before .before .before .before .before .before .before .before .before .before .before .before .p .given .1) (at .ensures .0) .split in
+    let sp = subst (Attempted n f g (s .args .u .now) (s .args .v .now) (at .last .0) (at .last .1 .0)) (c .before .before .before .before .before .before .before .before .before .before .before .before .before .before .before .before .before .before .before .before .before .before .before .before .before .before .before .before .before .before .p .given .1) (at .ensures .0) .0 in
     let lp = first-length n p q sp d e in
     let lq = second-length n p q sp d e in
     let room = second-room n p q sp d e (length (s .args .w .now)) (r .room) in
@@ -380,7 +380,7 @@ run-mul-result t c = let s = c .before .before .before .before .before .before .
     let p = c .before .before .before .before .before .before .before .before .before .before .before .before .before .before .before .before .before .before .before .before .before .before .before .before .before .before .before .before .before .before .before .before .before .before .before .p .given .0 .0 in
     let q = c .before .before .before .before .before .before .before .before .before .before .before .before .before .before .before .before .before .before .before .before .before .before .before .before .before .before .before .before .before .before .before .before .before .before .before .p .given .0 .1 .0 in
     let at = c .before .before .before .before .before .before .before .before .before .before .before .before .before .before .before .before .before .before .before .before .before .before .before .before .before .before .before .before .before .before .before .before .before .before .before .before .before .before .before .before .before .before .before .attempt in
-    let sp = subst (Attempted n f g (s .args .u .now) (at .last .0) (s .args .v .now) (at .last .1 .0)) (c .before .before .before .before .before .before .before .before .before .before .before .before .before .before .before .before .before .before .before .before .before .before .before .before .before .before .before .before .before .before .before .before .before .before .before .p .given .1) (at .ensures .0) .split in
+    let sp = subst (Attempted n f g (s .args .u .now) (s .args .v .now) (at .last .0) (at .last .1 .0)) (c .before .before .before .before .before .before .before .before .before .before .before .before .before .before .before .before .before .before .before .before .before .before .before .before .before .before .before .before .before .before .before .before .before .before .before .p .given .1) (at .ensures .0) .0 in
     let lp = first-length n p q sp d e in
     let lq = second-length n p q sp d e in
     let room = second-room n p q sp d e (length (s .args .w .now)) (r .room) in
@@ -418,7 +418,7 @@ run-returns t c = let s = c .before .before .before .before .before .before .bef
     let f = s .args .f .now in
     let g = s .args .g .now in
     let at = c .before .before .before .before .before .before .before .before .before .attempt in
-    (subst (Attempted (s .args .n) f g (s .args .u .now) (at .last .0) (s .args .v .now) (at .last .1 .0)) (c .before .d .given .1) (at .ensures .0), at .ensures .1)
+    (subst (Attempted (s .args .n) f g (s .args .u .now) (s .args .v .now) (at .last .0) (at .last .1 .0)) (c .before .d .given .1) (at .ensures .0), at .ensures .1)
 
 run-same-length-4 : (t : ℕ) → run-lts.Need-same-length-4 (
   attempt-reads.Asked,
@@ -464,7 +464,7 @@ run-same-length-6 t c = let s = c .before .before .before .before .before .befor
     let p = c .before .before .before .before .before .before .before .before .before .before .before .before .before .before .before .before .before .before .before .before .before .before .before .before .before .before .before .before .before .before .before .before .before .before .before .p .given .0 .0 in
     let q = c .before .before .before .before .before .before .before .before .before .before .before .before .before .before .before .before .before .before .before .before .before .before .before .before .before .before .before .before .before .before .before .before .before .before .before .p .given .0 .1 .0 in
     let at = c .before .before .before .before .before .before .before .before .before .before .before .before .before .before .before .before .before .before .before .before .before .before .before .before .before .before .before .before .before .before .before .before .before .before .before .before .before .before .before .before .before .before .before .attempt in
-    let sp = subst (Attempted n f g (s .args .u .now) (at .last .0) (s .args .v .now) (at .last .1 .0)) (c .before .before .before .before .before .before .before .before .before .before .before .before .before .before .before .before .before .before .before .before .before .before .before .before .before .before .before .before .before .before .before .before .before .before .before .p .given .1) (at .ensures .0) .split in
+    let sp = subst (Attempted n f g (s .args .u .now) (s .args .v .now) (at .last .0) (at .last .1 .0)) (c .before .before .before .before .before .before .before .before .before .before .before .before .before .before .before .before .before .before .before .before .before .before .before .before .before .before .before .before .before .before .before .before .before .before .before .p .given .1) (at .ensures .0) .0 in
     let lp = first-length n p q sp d e in
     let lq = second-length n p q sp d e in
     let room = second-room n p q sp d e (length (s .args .w .now)) (r .room) in
@@ -508,7 +508,7 @@ run-returns-2 t c = let s = c .before .before .before .before .before .before .b
     let p = c .before .before .before .before .before .before .before .before .before .before .before .before .before .before .before .before .before .before .before .before .before .before .before .before .before .before .before .before .before .before .before .before .before .before .before .p .given .0 .0 in
     let q = c .before .before .before .before .before .before .before .before .before .before .before .before .before .before .before .before .before .before .before .before .before .before .before .before .before .before .before .before .before .before .before .before .before .before .before .p .given .0 .1 .0 in
     let at = c .before .before .before .before .before .before .before .before .before .before .before .before .before .before .before .before .before .before .before .before .before .before .before .before .before .before .before .before .before .before .before .before .before .before .before .before .before .before .before .before .before .before .before .attempt in
-    let sp = subst (Attempted n f g (s .args .u .now) (at .last .0) (s .args .v .now) (at .last .1 .0)) (c .before .before .before .before .before .before .before .before .before .before .before .before .before .before .before .before .before .before .before .before .before .before .before .before .before .before .before .before .before .before .before .before .before .before .before .p .given .1) (at .ensures .0) .split in
+    let sp = subst (Attempted n f g (s .args .u .now) (s .args .v .now) (at .last .0) (at .last .1 .0)) (c .before .before .before .before .before .before .before .before .before .before .before .before .before .before .before .before .before .before .before .before .before .before .before .before .before .before .before .before .before .before .before .before .before .before .before .p .given .1) (at .ensures .0) .0 in
     let lp = first-length n p q sp d e in
     let lq = second-length n p q sp d e in
     let room = second-room n p q sp d e (length (s .args .w .now)) (r .room) in

@@ -59,7 +59,7 @@ returns-2 c = let s = c .before .before .before .before .before .before .before 
     let g = s .args .g .now in
     let n = s .args .n in
     let e = h .ensures in
-    let x = subst (TrialAnswers n (cc .result) f g (h .last .0) (h .last .1 .0)) (c .before .d .given .1) (e .0) in
+    let x = subst (TrialAnswers n (cc .result) f g (s .args .u .now) (s .args .v .now) (h .last .0) (h .last .1 .0)) (c .before .d .given .1) (e .0) in
     (x, record { same = e .1 .same ∙ cc .ensures .1 .same })
 
 split-requires : tie.Need-split-requires
@@ -71,8 +71,8 @@ split-requires c κs = let s = c .before .before .before .before .before .before
     let g = s .args .g .now in
     let n = s .args .n in
     let e = h .ensures in
-    let x = subst (TrialAnswers n (cc .result) f g (h .last .0) (h .last .1 .0)) (c .before .p .given .1) (e .0) in
-    (p .modulus, x)
+    let x = subst (TrialAnswers n (cc .result) f g (s .args .u .now) (s .args .v .now) (h .last .0) (h .last .1 .0)) (c .before .p .given .1) (e .0) in
+    (p .modulus, x .0)
 
 returns-3 : tie.Need-returns-3
 returns-3 c = let s = c .before .before .before .before .before .before .before .before .before .before .before .before .before .before .before .before .before .before .before .before .before .before .before .before in
@@ -82,7 +82,8 @@ returns-3 c = let s = c .before .before .before .before .before .before .before 
     let f = s .args .f .now in
     let g = s .args .g .now in
     let n = s .args .n in
-    (parted-attempted _ _ _ _ _ _ _ (c .split .result) (h .kept .0) (h .kept .1 .0) (c .split .ensures), record { same = h .ensures .1 .same ∙ cc .ensures .1 .same })
+    let x = subst (TrialAnswers n (cc .result) f g (s .args .u .now) (s .args .v .now) (h .last .0) (h .last .1 .0)) (c .before .before .p .given .1) (h .ensures .0) in
+    (parted-attempted _ _ _ _ _ _ _ (c .split .result) (x .1 .0) (x .1 .1) (c .split .ensures), record { same = h .ensures .1 .same ∙ cc .ensures .1 .same })
 
 half-requires-2 : tie.Need-half-requires-2
 half-requires-2 c κs = let s = c .before .before .before .before .before .before .before .before .before .before .before .before .before .before .before .before .before .before .before .before .before .before .before .before .before in
@@ -110,6 +111,7 @@ half-requires-2 c κs = let s = c .before .before .before .before .before .befor
 
 split-requires-2 : tie.Need-split-requires-2
 split-requires-2 c κs = let s = c .before .before .before .before .before .before .before .before .before .before .before .before .before .before .before .before .before .before .before .before .before .before .before .before .before .before .before .before .before .before .before .before .before .before .before in
+    let h = c .before .before .before .before .before .before .before .before .before .before .before .before .before .before .before .before .before .before .before .before .before .half in
     let i = c .before .before .before .before .before .before .before .before .before .half2 in
     let cc = c .before .before .before .before .before .before .before .before .before .before .before .before .before .before .before .before .before .before .before .before .before .before .before .before .before .before .before .before .common-content in
     let p = s .pre in
@@ -117,8 +119,8 @@ split-requires-2 c κs = let s = c .before .before .before .before .before .befo
     let g = s .args .g .now in
     let n = s .args .n in
     let e = i .ensures in
-    let x = subst (TrialAnswers n (cc .result) g f (i .last .0) (i .last .1 .0)) (c .before .p2 .given .1) (e .0) in
-    (p .modulus, x)
+    let x = subst (TrialAnswers n (cc .result) g f (h .last .1 .0) (h .last .0) (i .last .0) (i .last .1 .0)) (c .before .p2 .given .1) (e .0) in
+    (p .modulus, x .0)
 
 returns-4 : tie.Need-returns-4
 returns-4 c = let s = c .before .before .before .before .before .before .before .before .before .before .before .before .before .before .before .before .before .before .before .before .before .before .before .before .before .before .before .before .before .before .before .before .before .before .before in
@@ -130,7 +132,7 @@ returns-4 c = let s = c .before .before .before .before .before .before .before 
     let g = s .args .g .now in
     let n = s .args .n in
     let e = i .ensures in
-    let x = subst (TrialAnswers n (cc .result) g f (i .last .0) (i .last .1 .0)) (c .before .d2 .given .1) (e .0) in (
+    let x = subst (TrialAnswers n (cc .result) g f (h .last .1 .0) (h .last .0) (i .last .0) (i .last .1 .0)) (c .before .d2 .given .1) (e .0) in (
       subst (λ (len : ℕ). Certified n len f g (i .last .1 .0) (i .last .0) (c .before .d2 .given .0 .0)) (sym (length-swap n (length f - 1) (length g - 1))) (certified-flip _ _ _ _ _ _ _ (p .modulus) x),
       record { same = e .1 .same ∙ h .ensures .1 .same ∙ cc .ensures .1 .same },
     )
@@ -144,7 +146,9 @@ returns-5 c = let s = c .before .before .before .before .before .before .before 
     let f = s .args .f .now in
     let g = s .args .g .now in
     let n = s .args .n in
-    (parted-attempted _ _ _ _ _ _ _ (c .split2 .result) (i .kept .1 .0 ∙ h .kept .0) (i .kept .0 ∙ h .kept .1 .0) (c .split2 .ensures), record { same = i .ensures .1 .same ∙ h .ensures .1 .same ∙ cc .ensures .1 .same })
+    let y = subst (TrialAnswers n (cc .result) f g (s .args .u .now) (s .args .v .now) (h .last .0) (h .last .1 .0)) (c .before .before .before .before .before .before .before .before .before .before .before .before .before .before .enum-told .given .1) (h .ensures .0) in
+    let x = subst (TrialAnswers n (cc .result) g f (h .last .1 .0) (h .last .0) (i .last .0) (i .last .1 .0)) (c .before .before .p2 .given .1) (i .ensures .0) in
+    (parted-attempted _ _ _ _ _ _ _ (c .split2 .result) (x .1 .1 ∙ y .1 .0) (x .1 .0 ∙ y .1 .1) (c .split2 .ensures), record { same = i .ensures .1 .same ∙ h .ensures .1 .same ∙ cc .ensures .1 .same })
 
 returns-6 : tie.Need-returns-6
 returns-6 c = let s = c .before .before .before .before .before .before .before .before .before .before .before .before .before .before .before .before .before .before .before .before .before .before .before .before .before .before .before .before .before .before .before .before .before .before in
@@ -157,9 +161,9 @@ returns-6 c = let s = c .before .before .before .before .before .before .before 
     let g = s .args .g .now in
     let n = s .args .n in
     let e = i .ensures in
-    let x = subst (TrialAnswers n (cc .result) g f (i .last .0) (i .last .1 .0)) (c .enum-told2 .given .1) (e .0) in
-    let y = subst (TrialAnswers n (cc .result) f g (h .last .0) (h .last .1 .0)) (c .before .before .before .before .before .before .before .before .before .before .before .before .enum-told .given .1) (h .ensures .0) in
-    (absurd (common-primitive n _ f g (p .modulus) (cc .ensures .0) (test .left) y x), record { same = e .1 .same ∙ h .ensures .1 .same ∙ cc .ensures .1 .same })
+    let x = subst (TrialAnswers n (cc .result) g f (h .last .1 .0) (h .last .0) (i .last .0) (i .last .1 .0)) (c .enum-told2 .given .1) (e .0) in
+    let y = subst (TrialAnswers n (cc .result) f g (s .args .u .now) (s .args .v .now) (h .last .0) (h .last .1 .0)) (c .before .before .before .before .before .before .before .before .before .before .before .before .enum-told .given .1) (h .ensures .0) in
+    (absurd (common-primitive n _ f g (p .modulus) (cc .ensures .0) (test .left) (y .0) (x .0)), record { same = e .1 .same ∙ h .ensures .1 .same ∙ cc .ensures .1 .same })
 
 pub attempt-spec : {M : Type 1} → statement M
 attempt-spec =

@@ -5,7 +5,7 @@ use Rattle.reduced_stages.proofs.Steps.{step-pair, step-monic, step-fac
 use Rattle.reduced_units.proofs.Regions.{kept-trans}
 use Rattle.reduced_units.specs.States.{Stage}
 use Rattle.reduced_clearing.specs.Clearings.{Clears}
-use Rattle.reduced_stages.specs.Outcomes.{Answers}
+use Rattle.reduced_stages.specs.StageAnswers.{StageAnswer}
 use Rattle.residue.specs.declared.Attempt.{Attempt}
 use lib.ListN.{length, getD}
 use native.Mathlib.Nat.{one-mul}
@@ -32,10 +32,10 @@ use Rattle.reduced_stages.proofs.+content_stage+division_stage.{stateme
 use Rattle.reduced_stages.proofs.+content_stage+division_stage.Tie.{close}
 
 abbrev μ-content-stage : Measures 1 content-stage-kinds.ps ℕ
-μ-content-stage κs a = 2 * (a .1 .1 .1 .1 .1 .0 + a .1 .1 .0)
+μ-content-stage κs a = 2 * (a .1 .1 .1 .1 .0 + a .1 .1 .0)
 
 abbrev μ-division-stage : Measures 1 division-stage-kinds.ps ℕ
-μ-division-stage κs a = 2 * (a .1 .1 .1 .1 .1 .1 .1 .0 + a .1 .1 .0) + 1
+μ-division-stage κs a = 2 * (a .1 .1 .1 .1 .1 .0 + a .1 .1 .0) + 1
 
 abbrev content-stage-at : ℕ → In 1 content-stage-kinds.ps
 content-stage-at t =
@@ -201,8 +201,15 @@ content-stage-division-stage-requires : (t : ℕ) → content-stage-lts.Need-div
 content-stage-division-stage-requires t c κs = let s = c .before .before .before .before .before .before .before in
     let st = s .pre .1 in
     let d = st .degree in
-    let z : s .args .a ≡ s .args .a - 1 + 1 = omega arith in
-    (omega (arith, s .pre .0), (stage-words _ _ _ _ _ _ _ _ _ _ _ _ z st, (omega arith, (omega arith, leading-inverse _ _ _ _ (c .before .before .before .before .cofactor .ensures) (c .before .before .if1 .taken)))))
+    let z : s .args .a ≡ s .args .a - 1 + 1 = omega arith in (
+      omega (arith, s .pre .0),
+      record {
+        stage = stage-words _ _ _ _ _ _ _ _ _ _ _ _ z st;
+        degree = omega arith;
+        shorter = omega arith;
+        inverse = leading-inverse _ _ _ _ (c .before .before .before .before .cofactor .ensures) (c .before .before .if1 .taken);
+      },
+    )
 
 content-stage-same-length-2 : (t : ℕ) → content-stage-lts.Need-same-length-2 (
   cofactor-reads.Asked,
@@ -230,7 +237,7 @@ content-stage-returns-2 t c = let s = c .before .before .before .before .before 
     let d = s .pre .1 .degree in
     let z : s .args .a - 1 + 1 ≡ s .args .a = omega arith in
     let e = c .before .before .division-stage .ensures in
-    (subst (λ (x : ℕ). Answers (s .args .n) (s .args .v) (s .args .t) (s .args .pa) (s .args .a) (s .args .pb) x (s .args .al) (s .args .be) (s .args .w .now) (c .before .before .division-stage .last .0) (c .before .before .division-stage .result)) z (e .0), e .1)
+    (subst (λ (x : ℕ). StageAnswer (s .args .n) (s .args .v) (s .args .p) (s .args .a) x (s .args .w .now) (c .before .before .division-stage .last .0) (c .before .before .division-stage .result)) z (e .0), e .1)
 
 content-stage-clear-contents-requires : (t : ℕ) → content-stage-lts.Need-clear-contents-requires (
   cofactor-reads.Asked,
@@ -256,7 +263,7 @@ content-stage-enum-known-d : (t : ℕ) → content-stage-lts.Need-enum-known-d (
 ) (content-stage-at t) content-stage.Post
 content-stage-enum-known-d t c = search needs
 
-content-stage-enum-known-p : (t : ℕ) → content-stage-lts.Need-enum-known-p (
+content-stage-enum-known-f : (t : ℕ) → content-stage-lts.Need-enum-known-f (
   cofactor-reads.Asked,
   cofactor-reads.Learnt,
   scale-reads.Asked,
@@ -266,7 +273,7 @@ content-stage-enum-known-p : (t : ℕ) → content-stage-lts.Need-enum-known-p (
   clear-contents-reads.Asked,
   clear-contents-reads.Learnt,
 ) (content-stage-at t) content-stage.Post
-content-stage-enum-known-p t c = search needs
+content-stage-enum-known-f t c = search needs
 
 content-stage-enum-known-c : (t : ℕ) → content-stage-lts.Need-enum-known-c (
   cofactor-reads.Asked,
@@ -293,7 +300,7 @@ content-stage-div-division-stage : (t : ℕ) → content-stage-lts.Need-div-divi
 content-stage-div-division-stage t c = let s = c .before .before .before .before .before .before .before .before .before .before .before .before .before in
     let x = c .before .before .before .before .before .before .clear-contents .ensures in
     let v = c .before .before .c .given in
-    let cl = subst (Clears (s .args .n) (s .args .v) (s .args .t) (s .args .pa) (s .args .a) (s .args .pb) (s .args .al) (s .args .be) (s .args .w .now) (c .before .before .before .before .before .before .clear-contents .last .0)) (v .1) (x .0) in
+    let cl = subst (Clears (s .args .n) (s .args .v) (s .args .p) (s .args .a) (s .args .w .now) (c .before .before .before .before .before .before .clear-contents .last .0)) (v .1) (x .0) in
     cl .positive
 
 content-stage-division-stage-requires-2 :
@@ -310,11 +317,18 @@ content-stage-division-stage-requires-2 :
 content-stage-division-stage-requires-2 t c κs = let s = c .before .before .before .before .before .before .before .before .before .before .before .before .before in
     let x = c .before .before .before .before .before .before .clear-contents .ensures in
     let v = c .before .before .c .given in
-    let cl = subst (Clears (s .args .n) (s .args .v) (s .args .t) (s .args .pa) (s .args .a) (s .args .pb) (s .args .al) (s .args .be) (s .args .w .now) (c .before .before .before .before .before .before .clear-contents .last .0)) (v .1) (x .0) in
+    let cl = subst (Clears (s .args .n) (s .args .v) (s .args .p) (s .args .a) (s .args .w .now) (c .before .before .before .before .before .before .clear-contents .last .0)) (v .1) (x .0) in
     let d = cl .degree in
     let f = cl .shorter in
-    let q = quotient-small _ _ _ _ _ _ _ _ _ _ _ _ _ _ (s .pre .1) cl in
-    (omega (arith, s .pre .0), (cl .stage, (d, (f, ap (λ (y : ℕ). y % (s .args .v / v .0 .0)) (one-mul (getD (c .before .before .before .before .before .before .clear-contents .last .0) (s .args .pb + v .0 .1 .0) 0) ∙ cl .monic)))))
+    let q = quotient-small _ _ _ _ _ _ _ _ _ _ _ _ _ _ (s .pre .1) cl in (
+      omega (arith, s .pre .0),
+      record {
+        stage = cl .stage;
+        degree = d;
+        shorter = f;
+        inverse = ap (λ (y : ℕ). y % (s .args .v / v .0 .0)) (one-mul (getD (c .before .before .before .before .before .before .clear-contents .last .0) (s .args .p .pb + v .0 .1 .0) 0) ∙ cl .monic);
+      },
+    )
 
 content-stage-enum-known-d-2 : (t : ℕ) → content-stage-lts.Need-enum-known-d-2 (
   cofactor-reads.Asked,
@@ -328,7 +342,7 @@ content-stage-enum-known-d-2 : (t : ℕ) → content-stage-lts.Need-enum-known-d
 ) (content-stage-at t) content-stage.Post
 content-stage-enum-known-d-2 t c = search needs
 
-content-stage-mul-t44 : (t : ℕ) → content-stage-lts.Need-mul-t44 (
+content-stage-mul-t42 : (t : ℕ) → content-stage-lts.Need-mul-t42 (
   cofactor-reads.Asked,
   cofactor-reads.Learnt,
   scale-reads.Asked,
@@ -338,17 +352,17 @@ content-stage-mul-t44 : (t : ℕ) → content-stage-lts.Need-mul-t44 (
   clear-contents-reads.Asked,
   clear-contents-reads.Learnt,
 ) (content-stage-at t) content-stage.Post
-content-stage-mul-t44 t c = let s = c .before .before .before .before .before .before .before .before .before .before .before .before .before .before .before .before .before .before .before in
+content-stage-mul-t42 t c = let s = c .before .before .before .before .before .before .before .before .before .before .before .before .before .before .before .before .before .before .before in
     let x = c .before .before .before .before .before .before .before .before .before .before .before .before .clear-contents .ensures in
     let v = c .before .before .before .before .before .before .before .before .c .given in
-    let cl = subst (Clears (s .args .n) (s .args .v) (s .args .t) (s .args .pa) (s .args .a) (s .args .pb) (s .args .al) (s .args .be) (s .args .w .now) (c .before .before .before .before .before .before .before .before .before .before .before .before .clear-contents .last .0)) (v .1) (x .0) in
+    let cl = subst (Clears (s .args .n) (s .args .v) (s .args .p) (s .args .a) (s .args .w .now) (c .before .before .before .before .before .before .before .before .before .before .before .before .clear-contents .last .0)) (v .1) (x .0) in
     let y = c .before .before .before .before .before .division-stage2 .ensures in
     let d = c .before .d2 .given in
-    let sv = subst (Answers (s .args .n) (s .args .v / v .0 .0) (s .args .t) (s .args .pa) (s .args .a) (s .args .pb) (v .0 .1 .0 + 1) (s .args .al) (s .args .be) (c .before .before .before .before .before .before .before .before .before .before .before .before .clear-contents .last .0) (c .before .before .before .before .before .division-stage2 .last .0)) (d .1) (y .0) in
+    let sv = subst (StageAnswer (s .args .n) (s .args .v / v .0 .0) (s .args .p) (s .args .a) (v .0 .1 .0 + 1) (c .before .before .before .before .before .before .before .before .before .before .before .before .clear-contents .last .0) (c .before .before .before .before .before .division-stage2 .last .0)) (d .1) (y .0) in
     let p = product-most _ _ _ _ _ _ _ _ _ _ _ _ _ _ (s .pre .1) cl _ _ (x .1) sv in
     omega (arith, s .fits .v)
 
-content-stage-enum-known-p-2 : (t : ℕ) → content-stage-lts.Need-enum-known-p-2 (
+content-stage-enum-known-f-2 : (t : ℕ) → content-stage-lts.Need-enum-known-f-2 (
   cofactor-reads.Asked,
   cofactor-reads.Learnt,
   scale-reads.Asked,
@@ -358,7 +372,7 @@ content-stage-enum-known-p-2 : (t : ℕ) → content-stage-lts.Need-enum-known-p
   clear-contents-reads.Asked,
   clear-contents-reads.Learnt,
 ) (content-stage-at t) content-stage.Post
-content-stage-enum-known-p-2 t c = search needs
+content-stage-enum-known-f-2 t c = search needs
 
 content-stage-same-length-3 : (t : ℕ) → content-stage-lts.Need-same-length-3 (
   cofactor-reads.Asked,
@@ -382,7 +396,7 @@ content-stage-returns-3 : (t : ℕ) → content-stage-lts.Need-returns-3 (
   clear-contents-reads.Asked,
   clear-contents-reads.Learnt,
 ) (content-stage-at t) content-stage.Post
-content-stage-returns-3 t c = (subst (Clears _ _ _ _ _ _ _ _ _ _) (c .before .d .given .1) (c .before .before .before .before .before .clear-contents .ensures .0), c .before .before .before .before .before .clear-contents .ensures .1)
+content-stage-returns-3 t c = (subst (Clears _ _ _ _ _ _) (c .before .d .given .1) (c .before .before .before .before .before .clear-contents .ensures .0), c .before .before .before .before .before .clear-contents .ensures .1)
 
 content-stage-same-length-4 : (t : ℕ) → content-stage-lts.Need-same-length-4 (
   cofactor-reads.Asked,
@@ -406,7 +420,7 @@ content-stage-returns-4 : (t : ℕ) → content-stage-lts.Need-returns-4 (
   clear-contents-reads.Asked,
   clear-contents-reads.Learnt,
 ) (content-stage-at t) content-stage.Post
-content-stage-returns-4 t c = (subst (Clears _ _ _ _ _ _ _ _ _ _) (c .before .p .given .1) (c .before .before .before .before .before .clear-contents .ensures .0), c .before .before .before .before .before .clear-contents .ensures .1)
+content-stage-returns-4 t c = (subst (Clears _ _ _ _ _ _) (c .before .f .given .1) (c .before .before .before .before .before .clear-contents .ensures .0), c .before .before .before .before .before .clear-contents .ensures .1)
 
 content-stage-same-length-5 : (t : ℕ) → content-stage-lts.Need-same-length-5 (
   cofactor-reads.Asked,
@@ -433,10 +447,10 @@ content-stage-returns-5 : (t : ℕ) → content-stage-lts.Need-returns-5 (
 content-stage-returns-5 t c = let s = c .before .before .before .before .before .before .before .before .before .before .before .before .before .before .before .before .before .before .before in
     let x = c .before .before .before .before .before .before .before .before .before .before .before .before .clear-contents .ensures in
     let v = c .before .before .before .before .before .before .before .before .c .given in
-    let cl = subst (Clears (s .args .n) (s .args .v) (s .args .t) (s .args .pa) (s .args .a) (s .args .pb) (s .args .al) (s .args .be) (s .args .w .now) (c .before .before .before .before .before .before .before .before .before .before .before .before .clear-contents .last .0)) (v .1) (x .0) in
+    let cl = subst (Clears (s .args .n) (s .args .v) (s .args .p) (s .args .a) (s .args .w .now) (c .before .before .before .before .before .before .before .before .before .before .before .before .clear-contents .last .0)) (v .1) (x .0) in
     let y = c .before .before .before .before .before .division-stage2 .ensures in
     let d = c .before .d2 .given in
-    let sv = subst (Answers (s .args .n) (s .args .v / v .0 .0) (s .args .t) (s .args .pa) (s .args .a) (s .args .pb) (v .0 .1 .0 + 1) (s .args .al) (s .args .be) (c .before .before .before .before .before .before .before .before .before .before .before .before .clear-contents .last .0) (c .before .before .before .before .before .division-stage2 .last .0)) (d .1) (y .0) in
+    let sv = subst (StageAnswer (s .args .n) (s .args .v / v .0 .0) (s .args .p) (s .args .a) (v .0 .1 .0 + 1) (c .before .before .before .before .before .before .before .before .before .before .before .before .clear-contents .last .0) (c .before .before .before .before .before .division-stage2 .last .0)) (d .1) (y .0) in
     (cleared-solved _ _ _ _ _ _ _ _ _ _ _ _ _ _ (s .pre .1) cl _ _ (x .1) sv, kept-trans (x .1) (y .1))
 
 content-stage-same-length-6 : (t : ℕ) → content-stage-lts.Need-same-length-6 (
@@ -464,10 +478,10 @@ content-stage-returns-6 : (t : ℕ) → content-stage-lts.Need-returns-6 (
 content-stage-returns-6 t c = let s = c .before .before .before .before .before .before .before .before .before .before .before .before .before .before .before .before .before .before .before in
     let x = c .before .before .before .before .before .before .before .before .before .before .before .before .clear-contents .ensures in
     let v = c .before .before .before .before .before .before .before .before .c .given in
-    let cl = subst (Clears (s .args .n) (s .args .v) (s .args .t) (s .args .pa) (s .args .a) (s .args .pb) (s .args .al) (s .args .be) (s .args .w .now) (c .before .before .before .before .before .before .before .before .before .before .before .before .clear-contents .last .0)) (v .1) (x .0) in
+    let cl = subst (Clears (s .args .n) (s .args .v) (s .args .p) (s .args .a) (s .args .w .now) (c .before .before .before .before .before .before .before .before .before .before .before .before .clear-contents .last .0)) (v .1) (x .0) in
     let y = c .before .before .before .before .before .division-stage2 .ensures in
-    let d = c .before .p2 .given in
-    let sv = subst (Answers (s .args .n) (s .args .v / v .0 .0) (s .args .t) (s .args .pa) (s .args .a) (s .args .pb) (v .0 .1 .0 + 1) (s .args .al) (s .args .be) (c .before .before .before .before .before .before .before .before .before .before .before .before .clear-contents .last .0) (c .before .before .before .before .before .division-stage2 .last .0)) (d .1) (y .0) in
+    let d = c .before .f2 .given in
+    let sv = subst (StageAnswer (s .args .n) (s .args .v / v .0 .0) (s .args .p) (s .args .a) (v .0 .1 .0 + 1) (c .before .before .before .before .before .before .before .before .before .before .before .before .clear-contents .last .0) (c .before .before .before .before .before .division-stage2 .last .0)) (d .1) (y .0) in
     (cleared-splitter _ _ _ _ _ _ _ _ _ _ _ _ _ _ (s .pre .1) cl _ _ sv, kept-trans (x .1) (y .1))
 
 division-stage-divide-keeping-requires : (t : ℕ) → division-stage-lts.Need-divide-keeping-requires (
@@ -479,12 +493,12 @@ division-stage-divide-keeping-requires : (t : ℕ) → division-stage-lts.Need-d
   content-stage.Post,
 ) (division-stage-at t) division-stage.Post
 division-stage-divide-keeping-requires t c κs = let s = c .before .before in
-    let st = s .pre .1 .0 in
+    let st = s .pre .1 .stage in
     let r = st .room in
     let q = st .places in
     let e = st .within in
     let o = st .above in
-    ((omega arith, (omega arith, (omega arith, (omega arith, omega arith)))), (step-pair _ _ _ _ _ _ _ _ _ _ _ (s .pre .1 .1 .1 .0) (s .pre .1 .1 .0) st, s .pre .1 .1 .1 .1))
+    ((omega arith, (omega arith, (omega arith, (omega arith, omega arith)))), (step-pair _ _ _ _ _ _ _ _ _ _ _ (s .pre .1 .shorter) (s .pre .1 .degree) st, s .pre .1 .inverse))
 
 division-stage-add-take-product : (t : ℕ) → division-stage-lts.Need-add-take-product (
   divide-keeping-reads.Asked,
@@ -524,16 +538,21 @@ division-stage-take-product-requires : (t : ℕ) → division-stage-lts.Need-tak
   content-stage-below t,
   content-stage.Post,
 ) (division-stage-at t) division-stage.Post
-division-stage-take-product-requires t c κs = let s = c .before .before .before .before .before .before in
-    let st = s .pre .1 .0 in
-    let dv = c .before .before .before .divide-keeping .ensures in
+division-stage-take-product-requires t c κs = let s = c .before .before .before .before .before .before .before in
+    let st = s .pre .1 .stage in
+    let dv = c .before .before .before .before .divide-keeping .ensures in
     let r = st .room in
     let q = st .places in
     let e = st .within in
     let o = st .above in
     let g = dv .around .same in (
       (omega arith, (omega arith, (omega arith, (omega arith, (omega arith, omega arith))))),
-      (step-factors _ _ _ _ _ _ _ _ _ _ _ (s .pre .1 .1 .1 .0) (s .pre .1 .1 .0) st _ dv, (omega arith, (omega arith, step-monic _ _ _ _ _ _ _ _ _ _ _ (s .pre .1 .1 .1 .0) (s .pre .1 .1 .0) st _ dv))),
+      record {
+        factors = step-factors _ _ _ _ _ _ _ _ _ _ _ (s .pre .1 .shorter) (s .pre .1 .degree) st _ dv;
+        degree = omega arith;
+        after = omega arith;
+        monic = step-monic _ _ _ _ _ _ _ _ _ _ _ (s .pre .1 .shorter) (s .pre .1 .degree) st _ dv;
+      },
     )
 
 division-stage-content-stage-requires : (t : ℕ) → division-stage-lts.Need-content-stage-requires (
@@ -544,11 +563,11 @@ division-stage-content-stage-requires : (t : ℕ) → division-stage-lts.Need-co
   content-stage-below t,
   content-stage.Post,
 ) (division-stage-at t) division-stage.Post
-division-stage-content-stage-requires t c κs = let s = c .before .before .before .before .before .before .before .before .before .before in
-    let st = s .pre .1 .0 in (
+division-stage-content-stage-requires t c κs = let s = c .before .before .before .before .before .before .before .before .before .before .before in
+    let st = s .pre .1 .stage in (
       omega (arith, s .pre .0),
-      step-stage _ _ _ _ _ _ _ _ _ _ _ (s .pre .1 .1 .1 .0) (s .pre .1 .1 .0) st _ (c .before .before .before .before .before .before .before .divide-keeping .ensures) _ _ (c .before .before .before .take-product .ensures)
-          (leading-unit _ _ _ (omega (arith, st .above)) (s .pre .1 .1 .1 .1)),
+      step-stage _ _ _ _ _ _ _ _ _ _ _ (s .pre .1 .shorter) (s .pre .1 .degree) st _ (c .before .before .before .before .before .before .before .before .divide-keeping .ensures) _ _ (c .before .before .before .take-product .ensures)
+          (leading-unit _ _ _ (omega (arith, st .above)) (s .pre .1 .inverse)),
     )
 
 division-stage-same-length : (t : ℕ) → division-stage-lts.Need-same-length (
@@ -569,11 +588,11 @@ division-stage-returns : (t : ℕ) → division-stage-lts.Need-returns (
   content-stage-below t,
   content-stage.Post,
 ) (division-stage-at t) division-stage.Post
-division-stage-returns t c = let s = c .before .before .before .before .before .before .before .before .before .before .before .before .before in
-    let st = s .pre .1 .0 in
+division-stage-returns t c = let s = c .before .before .before .before .before .before .before .before .before .before .before .before .before .before in
+    let st = s .pre .1 .stage in
     let e = c .before .before .content-stage .ensures in (
-      step-answers _ _ _ _ _ _ _ _ _ _ _ (s .pre .1 .1 .1 .0) (s .pre .1 .1 .0) st _ (c .before .before .before .before .before .before .before .before .before .before .divide-keeping .ensures) _ _ (c .before .before .before .before .before .before .take-product .ensures) (c .before .before .content-stage .last .0) (c .before .before .content-stage .result) (e .0),
-      kept-trans (step-kept _ _ _ _ _ _ _ _ _ _ _ (s .pre .1 .1 .1 .0) (s .pre .1 .1 .0) st _ (c .before .before .before .before .before .before .before .before .before .before .divide-keeping .ensures) _ _ (c .before .before .before .before .before .before .take-product .ensures)) (e .1),
+      step-answers _ _ _ _ _ _ _ _ _ _ _ (s .pre .1 .shorter) (s .pre .1 .degree) st _ (c .before .before .before .before .before .before .before .before .before .before .before .divide-keeping .ensures) _ _ (c .before .before .before .before .before .before .take-product .ensures) (c .before .before .content-stage .last .0) (c .before .before .content-stage .result) (e .0),
+      kept-trans (step-kept _ _ _ _ _ _ _ _ _ _ _ (s .pre .1 .shorter) (s .pre .1 .degree) st _ (c .before .before .before .before .before .before .before .before .before .before .before .divide-keeping .ensures) _ _ (c .before .before .before .before .before .before .take-product .ensures)) (e .1),
     )
 
 pub +content-stage+division-stage-spec : {M : Type 1} → statement M
@@ -605,13 +624,13 @@ pub +content-stage+division-stage-spec : {M : Type 1} → statement M
     (content-stage-returns-2 t)
     (content-stage-clear-contents-requires t)
     (content-stage-enum-known-d t)
-    (content-stage-enum-known-p t)
+    (content-stage-enum-known-f t)
     (content-stage-enum-known-c t)
     (content-stage-div-division-stage t)
     (content-stage-division-stage-requires-2 t)
     (content-stage-enum-known-d-2 t)
-    (content-stage-mul-t44 t)
-    (content-stage-enum-known-p-2 t)
+    (content-stage-mul-t42 t)
+    (content-stage-enum-known-f-2 t)
     (content-stage-same-length-3 t)
     (content-stage-returns-3 t)
     (content-stage-same-length-4 t)

@@ -28,7 +28,7 @@ series-inverse-requires c κs = let s = c .before .before .before .before .befor
     let e = c .before .before .cofactor .ensures in
     let k = c .before .before .before .before .before .modulus-of .result .k in
     let z : s .args .x + (s .args .k + 1) + ((k - 1) * s .args .k + 1) - s .args .x ≡ s .args .k + 1 + ((k - 1) * s .args .k + 1) = omega arith in (
-      (negate-small _ _ _ _ _ _ _ _ (p .0) o z (p .1 .0) (p .1 .1) e, (e .at-most, negate-room _ _ _ _ _ _ _ _ (p .0) o z (p .1 .0) (p .1 .1) e)),
+      (omega (arith, p .0, negate-small _ _ _ _ _ _ _ _ (p .0) o z (p .1 .0) (p .1 .1) e), (e .at-most, negate-room _ _ _ _ _ _ _ _ (p .0) o z (p .1 .0) (p .1 .1) e)),
       negate-unit _ _ _ _ _ _ _ _ (p .0) o z (p .1 .0) (p .1 .1) e,
     )
 
