@@ -49,8 +49,8 @@ pub record HalfAsked (n c : ℕ) (a b x y w : List ℕ) : Type 0 where
   pub content : CommonContent n a b c
   pub proper : c ≡ n → ⊥
 
--- D with cofactors x' and y'; two coprime divisors of n; or no coefficient of a is more than nilpotent. In the last two, the buffers x and y
--- are left as found.
+-- D with cofactors x' and y'; two coprime divisors of n; or no coefficient of a is more than nilpotent. In the last two, the buffers x
+-- and y are left as found.
 abbrev pub TrialAnswers : ℕ → ℕ → List ℕ → List ℕ → List ℕ → List ℕ → List ℕ → List ℕ → Trial → Type 0
 TrialAnswers n c a b x y x' y' (Found D) = Certified n (L n (length a - 1) (length b - 1)) a b x' y' D
 TrialAnswers n c a b x y x' y' (Divisors p q) = Splitter n p q × ((x' ≡ x) × (y' ≡ y))

@@ -25,13 +25,22 @@ pub fn reduced_resultant(
     }
     let l = reduced::cofactor_length(n, f.len(), g.len());
     if u.len() < l {
-        return Answer { value: 0, status: 6 };
+        return Answer {
+            value: 0,
+            status: 6,
+        };
     }
     if v.len() < l {
-        return Answer { value: 0, status: 6 };
+        return Answer {
+            value: 0,
+            status: 6,
+        };
     }
     if work.len() < 8192 {
-        return Answer { value: 0, status: 7 };
+        return Answer {
+            value: 0,
+            status: 7,
+        };
     }
     let found = reduced::run(&mut u[0..l], &mut v[0..l], work, n, f, g);
     windows::wipe(work);

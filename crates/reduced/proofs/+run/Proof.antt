@@ -71,8 +71,7 @@ run-run-requires t c κs = let s = c .before .before .before .before .before .be
     let aw = at .ensures .1 .same in
     let au = at .kept .0 in
     let av = at .kept .1 .0 in
-    let less = factor-less n p q sp in
-    (
+    let less = factor-less n p q sp in (
       omega (arith, s .pre .0),
       record {
         modulus = sp .above₁;

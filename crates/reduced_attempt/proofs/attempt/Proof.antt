@@ -111,7 +111,6 @@ half-requires-2 c κs = let s = c .before .before .before .before .before .befor
 
 split-requires-2 : tie.Need-split-requires-2
 split-requires-2 c κs = let s = c .before .before .before .before .before .before .before .before .before .before .before .before .before .before .before .before .before .before .before .before .before .before .before .before .before .before .before .before .before .before .before .before .before .before .before in
-    let h = c .before .before .before .before .before .before .before .before .before .before .before .before .before .before .before .before .before .before .before .before .before .half in
     let i = c .before .before .before .before .before .before .before .before .before .half2 in
     let cc = c .before .before .before .before .before .before .before .before .before .before .before .before .before .before .before .before .before .before .before .before .before .before .before .before .before .before .before .before .common-content in
     let p = s .pre in
@@ -119,7 +118,7 @@ split-requires-2 c κs = let s = c .before .before .before .before .before .befo
     let g = s .args .g .now in
     let n = s .args .n in
     let e = i .ensures in
-    let x = subst (TrialAnswers n (cc .result) g f (h .last .1 .0) (h .last .0) (i .last .0) (i .last .1 .0)) (c .before .p2 .given .1) (e .0) in
+    let x = subst (TrialAnswers n (cc .result) g f _ _ (i .last .0) (i .last .1 .0)) (c .before .p2 .given .1) (e .0) in
     (p .modulus, x .0)
 
 returns-4 : tie.Need-returns-4
@@ -132,7 +131,7 @@ returns-4 c = let s = c .before .before .before .before .before .before .before 
     let g = s .args .g .now in
     let n = s .args .n in
     let e = i .ensures in
-    let x = subst (TrialAnswers n (cc .result) g f (h .last .1 .0) (h .last .0) (i .last .0) (i .last .1 .0)) (c .before .d2 .given .1) (e .0) in (
+    let x = subst (TrialAnswers n (cc .result) g f _ _ (i .last .0) (i .last .1 .0)) (c .before .d2 .given .1) (e .0) in (
       subst (λ (len : ℕ). Certified n len f g (i .last .1 .0) (i .last .0) (c .before .d2 .given .0 .0)) (sym (length-swap n (length f - 1) (length g - 1))) (certified-flip _ _ _ _ _ _ _ (p .modulus) x),
       record { same = e .1 .same ∙ h .ensures .1 .same ∙ cc .ensures .1 .same },
     )
