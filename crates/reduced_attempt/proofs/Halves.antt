@@ -1,12 +1,12 @@
 -- The half of an attempt that factors the first polynomial: words over the common content, and back.
-use mathlib.Core.Path.{_≡_, refl, sym, ap, ap₂, subst, _∙_, fun-ext}
-use mathlib.Core.List.{List, []}
+use mathlib.Core.Path.{_≡_, sym, ap, ap₂, subst, _∙_}
+use mathlib.Core.List.{List}
 use mathlib.Core.Logic.{⊎-elim}
 use Prim.Native.Nat.{ℕ, zero, suc, max, _+_, _-_, _*_, _/_, _%_, _^_, _≤_, _<_, _∣_}
 use native.Mathlib.Omega.{arith}
 use native.Mathlib.Nat.{mod-lt, mod-mod, zero-mod, zero-add, zero-div, mul-zero, mul-one, mul-le-mul-left, mul-le-mul-right, mul-div-cancel', mul-dvd-mul-left, dvd-zero, dvd-trans, dvd-refl, dvd-mul-left, pos-of-dvd-of-pos, le-of-dvd, dvd-of-mod-eq-zero}
-use lib.ListN.{length, getD, take, drop}
-use Rattle.definitions.specs.Residues.{K, Inverse, IsUnit, IsNilpotent, Coprime, Splitting}
+use lib.ListN.{length, getD}
+use Rattle.definitions.specs.Residues.{K, Inverse, IsNilpotent, Splitting}
 use Rattle.definitions.specs.Polynomials.{coef, L}
 use Rattle.definitions.specs.Resultants.{Combination, Reduced}
 use Rattle.numbers.specs.Coprimality.{coprime-power, coprime-sym}
@@ -18,11 +18,11 @@ use Rattle.theory.specs.ReachedSteps.{Times, coef-beyond}
 use Rattle.theory.specs.ReducedLaws.{reduced-content}
 use Rattle.windows.specs.Window.{piece, Moved, quotient-by, Loaded, Content, Below}
 use Rattle.windows.proofs.Leaf.{lt-or-le, piece-at, piece-over, piece-length}
-use Rattle.window_factor.specs.Factors.{LeadingUnit, SplitOf, Nilpotents as NilpotentWords}
+use Rattle.window_factor.specs.Factors.{SplitOf, Nilpotents as NilpotentWords}
 use Rattle.reduced_multipliers.specs.Joining.{combination-content}
 use Rattle.reduced_units.specs.States.{Splitter}
 use Rattle.reduced_cofactors.specs.Cofactors.{Certified, core-room}
-use Rattle.reduced_attempt.specs.Attempts.{Common, Arranged, Nilpotents}
+use Rattle.reduced_attempt.specs.Attempts.{CommonContent, Arranged, NilpotentOver}
 
 -- ---- two polynomials in the buffer
 
@@ -36,7 +36,7 @@ module _ (n : ℕ) (f g w w₁ w₂ : List ℕ) (fits : length f + length g ≤ 
   long : length w₂ ≡ length w
   long = lg .same ∙ lf .same
 
-  pub common-of : (c : ℕ) → Content n (piece w₂ 0 (length f + length g)) c → Common n f g c
+  pub common-of : (c : ℕ) → Content n (piece w₂ 0 (length f + length g)) c → CommonContent n f g c
   common-of c ct = record {
     divides-n = ct .divides-n;
     divides-f = λ k. ⊎-elim (λ h. subst (λ (x : ℕ). c ∣ x) (at k (omega arith) ∙ first-loaded k h) (ct .divides k (omega (arith, size)))) (λ h. beyond f k h c) (lt-or-le k (length f));
@@ -69,7 +69,7 @@ module _ (n : ℕ) (f g w w₁ w₂ : List ℕ) (fits : length f + length g ≤ 
 
 -- ---- modulo n / c
 
-module _ (n c : ℕ) (a b : List ℕ) (two : 2 ≤ n) (cm : Common n a b c) where
+module _ (n c : ℕ) (a b : List ℕ) (two : 2 ≤ n) (cm : CommonContent n a b c) where
   pub common-positive : 0 < c
   common-positive = pos-of-dvd-of-pos (cm .divides-n) (omega arith)
 
@@ -143,7 +143,7 @@ module _ (n c : ℕ) (a b : List ℕ) (two : 2 ≤ n) (cm : Common n a b c) wher
     pub part-first : piece w₁ (length b) (length a) ≡ piece w₁ (length b - 1 + 1) (length a - 1 + 1)
     part-first = ap₂ (λ (x y : ℕ). piece w₁ x y) (sym more-b) (sym more-a)
 
-    pub arranged-nilpotents : NilpotentWords (n / c) (piece w₁ (length b) (length a)) → Nilpotents n c a
+    pub arranged-nilpotents : NilpotentWords (n / c) (piece w₁ (length b) (length a)) → NilpotentOver n c a
     arranged-nilpotents x = record { at = λ k. subst (IsNilpotent (n / c)) (ap (λ (f : List ℕ). coef f k) part-first ∙ first-at k) (x .at k) }
 
     times : (a f : List ℕ) → ((k : ℕ) → coef f k ≡ (coef a k % n) / c) → ((k : ℕ) → c ∣ coef a k % n) → Times (c * (n / c)) c a f
@@ -188,7 +188,7 @@ module _ (n c : ℕ) (a b : List ℕ) (two : 2 ≤ n) (cm : Common n a b c) wher
     }
 
 -- not all coefficients of both are nilpotent
-pub common-primitive : (n c : ℕ) (a b : List ℕ) → 2 ≤ n → Common n a b c → (c ≡ n → ⊥) → Nilpotents n c a → Nilpotents n c b → ⊥
+pub common-primitive : (n c : ℕ) (a b : List ℕ) → 2 ≤ n → CommonContent n a b c → (c ≡ n → ⊥) → NilpotentOver n c a → NilpotentOver n c b → ⊥
 common-primitive n c a b two cm ne na nb =
     let above = common-above n c a b two cm ne in
     let pos = common-positive n c a b two cm in
@@ -203,7 +203,7 @@ common-primitive n c a b two cm ne na nb =
     big : (c p : ℕ) → 0 < c → 1 < p → c * p ≤ c → ⊥
     big c p h q l = let z : c * 2 ≤ c * p = mul-le-mul-left c q in omega arith
 
-pub common-swap : (n c : ℕ) (a b : List ℕ) → Common n a b c → Common n b a c
+pub common-swap : (n c : ℕ) (a b : List ℕ) → CommonContent n a b c → CommonContent n b a c
 common-swap n c a b x = record { divides-n = x .divides-n; divides-f = x .divides-g; divides-g = x .divides-f; greatest = λ y d p q. x .greatest y d q p }
 
 -- ---- two coprime divisors split n

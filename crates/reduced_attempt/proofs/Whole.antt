@@ -1,34 +1,23 @@
 -- An attempt whose polynomials are 0 modulo n, the exchange of the two polynomials, and the rooms of its calls.
-use mathlib.Core.Path.{_≡_, refl, sym, ap, ap₂, subst, _∙_, fun-ext}
+use mathlib.Core.Path.{_≡_, sym, ap, subst, _∙_}
 use mathlib.Core.List.{List, []}
-use mathlib.Core.Logic.{⊎-elim}
-use Prim.Native.Nat.{ℕ, zero, suc, max, _+_, _-_, _*_, _/_, _%_, _≤_, _<_, _∣_}
+use Prim.Native.Nat.{ℕ, suc, max, _+_, _-_, _*_, _%_, _≤_, _<_, _∣_}
 use native.Mathlib.Omega.{arith}
-use native.Mathlib.Nat.{mod-lt, mod-mod, mod-self, mod-one, mod-eq-of-lt, zero-mod, zero-add, add-zero, mul-zero, zero-mul, mul-one, one-mul, mul-comm, mul-pos, mul-le-mul, mul-le-mul-left, mul-le-mul-right, mod-eq-zero-of-dvd, mul-mod-right, dvd-mul-left, dvd-mul-right, le-mul-of-pos-right}
-use lib.ListN.{length, getD, replicate}
-use borrow.Rule.Slice.PartMut.{putMid, midOf}
-use Rattle.definitions.specs.Residues.{K, IsUnit, Inverse, Coprime}
+use native.Mathlib.Nat.{mod-mod, mod-one, mul-one, mul-le-mul-left, mod-eq-zero-of-dvd, mul-mod-right}
+use lib.ListN.{length, replicate}
+use Rattle.definitions.specs.Residues.{K}
 use Rattle.definitions.specs.Polynomials.{coef, L}
 use Rattle.definitions.specs.Resultants.{Combination, Reduced}
-use Rattle.numbers.specs.Chinese.{chinese-same}
-use Rattle.numbers.specs.Congruence.{Cong, c-refl, c-sym, c-trans, c-eq, c-add, c-mul, c-mod, c-dvd, c-zero}
-use Rattle.numbers.specs.Coprimality.{coprime-sym}
-use Rattle.numbers.specs.Logarithm.{K-monotone, K-positive, K-sum}
-use Rattle.numbers.specs.Units.{unit-of-coprime}
-use Rattle.theory.specs.ReachedSteps.{Times, coef-beyond}
-use Rattle.theory.specs.ReducedLaws.{reduced-content, reduced-one, reduced-split, reduced-flip}
-use Rattle.windows.specs.Window.{piece, Around}
-use Rattle.windows.proofs.Leaf.{lt-or-le, piece-at, piece-over}
-use Rattle.windows.proofs.Lift.{window}
-use Rattle.window_factor.specs.Factors.{SplitOf}
-use Rattle.reduced_multipliers.specs.Joining.{Mixed as MixedModulo, combination-content, combination-flip, combination-same, combination-joined}
+use Rattle.theory.specs.ReachedSteps.{Times}
+use Rattle.theory.specs.ReducedLaws.{reduced-content, reduced-one, reduced-flip}
+use Rattle.reduced_multipliers.specs.Joining.{combination-content, combination-flip}
 use Rattle.reduced_cofactors.specs.Cofactors.{Certified, core-room}
 use Rattle.reduced_quotients.proofs.Divisions.{zeros-at}
-use Rattle.reduced_attempt.specs.Attempts.{Common, attempt-room}
+use Rattle.reduced_attempt.specs.Attempts.{CommonContent, attempt-room}
 
 -- ---- both polynomials are 0 modulo n
 
-pub none-certified : (n len : ℕ) (f g x y : List ℕ) → 2 ≤ n → Common n f g n → Certified n len f g (replicate (length x) 0) (replicate (length y) 0) n
+pub none-certified : (n len : ℕ) (f g x y : List ℕ) → 2 ≤ n → CommonContent n f g n → Certified n len f g (replicate (length x) 0) (replicate (length y) 0) n
 none-certified n len f g x y two cm = record {
   reduced = subst (λ (z : ℕ). Reduced z f g z) (mul-one n) (reduced-content n 1 1 f [] g [] (omega arith) (omega arith) (times f (cm .divides-f)) (times g (cm .divides-g)) (reduced-one [] []));
   combination = subst (λ (z : ℕ). Combination z f g (replicate (length x) 0) (replicate (length y) 0) z) (mul-one n)

@@ -1,15 +1,20 @@
-// An attempt at the reduced resultant of two polynomials modulo n. It finishes, or it meets a coefficient that splits n into two coprime factors.
-ghost use mathlib.Core.Path.{_≡_};
-ghost use Prim.Native.Nat.{ℕ, max, _+_, _-_, _*_, _/_, _%_, _<_, _≤_, _∣_};
-ghost use lib.ListN.{length, getD};
-ghost use Rattle.definitions.specs.Polynomials.{L};
+// An attempt at the reduced resultant of two polynomials modulo n. It finishes, or it meets a coefficient that splits n into two coprime
+// factors.
+//
+//   common_content   the content of both polynomials, which divides D
+//   half             the attempt where the first polynomial is the one that is factored
+//   split            two coprime divisors of n, made two coprime factors
+//   attempt          both halves in turn
+ghost use Prim.Native.Nat.{_+_, _-_, _*_, _/_, _≤_};
+ghost use lib.ListN.{length};
+ghost use Rattle.windows.specs.Window.{Scratch};
 ghost use Rattle.reduced_units.specs.States.{Splitter};
-ghost use Rattle.reduced_cofactors.specs.Cofactors.{core-room};
-ghost use Rattle.reduced_attempt.specs.Attempts.{Common, Arranged, TrialAnswers, Parted, Attempted, attempt-room};
+ghost use Rattle.reduced_attempt.specs.Attempts.{CommonContent, Arranged, HalfAsked, TrialAnswers};
+ghost use Rattle.reduced_attempt.specs.Attempts.{Parted, AttemptAsked, Attempted};
 use residue::Attempt;
 
-// What the half of an attempt comes to that factors the first polynomial: D; two coprime divisors of n; or all coefficients of that polynomial,
-// over the common content, are nilpotent.
+// What the half of an attempt comes to that factors the first polynomial: D; two coprime divisors of n; or all coefficients of that
+// polynomial, over the common content, are nilpotent.
 pub enum Trial {
     Found(u32),
     Divisors(u32, u32),
@@ -19,8 +24,8 @@ pub enum Trial {
 // The content of f and g together.
 fn common_content(w: &mut [u32], n: u32, f: &[u32], g: &[u32]) -> u32
     requires { ⌜ (1 ≤ n) × (length (now f) + length (now g) ≤ length (now w)) ⌝ }
-    ensures { λ r. ⌜ Common n (now (f .entry)) (now (g .entry)) r ⌝ }
-    ensures { λ _. ⌜ length (now (w .exit)) ≡ length (now (w .entry)) ⌝ }
+    ensures { λ r. ⌜ CommonContent n (now (f .entry)) (now (g .entry)) r ⌝ }
+    ensures { λ _. ⌜ Scratch (now (w .entry)) (now (w .exit)) ⌝ }
 {
     let l = f.len();
     let m = l + g.len();
@@ -43,10 +48,10 @@ fn arrange(w: &mut [u32], n: u32, c: u32, a: &[u32], b: &[u32])
 
 // The reduced resultant of a and b, c their common content, with the cofactors x of a and y of b, if a can be factored.
 fn half(x: &mut [u32], y: &mut [u32], w: &mut [u32], n: u32, c: u32, a: &[u32], b: &[u32]) -> Trial
-    requires { ⌜ (2 ≤ n) × ((1 ≤ length (now a)) × ((1 ≤ length (now b)) × ((core-room n (length (now a) - 1) (length (now b) - 1) ≤ length (now w)) × ((L n (length (now a) - 1) (length (now b) - 1) ≤ length (now x)) × (L n (length (now a) - 1) (length (now b) - 1) ≤ length (now y)))))) ⌝ }
-    requires { ⌜ (Common n (now a) (now b) c) × (c ≡ n → ⊥) ⌝ }
-    ensures { λ r. ⌜ TrialAnswers n c (L n (length (now (a .entry)) - 1) (length (now (b .entry)) - 1)) (now (a .entry)) (now (b .entry)) (now (x .exit)) (now (y .exit)) r ⌝ }
-    ensures { λ _. ⌜ length (now (w .exit)) ≡ length (now (w .entry)) ⌝ }
+    requires { ⌜ HalfAsked n c (now a) (now b) (now x) (now y) (now w) ⌝ }
+    ensures { λ r. ⌜ TrialAnswers n c (now (a .entry)) (now (b .entry)) (now (x .entry)) (now (y .entry))
+        (now (x .exit)) (now (y .exit)) r ⌝ }
+    ensures { λ _. ⌜ Scratch (now (w .entry)) (now (w .exit)) ⌝ }
 {
     arrange(w, n, c, a, b);
     let l = b.len();
@@ -84,9 +89,9 @@ fn split(n: u32, p: u32, q: u32) -> Attempt
 
 // The reduced resultant of f and g with its cofactors, or n as a product of two coprime factors.
 pub fn attempt(u: &mut [u32], v: &mut [u32], w: &mut [u32], n: u32, f: &[u32], g: &[u32]) -> Attempt
-    requires { ⌜ (2 ≤ n) × ((1 ≤ length (now f)) × ((1 ≤ length (now g)) × ((attempt-room n (max (length (now f) - 1) (length (now g) - 1)) ≤ length (now w)) × ((L n (length (now f) - 1) (length (now g) - 1) ≤ length (now u)) × (L n (length (now f) - 1) (length (now g) - 1) ≤ length (now v)))))) ⌝ }
-    ensures { λ r. ⌜ Attempted n (L n (length (now (f .entry)) - 1) (length (now (g .entry)) - 1)) (now (f .entry)) (now (g .entry)) (now (u .exit)) (now (v .exit)) r ⌝ }
-    ensures { λ _. ⌜ length (now (w .exit)) ≡ length (now (w .entry)) ⌝ }
+    requires { ⌜ AttemptAsked n (now f) (now g) (now u) (now v) (now w) ⌝ }
+    ensures { λ r. ⌜ Attempted n (now (f .entry)) (now (g .entry)) (now (u .entry)) (now (v .entry)) (now (u .exit)) (now (v .exit)) r ⌝ }
+    ensures { λ _. ⌜ Scratch (now (w .entry)) (now (w .exit)) ⌝ }
 {
     let c = common_content(w, n, f, g);
     if c == n {

@@ -1,25 +1,23 @@
 -- Exact quotients: by a unit polynomial, and by the monic H.
-use mathlib.Core.Path.{_≡_, refl, sym, ap, ap₂, subst, _∙_, fun-ext}
+use mathlib.Core.Path.{_≡_, refl, sym, ap, ap₂, subst, _∙_}
 use mathlib.Core.List.{List, []}
 use mathlib.Core.Logic.{⊎-elim}
 use Prim.Native.Nat.{ℕ, zero, suc, _+_, _-_, _*_, _%_, _≤_, _<_}
 use native.Mathlib.Omega.{arith}
 use native.Mathlib.Nat.{mod-lt, mod-mod, zero-mod, one-mul, add-zero, zero-add, mul-le-mul-right}
-use native.Mathlib.Decide.{ℕ-discrete}
-use lib.ListN.{length, getD, set, replicate, length-set, length-replicate, getD-replicate, List·getD-eq-default}
+use lib.ListN.{length, getD, set, replicate, length-set, length-replicate, getD-replicate}
 use lib.Seq.{getD-set-same, getD-set-other}
 use Rattle.definitions.specs.Residues.{K}
 use Rattle.definitions.specs.Polynomials.{coef, convolve, constant, Divided}
-use Rattle.numbers.specs.Congruence.{Cong, c-refl, c-trans, c-eq, c-add, c-mod}
-use Rattle.numbers.specs.Logarithm.{K-positive}
+use Rattle.numbers.specs.Congruence.{c-refl, c-trans, c-eq, c-add, c-mod}
 use Rattle.theory.specs.ReachedSteps.{coef-beyond}
 use Rattle.windows.specs.Window.{piece, Moved, zeroed, Loaded, Below, Around, Apart}
-use Rattle.windows.proofs.Leaf.{lt-or-le, piece-at, piece-over, piece-same, piece-length}
+use Rattle.windows.proofs.Leaf.{lt-or-le, piece-at, piece-over, piece-length}
 use Rattle.windows.proofs.Lift.{moved-around}
 use Rattle.window_division.specs.Remainders.{Pair, Quotient}
 use Rattle.reduced_products.specs.Products.{Factors, Subtracted}
 use Rattle.reduced_units.specs.Factorings.{Negated}
-use Rattle.reduced_units.proofs.Regions.{apart-low, apart-swap, below-apart, piece-apart}
+use Rattle.reduced_units.proofs.Regions.{apart-low, below-apart, piece-apart}
 use Rattle.reduced_quotients.specs.Quotients.{OverFirst, ExactQuotient}
 
 -- zeros

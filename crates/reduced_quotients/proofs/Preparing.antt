@@ -1,5 +1,5 @@
 -- G modulo H, and the window of the content stage made ready.
-use mathlib.Core.Path.{_≡_, refl, sym, ap, ap₂, subst, _∙_, fun-ext}
+use mathlib.Core.Path.{_≡_, sym, ap, ap₂, subst, _∙_, fun-ext}
 use mathlib.Core.List.{List, []}
 use mathlib.Core.Logic.{⊎-elim}
 use Prim.Native.Nat.{ℕ, zero, suc, _+_, _-_, _*_, _%_, _≤_, _<_}
@@ -10,11 +10,11 @@ use lib.Seq.{getD-set-same, getD-set-other}
 use Rattle.definitions.specs.Polynomials.{coef, convolve, constant, tabulate, Divided}
 use Rattle.theory.specs.ReachedSteps.{coef-whole, coef-beyond}
 use Rattle.windows.specs.Window.{piece, Moved, zeroed, second, Below, Around, Apart}
-use Rattle.windows.proofs.Leaf.{lt-or-le, piece-at, piece-over, piece-same}
+use Rattle.windows.proofs.Leaf.{lt-or-le, piece-at, piece-over}
 use Rattle.windows.proofs.Lift.{moved-around, moved-copy, piece-equal}
 use Rattle.window_division.specs.Remainders.{Pair, Remainder}
 use Rattle.window_division.proofs.Turns.{convolve-none}
-use Rattle.reduced_units.proofs.Regions.{apart-low, apart-swap, below-apart, piece-apart}
+use Rattle.reduced_units.proofs.Regions.{apart-low, below-apart, piece-apart}
 use Rattle.reduced_quotients.specs.Quotients.{RestAt, Prepared}
 
 convolve-empty : (F : ℕ → ℕ) (k : ℕ) → convolve (coef []) F k ≡ 0

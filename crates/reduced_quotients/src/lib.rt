@@ -5,19 +5,19 @@
 //   prepare           H and G modulo H, with the multipliers 0 and 1, for the content stage
 //   exact_quotient    a constant less a product, by H
 ghost use mathlib.Core.Path.{_≡_};
-ghost use Prim.Native.Nat.{ℕ, max, _+_, _-_, _*_, _/_, _%_, _<_, _≤_, _∣_};
-ghost use lib.ListN.{length, getD};
-ghost use Rattle.definitions.specs.Residues.{K};
+ghost use Prim.Native.Nat.{_+_};
+ghost use lib.ListN.{getD};
 ghost use Rattle.definitions.specs.Polynomials.{UnitPolynomial};
-ghost use Rattle.windows.specs.Window.{piece, Below};
-ghost use Rattle.reduced_quotients.specs.Quotients.{OverFirst, RestAt, Prepared, ExactQuotient};
+ghost use Rattle.windows.specs.Window.{piece, Below, Scratch};
+ghost use Rattle.reduced_quotients.specs.Quotients.{OverRoom, OverFirst};
+ghost use Rattle.reduced_quotients.specs.Quotients.{PrepareRoom, RestAt, Prepared, QuotientRoom, ExactQuotient};
 
 // x becomes the lz words at zp over the unit polynomial of k + 1 words at up; what lies above that is room.
 pub fn over_first(x: &mut [u32], w: &mut [u32], n: u32, up: usize, k: usize, zp: usize, lz: usize)
-    requires { ⌜ (2 ≤ n) × ((1 ≤ lz) × ((zp + lz ≤ up) × ((up + (k + 1) + (2 * (K n * k + 1) + lz) ≤ length (now w)) × ((K n - 1) * k + lz ≤ length (now x))))) ⌝ }
+    requires { ⌜ OverRoom n up k zp lz (now w) (now x) ⌝ }
     requires { ⌜ UnitPolynomial n (piece (now w) up (k + 1)) ⌝ }
     ensures { λ _. ⌜ OverFirst n up k zp lz (now (w .entry)) (now (x .exit)) ⌝ }
-    ensures { λ _. ⌜ length (now (w .exit)) ≡ length (now (w .entry)) ⌝ }
+    ensures { λ _. ⌜ Scratch (now (w .entry)) (now (w .exit)) ⌝ }
 {
     let len = reduced_units::negate_inverse(w, n, up, k);
     let a = up + (k + 1);
@@ -31,7 +31,7 @@ pub fn over_first(x: &mut [u32], w: &mut [u32], n: u32, up: usize, k: usize, zp:
 
 // G at 0 modulo H at q.
 fn remainder(w: &mut [u32], n: u32, e: usize, q: usize, t: usize)
-    requires { ⌜ (1 ≤ n) × ((1 ≤ t) × ((e + 1 ≤ q) × (q + 8 * (t + 1) + (e + 1 + t) ≤ length (now w)))) ⌝ }
+    requires { ⌜ PrepareRoom n e q t (now w) ⌝ }
     requires { ⌜ (Below n 0 (e + 1) (now w)) × ((Below n q (t + 1) (now w)) × (getD (now w) (q + t) 0 ≡ 1)) ⌝ }
     ensures { λ _. ⌜ RestAt n e q t (now (w .entry)) (now (w .exit)) ⌝ }
 {
@@ -46,7 +46,7 @@ fn remainder(w: &mut [u32], n: u32, e: usize, q: usize, t: usize)
 
 // The window from q on is made ready for the content stage.
 pub fn prepare(w: &mut [u32], n: u32, e: usize, q: usize, t: usize)
-    requires { ⌜ (2 ≤ n) × ((1 ≤ t) × ((e + 1 ≤ q) × (q + 8 * (t + 1) + (e + 1 + t) ≤ length (now w)))) ⌝ }
+    requires { ⌜ PrepareRoom n e q t (now w) ⌝ }
     requires { ⌜ (Below n 0 (e + 1) (now w)) × ((Below n q (t + 1) (now w)) × (getD (now w) (q + t) 0 ≡ 1)) ⌝ }
     ensures { λ _. ⌜ Prepared n e q t (now (w .entry)) (now (w .exit)) ⌝ }
 {
@@ -59,7 +59,7 @@ pub fn prepare(w: &mut [u32], n: u32, e: usize, q: usize, t: usize)
 
 // c less the product of G at 0 and the multiplier at q + (t + 1), divided by H at q.
 pub fn exact_quotient(w: &mut [u32], n: u32, e: usize, q: usize, t: usize, c: u32)
-    requires { ⌜ (2 ≤ n) × ((1 ≤ t) × ((e + 1 ≤ q) × (q + 2 * (t + 1) + (t + e + 1) ≤ length (now w)))) ⌝ }
+    requires { ⌜ QuotientRoom n e q t (now w) ⌝ }
     requires { ⌜ (Below n q (t + 1) (now w)) × ((getD (now w) (q + t) 0 ≡ 1) × (Below n (q + (t + 1)) t (now w))) ⌝ }
     ensures { λ _. ⌜ ExactQuotient n e q t c (now (w .entry)) (now (w .exit)) ⌝ }
 {

@@ -1,6 +1,5 @@
 use Rattle.reduced.proofs.Mixing.{length-second, length-first}
 use native.Mathlib.Omega.{arith}
-use mathlib.Core.Path.{_≡_, refl, sym, ap, subst, _∙_}
 use borrow.Author.Needs.{needs}
 use Rattle.reduced.proofs.cofactor_length.Statement.{statement}
 use Rattle.reduced.proofs.cofactor_length.Tie as tie

@@ -1,9 +1,9 @@
 use borrow.Author.Needs.{needs}
-use Rattle.reduced.proofs.Mixing.{Adding, adding-none, adding-step, mixed-end}
+use Rattle.reduced.proofs.Mixing.{Adding, adding-step, mixed-end}
 use native.Mathlib.Omega.{arith}
-use mathlib.Core.Path.{_≡_, refl, sym, ap, subst, _∙_}
-use Prim.Native.Nat.{ℕ, _+_, _*_, _-_, _%_, _≤_, _<_}
-use lib.ListN.{length, getD}
+use mathlib.Core.Path.{refl}
+use Prim.Native.Nat.{_-_, _≤_}
+use lib.ListN.{length}
 use Rattle.reduced.proofs.mix.Statement.{statement}
 use Rattle.reduced.proofs.mix.Tie as tie
 

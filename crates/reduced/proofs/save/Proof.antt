@@ -1,12 +1,10 @@
 use Rattle.reduced.proofs.Mixing.{saved-of}
-use Rattle.reduced.specs.Runs.{Saved}
-use Rattle.windows.specs.Window.{Loaded, piece}
-use Rattle.definitions.specs.Polynomials.{L}
+use Rattle.windows.specs.Window.{Loaded}
 use Rattle.reduced_units.proofs.Regions.{part-piece}
 use native.Mathlib.Omega.{arith}
-use mathlib.Core.Path.{_≡_, refl, sym, ap, subst, _∙_}
+use mathlib.Core.Path.{_≡_, sym, subst}
 use mathlib.Core.List.{List}
-use Prim.Native.Nat.{ℕ, _+_, _*_, _-_, _%_, _≤_, _<_}
+use Prim.Native.Nat.{ℕ, _*_, _-_, _≤_}
 use lib.ListN.{length}
 use borrow.Author.Needs.{needs}
 use Rattle.reduced.proofs.save.Statement.{statement}
@@ -14,18 +12,17 @@ use Rattle.reduced.proofs.save.Tie as tie
 
 returns : tie.Need-returns
 returns c = let s = c .before .before .before .before .before .before .before .before .before .before .before .before .before .before in
-    let p = s .pre .1 .1 .1 in
+    let p = s .pre in
     let l = c .before .before .before .before .before .before .before .before .before .before .cofactor-length .result in
     let e = c .before .before .before .before .before .before .before .before .before .before .cofactor-length .ensures in
     let z : l - 0 ≡ l = omega arith in
-    let up = subst (λ (y : ℕ). y ≤ length (s .args .u .now)) (sym e) (p .1 .0) in
-    let vp = subst (λ (y : ℕ). y ≤ length (s .args .v .now)) (sym e) (p .1 .1) in
-    let wp = subst (λ (y : ℕ). 2 * y ≤ length (s .args .w .now)) (sym e) (p .0) in (
+    let up = subst (λ (y : ℕ). y ≤ length (s .args .u .now)) (sym e) (p .first) in
+    let vp = subst (λ (y : ℕ). y ≤ length (s .args .v .now)) (sym e) (p .second) in
+    let wp = subst (λ (y : ℕ). 2 * y ≤ length (s .args .w .now)) (sym e) (p .room) in (
       e,
-      subst (λ (y : ℕ). Saved (s .args .n) y (s .args .u .now) (s .args .v .now) (s .args .w .now) (c .before .before .load2 .last .0)) e
-          (saved-of (s .args .n) l (s .args .u .now) (s .args .v .now) (s .args .w .now) (c .before .before .before .before .before .before .before .load .last .0) (c .before .before .load2 .last .0) wp up vp
+      saved-of (s .args .n) l (s .args .u .now) (s .args .v .now) (s .args .w .now) (c .before .before .before .before .before .before .before .load .last .0) (c .before .before .load2 .last .0) wp up vp
           (subst (λ (f : List ℕ). Loaded (s .args .n) 0 f (s .args .w .now) (c .before .before .before .before .before .before .before .load .last .0)) (part-piece (s .args .u .now) 0 l _ z) (c .before .before .before .before .before .before .before .load .ensures))
-          (subst (λ (f : List ℕ). Loaded (s .args .n) l f (c .before .before .before .before .before .before .before .load .last .0) (c .before .before .load2 .last .0)) (part-piece (s .args .v .now) 0 l _ z) (c .before .before .load2 .ensures))),
+          (subst (λ (f : List ℕ). Loaded (s .args .n) l f (c .before .before .before .before .before .before .before .load .last .0) (c .before .before .load2 .last .0)) (part-piece (s .args .v .now) 0 l _ z) (c .before .before .load2 .ensures)),
     )
 
 pub save-spec : {M : Type 1} → statement M

@@ -1,8 +1,4 @@
-use native.Mathlib.Omega.{arith}
-use mathlib.Core.Path.{_≡_, refl, sym, ap, subst, _∙_}
-use mathlib.Core.List.{List}
-use Prim.Native.Nat.{ℕ, _+_, _*_, _-_, _/_, _%_, _≤_, _<_}
-use lib.ListN.{length, getD, take, drop}
+use Prim.Native.Nat.{_-_}
 use Rattle.reduced_attempt.proofs.Halves.{arranged-of}
 use borrow.Author.Needs.{needs}
 use Rattle.reduced_attempt.proofs.arrange.Statement.{statement}

@@ -1,8 +1,5 @@
-use native.Mathlib.Omega.{arith}
-use mathlib.Core.Path.{_≡_, refl, sym, ap, subst, _∙_}
-use mathlib.Core.List.{List}
-use Prim.Native.Nat.{ℕ, _+_, _*_, _-_, _/_, _%_, _≤_, _<_}
-use lib.ListN.{length, getD, take, drop}
+use mathlib.Core.Path.{subst}
+use Prim.Native.Nat.{_-_}
 use Rattle.reduced_attempt.proofs.Halves.{split-unit, split-nilpotent, split-factors}
 use Rattle.residue.specs.Kinds.{KindOf}
 use borrow.Author.Needs.{needs}

@@ -20,14 +20,14 @@ over-first-requires c κs = let s = c .before .before .before .before .before .b
     )
 
 same-length-3 : tie.Need-same-length-3
-same-length-3 c = c .before .before .before .before .over-first .ensures .1 ∙ (simp length-set)
+same-length-3 c = c .before .before .before .before .over-first .ensures .1 .same ∙ (simp length-set)
 
 returns : tie.Need-returns
 returns c = let s = c .before .before .before .before .before .before .before .before .before .before .before .before .before .before in
     let p = s .pre .0 in (
       subst (λ (y : List ℕ). Certified (s .args .n) (L (s .args .n) (s .args .d) (s .args .e)) (piece (s .args .w .now) (s .args .e + 1) (s .args .d + 1)) (piece (s .args .w .now) 0 (s .args .e + 1)) (c .before .before .before .before .over-first .last .0) y 1)
           (sym (c .before .before .before .before .before .before .before .before .before .wipe .ensures)) (constant-certified _ _ _ _ (s .args .y .now) _ (p .above) (p .room) (s .pre .1) (c .before .before .before .before .over-first .ensures .0)),
-      record { same = c .before .before .before .before .over-first .ensures .1 ∙ length-set (s .args .w .now) 0 1 },
+      record { same = c .before .before .before .before .over-first .ensures .1 .same ∙ length-set (s .args .w .now) 0 1 },
     )
 
 pub constant-spec : {M : Type 1} → statement M

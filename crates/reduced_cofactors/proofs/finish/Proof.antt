@@ -25,7 +25,7 @@ returns c = let s = c .before .before .before .before .before .before .before .b
     let ld = subst (λ (f : List ℕ). Loaded (s .args .n) 0 f (c .before .before .before .before .before .before .before .before .before .before .before .before .before .before .before .wipe .last .0) (c .before .before .before .before .before .before .before .before .before .load .last .0)) (part-piece (c .before .before .before .before .before .before .before .before .before .before .before .before .before .before .before .before .before .before .before .copy .last .0) a (s .args .t) _ z) (c .before .before .before .before .before .before .before .before .before .load .ensures) in (
       finished _ _ _ _ _ _ _ _ _ _ _ p (c .before .before .before .before .before .before .before .before .before .before .before .before .before .before .before .before .before .before .before .before .before .before .before .exact-quotient .ensures) (c .before .before .before .before .before .before .before .before .before .before .before .before .before .before .before .before .before .before .before .copy .ensures) _ _
           (subst (λ (x : List ℕ). Loaded (s .args .n) 0 (piece (c .before .before .before .before .before .before .before .before .before .before .before .before .before .before .before .before .before .before .before .copy .last .0) a (s .args .t)) x (c .before .before .before .before .before .before .before .before .before .load .last .0)) (c .before .before .before .before .before .before .before .before .before .before .before .before .before .before .before .wipe .ensures) ld) (c .before .before .before .before .over-first .ensures .0),
-      record { same = c .before .before .before .before .over-first .ensures .1 ∙ c .before .before .before .before .before .before .before .before .before .before .before .before .before .before .before .before .before .before .before .copy .ensures .same ∙ c .before .before .before .before .before .before .before .before .before .before .before .before .before .before .before .before .before .before .before .before .before .before .before .exact-quotient .ensures .around .same },
+      record { same = c .before .before .before .before .over-first .ensures .1 .same ∙ c .before .before .before .before .before .before .before .before .before .before .before .before .before .before .before .before .before .before .before .copy .ensures .same ∙ c .before .before .before .before .before .before .before .before .before .before .before .before .before .before .before .before .before .before .before .before .before .before .before .exact-quotient .ensures .around .same },
     )
 
 pub finish-spec : {M : Type 1} → statement M

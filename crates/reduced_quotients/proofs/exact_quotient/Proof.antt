@@ -1,8 +1,6 @@
 use Rattle.reduced_quotients.proofs.Divisions.{quotient-bounds, quotient-factors, quotient-pair, quotient-unit, quotient-room, exact-quotient}
 use native.Mathlib.Omega.{arith}
-use mathlib.Core.Path.{_≡_, refl, sym, ap, subst, _∙_}
-use Prim.Native.Nat.{ℕ, _+_, _*_, _-_, _%_, _≤_, _<_}
-use lib.ListN.{length-set}
+use Prim.Native.Nat.{_-_}
 use borrow.Author.Needs.{needs}
 use Rattle.reduced_quotients.proofs.exact_quotient.Statement.{statement}
 use Rattle.reduced_quotients.proofs.exact_quotient.Tie as tie

@@ -2,10 +2,9 @@ use Rattle.reduced_quotients.proofs.Divisions.{over-room, over-bounds, 
 use Rattle.reduced_units.proofs.Regions.{part-piece}
 use Rattle.windows.specs.Window.{piece, Loaded}
 use native.Mathlib.Omega.{arith}
-use mathlib.Core.Path.{_≡_, refl, sym, ap, subst, _∙_}
+use mathlib.Core.Path.{_≡_, subst, _∙_}
 use mathlib.Core.List.{List}
-use Prim.Native.Nat.{ℕ, _+_, _*_, _-_, _%_, _≤_, _<_}
-use lib.ListN.{length}
+use Prim.Native.Nat.{ℕ, _+_, _-_}
 use borrow.Author.Needs.{needs}
 use Rattle.reduced_quotients.proofs.over_first.Statement.{statement}
 use Rattle.reduced_quotients.proofs.over_first.Tie as tie
@@ -40,7 +39,7 @@ returns c = let s = c .before .before .before .before .before .before .before .b
     let ld = subst (λ (f : List ℕ). Loaded (s .args .n) 0 f (c .before .before .before .before .before .before .before .before .wipe .last .0) (c .before .before .load .last .0)) (part-piece (c .before .before .before .before .before .before .before .before .before .before .before .before .sub-product .last .0) b m _ z) (c .before .before .load .ensures) in (
       over-first _ _ _ _ _ _ _ _ (p .0) (p .1 .0) (p .1 .1 .0) (p .1 .1 .1 .0) (c .before .before .before .before .before .before .before .before .before .before .before .before .before .before .before .before .before .before .before .before .negate-inverse .ensures) _ (c .before .before .before .before .before .before .before .before .before .before .before .before .before .before .before .before .clear .ensures) (c .before .before .before .before .before .before .before .before .before .before .before .before .sub-product .last .0) (s .args .x .now) _ (c .before .before .before .before .before .before .before .before .before .before .before .before .sub-product .ensures)
           (subst (λ (x : List ℕ). Loaded (s .args .n) 0 (piece (c .before .before .before .before .before .before .before .before .before .before .before .before .sub-product .last .0) b m) x (c .before .before .load .last .0)) (c .before .before .before .before .before .before .before .before .wipe .ensures) ld),
-      c .before .before .before .before .before .before .before .before .before .before .before .before .sub-product .ensures .around .same ∙ c .before .before .before .before .before .before .before .before .before .before .before .before .before .before .before .before .clear .ensures .same ∙ c .before .before .before .before .before .before .before .before .before .before .before .before .before .before .before .before .before .before .before .before .negate-inverse .ensures .around .same,
+      record { same = c .before .before .before .before .before .before .before .before .before .before .before .before .sub-product .ensures .around .same ∙ c .before .before .before .before .before .before .before .before .before .before .before .before .before .before .before .before .clear .ensures .same ∙ c .before .before .before .before .before .before .before .before .before .before .before .before .before .before .before .before .before .before .before .before .negate-inverse .ensures .around .same },
     )
 
 pub over-first-spec : {M : Type 1} → statement M

@@ -47,22 +47,17 @@ run-requires c κs =
     let m : l - 0 ≡ l = omega arith in
     let f = start .args .f .now in
     let g = start .args .g .now in
-    let a = length-asked (start .args .n) f g s e z in (
-      modulus-two (start .args .n) f g s e z,
-      (
-        a .0,
-        (
-          a .1 .0,
-          (
-            enough (start .args .n) f g s e z _ (fourth .if4 .left),
-            (
-              part-long (l - 0) l _ (start .args .u .now) m (len .cofactor-length .ensures) (fourth .before .before .if2 .left),
-              part-long (l - 0) l _ (start .args .v .now) m (len .cofactor-length .ensures) (fourth .before .if3 .left),
-            ),
-          ),
-        ),
-      ),
-    )
+    let a = length-asked (start .args .n) f g s e z in
+    let lu = part-long (l - 0) l _ (start .args .u .now) m (len .cofactor-length .ensures) (fourth .before .before .if2 .left) in
+    let lv = part-long (l - 0) l _ (start .args .v .now) m (len .cofactor-length .ensures) (fourth .before .if3 .left) in
+    record {
+      modulus = modulus-two (start .args .n) f g s e z;
+      some-f = a .0;
+      some-g = a .1 .0;
+      room = enough (start .args .n) f g s e z _ (fourth .if4 .left);
+      first = omega (arith, lu, lv);
+      second = omega (arith, lu, lv);
+    }
 
 returns-5 : tie.Need-returns-5
 returns-5 c =
@@ -79,7 +74,7 @@ returns-5 c =
     (l - 0) m _ _ (r .run .last .0) (r .run .last .1 .0) _ u v (fourth .if4 .left)
     (part-length (l - 0) l (start .args .u .now) (r .run .last .0) m u (r .run .kept .0))
     (part-length (l - 0) l (start .args .v .now) (r .run .last .1 .0) m v (r .run .kept .1 .0)) (r .run .ensures .0)
-    (c .before .before .wipe .ensures ∙ ap (λ (x : ℕ). replicate x 0) (r .run .ensures .1))
+    (c .before .before .wipe .ensures ∙ ap (λ (x : ℕ). replicate x 0) (r .run .ensures .1 .same))
 
 pub reduced-resultant-spec : {M : Type 1} → statement M
 reduced-resultant-spec =
