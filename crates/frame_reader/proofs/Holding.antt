@@ -8,14 +8,14 @@ use Prim.Native.Nat.{ℕ, suc, _+_, _-_, _<_, _≤_}
 use native.Mathlib.Omega.{arith}
 use native.Mathlib.Numerals.{add-one}
 use lib.ListN.{length, getD, take, drop, set, length-append, length-set, length-drop}
-use lib.Seq.{take-suc, take-all, take-suc-set, getD-drop}
+use lib.Seq.{take-suc, take-all, take-suc-set, getD-drop, drop-set-lt}
 use borrow.Author.Tests.{ne-eqb}
 use Rattle.frames.specs.Frames.{answer-line, Wrote}
 use Rattle.frames.proofs.Heads.{too-long}
 use Rattle.frames.proofs.Answering.{wrote-refused, first-handed}
 use Rattle.frame_reader.specs.Lines.{has-newline}
 use Rattle.frame_reader.specs.LineLaws.{none-in-either}
-use Rattle.frame_reader.specs.Pieces.{Held}
+use Rattle.frame_reader.specs.Pieces.{Held, LineAfter}
 
 -- ---- looking for a newline
 
@@ -39,19 +39,21 @@ scan-step p a j l h n q =
 
 pub record Holding (h : ℕ) (b₀ p : List ℕ) (i : ℕ) (b : List ℕ) : Type 0 where
   pub same : length b ≡ length b₀
+  pub beyond : drop 798 b ≡ drop 798 b₀
   pub front : take (h + i) b ≡ take h b₀ ++ take i p
 
 pub holding-none : (h : ℕ) (b₀ p : List ℕ) → Holding h b₀ p 0 b₀
 holding-none h b₀ p =
-    let e : h + 0 ≡ h = omega arith in record { same = refl; front = ap (λ (x : ℕ). take x b₀) e ∙ sym (append-nil (take h b₀)) }
+    let e : h + 0 ≡ h = omega arith in record { same = refl; beyond = refl; front = ap (λ (x : ℕ). take x b₀) e ∙ sym (append-nil (take h b₀)) }
 
-pub holding-step : {h i : ℕ} {b₀ p b : List ℕ} → h + i < length b → i < length p → Holding h b₀ p i b
+pub holding-step : {h i : ℕ} {b₀ p b : List ℕ} → h + i < 798 → h + i < length b → i < length p → Holding h b₀ p i b
     → Holding h b₀ p (i + 1) (set b (h + i) (getD p i 0))
-holding-step {h} {i} {b₀} {p} {b} l m q =
+holding-step {h} {i} {b₀} {p} {b} low l m q =
     let c = getD p i 0 in
     let e : h + (i + 1) ≡ suc (h + i) = omega arith in
     record {
       same = length-set b (h + i) c ∙ q .same;
+      beyond = drop-set-lt 798 b (h + i) c low ∙ q .beyond;
       front =
           ap (λ (x : ℕ). take x (set b (h + i) c)) e
           ∙ take-suc-set b (h + i) c l
@@ -76,6 +78,18 @@ holding-long b₀ b p l s k n = record {
   count = omega (arith, k .count, length-append s p);
   kept = λ z. absurd (omega arith);
 }
+
+pub held-counted : {s b : List ℕ} {h x : ℕ} → x ≡ h → Held s h b → Held s x b
+held-counted {s} {b} e k = subst (λ (y : ℕ). Held s y b) (sym e) k
+
+pub line-unchanged : (h : ℕ) (b : List ℕ) → h ≤ 799 → LineAfter h b b
+line-unchanged h b l = record { most = l; same = refl; beyond = refl }
+
+pub line-after : {h i : ℕ} {b₀ p b : List ℕ} (r : ℕ) → r ≤ 799 → Holding h b₀ p i b → LineAfter r b₀ b
+line-after r l q = record { most = l; same = q .same; beyond = q .beyond }
+
+pub line-then : {h r : ℕ} {b₀ b b' : List ℕ} → LineAfter h b₀ b → LineAfter r b b' → LineAfter r b₀ b'
+line-then p q = record { most = q .most; same = q .same ∙ p .same; beyond = q .beyond ∙ p .beyond }
 
 -- ---- answering the line held
 

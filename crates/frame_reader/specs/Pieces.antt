@@ -2,6 +2,7 @@
 --
 --   NewlineAt p a r           r is the place of the first newline of p from place a on, or the length of p
 --   Held s h b                the unfinished line s is held: h counts its characters, up to 799, and they stand at the front of b
+--   LineAfter h b b'          what becomes of the buffer's words
 --   Stepped s p h b w o o'    what a step over the piece p owes, s being the line held before it
 --   Written h b ps a          a is what is written, from a line held as h in b, for the pieces ps and at the end of the input
 use mathlib.Core.Path.{_≡_}
@@ -30,6 +31,13 @@ pub record Stepped (s p : List ℕ) (h : ℕ) (b : List ℕ) (w : ℕ) (o o' : L
   pub held : Held (unfinished (s ++ p)) h b
   pub answers : Answers (finished (s ++ p)) (take w o')
   pub rest : drop w o' ≡ drop w o
+
+-- The buffer of the line held after a step or a part of one: h characters are held, at most 799; the words from 798 on are as they were,
+-- and those between are of no use.
+pub record LineAfter (h : ℕ) (b b' : List ℕ) : Type 0 where
+  pub most : h ≤ 799
+  pub same : length b' ≡ length b
+  pub beyond : drop 798 b' ≡ drop 798 b
 
 -- The end of the input: a last line that is not empty is answered.
 pub record Ended (s : List ℕ) (w : ℕ) (o o' : List ℕ) : Type 0 where

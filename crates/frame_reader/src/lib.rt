@@ -3,11 +3,11 @@
 ghost use mathlib.Core.Path.{_≡_};
 ghost use mathlib.Core.Bool.{false};
 ghost use mathlib.Core.List.{List, _++_};
-ghost use Prim.Native.Nat.{ℕ, _+_, _*_, _≤_};
-ghost use lib.ListN.{length};
+ghost use Prim.Native.Nat.{ℕ, min, _+_, _*_, _≤_};
+ghost use lib.ListN.{length, drop};
 ghost use Rattle.frames.specs.Frames.{Wrote};
 ghost use Rattle.frame_reader.specs.Lines.{has-newline};
-ghost use Rattle.frame_reader.specs.Pieces.{NewlineAt, Held, Steps, Ends};
+ghost use Rattle.frame_reader.specs.Pieces.{NewlineAt, Held, Steps, Ends, LineAfter};
 
 // What a step leaves: the count of the line held, and of the characters written.
 pub struct Progress {
@@ -37,11 +37,22 @@ fn find_newline(piece: &[u8], from: usize) -> usize
     j
 }
 
-// Holds part after what is held of an unfinished line.
+// A line of 799 characters or more is held as one of 799: it is no frame, whatever comes.
+fn counted(held: usize) -> usize
+    ensures { λ r. ⌜ r ≡ min held 799 ⌝ }
+{
+    if held > 799 {
+        return 799;
+    }
+    held
+}
+
+// Holds part after what is held of an unfinished line. No more than the first 798 words of the buffer are used.
 fn hold(held: usize, line: &mut [u8], part: &[u8]) -> usize
     requires { ⌜ 798 ≤ length (now line) ⌝ }
     ensures { λ r. ⌜ ((s : List ℕ) → Held s held (now (line .entry)) → has-newline (now (part .entry)) ≡ false
         → Held (s ++ now (part .entry)) r (now (line .exit))) ⌝ }
+    ensures { λ r. ⌜ LineAfter r (now (line .entry)) (now (line .exit)) ⌝ }
 {
     if held > 798 {
         return 799;
@@ -75,6 +86,7 @@ fn close(held: usize, line: &mut [u8], part: &[u8], work: &mut [u32], out: &mut 
     requires { ⌜ (798 ≤ length (now line)) × ((8192 ≤ length (now work)) × (at + 13 ≤ length (now out))) ⌝ }
     ensures { λ _. ⌜ ((s : List ℕ) → Held s held (now (line .entry)) → has-newline (now (part .entry)) ≡ false
         → Wrote (s ++ now (part .entry)) at (now (out .entry)) (now (out .exit)) (now (work .entry)) (now (work .exit))) ⌝ }
+    ensures { λ _. ⌜ LineAfter 0 (now (line .entry)) (now (line .exit)) ⌝ }
 {
     if held == 0 {
         frames::answer(part, work, out, at);
@@ -85,15 +97,16 @@ fn close(held: usize, line: &mut [u8], part: &[u8], work: &mut [u32], out: &mut 
 }
 
 // Answers the lines that end in the piece and holds the unfinished one. held and line are what the step before left; before the
-// first, held is 0.
+// first, held is 0. Any held is taken: 799 and more stand for a line that is too long for a frame.
 pub fn step(held: usize, line: &mut [u8], piece: &[u8], out: &mut [u8]) -> Progress
     requires { ⌜ (798 ≤ length (now line)) × (13 * length (now piece) ≤ length (now out)) ⌝ }
     ensures { λ r. ⌜ r .written ≤ length (now (out .entry)) ⌝ }
-    ensures { λ r. ⌜ Steps held (now (line .entry)) (now (piece .entry)) (r .held) (now (line .exit)) (r .written)
+    ensures { λ r. ⌜ Steps (min held 799) (now (line .entry)) (now (piece .entry)) (r .held) (now (line .exit)) (r .written)
         (now (out .entry)) (now (out .exit)) ⌝ }
+    ensures { λ r. ⌜ LineAfter (r .held) (now (line .entry)) (now (line .exit)) ⌝ }
 {
     let mut work = working_words();
-    let mut h = held;
+    let mut h = counted(held);
     let mut i: usize = 0;
     let mut w: usize = 0;
     while i < piece.len() {
@@ -120,12 +133,13 @@ pub fn step(held: usize, line: &mut [u8], piece: &[u8], out: &mut [u8]) -> Progr
 pub fn finish(held: usize, line: &[u8], out: &mut [u8]) -> usize
     requires { ⌜ (798 ≤ length (now line)) × (13 ≤ length (now out)) ⌝ }
     ensures { λ r. ⌜ r ≤ length (now (out .entry)) ⌝ }
-    ensures { λ r. ⌜ Ends held (now (line .entry)) r (now (out .entry)) (now (out .exit)) ⌝ }
+    ensures { λ r. ⌜ Ends (min held 799) (now (line .entry)) r (now (out .entry)) (now (out .exit)) ⌝ }
 {
-    if held == 0 {
+    let h = counted(held);
+    if h == 0 {
         return 0;
     }
     let mut work = working_words();
-    answer_held(held, line, &mut work[0..8192], out, 0);
+    answer_held(h, line, &mut work[0..8192], out, 0);
     13
 }

@@ -47,14 +47,14 @@ monic-apart {n} h r x = record {
   below = record { at = λ k p. subst (λ (y : ℕ). y < n) (sym (r .low (0 + k) (omega arith))) (x .below .at k p) };
 }
 
-pub kept-around : {t b m : ℕ} {w w' : List ℕ} → t + 1 ≤ b → Around b m w w' → Kept (t + 1) w w'
+pub kept-around : {x b m : ℕ} {w w' : List ℕ} → x ≤ b → Around b m w w' → Kept x w w'
 kept-around h r = record { same = r .same; low = λ k p. r .low k (omega arith) }
 
-pub kept-trans : {t : ℕ} {w w' w'' : List ℕ} → Kept (t + 1) w w' → Kept (t + 1) w' w'' → Kept (t + 1) w w''
+pub kept-trans : {x : ℕ} {w w' w'' : List ℕ} → Kept x w w' → Kept x w' w'' → Kept x w w''
 kept-trans p q = record { same = q .same ∙ p .same; low = λ k h. q .low k h ∙ p .low k h }
 
-pub kept-piece : {t : ℕ} {w w' : List ℕ} → Kept (t + 1) w w' → t + 1 ≤ length w → piece w' 0 (t + 1) ≡ piece w 0 (t + 1)
-kept-piece {t} {w} {w'} p h = piece-same w w' 0 (t + 1) (omega arith) (p .same) (λ k q. p .low (0 + k) (omega arith))
+pub kept-piece : {x : ℕ} {w w' : List ℕ} → Kept x w w' → x ≤ length w → piece w' 0 x ≡ piece w 0 x
+kept-piece {x} {w} {w'} p h = piece-same w w' 0 x (omega arith) (p .same) (λ k q. p .low (0 + k) (omega arith))
 
 -- A and B change places
 pub places-swap : {t pa pb al be : ℕ} → Places t pa pb al be → Places t pb pa be al

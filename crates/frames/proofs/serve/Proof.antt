@@ -7,19 +7,19 @@ returns : tie.Need-returns
 returns c =
     let start = c .before .before .before .before .before .before .before .before .before in
     served-resultant (start .args .kind) (start .args .d) (start .args .words .now) (search needs) (search needs)
-    (c .before .before .jingcobu-resultant .ensures)
+    (c .before .before .resultant .ensures)
 
-slice-aggregate-jingcobu-reduced-resultant-2 :
-    tie.Need-slice-aggregate-jingcobu-reduced-resultant-2
-slice-aggregate-jingcobu-reduced-resultant-2 c = search needs
+slice-aggregate-reduced-resultant-2 :
+    tie.Need-slice-aggregate-reduced-resultant-2
+slice-aggregate-reduced-resultant-2 c = search needs
 
 returns-2 : tie.Need-returns-2
 returns-2 c =
-    let at-jingcobu-reduced-resultant = c .before .before .before .before in
-    let at-if1 = at-jingcobu-reduced-resultant .before .before .before .before .before .before in
+    let at-reduced-resultant = c .before .before .before .before in
+    let at-if1 = at-reduced-resultant .before .before .before .before .before .before in
     let start = at-if1 .before .before .before .before .before in
     served-reduced (start .args .kind) (start .args .d) (start .args .words .now) (at-if1 .if1 .left) (search needs) (search needs)
-    (search needs) (search needs) (search needs) (at-jingcobu-reduced-resultant .jingcobu-reduced-resultant .ensures)
+    (search needs) (search needs) (search needs) (at-reduced-resultant .reduced-resultant .ensures)
 
 pub serve-spec : {M : Type 1} → statement M
 serve-spec =
@@ -40,7 +40,7 @@ serve-spec =
     (λ c κs. search needs)
     (λ c κs. search needs)
     (λ c. search needs)
-    slice-aggregate-jingcobu-reduced-resultant-2
+    slice-aggregate-reduced-resultant-2
     (λ c κs. search needs)
     (λ c. search needs)
     returns-2)

@@ -1,0 +1,34 @@
+use mathlib.Core.Path.{refl}
+use borrow.Author.Tests.{eq-eqb, ne-eqb, lt-ltb, le-ltb}
+use Rattle.polynomial_inverse.proofs.refusal_inverse.Statement.{statement}
+use Rattle.polynomial_inverse.proofs.refusal_inverse.Tie as tie
+
+returns : tie.Need-returns
+returns c = simp (ne-eqb _ _ (c .if1 .taken)) refl
+
+returns-2 : tie.Need-returns-2
+returns-2 c = simp (eq-eqb _ _ (c .before .if1 .left), ne-eqb _ _ (c .if2 .taken)) refl
+
+returns-3 : tie.Need-returns-3
+returns-3 c = simp (eq-eqb _ _ (c .before .before .if1 .left), eq-eqb _ _ (c .before .if2 .left), lt-ltb _ _ (c .if3 .taken)) refl
+
+returns-4 : tie.Need-returns-4
+returns-4 c = simp (
+  eq-eqb _ _ (c .before .before .before .if1 .left),
+  eq-eqb _ _ (c .before .before .if2 .left),
+  le-ltb _ _
+      (c .before .if3 .left),
+  lt-ltb _ _ (c .if4 .taken),
+) refl
+
+returns-5 : tie.Need-returns-5
+returns-5 c = simp (
+  eq-eqb _ _ (c .before .before .before .if1 .left),
+  eq-eqb _ _ (c .before .before .if2 .left),
+  le-ltb _ _
+      (c .before .if3 .left),
+  le-ltb _ _ (c .if4 .left),
+) refl
+
+pub refusal-inverse-spec : {M : Type 1} → statement M
+refusal-inverse-spec = tie.close (tie.spec returns returns-2 returns-3 returns-4 returns-5)
