@@ -200,7 +200,7 @@ fn evaluates_to(n: u32, f: &[u32], g: &[u32], x: u32) -> bool {
 
 fn try_resultant(n: u32, f: &[u32], g: &[u32], is_small: bool, work: &mut [u32]) -> Tried {
     fill(work, 0, MARK);
-    let a = engine::jingcobu_resultant(n, f, g, work);
+    let a = resultant_service::resultant(n, f, g, work);
     if a.status != 0 {
         return Tried::Wrong(1);
     }
@@ -221,7 +221,7 @@ fn try_call(n: u32, f: &[u32], g: &[u32], u: &mut [u32], v: &mut [u32], work: &m
     fill(work, 0, MARK);
     fill(u, 0, MARK);
     fill(v, 0, MARK);
-    let a = engine::jingcobu_reduced_resultant(n, f, g, u, v, work);
+    let a = reduced_service::reduced_resultant(n, f, g, u, v, work);
     if a.status != 0 {
         return Tried::Wrong(4);
     }
