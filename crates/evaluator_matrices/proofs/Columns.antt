@@ -1,6 +1,6 @@
 -- The elimination column by column, and the determinant of the triangular matrix it ends in.
 --
---   Column, Clearing                                   what holds while column j is cleared, once the rows above i are done
+--   Column, ColumnClearing                             what holds while column j is cleared, once the rows above i are done
 --   clearing-start, clearing-next, clearing-end        the loop over the rows
 --   triangulating-start, kept-both                     the loop over the columns
 --   diagonal-next                                      the loop over the diagonal
@@ -11,25 +11,25 @@ use native.Mathlib.Decide.{ℕ-discrete}
 use native.Mathlib.Numerals.{add-one}
 use native.Mathlib.Omega.{arith}
 use Rattle.evaluator_matrices.specs.LeadingMinors.{leading-minor, minor-upper}
-use Rattle.evaluator_matrices.specs.Elimination.{cell, ResidueCells, Cleared, Triangular, Kept}
+use Rattle.evaluator_matrices.specs.Elimination.{cell, ResidueCells, EntryCleared, Triangular, MinorKept}
 
 -- column j has zeros below the diagonal, above row i
 pub record Column (j i : ℕ) (m : List (List ℕ)) : Type 0 where
   pub at : (r : ℕ) → j < r → r < i → cell m r j ≡ 0
 
-pub record Clearing (n k j i : ℕ) (m r : List (List ℕ)) : Type 0 where
-  pub kept : Kept n k m r
+pub record ColumnClearing (n k j i : ℕ) (m r : List (List ℕ)) : Type 0 where
+  pub kept : MinorKept n k m r
   pub triangular : Triangular k j r
   pub column : Column j i r
 
-kept-none : {n k : ℕ} {m : List (List ℕ)} → ResidueCells n m → Kept n k m m
+kept-none : {n k : ℕ} {m : List (List ℕ)} → ResidueCells n m → MinorKept n k m m
 kept-none h = record { residues = h; minor = refl }
 
-pub clearing-start : {n k j : ℕ} {m : List (List ℕ)} → ResidueCells n m → Triangular k j m → Clearing n k j (j + 1) m m
+pub clearing-start : {n k j : ℕ} {m : List (List ℕ)} → ResidueCells n m → Triangular k j m → ColumnClearing n k j (j + 1) m m
 clearing-start h t = record { kept = kept-none h; triangular = t; column = record { at = λ r p q. absurd (omega arith) } }
 
-pub clearing-next : {n k j i : ℕ} {m r s : List (List ℕ)} → j < i → i < k → k ≤ 8 → Clearing n k j i m r → Cleared n i j r s
-    → Clearing n k j (i + 1) m s
+pub clearing-next : {n k j i : ℕ} {m r s : List (List ℕ)} → j < i → i < k → k ≤ 8 → ColumnClearing n k j i m r → EntryCleared n i j r s
+    → ColumnClearing n k j (i + 1) m s
 clearing-next {n} {k} {j} {i} {m} {r} {s} l p q h g =
     record {
       kept = record { residues = g .combined .residues; minor = g .combined .minor k q p (omega arith) ∙ h .kept .minor };
@@ -49,7 +49,7 @@ clearing-next {n} {k} {j} {i} {m} {r} {s} l p q h g =
     under x u v (yes e) = ap (λ (y : ℕ). cell s y j) e ∙ g .zero
     under x u v (no e) = g .combined .others x j (omega arith) (omega arith) e (omega arith) ∙ h .column .at x u (omega arith)
 
-pub clearing-end : {n k j i : ℕ} {m r : List (List ℕ)} → k ≤ i → Clearing n k j i m r → Kept n k m r × Triangular k (j + 1) r
+pub clearing-end : {n k j i : ℕ} {m r : List (List ℕ)} → k ≤ i → ColumnClearing n k j i m r → MinorKept n k m r × Triangular k (j + 1) r
 clearing-end {n} {k} {j} {i} {m} {r} l h = (h .kept, record { at = λ x c u v w. go x c u v w (ℕ-discrete c j) })
   where
     go : (x c : ℕ) → x < k → c < j + 1 → c < x → Dec (c ≡ j) → cell r x c ≡ 0
@@ -57,10 +57,10 @@ clearing-end {n} {k} {j} {i} {m} {r} l h = (h .kept, record { at = λ x c u v w.
     go x c u v w (no e) = h .triangular .at x c u (omega arith) w
 
 -- column after column
-pub triangulating-start : {n k : ℕ} {m : List (List ℕ)} → ResidueCells n m → Kept n k m m × Triangular k 0 m
+pub triangulating-start : {n k : ℕ} {m : List (List ℕ)} → ResidueCells n m → MinorKept n k m m × Triangular k 0 m
 triangulating-start h = (kept-none h, record { at = λ r c p q w. absurd (omega arith) })
 
-pub kept-both : {n k : ℕ} {m r s : List (List ℕ)} → Kept n k m r → Kept n k r s → Kept n k m s
+pub kept-both : {n k : ℕ} {m r s : List (List ℕ)} → MinorKept n k m r → MinorKept n k r s → MinorKept n k m s
 kept-both h g = record { residues = g .residues; minor = g .minor ∙ h .minor }
 
 -- the product of the diagonal, a word more

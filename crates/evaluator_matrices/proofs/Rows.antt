@@ -15,7 +15,7 @@ use lib.ListN.{length, getD, set, length-set}
 use lib.Seq.{getD-set-same, getD-set-other}
 use Rattle.numbers.specs.Congruence.{Cong, c-eq, c-mod, c-trans, c-add, c-refl}
 use Rattle.evaluator_matrices.specs.LeadingMinors.{minor-add-row, minor-exchange}
-use Rattle.evaluator_matrices.specs.Elimination.{cell, ResidueCells, LessMultiple, Combined, RowReduced, Exchanged, Cleared}
+use Rattle.evaluator_matrices.specs.Elimination.{cell, ResidueCells, LessMultiple, Combined, RowReduced, Exchanged, EntryCleared}
 
 -- a row z put in at i
 module _ (m : List (List ℕ)) (i : ℕ) (z : List ℕ) where
@@ -164,5 +164,5 @@ module _ {n i j : ℕ} {m r s : List (List ℕ)} (before : Combined n i j m r) (
   falls {t} second p q =
       omega (arith, second .remainder, first .remainder, mod-lt (cell s i j) {m = cell s j j} q, mod-lt (cell r j j) {m = cell r i j} p)
 
-  pub swapped : {t : List (List ℕ)} → j < 8 → cell s j j ≡ 0 → Exchanged n i j s t → Cleared n i j m t
+  pub swapped : {t : List (List ℕ)} → j < 8 → cell s j j ≡ 0 → Exchanged n i j s t → EntryCleared n i j m t
   swapped {t} l z e = record { combined = combined-both half (e .combined); zero = e .first j l ∙ times-none n (n - 1) (cell s j j) z }

@@ -8,10 +8,11 @@
 //   diagonal                the product of the diagonal
 //   determinant             all of it
 ghost use mathlib.Core.Path.{_≡_};
-ghost use mathlib.Core.Logic.{_≢_};
-ghost use Prim.Native.Nat.{_+_, _<_, _≤_};
+ghost use Prim.Native.Nat.{_+_, _≤_};
 ghost use Rattle.evaluator_matrices.specs.LeadingMinors.{leading-minor};
-ghost use Rattle.evaluator_matrices.specs.Elimination.{cell, ResidueCells, LessMultiple, RowReduced, Exchanged, Cleared, Triangular, Kept};
+ghost use Rattle.evaluator_matrices.specs.Elimination.{Reducible, Exchangeable, BelowDiagonal, ColumnNext};
+ghost use Rattle.evaluator_matrices.specs.Elimination.{cell, ResidueCells, LessMultiple, RowReduced, Exchanged};
+ghost use Rattle.evaluator_matrices.specs.Elimination.{EntryCleared, Triangular, MinorKept};
 
 // x less q times y.
 fn subtract_multiple(n: u32, x: [u32; 8], q: u32, y: [u32; 8]) -> [u32; 8]
@@ -29,8 +30,7 @@ fn subtract_multiple(n: u32, x: [u32; 8], q: u32, y: [u32; 8]) -> [u32; 8]
 
 // Row i loses so many times row h that the remainder of their words is left at column j.
 fn reduce_row(m: [[u32; 8]; 8], n: u32, i: usize, h: usize, j: usize) -> [[u32; 8]; 8]
-    requires { ⌜ (2 ≤ n) × ((i < 8) × ((h < 8) × ((j < 8) × (i ≢ h)))) ⌝ }
-    requires { ⌜ ResidueCells n m × (1 ≤ cell m h j) ⌝ }
+    requires { ⌜ Reducible n i h j m ⌝ }
     ensures { λ r. ⌜ RowReduced n i h j m r ⌝ }
 {
     let q = m[i][j] / m[h][j];
@@ -41,8 +41,7 @@ fn reduce_row(m: [[u32; 8]; 8], n: u32, i: usize, h: usize, j: usize) -> [[u32; 
 
 // Rows i and j change places. What comes to i has its sign changed, being less twice itself, so the determinant stays.
 fn exchange(m: [[u32; 8]; 8], n: u32, i: usize, j: usize) -> [[u32; 8]; 8]
-    requires { ⌜ (2 ≤ n) × ((i < 8) × ((j < 8) × (i ≢ j))) ⌝ }
-    requires { ⌜ ResidueCells n m ⌝ }
+    requires { ⌜ Exchangeable n i j m ⌝ }
     ensures { λ r. ⌜ Exchanged n i j m r ⌝ }
 {
     let x = m[j];
@@ -54,9 +53,8 @@ fn exchange(m: [[u32; 8]; 8], n: u32, i: usize, j: usize) -> [[u32; 8]; 8]
 
 // Euclid's algorithm on the words of rows i and j at column j, until row i has 0 there.
 fn clear_entry(m: [[u32; 8]; 8], n: u32, i: usize, j: usize) -> [[u32; 8]; 8]
-    requires { ⌜ (2 ≤ n) × ((j < i) × (i < 8)) ⌝ }
-    requires { ⌜ ResidueCells n m ⌝ }
-    ensures { λ r. ⌜ Cleared n i j m r ⌝ }
+    requires { ⌜ BelowDiagonal n i j m ⌝ }
+    ensures { λ r. ⌜ EntryCleared n i j m r ⌝ }
 {
     let mut r = m;
     while r[i][j] != 0 {
@@ -72,9 +70,8 @@ fn clear_entry(m: [[u32; 8]; 8], n: u32, i: usize, j: usize) -> [[u32; 8]; 8]
 
 // Column j below the diagonal.
 fn clear_column(m: [[u32; 8]; 8], n: u32, size: usize, j: usize) -> [[u32; 8]; 8]
-    requires { ⌜ (2 ≤ n) × ((j < size) × (size ≤ 8)) ⌝ }
-    requires { ⌜ ResidueCells n m × Triangular size j m ⌝ }
-    ensures { λ r. ⌜ Kept n size m r × Triangular size (j + 1) r ⌝ }
+    requires { ⌜ ColumnNext n size j m ⌝ }
+    ensures { λ r. ⌜ MinorKept n size m r × Triangular size (j + 1) r ⌝ }
 {
     let mut r = m;
     let mut i = j + 1;
@@ -89,7 +86,7 @@ fn clear_column(m: [[u32; 8]; 8], n: u32, size: usize, j: usize) -> [[u32; 8]; 8
 fn triangulate(m: [[u32; 8]; 8], n: u32, size: usize) -> [[u32; 8]; 8]
     requires { ⌜ (2 ≤ n) × (size ≤ 8) ⌝ }
     requires { ⌜ ResidueCells n m ⌝ }
-    ensures { λ r. ⌜ Kept n size m r × Triangular size size r ⌝ }
+    ensures { λ r. ⌜ MinorKept n size m r × Triangular size size r ⌝ }
 {
     let mut r = m;
     let mut j: usize = 0;

@@ -24,7 +24,7 @@ use Rattle.polynomial_product.specs.ProductService.{ProductAnswer, product-refu
 use Rattle.polynomial_product.proofs.Answers.{product-length}
 use Rattle.resultant_service.specs.ResultantService.{ResultantAnswer, resultant-refusals, resultant-conditions, resultant-listed}
 use Rattle.reduced_service.specs.ReducedService.{ReducedAnswer, ReducedLeft, HoldsReduced, HoldsCofactor, reduced-refusals, reduced-conditions, reduced-listed}
-use Rattle.law.specs.LawService.{law-sent, law-room, law-refusals, LawLeft, LawAnswer}
+use Rattle.law.specs.LawService.{law-sent, law-room, law-refusals, ThreeResultants, ThreeReduced, LawLeft, LawAnswer}
 use Rattle.law.specs.Answers.{AnsweredProduct, AnsweredResultant, AnsweredReduced, take-front, law-of-the-answers}
 
 -- ---- what is known
@@ -236,11 +236,32 @@ module _ (n : ℕ) (f g h p u v work : List ℕ) (s : ℕ) (e : s ≡ first-refu
             ap₂ take (let q : m - 0 ≡ length (product n f g) = omega (arith, m-is, product-words n f g) in q) (pa .1)
             ∙ take-front (product n f g) (drop (length (product n f g)) p)
 
-        module _ (w₁ w₂ w₃ w₄ w₅ w₆ u₁ u₂ u₃ v₁ v₂ v₃ : List ℕ) (r rf rg D Df Dg t₁ t₂ t₃ t₄ t₅ t₆ : ℕ)
-            (cr : ResultantAnswer narrow n (take (m - 0) p₁) h work w₁ r t₁) (cf : ResultantAnswer narrow n f h w₁ w₂ rf t₂)
-            (cg : ResultantAnswer narrow n g h w₂ w₃ rg t₃) (df : ReducedAnswer narrow n f h u u₁ v v₁ w₃ w₄ Df t₄)
-            (dg : ReducedAnswer narrow n g h u₁ u₂ v₁ v₂ w₄ w₅ Dg t₅)
-            (dp : ReducedAnswer narrow n (take (m - 0) p₁) h u₂ u₃ v₂ v₃ w₅ w₆ D t₆) where
+        module _ (w₃ w₆ u₃ v₃ : List ℕ) (r rf rg D Df Dg : ℕ) (x : ThreeResultants n (take (m - 0) p₁) f g h work w₃ r rf rg)
+            (x' : ThreeReduced n (take (m - 0) p₁) f g h u u₃ v v₃ w₃ w₆ D Df Dg) where
+          abbrev w₁ : List ℕ
+          w₁ = x .w₁
+
+          abbrev w₂ : List ℕ
+          w₂ = x .w₂
+
+          abbrev w₄ : List ℕ
+          w₄ = x' .w₁
+
+          abbrev w₅ : List ℕ
+          w₅ = x' .w₂
+
+          abbrev u₁ : List ℕ
+          u₁ = x' .u₁
+
+          abbrev u₂ : List ℕ
+          u₂ = x' .u₂
+
+          abbrev v₁ : List ℕ
+          v₁ = x' .v₁
+
+          abbrev v₂ : List ℕ
+          v₂ = x' .v₂
+
           mo : ServedModulus narrow n
           mo = a .modulus
 
@@ -270,19 +291,19 @@ module _ (n : ℕ) (f g h p u v work : List ℕ) (s : ℕ) (e : s ≡ first-refu
 
           k₁ : (ResultantAnswer narrow n pr h work w₁ r 0) × ((w₁ ≡ replicate (length work) 0) × (length w₁ ≡ length work))
           unfolding pr
-          k₁ = resultant-answers n mo pr h work w₁ r t₁ lp (a .length-h) wp (a .words-h) (rm .work)
-              (subst (λ (i : List ℕ). ResultantAnswer narrow n i h work w₁ r t₁) part-is cr)
+          k₁ = resultant-answers n mo pr h work w₁ r (x .t₁) lp (a .length-h) wp (a .words-h) (rm .work)
+              (subst (λ (i : List ℕ). ResultantAnswer narrow n i h work w₁ r (x .t₁)) part-is (x .product))
 
           k₂ : (ResultantAnswer narrow n f h w₁ w₂ rf 0) × ((w₂ ≡ replicate (length w₁) 0) × (length w₂ ≡ length w₁))
-          k₂ = resultant-answers n mo f h w₁ w₂ rf t₂ (a .length-f) (a .length-h) (a .words-f) (a .words-h) (omega (arith, rm .work, k₁ .1 .1)) cf
+          k₂ = resultant-answers n mo f h w₁ w₂ rf (x .t₂) (a .length-f) (a .length-h) (a .words-f) (a .words-h) (omega (arith, rm .work, k₁ .1 .1)) (x .first)
 
           k₃ : (ResultantAnswer narrow n g h w₂ w₃ rg 0) × ((w₃ ≡ replicate (length w₂) 0) × (length w₃ ≡ length w₂))
-          k₃ = resultant-answers n mo g h w₂ w₃ rg t₃ (a .length-g) (a .length-h) (a .words-g) (a .words-h)
-              (omega (arith, rm .work, k₁ .1 .1, k₂ .1 .1)) cg
+          k₃ = resultant-answers n mo g h w₂ w₃ rg (x .t₃) (a .length-g) (a .length-h) (a .words-g) (a .words-h)
+              (omega (arith, rm .work, k₁ .1 .1, k₂ .1 .1)) (x .second)
 
           k₄ : (ReducedAnswer narrow n f h u u₁ v v₁ w₃ w₄ Df 0) × ((w₄ ≡ replicate (length w₃) 0) × (length w₄ ≡ length w₃))
-          k₄ = reduced-answers n mo f h u u₁ v v₁ w₃ w₄ Df t₄ (a .length-f) (a .length-h) (a .words-f) (a .words-h)
-              (le-trans lf (rm .first)) (le-trans lf (rm .second)) (omega (arith, rm .work, k₁ .1 .1, k₂ .1 .1, k₃ .1 .1)) df
+          k₄ = reduced-answers n mo f h u u₁ v v₁ w₃ w₄ Df (x' .t₁) (a .length-f) (a .length-h) (a .words-f) (a .words-h)
+              (le-trans lf (rm .first)) (le-trans lf (rm .second)) (omega (arith, rm .work, k₁ .1 .1, k₂ .1 .1, k₃ .1 .1)) (x' .first)
 
           u-one : length u₁ ≡ length u
           u-one = k₄ .0 .result .first .same
@@ -291,10 +312,10 @@ module _ (n : ℕ) (f g h p u v work : List ℕ) (s : ℕ) (e : s ≡ first-refu
           v-one = k₄ .0 .result .second .same
 
           k₅ : (ReducedAnswer narrow n g h u₁ u₂ v₁ v₂ w₄ w₅ Dg 0) × ((w₅ ≡ replicate (length w₄) 0) × (length w₅ ≡ length w₄))
-          k₅ = reduced-answers n mo g h u₁ u₂ v₁ v₂ w₄ w₅ Dg t₅ (a .length-g) (a .length-h) (a .words-g) (a .words-h)
+          k₅ = reduced-answers n mo g h u₁ u₂ v₁ v₂ w₄ w₅ Dg (x' .t₂) (a .length-g) (a .length-h) (a .words-g) (a .words-h)
               (subst (λ (i : ℕ). L n (deg g) (deg h) ≤ i) (sym u-one) (le-trans lg (rm .first)))
               (subst (λ (i : ℕ). L n (deg g) (deg h) ≤ i) (sym v-one) (le-trans lg (rm .second)))
-              (omega (arith, rm .work, k₁ .1 .1, k₂ .1 .1, k₃ .1 .1, k₄ .1 .1)) dg
+              (omega (arith, rm .work, k₁ .1 .1, k₂ .1 .1, k₃ .1 .1, k₄ .1 .1)) (x' .second)
 
           u-two : length u₂ ≡ length u
           u-two = k₅ .0 .result .first .same ∙ u-one
@@ -304,11 +325,11 @@ module _ (n : ℕ) (f g h p u v work : List ℕ) (s : ℕ) (e : s ≡ first-refu
 
           k₆ : (ReducedAnswer narrow n pr h u₂ u₃ v₂ v₃ w₅ w₆ D 0) × ((w₆ ≡ replicate (length w₅) 0) × (length w₆ ≡ length w₅))
           unfolding pr
-          k₆ = reduced-answers n mo pr h u₂ u₃ v₂ v₃ w₅ w₆ D t₆ lp (a .length-h) wp (a .words-h)
+          k₆ = reduced-answers n mo pr h u₂ u₃ v₂ v₃ w₅ w₆ D (x' .t₃) lp (a .length-h) wp (a .words-h)
               (subst (λ (i : ℕ). L n (deg pr) (deg h) ≤ i) (sym u-two) (subst (λ (i : ℕ). i ≤ length u) (sym l-p) (rm .first)))
               (subst (λ (i : ℕ). L n (deg pr) (deg h) ≤ i) (sym v-two) (subst (λ (i : ℕ). i ≤ length v) (sym l-p) (rm .second)))
               (omega (arith, rm .work, k₁ .1 .1, k₂ .1 .1, k₃ .1 .1, k₄ .1 .1, k₅ .1 .1))
-              (subst (λ (i : List ℕ). ReducedAnswer narrow n i h u₂ u₃ v₂ v₃ w₅ w₆ D t₆) part-is dp)
+              (subst (λ (i : List ℕ). ReducedAnswer narrow n i h u₂ u₃ v₂ v₃ w₅ w₆ D (x' .t₃)) part-is (x' .product))
 
           -- the words beyond the longest cofactor are as they were
           longest : (i : ℕ) → i ≤ L n (deg f + deg g) (deg h) → i ≤ L n (deg pr) (deg h)

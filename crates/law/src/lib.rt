@@ -4,9 +4,10 @@
 //   law_of_products    the numbers of seven calls
 //   sent_refusal       the refusals 1, 2 and 3 of n, f, g and h
 //   room_refusal       the refusals 6 and 7 of the lent buffers
+//   resultants, divisors    three calls each
 ghost use mathlib.Core.Path.{_≡_};
 ghost use Rattle.refusals.specs.Refusals.{narrow, first-refusal};
-ghost use Rattle.law.specs.LawService.{law-sent, law-room, LawAnswer};
+ghost use Rattle.law.specs.LawService.{law-sent, law-room, ThreeResultants, ThreeReduced, LawAnswer};
 
 // The resultants r, rf, rg of the product, of f and of g with h, their reduced resultants d, df, dg, and 0 or the number of the refusal.
 pub struct Numbers {
@@ -82,6 +83,52 @@ fn room_refusal(lp: usize, m: usize, lu: usize, lv: usize, l: usize, lw: usize) 
     0
 }
 
+// Three numbers: of the product, of f and of g, each with h.
+struct Three {
+    product: u32,
+    first: u32,
+    second: u32,
+}
+
+// The resultants of p, f and g with h, one after the other.
+fn resultants(n: u32, p: &[u32], f: &[u32], g: &[u32], h: &[u32], work: &mut [u32]) -> Three
+    ensures { λ r. ⌜ ThreeResultants n (now (p .entry)) (now (f .entry)) (now (g .entry)) (now (h .entry)) (now (work .entry))
+        (now (work .exit)) (r .product) (r .first) (r .second) ⌝ }
+{
+    let a = resultant_service::resultant(n, p, h, work);
+    let b = resultant_service::resultant(n, f, h, work);
+    let c = resultant_service::resultant(n, g, h, work);
+    Three {
+        product: a.value,
+        first: b.value,
+        second: c.value,
+    }
+}
+
+// The reduced resultants of f, g and p with h, one after the other.
+fn divisors(
+    n: u32,
+    p: &[u32],
+    f: &[u32],
+    g: &[u32],
+    h: &[u32],
+    u: &mut [u32],
+    v: &mut [u32],
+    work: &mut [u32],
+) -> Three
+    ensures { λ r. ⌜ ThreeReduced n (now (p .entry)) (now (f .entry)) (now (g .entry)) (now (h .entry)) (now (u .entry)) (now (u .exit))
+        (now (v .entry)) (now (v .exit)) (now (work .entry)) (now (work .exit)) (r .product) (r .first) (r .second) ⌝ }
+{
+    let a = reduced_service::reduced_resultant(n, f, h, u, v, work);
+    let b = reduced_service::reduced_resultant(n, g, h, u, v, work);
+    let c = reduced_service::reduced_resultant(n, p, h, u, v, work);
+    Three {
+        product: c.value,
+        first: a.value,
+        second: b.value,
+    }
+}
+
 // p takes the product of f and g, u and v the cofactors of its D with h.
 pub fn law_of_products(
     n: u32,
@@ -108,19 +155,15 @@ pub fn law_of_products(
         return refused(room);
     }
     polynomial_product::product(n, f, g, p);
-    let r = resultant_service::resultant(n, &p[0..m], h, work);
-    let rf = resultant_service::resultant(n, f, h, work);
-    let rg = resultant_service::resultant(n, g, h, work);
-    let df = reduced_service::reduced_resultant(n, f, h, u, v, work);
-    let dg = reduced_service::reduced_resultant(n, g, h, u, v, work);
-    let d = reduced_service::reduced_resultant(n, &p[0..m], h, u, v, work);
+    let r = resultants(n, &p[0..m], f, g, h, work);
+    let d = divisors(n, &p[0..m], f, g, h, u, v, work);
     Numbers {
-        r: r.value,
-        rf: rf.value,
-        rg: rg.value,
-        d: d.value,
-        df: df.value,
-        dg: dg.value,
+        r: r.product,
+        rf: r.first,
+        rg: r.second,
+        d: d.product,
+        df: d.first,
+        dg: d.second,
         status: 0,
     }
 }

@@ -19,7 +19,7 @@ use Rattle.windows.proofs.Leaf.{lt-or-le, piece-at, piece-over, piece-same, pie
 use Rattle.windows.proofs.Lift.{moved-around}
 use Rattle.reduced_multipliers.specs.Leads.{Leads, Completes, lifted, leads-scaled, completes-none}
 use Rattle.reduced_multipliers.specs.Reductions.{UnitLead, reduced-same, reduced-lead, reduced-none}
-use Rattle.reduced_products.specs.Products.{MonicAt}
+use Rattle.reduced_products.specs.Products.{MonicAtZero}
 use Rattle.reduced_units.specs.States.{Multiplier, Stage, Solved, Change}
 use Rattle.reduced_clearing.specs.Clearings.{ContentTaken}
 use Rattle.reduced_units.proofs.Regions.{apart-low, apart-swap, below-apart, piece-apart, multiplier-apart, monic-apart, kept-around, kept-trans, kept-piece}

@@ -17,8 +17,8 @@ use Rattle.windows.proofs.Lift.{moved-around}
 use Rattle.window_factor.specs.Factors.{SplitOf, LeadingUnit}
 use Rattle.reduced_multipliers.specs.Leads.{Leads, Completes, leads-unit, leads-completes, completes-same, inverse-of-negated}
 use Rattle.reduced_multipliers.specs.Reductions.{reduced-unit-second, reduced-unity}
-use Rattle.reduced_products.specs.Products.{MonicAt}
-use Rattle.reduced_units.specs.States.{Multiplier, Stage, Solved, Splitter, Change, Cleared}
+use Rattle.reduced_products.specs.Products.{MonicAtZero}
+use Rattle.reduced_units.specs.States.{Multiplier, Stage, Solved, Splitter, Change, UnitCleared}
 use Rattle.reduced_units.specs.Factorings.{UnitTaken}
 use Rattle.reduced_clearing.specs.Clearings.{ContentTaken}
 use Rattle.reduced_units.proofs.Regions.{multiplier-more, kept-around, kept-trans, kept-piece, multiplier-short}
@@ -131,7 +131,7 @@ module _ (n ν t pa a pb al be l c s r : ℕ) (w w₁ w₂ : List ℕ) (st : Sta
   both-reduced D x = change₁ .reduced D (unit-reduced n (ν / c) t pa a pb al be l s r w₁ w₂ stage₁ shorter ut D x)
 
   -- the monic factor has a degree
-  pub both-cleared : 1 ≤ s → Cleared n ν t pa a pb al be c s r w w₂
+  pub both-cleared : 1 ≤ s → UnitCleared n ν t pa a pb al be c s r w w₂
   both-cleared d = record {
     positive = c-pos;
     degree = d;

@@ -22,7 +22,7 @@ use Rattle.reduced_multipliers.specs.Leads.{Completes, NegatedInverse, complete
 use Rattle.reduced_multipliers.specs.Joining.{combination-same}
 use Rattle.reduced_multipliers.specs.Reductions.{reduced-unity}
 use Rattle.reduced_units.proofs.Regions.{apart-low, piece-apart}
-use Rattle.reduced_cofactors.specs.Cofactors.{Certified, Finished, FactoredAt, monic-place, core-room}
+use Rattle.reduced_cofactors.specs.Cofactors.{Certified, FinishAsked, Finished, FactoredAt, monic-place, core-room}
 use Rattle.reduced_quotients.specs.Quotients.{OverFirst, ExactQuotient}
 use Rattle.reduced_quotients.proofs.Divisions.{zeros-at}
 
@@ -40,8 +40,7 @@ loaded-word n s y₀ y l is-l ld i = ⊎-elim
     (λ h. ld .high i (omega arith) ∙ zeros-at (length y₀) i ∙ sym (ap (λ (x : ℕ). x % n) (coef-beyond s i (omega arith)) ∙ zero-mod n))
     (lt-or-le i l)
 
-module _ (n e q t k c : ℕ) (w w₁ w₂ : List ℕ) (two : 2 ≤ n) (one : 1 ≤ t) (near : e + 1 + (k + 1) ≤ q)
-    (fits : q + 2 * (t + 1) + (t + e + 1) + ((k + 1) + (2 * (K n * k + 1) + (e + 1))) ≤ length w) (lead : getD w (q + t) 0 ≡ 1) (up : UnitPolynomial n (piece w (e + 1) (k + 1)))
+module _ (n e q t k c : ℕ) (w w₁ w₂ x₀ y₀ : List ℕ) (asked : FinishAsked n e q t k w x₀ y₀)
     (eq : ExactQuotient n e q t c w w₁) (cp : Moved second (e + 1) (q + 2 * (t + 1) + (t + e + 1)) (k + 1) w₁ w₂) where
   copied : Around (q + 2 * (t + 1) + (t + e + 1)) (k + 1) w₁ w₂
   copied = moved-around cp
@@ -52,7 +51,7 @@ module _ (n e q t k c : ℕ) (w w₁ w₂ : List ℕ) (two : 2 ≤ n) (one : 1 �
       ∙ piece-apart (apart-low (e + 1) (k + 1) (q + 2 * (t + 1)) (t + e + 1) (omega arith)) (eq .around) (omega arith)
 
   pub finish-unit : UnitPolynomial n (piece w₂ (q + 2 * (t + 1) + (t + e + 1)) (k + 1))
-  finish-unit = subst (UnitPolynomial n) (sym same-u) up
+  finish-unit = subst (UnitPolynomial n) (sym same-u) (asked .unit)
 
   pub finish-room : q + 2 * (t + 1) + (t + e + 1) + (k + 1) + (2 * (K n * k + 1) + (e + 1)) ≤ length w₂
   finish-room = omega (arith, cp .same, eq .around .same)
@@ -65,7 +64,7 @@ module _ (n e q t k c : ℕ) (w w₁ w₂ : List ℕ) (two : 2 ≤ n) (one : 1 �
   same-z : piece w₂ (q + 2 * (t + 1) + t) (e + 1) ≡ piece w₁ (q + 2 * (t + 1) + t) (e + 1)
   same-z = piece-apart (apart-low (q + 2 * (t + 1) + t) (e + 1) (q + 2 * (t + 1) + (t + e + 1)) (k + 1) (omega arith)) copied (omega (arith, eq .around .same))
 
-  module _ (y₀ y x : List ℕ) (ld : Loaded n 0 (piece w₂ (q + (t + 1)) t) (replicate (length y₀) 0) y)
+  module _ (y x : List ℕ) (ld : Loaded n 0 (piece w₂ (q + (t + 1)) t) (replicate (length y₀) 0) y)
       (of : OverFirst n (q + 2 * (t + 1) + (t + e + 1)) k (q + 2 * (t + 1) + t) (e + 1) w₂ x) where
     word : (i : ℕ) → coef y i ≡ coef (piece w (q + (t + 1)) t) i % n
     word i =
@@ -80,7 +79,7 @@ module _ (n e q t k c : ℕ) (w w₁ w₂ : List ℕ) (two : 2 ≤ n) (one : 1 �
           combination-same n (omega arith) f f (piece w 0 (e + 1)) (piece w 0 (e + 1)) x x (piece w (q + (t + 1)) t) y c (λ i. refl) (λ i. refl) (λ i. refl)
           (λ i. sym (ap (λ (z : ℕ). z % n) (word i) ∙ mod-mod _ n))
           (completed n (omega arith) t c f (piece w 0 (e + 1)) (piece w q (t + 1)) (piece w (e + 1) (k + 1)) (of .j) (piece w (q + (t + 1)) t) (eq .r) (piece w₁ (q + 2 * (t + 1) + t) (e + 1))
-          (piece w₁ (q + 2 * (t + 1)) t) x [] (eq .s) (monic-at n q t w (omega arith) lead) cm (eq .start) (eq .product) (eq .divided) (λ i h. piece-over w₁ (q + 2 * (t + 1)) t i h) mf
+          (piece w₁ (q + 2 * (t + 1)) t) x [] (eq .s) (monic-at n q t w (omega arith) (asked .lead)) cm (eq .start) (eq .product) (eq .divided) (λ i h. piece-over w₁ (q + 2 * (t + 1)) t i h) mf
           (subst (λ (f : List ℕ). NegatedInverse n f (of .j)) same-u (of .inverse)) (λ i. coef-beyond [] i (omega arith))
           (subst (λ (f : List ℕ). Divided n [] f (of .j) x) same-z (of .divided)));
       below-x = of .below;

@@ -17,12 +17,19 @@ use Rattle.windows.proofs.Leaf.{lt-or-le, piece-at, piece-over, piece-same, pie
 use Rattle.windows.proofs.Lift.{moved-around, moved-copy, mid-length, was, piece-mid, window, is-now, piece-put, lift-below}
 use Rattle.window_factor.specs.Factors.{LeadingUnit, Given, Factored}
 use Rattle.reduced_multipliers.specs.Leads.{Leads, Completes, NegatedInverse, leads-first, leads-second, inverse-of-negated}
-use Rattle.reduced_products.specs.Products.{MonicAt}
-use Rattle.reduced_units.specs.States.{Places, Multiplier, Stage, Solved, stage-room}
+use Rattle.residue.specs.declared.Attempt.{Attempt}
+use Rattle.residue.specs.declared.Attempt.the-variants.{Value, Splits}
+use Rattle.reduced_products.specs.Products.{MonicAtZero}
+use Rattle.reduced_units.specs.declared.Places.{Places}
+use Rattle.reduced_units.specs.States.{PlacesApart, Multiplier, Stage, Solved, stage-room}
 use Rattle.reduced_units.proofs.Regions.{apart-low, piece-apart, below-apart}
-use Rattle.reduced_cofactors.specs.Cofactors.{Certified, Finished, FactoredAt, monic-place, core-room}
+use Rattle.reduced_cofactors.specs.Cofactors.{CoreAsked, CoreCertified, CoreAnswer, Certified, Finished, FactoredAt, monic-place, core-room}
 use Rattle.reduced_quotients.specs.Quotients.{Prepared}
 use Rattle.reduced_cofactors.proofs.Finishing.{cofactor-fits, degree-fits}
+
+-- the places of the stages' window, as they begin
+abbrev pub first-places : ℕ → Places
+first-places t = record { t = t; pa = 2 * (t + 1); pb = 3 * (t + 1); al = 4 * (t + 1); be = 6 * (t + 1) }
 
 -- U is moved to the place of F
 module _ (n d e t : ℕ) (w w₁ : List ℕ) (two : 2 ≤ n) (one : 1 ≤ t) (within : t ≤ d) (room : core-room n d e ≤ length w) (fa : FactoredAt n d e t w)
@@ -243,10 +250,9 @@ module _ (n d e t : ℕ) (w w₁ : List ℕ) (two : 2 ≤ n) (one : 1 ≤ t) (wi
 
 -- ---- F is factored
 
-module _ (n d e t i m : ℕ) (w : List ℕ) (two : 2 ≤ n) (room : core-room n d e ≤ length w) (below-g : Below n 0 (e + 1) w) (below-f : Below n (e + 1) (d + 1) w)
-    (lu : LeadingUnit n t i (piece w (e + 1) (d + 1))) (is-m : m ≡ d + 1 + (t + 1 + (d + 1))) where
+module _ (n d e t i m : ℕ) (w x y : List ℕ) (asked : CoreAsked n d e t i w x y) (is-m : m ≡ d + 1 + (t + 1 + (d + 1))) where
   pub core-degree : t ≤ d
-  core-degree = omega (arith, lu .place, piece-length w (e + 1) (d + 1) (omega arith))
+  core-degree = omega (arith, asked .lead .place, piece-length w (e + 1) (d + 1) (omega arith))
 
   core-inside : e + 1 + m ≤ length w
   core-inside = omega (arith, core-degree)
@@ -259,9 +265,9 @@ module _ (n d e t i m : ℕ) (w : List ℕ) (two : 2 ≤ n) (room : core-room n 
 
   pub core-given : Given n d t i (midOf (e + 1) m w)
   core-given = record {
-    below = record { at = λ k h. subst (λ (x : ℕ). x < n) (sym (was (e + 1) m w core-inside (e + 1 + k) (0 + k) (omega arith) (omega arith))) (below-f .at k h) };
-    unit = ap (λ (f : List ℕ). (i * coef f t) % n) core-first ∙ ap (λ (x : ℕ). x % n) (mul-comm i _) ∙ lu .inverse .one;
-    nilpotent = λ k h. subst (λ (f : List ℕ). IsNilpotent n (coef f k)) (sym core-first) (lu .nilpotent k h);
+    below = record { at = λ k h. subst (λ (x : ℕ). x < n) (sym (was (e + 1) m w core-inside (e + 1 + k) (0 + k) (omega arith) (omega arith))) (asked .first .at k h) };
+    unit = ap (λ (f : List ℕ). (i * coef f t) % n) core-first ∙ ap (λ (x : ℕ). x % n) (mul-comm i _) ∙ asked .lead .inverse .one;
+    nilpotent = λ k h. subst (λ (f : List ℕ). IsNilpotent n (coef f k)) (sym core-first) (asked .lead .nilpotent k h);
   }
 
   module _ (ys : List ℕ) (ly : length ys ≡ length (midOf (e + 1) m w)) (fc : Factored n d t (midOf (e + 1) m w) ys) where
@@ -292,7 +298,7 @@ module _ (n d e t i m : ℕ) (w : List ℕ) (two : 2 ≤ n) (room : core-room n 
 
     pub core-factored : FactoredAt n d e t (putMid (e + 1) m w ys)
     core-factored = record {
-      second = below-apart (apart-low 0 (e + 1) (e + 1) m (omega arith)) core-around below-g;
+      second = below-apart (apart-low 0 (e + 1) (e + 1) m (omega arith)) core-around (asked .second);
       equation =
           subst (λ (f : List ℕ). Multiplied n f (piece (putMid (e + 1) m w ys) (monic-place d e + (t + 1) + t) (d + 1 - t)) (piece (putMid (e + 1) m w ys) (monic-place d e) (t + 1))) (core-first ∙ sym core-f)
           (subst (λ (u : List ℕ). Multiplied n (piece (midOf (e + 1) m w) 0 (d + 1)) u (piece (putMid (e + 1) m w ys) (monic-place d e) (t + 1))) (sym core-u)
@@ -301,3 +307,13 @@ module _ (n d e t i m : ℕ) (w : List ℕ) (two : 2 ≤ n) (room : core-room n 
       below-h = lift-below (e + 1) m w core-inside ys ly n (d + 1) (t + 1) (omega arith) (fc .below-h);
       unit = subst (UnitPolynomial n) (sym core-u) (fc .unit);
     }
+
+    -- F and G are kept, and so is what is certified of them
+    pub core-certified : (u v : List ℕ) (D : ℕ) → CoreCertified n d e (putMid (e + 1) m w ys) u v D → CoreCertified n d e w u v D
+    core-certified u v D c =
+        subst (λ (f : List ℕ). Certified n (L n d e) f (piece w 0 (e + 1)) u v D) core-f
+        (subst (λ (g : List ℕ). Certified n (L n d e) (piece (putMid (e + 1) m w ys) (e + 1) (d + 1)) g u v D) core-g c)
+
+    pub core-answer : (u v : List ℕ) (r : Attempt) → CoreAnswer n d e (putMid (e + 1) m w ys) x y u v r → CoreAnswer n d e w x y u v r
+    core-answer u v (Value D) c = core-certified u v D c
+    core-answer u v (Splits p q) c = c

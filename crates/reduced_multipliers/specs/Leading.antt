@@ -4,14 +4,15 @@
 --   Leading 𝓡 h g b x     b g is x modulo h
 --   h g                   the two polynomials that everything is a combination of; h is monic where it matters
 --   a b                   multipliers of g
+--   taken, scaled         a multiple of another multiplier is taken from one; a multiplier times c
+--   exact                 what b leads to, less b g, divided by the monic h
 use mathlib.Core.Path.{_≡_, refl, sym, _∙_, ap, ap₂, fun-ext}
-use mathlib.Core.List.{List, [], _∷_}
-use Prim.Native.Nat.{ℕ, zero, suc, _<_, _≤_, _+_ as _+ℕ_}
-use native.Mathlib.Omega.{arith}
+use mathlib.Core.List.{[], _∷_}
+use Prim.Native.Nat.{ℕ, suc}
 use Rattle.algebra.specs.Normaliser.{by-ring, quote}
-use Rattle.algebra.specs.Series.{Finite, fin-add, fin-mul, fin-neg, series, Short, const}
+use Rattle.algebra.specs.Series.{Finite, fin-add, fin-mul, fin-neg, series, Short}
 use Rattle.algebra.specs.Ring.{CRing, add-neg, add-zero}
-use Rattle.algebra.specs.Division.{monic-zero, monic-rest}
+use Rattle.algebra.specs.Division.{monic-rest}
 
 module _ {R : Type 0} (𝓡 : CRing R) where
   open CRing (series 𝓡) using (add as _+_, mul as _*_, neg as -_, nil as 𝟘, unit as 𝟙)
@@ -26,8 +27,8 @@ module _ {R : Type 0} (𝓡 : CRing R) where
     pub eq : w * h + b * g ≡ x
 
   -- a multiple of h is taken out of the multiplier, and a multiple of another multiplier
-  pub taken : {h g a b z q a′ x y : ℕ → R} → Finite 𝓡 g → Finite 𝓡 z → Finite 𝓡 q → z * h + q * b + a′ ≡ a → Leading h g a x → Leading h g b y
-      → Leading h g a′ (x + (- (q * y)))
+  pub taken : {h g a b z q a′ x y : ℕ → R} → Finite 𝓡 g → Finite 𝓡 z → Finite 𝓡 q → z * h + q * b + a′ ≡ a
+      → Leading h g a x → Leading h g b y → Leading h g a′ (x + (- (q * y)))
   taken {h} {g} {a} {b} {z} {q} {a′} G Z Q e l r = record {
     w = l .w + (- (q * r .w)) + z * g;
     fin-w = fin-add 𝓡 (fin-add 𝓡 (l .fin-w) (fin-neg 𝓡 (fin-mul 𝓡 Q (r .fin-w)))) (fin-mul 𝓡 Z G);
@@ -36,12 +37,17 @@ module _ {R : Type 0} (𝓡 : CRing R) where
         ∙ ap₂ (λ (u v : ℕ → R). u + (- (q * v))) (l .eq) (r .eq);
   }
     where
-      turn : (u v h g b z q a′ : ℕ → R) → (u + (- (q * v)) + z * g) * h + a′ * g ≡ u * h + (z * h + q * b + a′) * g + (- (q * (v * h + b * g)))
+      turn : (u v h g b z q a′ : ℕ → R)
+          → (u + (- (q * v)) + z * g) * h + a′ * g ≡ u * h + (z * h + q * b + a′) * g + (- (q * (v * h + b * g)))
       turn u v h g b z q a′ = by-ring (series 𝓡) (u ∷ v ∷ h ∷ g ∷ b ∷ z ∷ q ∷ a′ ∷ []) (search quote depth 20) (search quote depth 20) refl
 
   -- a multiplier times c leads to c times as much
   pub scaled : {h g b c x : ℕ → R} → Finite 𝓡 c → Leading h g b x → Leading h g (c * b) (c * x)
-  scaled {h} {g} {b} {c} C l = record { w = c * l .w; fin-w = fin-mul 𝓡 C (l .fin-w); eq = turn (l .w) h g b c ∙ ap (λ (v : ℕ → R). c * v) (l .eq) }
+  scaled {h} {g} {b} {c} C l = record {
+    w = c * l .w;
+    fin-w = fin-mul 𝓡 C (l .fin-w);
+    eq = turn (l .w) h g b c ∙ ap (λ (v : ℕ → R). c * v) (l .eq);
+  }
     where
       turn : (u h g b c : ℕ → R) → c * u * h + c * b * g ≡ c * (u * h + b * g)
       turn u h g b c = by-ring (series 𝓡) (u ∷ h ∷ g ∷ b ∷ c ∷ []) (search quote depth 20) (search quote depth 20) refl

@@ -5,25 +5,31 @@
 --   Completes n h g b c     b g is the constant c modulo h and n
 --   Taken n h b q a a′      a′ is a less q b and less a multiple of h
 --   NegatedInverse n u j    j u is -1
+--   leads-first, leads-second    0 leads to h, and 1 to what g leaves on division by h
+--   leads-taken, leads-unit, leads-scaled    a step of Euclid's algorithm; over a unit; times a constant
+--   leads-completes, leads-unity, completes-none, completes-same    what completes, and to what
+--   completed               both multipliers of c, from that of g
+--   inverse-of-negated      the inverse itself
+--
+-- Letters: p is n less 1; m and ν have the product n; z, w are multipliers of h; q and r are quotient and remainder.
 use mathlib.Core.Path.{_≡_, refl, sym, _∙_, ap, ap₂, fun-ext, subst}
 use mathlib.Core.List.{List, [], _∷_}
-use Prim.Native.Nat.{ℕ, zero, suc, _<_, _≤_, _%_, _+_ as _+ℕ_, _*_ as _*ℕ_, _-_ as _-ℕ_}
-use native.Mathlib.Nat.{mod-eq-of-lt, mod-lt, zero-lt-suc, mul-pos}
+use Prim.Native.Nat.{ℕ, zero, suc, _≤_, _%_, _+_ as _+ℕ_, _*_ as _*ℕ_}
+use native.Mathlib.Nat.{mul-pos, mul-one, zero-mod}
 use native.Mathlib.Decide.{Fin·val-path}
 use native.Mathlib.Omega.{arith}
-use lib.ListN.{length, getD, List·getD-eq-default}
 use lib.IntN.{pos}
-use Rattle.definitions.specs.Polynomials.{coef, convolve, constant, tabulate, Multiplied, Divided, Monic}
+use Rattle.definitions.specs.Polynomials.{coef, convolve, constant, Multiplied, Divided, Monic}
 use Rattle.definitions.specs.Resultants.{Combination}
 use Rattle.algebra.specs.Normaliser.{by-ring, quote}
 use Rattle.algebra.specs.Reduction.{reduce-hom}
-use Rattle.algebra.specs.Series.{Finite, fin-neg, fin-mul, conv, series, Short, const, conv-const}
+use Rattle.algebra.specs.Series.{Finite, fin-neg, series, const, conv-const}
 use Rattle.algebra.specs.Residues.{Res, toRes, Res-ring}
 use Rattle.algebra.specs.Ring.{CRing, add-zero, mul-zero, zero-mul}
-use Rattle.theory.specs.ReachedLaws.{words-short, words-finite, spell, words-spell}
-use Rattle.theory.specs.ReachedSteps.{lift-mod, times-mod, plus-mod}
+use Rattle.theory.specs.ReachedLaws.{words-finite, spell, words-spell}
+use Rattle.theory.specs.ReachedSteps.{lift-mod, constant-scale}
 use Rattle.theory.specs.ReducedLaws.{InversePolynomial}
-use Rattle.theory.specs.Words.{words, convolve-is}
+use Rattle.theory.specs.Words.{words, convolve-is, multiplied-is, divided-is}
 use Rattle.reduced_multipliers.specs.Leading.{Leading, taken, scaled, exact}
 
 -- b g is m x modulo h and n
@@ -83,11 +89,30 @@ module _ (p : ℕ) where
   back : (F G : ℕ → ℕ) → residues F ≡ residues G → (k : ℕ) → F k % suc p ≡ G k % suc p
   back F G h k = ap (λ (v : ℕ → Res p). v k .0) h
 
-  both-is : (u f v g : List ℕ) → residues (λ k. convolve (coef u) (coef f) k +ℕ convolve (coef v) (coef g) k) ≡ words p u * words p f + words p v * words p g
+  both-is : (u f v g : List ℕ)
+      → residues (λ k. convolve (coef u) (coef f) k +ℕ convolve (coef v) (coef g) k) ≡ words p u * words p f + words p v * words p g
   both-is u f v g = added-is (convolve (coef u) (coef f)) (convolve (coef v) (coef g)) ∙ ap₂ _+_ (product-is u f) (product-is v g)
 
   abbrev times : ℕ → (ℕ → Res p) → ℕ → Res p
   times m X = const (Res-ring p) (toRes p m) * X
+
+  -- m times what agrees modulo ν
+  lifted-is : (m ν : ℕ) → 1 ≤ m → 1 ≤ ν → suc p ≡ m *ℕ ν → (F G : ℕ → ℕ) → ((k : ℕ) → F k % ν ≡ G k % ν)
+      → times m (residues F) ≡ times m (residues G)
+  lifted-is m ν p-m p-ν e F G h =
+      sym (scaled-is m F)
+      ∙ same (λ k. m *ℕ F k) (λ k. m *ℕ G k) (λ k. lifted (suc p) m ν (F k) (G k) p-m p-ν e (h k))
+      ∙ scaled-is m G
+
+  zero-is : (a : List ℕ) → ((k : ℕ) → coef a k ≡ 0) → words p a ≡ 𝟘
+  zero-is a z = fun-ext (λ k. ap (toRes p) (z k))
+
+  -- j u + 1
+  negation-is : (j u : List ℕ) → residues (λ k. convolve (coef j) (coef u) k +ℕ constant 1 k) ≡ words p j * words p u + 𝟙
+  negation-is j u = added-is (convolve (coef j) (coef u)) (constant 1) ∙ ap₂ _+_ (product-is j u) one-is
+
+  negated-is : (u j : List ℕ) → NegatedInverse (suc p) u j → words p j * words p u + 𝟙 ≡ 𝟘
+  negated-is u j n = sym (negation-is j u) ∙ same _ (λ k. 0) (λ k. n .at k ∙ sym (zero-mod (suc p)))
 
   -- a multiplier in the ring
   abbrev Ring-leads : List ℕ → List ℕ → List ℕ → (ℕ → Res p) → Type 0
@@ -111,7 +136,10 @@ module _ (p : ℕ) where
   out h g b m x l e = record { w = spell p (l .fin-w .size) (l .w); at = out-at h g b (λ k. m *ℕ coef x k) l (scaled-is m (coef x) ∙ e) }
 
   done : (h g b : List ℕ) {X : ℕ → Res p} (c : ℕ) → Ring-leads h g b X → const (Res-ring p) (toRes p c) ≡ X → Completes (suc p) h g b c
-  done h g b c l e = record { w = spell p (l .fin-w .size) (l .w); combination = record { sum = out-at h g b (constant c) l (constant-is c ∙ e) } }
+  done h g b c l e = record {
+    w = spell p (l .fin-w .size) (l .w);
+    combination = record { sum = out-at h g b (constant c) l (constant-is c ∙ e) };
+  }
 
   undone : {h g b : List ℕ} {c : ℕ} → Completes (suc p) h g b c → Ring-leads h g b (const (Res-ring p) (toRes p c))
   undone {h} {g} {b} {c} l = record {
@@ -120,7 +148,18 @@ module _ (p : ℕ) where
     eq = sym (both-is (l .w) h b g) ∙ same _ _ (l .combination .sum) ∙ constant-is c;
   }
 
-  taken-is : {h b q a a′ : List ℕ} (t : Taken (suc p) h b q a a′) → words p (t .z) * words p h + words p q * words p b + words p a′ ≡ words p a
+  -- 0 leads to 0
+  zero-leads : (h g a : List ℕ) → ((k : ℕ) → coef a k ≡ 0) → Ring-leads h g a 𝟘
+  zero-leads h g a z = record {
+    w = 𝟘;
+    fin-w = record { size = 0; short = record { out = λ k _. refl } };
+    eq = ap (λ (v : ℕ → Res p). 𝟘 * words p h + v * words p g) (zero-is a z)
+        ∙ ap₂ _+_ (zero-mul (series (Res-ring p)) (words p h)) (zero-mul (series (Res-ring p)) (words p g))
+        ∙ add-zero (series (Res-ring p)) 𝟘;
+  }
+
+  taken-is : {h b q a a′ : List ℕ} (t : Taken (suc p) h b q a a′)
+      → words p (t .z) * words p h + words p q * words p b + words p a′ ≡ words p a
   taken-is {h} {b} {q} {a} {a′} t =
       sym (added-is _ (coef a′) ∙ ap (λ (v : ℕ → Res p). v + words p a′) (both-is (t .z) h q b)) ∙ same _ _ (t .at)
 
@@ -138,18 +177,19 @@ module _ (p : ℕ) where
 
       whole : M * words p x ≡ M * (words p q * words p y + words p r)
       whole =
-          sym (scaled-is m (coef x)) ∙ same (λ k. m *ℕ coef x k) (λ k. m *ℕ (convolve (coef q) (coef y) k +ℕ coef r k)) (λ k. lifted (suc p) m ν _ _ p-m p-ν e (sym (d .at k)))
-          ∙ scaled-is m (λ k. convolve (coef q) (coef y) k +ℕ coef r k)
-          ∙ ap (λ (v : ℕ → Res p). M * v) (added-is (convolve (coef q) (coef y)) (coef r) ∙ ap (λ (v : ℕ → Res p). v + words p r) (product-is q y))
+          lifted-is m ν p-m p-ν e (coef x) (λ k. convolve (coef q) (coef y) k +ℕ coef r k) (λ k. sym (d .at k))
+          ∙ ap (λ (v : ℕ → Res p). M * v) (added-is (convolve (coef q) (coef y)) (coef r))
+          ∙ ap (λ (v : ℕ → Res p). M * (v + words p r)) (product-is q y)
 
       turn : (m q y r : ℕ → Res p) → m * r ≡ m * (q * y + r) + (- (q * (m * y)))
       turn m q y r = by-ring (series (Res-ring p)) (m ∷ q ∷ y ∷ r ∷ []) (search quote depth 20) (search quote depth 20) refl
 
   -- y = u x modulo ν, j u = -1, and j b is taken from 0
-  step-unit : (m ν : ℕ) → 1 ≤ m → 1 ≤ ν → suc p ≡ m *ℕ ν → (h g a b b′ j u x y : List ℕ) → ((k : ℕ) → coef a k ≡ 0) → Taken (suc p) h b j a b′ → Multiplied ν y u x
-      → NegatedInverse ν u j → Leads (suc p) m h g b y → Leads (suc p) m h g b′ x
+  step-unit : (m ν : ℕ) → 1 ≤ m → 1 ≤ ν → suc p ≡ m *ℕ ν → (h g a b b′ j u x y : List ℕ) → ((k : ℕ) → coef a k ≡ 0)
+      → Taken (suc p) h b j a b′ → Multiplied ν y u x → NegatedInverse ν u j → Leads (suc p) m h g b y → Leads (suc p) m h g b′ x
   step-unit m ν p-m p-ν e h g a b b′ j u x y z t f i l =
-      out h g b′ m x (taken (Res-ring p) (words-finite p g) (words-finite p (t .z)) (words-finite p j) (taken-is t) nothing (into l))
+      out h g b′ m x
+      (taken (Res-ring p) (words-finite p g) (words-finite p (t .z)) (words-finite p j) (taken-is t) (zero-leads h g a z) (into l))
       (turn M J U X (sum ∙ sym (zero-mul (series (Res-ring p)) X)) ∙ ap (λ (v : ℕ → Res p). 𝟘 + (- (J * v))) (sym factored))
     where
       M : ℕ → Res p
@@ -164,33 +204,19 @@ module _ (p : ℕ) where
       X : ℕ → Res p
       X = words p x
 
-      none : words p a ≡ 𝟘
-      none = fun-ext (λ k. ap (toRes p) (z k))
-
-      nothing : Ring-leads h g a 𝟘
-      nothing = record {
-        w = 𝟘;
-        fin-w = record { size = 0; short = record { out = λ k _. refl } };
-        eq = ap (λ (v : ℕ → Res p). 𝟘 * words p h + v * words p g) none ∙ ap₂ _+_ (zero-mul (series (Res-ring p)) (words p h)) (zero-mul (series (Res-ring p)) (words p g)) ∙ add-zero (series (Res-ring p)) 𝟘;
-      }
-
       factored : M * words p y ≡ M * (U * X)
       factored =
-          sym (scaled-is m (coef y)) ∙ same (λ k. m *ℕ coef y k) (λ k. m *ℕ convolve (coef u) (coef x) k) (λ k. lifted (suc p) m ν _ _ p-m p-ν e (f .at k))
-          ∙ scaled-is m (convolve (coef u) (coef x)) ∙ ap (λ (v : ℕ → Res p). M * v) (product-is u x)
+          lifted-is m ν p-m p-ν e (coef y) (convolve (coef u) (coef x)) (f .at)
+          ∙ ap (λ (v : ℕ → Res p). M * v) (product-is u x)
 
-      zero-at : (k : ℕ) → (m *ℕ (convolve (coef j) (coef u) k +ℕ constant 1 k)) % suc p ≡ (m *ℕ 0) % suc p
-      zero-at k = lifted (suc p) m ν _ 0 p-m p-ν e (i .at k ∙ sym (mod-eq-of-lt p-ν))
-
-      nought : (m : ℕ) → m *ℕ 0 ≡ 0
-      nought m = omega arith
+      none : M * (J * U + 𝟙) ≡ 𝟘
+      none =
+          ap (λ (v : ℕ → Res p). M * v) (sym (negation-is j u))
+          ∙ lifted-is m ν p-m p-ν e _ (λ k. 0) (λ k. i .at k ∙ sym (zero-mod ν))
+          ∙ mul-zero (series (Res-ring p)) M
 
       sum : (M * (J * U + 𝟙)) * X ≡ 𝟘
-      sum =
-          ap (λ (v : ℕ → Res p). v * X)
-          (ap (λ (v : ℕ → Res p). M * v) (sym (added-is (convolve (coef j) (coef u)) (constant 1) ∙ ap₂ _+_ (product-is j u) one-is))
-          ∙ sym (scaled-is m (λ k. convolve (coef j) (coef u) k +ℕ constant 1 k)) ∙ same _ (λ k. 0) (λ k. zero-at k ∙ ap (λ (x : ℕ). x % suc p) (nought m)))
-          ∙ zero-mul (series (Res-ring p)) X
+      sum = ap (λ (v : ℕ → Res p). v * X) none ∙ zero-mul (series (Res-ring p)) X
 
       turn : (m j u x : ℕ → Res p) → (m * (j * u + 𝟙)) * x ≡ 𝟘 * x → m * x ≡ 𝟘 + (- (j * (m * (u * x))))
       turn m j u x h = first m j u x ∙ ap (λ (v : ℕ → Res p). v + (- (j * (m * (u * x))))) (h ∙ zero-mul (series (Res-ring p)) x)
@@ -206,12 +232,16 @@ module _ (p : ℕ) where
         w = r .w;
         fin-w = r .fin-w;
         eq = ap (λ (v : ℕ → Res p). r .w * words p h + v * words p g) (same _ _ eb ∙ scaled-is c (coef b)) ∙ r .eq;
-      }) (sym (scaled-is m′ (coef x′)) ∙ same _ _ ex ∙ scaled-is c (λ k. m *ℕ coef x k) ∙ ap (λ (v : ℕ → Res p). const (Res-ring p) (toRes p c) * v) (scaled-is m (coef x)))
+      })
+      (sym (scaled-is m′ (coef x′))
+      ∙ same _ _ ex
+      ∙ scaled-is c (λ k. m *ℕ coef x k)
+      ∙ ap (λ (v : ℕ → Res p). const (Res-ring p) (toRes p c) * v) (scaled-is m (coef x)))
     where
       C : Finite (Res-ring p) (const (Res-ring p) (toRes p c))
       C = record { size = 1; short = record { out = elim [ zero ↦ λ l. absurd (omega arith) | suc k ↦ λ l. refl ] } }
 
-      r : Leading (Res-ring p) (words p h) (words p g) (const (Res-ring p) (toRes p c) * words p b) (const (Res-ring p) (toRes p c) * times m (words p x))
+      r : Leading (Res-ring p) (words p h) (words p g) (times c (words p b)) (times c (times m (words p x)))
       r = scaled (Res-ring p) C (into l)
 
   -- ---- the beginning and the end
@@ -223,11 +253,8 @@ module _ (p : ℕ) where
         w = 𝟙;
         fin-w = record { size = 1; short = record { out = elim [ zero ↦ λ l. absurd (omega arith) | suc k ↦ λ l. refl ] } };
         eq = refl;
-      }) (turn (words p h) (words p g) ∙ ap (λ (v : ℕ → Res p). 𝟙 * words p h + v * words p g) (sym none))
+      }) (turn (words p h) (words p g) ∙ ap (λ (v : ℕ → Res p). 𝟙 * words p h + v * words p g) (sym (zero-is a z)))
     where
-      none : words p a ≡ 𝟘
-      none = fun-ext (λ k. ap (toRes p) (z k))
-
       turn : (h g : ℕ → Res p) → 𝟙 * h ≡ 𝟙 * h + 𝟘 * g
       turn h g = by-ring (series (Res-ring p)) (h ∷ g ∷ []) (search quote depth 20) (search quote depth 20) refl
 
@@ -235,23 +262,30 @@ module _ (p : ℕ) where
   step-second : (h g b q y : List ℕ) → ((k : ℕ) → coef b k ≡ constant 1 k) → Divided (suc p) g h q y → Leads (suc p) 1 h g b y
   step-second h g b q y o d =
       out h g b 1 y (record { w = - words p q; fin-w = fin-neg (Res-ring p) (words-finite p q); eq = refl })
-      (turn (words p h) (words p q) (words p y) ∙ ap₂ (λ (u v : ℕ → Res p). (- words p q) * words p h + u * v) (sym one) whole)
+      (turn (words p h) (words p q) (words p y)
+      ∙ ap₂ (λ (u v : ℕ → Res p). (- words p q) * words p h + u * v) (sym one) (sym (divided-is p g h q y d)))
     where
       one : words p b ≡ 𝟙
       one = fun-ext (λ k. ap (toRes p) (o k)) ∙ one-is
-
-      whole : words p q * words p h + words p y ≡ words p g
-      whole = sym (added-is (convolve (coef q) (coef h)) (coef y) ∙ ap (λ (v : ℕ → Res p). v + words p y) (product-is q h)) ∙ same _ (coef g) (d .at)
 
       turn : (h q y : ℕ → Res p) → 𝟙 * y ≡ (- q) * h + 𝟙 * (q * h + y)
       turn h q y = by-ring (series (Res-ring p)) (h ∷ q ∷ y ∷ []) (search quote depth 20) (search quote depth 20) refl
 
   -- b completes to c: the quotient z of c - b g by the monic h is exact, f is u h, and x is z over u
-  step-last : (t c : ℕ) (f g h u j b e z r x o s : List ℕ) → Monic (suc p) t h → Completes (suc p) h g b c → ((k : ℕ) → coef s k % suc p ≡ constant c k % suc p) → Divided (suc p) s g b e
-      → Divided (suc p) e h z r → ((k : ℕ) → t ≤ k → coef r k ≡ 0) → Multiplied (suc p) f u h → NegatedInverse (suc p) u j → ((k : ℕ) → coef o k ≡ 0) → Divided (suc p) o z j x
+  step-last : (t c : ℕ) (f g h u j b e z r x o s : List ℕ) → Monic (suc p) t h → Completes (suc p) h g b c
+      → ((k : ℕ) → coef s k % suc p ≡ constant c k % suc p) → Divided (suc p) s g b e
+      → Divided (suc p) e h z r → ((k : ℕ) → t ≤ k → coef r k ≡ 0)
+      → Multiplied (suc p) f u h → NegatedInverse (suc p) u j
+      → ((k : ℕ) → coef o k ≡ 0) → Divided (suc p) o z j x
       → Combination (suc p) f g x b c
   step-last t c f g h u j b e z r x o s m l is-c de dz short mf nj none dx = record {
-    sum = back _ (constant c) (both-is x f b g ∙ ap (λ (v : ℕ → Res p). X * v + B * G) factored ∙ first J U Z X H ∙ ap (λ (v : ℕ → Res p). v + B * G) middle ∙ ex ∙ sym (constant-is c));
+    sum = back _ (constant c)
+        (both-is x f b g
+        ∙ ap (λ (v : ℕ → Res p). X * v + B * G) (multiplied-is p f u h mf)
+        ∙ first J U Z X H
+        ∙ ap (λ (v : ℕ → Res p). v + B * G) middle
+        ∙ ex
+        ∙ sym (constant-is c));
   }
     where
       H : ℕ → Res p
@@ -275,26 +309,21 @@ module _ (p : ℕ) where
       X : ℕ → Res p
       X = words p x
 
-      divided : (g f q r : List ℕ) → Divided (suc p) g f q r → words p q * words p f + words p r ≡ words p g
-      divided g f q r d = sym (added-is (convolve (coef q) (coef f)) (coef r) ∙ ap (λ (v : ℕ → Res p). v + words p r) (product-is q f)) ∙ same _ (coef g) (d .at)
-
-      factored : words p f ≡ U * H
-      factored = same (coef f) (convolve (coef u) (coef h)) (mf .at) ∙ product-is u h
-
       whole : Z * H + words p r + B * G ≡ const (Res-ring p) (toRes p c)
       whole =
-          ap (λ (v : ℕ → Res p). v + B * G) (divided e h z r dz) ∙ series (Res-ring p) .add-comm (words p e) (B * G)
-          ∙ divided s g b e de ∙ same (coef s) (constant c) is-c ∙ constant-is c
+          ap (λ (v : ℕ → Res p). v + B * G) (sym (divided-is p e h z r dz))
+          ∙ series (Res-ring p) .add-comm (words p e) (B * G)
+          ∙ sym (divided-is p s g b e de)
+          ∙ same (coef s) (constant c) is-c
+          ∙ constant-is c
 
       ex : Z * H + B * G ≡ const (Res-ring p) (toRes p c)
-      ex = exact (Res-ring p) t {r = words p r} (Fin·val-path (m .lead)) (record { out = λ k q. Fin·val-path (m .above k (omega arith) ∙ sym (mod-eq-of-lt (zero-lt-suc p))) })
+      ex = exact (Res-ring p) t {r = words p r} (Fin·val-path (m .lead))
+          (record { out = λ k q. Fin·val-path (m .above k (omega arith) ∙ sym (zero-mod (suc p))) })
           (record { out = λ k q. ap (toRes p) (short k q) }) (words-finite p z) (undone l) whole
 
       over : J * Z + X ≡ 𝟘
-      over = divided o z j x dx ∙ fun-ext (λ k. ap (toRes p) (none k))
-
-      negated : J * U + 𝟙 ≡ 𝟘
-      negated = sym (added-is (convolve (coef j) (coef u)) (constant 1) ∙ ap₂ _+_ (product-is j u) one-is) ∙ same _ (λ k. 0) (λ k. nj .at k ∙ sym (mod-eq-of-lt (zero-lt-suc p)))
+      over = sym (divided-is p o z j x dx) ∙ zero-is o none
 
       first : (j u z x h : ℕ → Res p) → x * (u * h) + B * G ≡ (j * z + x) * u * h + (- ((j * u + 𝟙) * (z * h))) + z * h + B * G
       first j u z x h = by-ring (series (Res-ring p)) (j ∷ u ∷ z ∷ x ∷ h ∷ B ∷ G ∷ []) (search quote depth 20) (search quote depth 20) refl
@@ -303,11 +332,22 @@ module _ (p : ℕ) where
       none-left u z h = by-ring (series (Res-ring p)) (u ∷ z ∷ h ∷ []) (search quote depth 20) (search quote depth 20) refl
 
       middle : (J * Z + X) * U * H + (- ((J * U + 𝟙) * (Z * H))) + Z * H ≡ Z * H
-      middle = ap₂ (λ (a b : ℕ → Res p). a * U * H + (- (b * (Z * H))) + Z * H) over negated ∙ none-left U Z H
+      middle = ap₂ (λ (a b : ℕ → Res p). a * U * H + (- (b * (Z * H))) + Z * H) over (negated-is u j nj) ∙ none-left U Z H
 
   -- the inverse itself
   step-inverse : (u j : List ℕ) → NegatedInverse (suc p) u j → (i : List ℕ) × InversePolynomial (suc p) u i
-  step-inverse u j n = (i, record { at = back _ (constant 1) (product-is i u ∙ ap (λ (v : ℕ → Res p). v * U) spelled ∙ turn J U ∙ ap (λ (v : ℕ → Res p). (- v) + 𝟙) negated ∙ last ∙ sym one-is) })
+  step-inverse u j n = (
+    i,
+    record {
+      at = back _ (constant 1)
+          (product-is i u
+          ∙ ap (λ (v : ℕ → Res p). v * U) spelled
+          ∙ turn J U
+          ∙ ap (λ (v : ℕ → Res p). (- v) + 𝟙) (negated-is u j n)
+          ∙ last
+          ∙ sym one-is);
+    },
+  )
     where
       N : Finite (Res-ring p) (- words p j)
       N = fin-neg (Res-ring p) (words-finite p j)
@@ -324,9 +364,6 @@ module _ (p : ℕ) where
       spelled : words p i ≡ - J
       spelled = fun-ext (words-spell p (N .size) (- J) (N .short))
 
-      negated : J * U + 𝟙 ≡ 𝟘
-      negated = sym (added-is (convolve (coef j) (coef u)) (constant 1) ∙ ap₂ _+_ (product-is j u) one-is) ∙ same _ (λ k. 0) (λ k. n .at k ∙ sym (mod-eq-of-lt (zero-lt-suc p)))
-
       turn : (j u : ℕ → Res p) → (- j) * u ≡ (- (j * u + 𝟙)) + 𝟙
       turn j u = by-ring (series (Res-ring p)) (j ∷ u ∷ []) (search quote depth 20) (search quote depth 20) refl
 
@@ -334,15 +371,10 @@ module _ (p : ℕ) where
       last = by-ring (series (Res-ring p)) [] (search quote depth 20) (search quote depth 20) refl
 
   step-none : (c : ℕ) → c % suc p ≡ 0 → (h g b : List ℕ) → ((k : ℕ) → coef b k ≡ 0) → Completes (suc p) h g b c
-  step-none c z h g b none = done h g b c (record { w = 𝟘; fin-w = record { size = 0; short = record { out = λ k _. refl } }; eq = refl }) (zero-constant ∙ sym nothing)
+  step-none c z h g b none = done h g b c (zero-leads h g b none) zero-constant
     where
       zero-constant : const (Res-ring p) (toRes p c) ≡ 𝟘
-      zero-constant = fun-ext (elim [ zero ↦ Fin·val-path (z ∙ sym (mod-eq-of-lt (zero-lt-suc p))) | suc k ↦ refl ])
-
-      nothing : 𝟘 * words p h + words p b * words p g ≡ 𝟘
-      nothing =
-          ap (λ (v : ℕ → Res p). 𝟘 * words p h + v * words p g) (fun-ext (λ k. ap (toRes p) (none k)))
-          ∙ ap₂ _+_ (zero-mul (series (Res-ring p)) (words p h)) (zero-mul (series (Res-ring p)) (words p g)) ∙ add-zero (series (Res-ring p)) 𝟘
+      zero-constant = fun-ext (elim [ zero ↦ Fin·val-path (z ∙ sym (zero-mod (suc p))) | suc k ↦ refl ])
 
 -- ---- modulo any n
 
@@ -353,8 +385,8 @@ leads-taken zero m ν p q e = absurd (omega (arith, mul-pos p q))
 leads-taken (suc n) m ν p q e = step-taken n m ν p q e
 
 -- y = u x modulo ν with u a unit: the multiplier of y over u leads to x
-pub leads-unit : (n m ν : ℕ) → 1 ≤ m → 1 ≤ ν → n ≡ m *ℕ ν → (h g a b b′ j u x y : List ℕ) → ((k : ℕ) → coef a k ≡ 0) → Taken n h b j a b′ → Multiplied ν y u x
-    → NegatedInverse ν u j → Leads n m h g b y → Leads n m h g b′ x
+pub leads-unit : (n m ν : ℕ) → 1 ≤ m → 1 ≤ ν → n ≡ m *ℕ ν → (h g a b b′ j u x y : List ℕ) → ((k : ℕ) → coef a k ≡ 0)
+    → Taken n h b j a b′ → Multiplied ν y u x → NegatedInverse ν u j → Leads n m h g b y → Leads n m h g b′ x
 leads-unit zero m ν p q e = absurd (omega (arith, mul-pos p q))
 leads-unit (suc n) m ν p q e = step-unit n m ν p q e
 
@@ -373,8 +405,11 @@ leads-second zero l = absurd (omega arith)
 leads-second (suc n) l = step-second n
 
 -- u f + v g = c from the multiplier v alone: u is (c - v g) / h over the unit factor of f = a h
-pub completed : (n : ℕ) → 1 ≤ n → (t c : ℕ) (f g h a j v e z r u o s : List ℕ) → Monic n t h → Completes n h g v c → ((k : ℕ) → coef s k % n ≡ constant c k % n) → Divided n s g v e
-    → Divided n e h z r → ((k : ℕ) → t ≤ k → coef r k ≡ 0) → Multiplied n f a h → NegatedInverse n a j → ((k : ℕ) → coef o k ≡ 0) → Divided n o z j u
+pub completed : (n : ℕ) → 1 ≤ n → (t c : ℕ) (f g h a j v e z r u o s : List ℕ) → Monic n t h → Completes n h g v c
+    → ((k : ℕ) → coef s k % n ≡ constant c k % n) → Divided n s g v e
+    → Divided n e h z r → ((k : ℕ) → t ≤ k → coef r k ≡ 0)
+    → Multiplied n f a h → NegatedInverse n a j
+    → ((k : ℕ) → coef o k ≡ 0) → Divided n o z j u
     → Combination n f g u v c
 completed zero l = absurd (omega arith)
 completed (suc n) l = step-last n
@@ -384,23 +419,23 @@ inverse-of-negated zero l = absurd (omega arith)
 inverse-of-negated (suc n) l = step-inverse n
 
 -- what leads to 1 completes to m
-pub leads-completes : (n m ν : ℕ) → 1 ≤ m → 1 ≤ ν → n ≡ m *ℕ ν → (h g b x : List ℕ) → ((k : ℕ) → coef x k % ν ≡ constant 1 k % ν) → Leads n m h g b x → Completes n h g b m
+pub leads-completes : (n m ν : ℕ) → 1 ≤ m → 1 ≤ ν → n ≡ m *ℕ ν → (h g b x : List ℕ) → ((k : ℕ) → coef x k % ν ≡ constant 1 k % ν)
+    → Leads n m h g b x → Completes n h g b m
 leads-completes n m ν p q e h g b x one l = record {
   w = l .w;
-  combination = record { sum = λ k. l .at k ∙ lifted n m ν (coef x k) (constant 1 k) p q e (one k) ∙ ap (λ (y : ℕ). y % n) (go k) };
+  combination = record {
+    sum = λ k. l .at k
+        ∙ lifted n m ν (coef x k) (constant 1 k) p q e (one k)
+        ∙ ap (λ (y : ℕ). y % n) (sym (constant-scale m 1 k) ∙ ap (λ (c : ℕ). constant c k) (mul-one m));
+  };
 }
-  where
-    go : (k : ℕ) → m *ℕ constant 1 k ≡ constant m k
-    go zero = omega arith
-    go (suc k) = omega arith
 
 -- y over a unit is 1
-pub leads-unity : (n m ν i : ℕ) → 1 ≤ m → 1 ≤ ν → n ≡ m *ℕ ν → (h g b b′ y : List ℕ) → ((k : ℕ) → coef b′ k % n ≡ (i *ℕ coef b k) % n) → ((k : ℕ) → (i *ℕ coef y k) % ν ≡ constant 1 k % ν)
-    → Leads n m h g b y → Completes n h g b′ m
+pub leads-unity : (n m ν i : ℕ) → 1 ≤ m → 1 ≤ ν → n ≡ m *ℕ ν → (h g b b′ y : List ℕ) → ((k : ℕ) → coef b′ k % n ≡ (i *ℕ coef b k) % n)
+    → ((k : ℕ) → (i *ℕ coef y k) % ν ≡ constant 1 k % ν) → Leads n m h g b y → Completes n h g b′ m
 leads-unity n m ν i p q e h g b b′ y eb one l =
     leads-completes n m ν p q e h g b′ (1 ∷ []) (λ k. ap (λ (x : ℕ). x % ν) (unity k))
-    (leads-scaled n i m m (subst (λ (x : ℕ). 1 ≤ x) (sym e) (mul-pos p q)) h g b b′ y (1 ∷ []) eb
-    (λ k. ap (λ (x : ℕ). (m *ℕ x) % n) (unity k) ∙ sym (ap (λ (x : ℕ). x % n) (turn m i (coef y k)) ∙ lifted n m ν (i *ℕ coef y k) (constant 1 k) p q e (one k))) l)
+    (leads-scaled n i m m (subst (λ (x : ℕ). 1 ≤ x) (sym e) (mul-pos p q)) h g b b′ y (1 ∷ []) eb multiple l)
   where
     unity : (k : ℕ) → coef (1 ∷ []) k ≡ constant 1 k
     unity zero = refl
@@ -408,6 +443,12 @@ leads-unity n m ν i p q e h g b b′ y eb one l =
 
     turn : (m i y : ℕ) → i *ℕ (m *ℕ y) ≡ m *ℕ (i *ℕ y)
     turn m i y = omega arith
+
+    multiple : (k : ℕ) → (m *ℕ coef (1 ∷ []) k) % n ≡ (i *ℕ (m *ℕ coef y k)) % n
+    multiple k =
+        ap (λ (x : ℕ). (m *ℕ x) % n) (unity k)
+        ∙ sym (lifted n m ν (i *ℕ coef y k) (constant 1 k) p q e (one k))
+        ∙ sym (ap (λ (x : ℕ). x % n) (turn m i (coef y k)))
 
 -- 0 completes to 0
 pub completes-none : (n c : ℕ) → 1 ≤ n → c % n ≡ 0 → (h g b : List ℕ) → ((k : ℕ) → coef b k ≡ 0) → Completes n h g b c
@@ -418,5 +459,9 @@ completes-none (suc n) c l = step-none n c
 pub completes-same : (n c : ℕ) (h g b b′ : List ℕ) → ((k : ℕ) → coef b k ≡ coef b′ k) → Completes n h g b c → Completes n h g b′ c
 completes-same n c h g b b′ e x = record {
   w = x .w;
-  combination = record { sum = λ k. ap (λ (F : ℕ → ℕ). (convolve (coef (x .w)) (coef h) k +ℕ convolve F (coef g) k) % n) (sym (fun-ext e)) ∙ x .combination .sum k };
+  combination = record {
+    sum = λ k.
+        ap (λ (F : ℕ → ℕ). (convolve (coef (x .w)) (coef h) k +ℕ convolve F (coef g) k) % n) (sym (fun-ext e))
+        ∙ x .combination .sum k;
+  };
 }

@@ -14,7 +14,7 @@ use Rattle.windows.proofs.Leaf.{lt-or-le, piece-at, piece-over, piece-same}
 use Rattle.window_division.specs.Remainders.{Pair, Remainder}
 use Rattle.window_division.proofs.Turns.{convolve-none}
 use Rattle.reduced_multipliers.specs.Leads.{Taken}
-use Rattle.reduced_products.specs.Products.{Factors, Subtracted, MonicAt, TakenFrom}
+use Rattle.reduced_products.specs.Products.{Factors, Subtracted, MonicAtZero, TakenFrom}
 
 convolve-empty : (F : ℕ → ℕ) (k : ℕ) → convolve (coef []) F k ≡ 0
 convolve-empty F k = ap (λ (a : ℕ → ℕ). convolve a F k) (fun-ext (λ i. coef-beyond [] i (omega arith))) ∙ convolve-none F k
@@ -106,13 +106,13 @@ module _ (n t p lp q lq dst l : ℕ) (w w₁ w₂ w₃ : List ℕ) (pos : 1 ≤ 
       over around below nought (record { z = Z; at = whole }) is-l
 
 -- the divisor at 0, and what it divides
-pub pair-at : (n t p lp q lq dst l : ℕ) (w w₁ : List ℕ) → l ≡ lp + lq - 1 → t < l → t + 1 ≤ dst → MonicAt n t w → Subtracted n p lp q lq dst w w₁ → Pair n 0 t dst (l - 1) w₁
+pub pair-at : (n t p lp q lq dst l : ℕ) (w w₁ : List ℕ) → l ≡ lp + lq - 1 → t < l → t + 1 ≤ dst → MonicAtZero n t w → Subtracted n p lp q lq dst w w₁ → Pair n 0 t dst (l - 1) w₁
 pair-at n t p lp q lq dst l w w₁ is-l over apart m s = record {
   first = record { at = λ k h. subst (λ (x : ℕ). x < n) (sym (s .around .low (0 + k) (omega arith))) (m .below .at k h) };
   second = record { at = λ k h. s .below .at k (omega arith) };
   apart = record { ok = λ i j a b e. omega arith };
 }
 
-pub unit-at : (n t p lp q lq dst : ℕ) (w w₁ : List ℕ) → t + 1 ≤ dst → MonicAt n t w → Subtracted n p lp q lq dst w w₁ → (1 * getD w₁ (0 + t) 0) % n ≡ 1 % n
+pub unit-at : (n t p lp q lq dst : ℕ) (w w₁ : List ℕ) → t + 1 ≤ dst → MonicAtZero n t w → Subtracted n p lp q lq dst w w₁ → (1 * getD w₁ (0 + t) 0) % n ≡ 1 % n
 unit-at n t p lp q lq dst w w₁ apart m s =
     ap (λ (x : ℕ). x % n) (one-mul _ ∙ ap (λ (x : ℕ). getD w₁ x 0) (zero-add t) ∙ s .around .low t (omega arith) ∙ m .lead)

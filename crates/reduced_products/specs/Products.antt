@@ -1,8 +1,11 @@
--- Products of two windows taken from a third.
+-- Products of two windows taken from a third. The factors are the lp words at p and the lq words at q of one buffer w; their product, of
+-- lp + lq - 1 words, is taken from the words at dst.
 --
---   Factors n p lp q lq dst w    lp words at p and lq at q, apart from the lp + lq - 1 words at dst; residues at p and dst
+--   ProductRoom n p lp q lq dst w    the factors have words, and these and the product's words stand in the buffer
+--   Factors n p lp q lq dst w    the factors are apart from the words at dst; residues at p and dst
+--   FactorsModulo n t p lp q lq dst w    the same, with a monic polynomial of degree t at 0, before dst
 --   Subtracted n p lp q lq dst w w'    the words at dst have lost the product
---   MonicAt n t w                the monic polynomial of degree t at 0 of a stage's window
+--   MonicAtZero n t w            the monic polynomial of degree t at 0 of a stage's window
 --   TakenFrom n t p lp q lq dst l w w'    the words at dst have lost the product and a multiple of that polynomial: l words are left
 use mathlib.Core.Path.{_≡_}
 use mathlib.Core.List.{List}
@@ -12,6 +15,16 @@ use Rattle.definitions.specs.Polynomials.{Divided}
 use Rattle.windows.specs.Window.{piece, Below, Around, Apart}
 use Rattle.reduced_multipliers.specs.Leads.{Taken}
 
+-- two factors of at least one word each, and the words that lose their product, stand in the buffer
+abbrev pub ProductRoom : ℕ → ℕ → ℕ → ℕ → ℕ → ℕ → List ℕ → Type 0
+ProductRoom n p lp q lq dst w =
+    (1 ≤ n)
+    × ((1 ≤ lp)
+    × ((1 ≤ lq)
+    × ((p + lp ≤ length w)
+    × ((q + lq ≤ length w) × (dst + (lp + lq - 1) ≤ length w)))))
+
+-- no word of a factor is one of those that lose the product, and what is read and written are residues
 pub record Factors (n p lp q lq dst : ℕ) (w : List ℕ) : Type 0 where
   pub first : Below n p lp w
   pub product : Below n dst (lp + lq - 1) w
@@ -24,9 +37,17 @@ pub record Subtracted (n p lp q lq dst : ℕ) (w w' : List ℕ) : Type 0 where
   pub below : Below n dst (lp + lq - 1) w'
   pub divided : Divided n (piece w dst (lp + lq - 1)) (piece w q lq) (piece w p lp) (piece w' dst (lp + lq - 1))
 
-pub record MonicAt (n t : ℕ) (w : List ℕ) : Type 0 where
+-- a stage's window begins with a monic polynomial of degree t
+pub record MonicAtZero (n t : ℕ) (w : List ℕ) : Type 0 where
   pub lead : getD w t 0 ≡ 1
   pub below : Below n 0 (t + 1) w
+
+-- the product is taken modulo the monic polynomial at 0, which no word at dst is part of
+pub record FactorsModulo (n t p lp q lq dst : ℕ) (w : List ℕ) : Type 0 where
+  pub factors : Factors n p lp q lq dst w
+  pub degree : 1 ≤ t
+  pub after : t + 1 ≤ dst
+  pub monic : MonicAtZero n t w
 
 -- what stood at dst is the product, a multiple of the monic polynomial at 0, and what stands there now
 pub record TakenFrom (n t p lp q lq dst l : ℕ) (w w' : List ℕ) : Type 0 where

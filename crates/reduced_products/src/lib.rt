@@ -2,14 +2,16 @@
 //
 //   sub_product     a product is taken away
 //   take_product    a product is taken away, modulo a monic polynomial
-ghost use mathlib.Core.Path.{_≡_};
-ghost use Prim.Native.Nat.{ℕ, _+_, _-_, _*_, _/_, _%_, _<_, _≤_, _∣_};
-ghost use lib.ListN.{length, getD};
-ghost use Rattle.reduced_products.specs.Products.{Factors, Subtracted, MonicAt, TakenFrom};
+//
+//   p, lp    the place and the number of words of the first factor
+//   q, lq    those of the second
+//   dst      the place of the words that lose the product
+ghost use Rattle.reduced_products.specs.Products.{ProductRoom, Factors, Subtracted, FactorsModulo, TakenFrom};
 
-// The lp + lq - 1 words at dst lose the product of the lp words at p and the lq words at q. Two words of the first share one reduction.
+// The lp + lq - 1 words at dst lose the product of the lp words at p and the lq words at q. Two words of the first share one
+// reduction.
 pub fn sub_product(w: &mut [u32], n: u32, p: usize, lp: usize, q: usize, lq: usize, dst: usize)
-    requires { ⌜ (1 ≤ n) × ((1 ≤ lp) × ((1 ≤ lq) × ((p + lp ≤ length (now w)) × ((q + lq ≤ length (now w)) × (dst + (lp + lq - 1) ≤ length (now w)))))) ⌝ }
+    requires { ⌜ ProductRoom n p lp q lq dst (now w) ⌝ }
     requires { ⌜ Factors n p lp q lq dst (now w) ⌝ }
     ensures { λ _. ⌜ Subtracted n p lp q lq dst (now (w .entry)) (now (w .exit)) ⌝ }
 {
@@ -29,7 +31,8 @@ pub fn sub_product(w: &mut [u32], n: u32, p: usize, lp: usize, q: usize, lq: usi
     windows::add_scaled(w, n, n - m, q, dst + j, lq);
 }
 
-// As `sub_product`, modulo the monic polynomial of degree t at 0 where t words do not hold what is left. Answers the number of words left.
+// As `sub_product`, modulo the monic polynomial of degree t at 0 where t words do not hold what is left. Answers the number of
+// words left.
 pub fn take_product(
     w: &mut [u32],
     n: u32,
@@ -40,8 +43,8 @@ pub fn take_product(
     lq: usize,
     dst: usize,
 ) -> usize
-    requires { ⌜ (1 ≤ n) × ((1 ≤ lp) × ((1 ≤ lq) × ((p + lp ≤ length (now w)) × ((q + lq ≤ length (now w)) × (dst + (lp + lq - 1) ≤ length (now w)))))) ⌝ }
-    requires { ⌜ (Factors n p lp q lq dst (now w)) × ((1 ≤ t) × ((t + 1 ≤ dst) × MonicAt n t (now w))) ⌝ }
+    requires { ⌜ ProductRoom n p lp q lq dst (now w) ⌝ }
+    requires { ⌜ FactorsModulo n t p lp q lq dst (now w) ⌝ }
     ensures { λ r. ⌜ TakenFrom n t p lp q lq dst r (now (w .entry)) (now (w .exit)) ⌝ }
 {
     sub_product(w, n, p, lp, q, lq, dst);

@@ -17,7 +17,7 @@ use Rattle.windows.proofs.Leaf.{lt-or-le, piece-at, piece-over}
 use Rattle.windows.proofs.Lift.{moved-around}
 use Rattle.reduced_multipliers.specs.Leads.{Leads, Completes, leads-unity}
 use Rattle.reduced_multipliers.specs.Reductions.{reduced-unit-constant}
-use Rattle.reduced_units.specs.States.{Stage, Solved, Splitter, Cleared}
+use Rattle.reduced_units.specs.States.{Stage, Solved, Splitter, UnitCleared}
 use Rattle.reduced_units.proofs.Regions.{kept-around, kept-piece}
 
 -- B of one word, a unit: D is 1, and the multiplier of B over that word is left
@@ -62,7 +62,7 @@ pub stage-words : (n ν t pa a pb c c' al be l : ℕ) (w : List ℕ) → c ≡ c
 stage-words n ν t pa a pb c c' al be l w e s = subst (λ (x : ℕ). Stage n ν t pa a pb x al be l w) e s
 
 -- after the clearing
-module _ (n ν t pa a pb al be l c s l' : ℕ) (w w₁ : List ℕ) (st : Stage n ν t pa a pb a al be l w) (cl : Cleared n ν t pa a pb al be c s l' w w₁) where
+module _ (n ν t pa a pb al be l c s l' : ℕ) (w w₁ : List ℕ) (st : Stage n ν t pa a pb a al be l w) (cl : UnitCleared n ν t pa a pb al be c s l' w w₁) where
   whole : c * (ν / c) ≡ ν
   whole = sym (cl .change .whole)
 

@@ -15,12 +15,16 @@ use Rattle.windows.proofs.Leaf.{lt-or-le, piece-at, piece-over, piece-same, apa
 use Rattle.window_division.specs.Remainders.{Pair, Quotient}
 use Rattle.reduced_multipliers.specs.Leads.{Leads, Completes, Taken, leads-taken}
 use Rattle.reduced_multipliers.specs.Reductions.{reduced-step}
-use Rattle.reduced_products.specs.Products.{Factors, MonicAt, TakenFrom}
-use Rattle.reduced_units.specs.States.{Places, Multiplier, Stage, Solved}
-use Rattle.reduced_stages.specs.Outcomes.{Answers}
+use Rattle.reduced_products.specs.Products.{Factors, MonicAtZero, TakenFrom}
+use Rattle.reduced_units.specs.States.{PlacesApart, Multiplier, Stage, Solved}
+use Rattle.reduced_units.specs.declared.Places.{Places}
+use Rattle.reduced_stages.specs.StageAnswers.{StageAnswer}
 use Rattle.residue.specs.declared.Attempt.{Attempt}
 use Rattle.residue.specs.declared.Attempt.the-variants.{Value, Splits}
 use Rattle.reduced_units.proofs.Regions.{apart-sub, apart-low, apart-swap, below-apart, piece-apart, multiplier-apart, multiplier-more, monic-apart, kept-around, kept-trans, kept-piece, places-swap, multiplier-short}
+
+abbrev at-places : ℕ → ℕ → ℕ → ℕ → ℕ → Places
+at-places t pa pb al be = record { t = t; pa = pa; pb = pb; al = al; be = be }
 
 module _ (n ν t pa a pb b al be l : ℕ) (w : List ℕ) (low : b < a) (one : 1 ≤ b) (st : Stage n ν t pa a pb (b + 1) al be l w) where
   -- what the division asks
@@ -44,7 +48,7 @@ module _ (n ν t pa a pb b al be l : ℕ) (w : List ℕ) (low : b < a) (one : 1 
     apart-be : Apart be (2 * (t + 1)) pa (a + 1)
     apart-be = apart-swap (apart-low pa (a + 1) be (2 * (t + 1)) (omega (arith, st .within, st .places .a-high, st .places .be-low)))
 
-    pub step-monic : MonicAt n t w₁
+    pub step-monic : MonicAtZero n t w₁
     step-monic = monic-apart apart-h (dv .around) (st .monic)
 
     -- what the product asks
@@ -182,6 +186,6 @@ module _ (n ν t pa a pb b al be l : ℕ) (w : List ℕ) (low : b < a) (one : 1 
             (piece w pa (a + 1)) (piece w pb (b + 1)) (piece w₁ pa b) wide (dv .divided) x y))));
       }
 
-      pub step-answers : (w' : List ℕ) (r : Attempt) → Answers n ν t pb b pa b be al w₂ w' r → Answers n ν t pa a pb (b + 1) al be w w' r
+      pub step-answers : (w' : List ℕ) (r : Attempt) → StageAnswer n ν (at-places t pb pa be al) b b w₂ w' r → StageAnswer n ν (at-places t pa pb al be) a (b + 1) w w' r
       step-answers w' (Value D) s = step-solved D w' s
       step-answers w' (Splits p q) s = s

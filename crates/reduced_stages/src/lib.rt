@@ -1,81 +1,82 @@
-// The two stages of the reduced run: one divides by a polynomial whose leading word is a unit, one clears contents and unit factors. Each calls
-// the other, on a falling number built of the degree and the modulus.
-ghost use mathlib.Core.Path.{_≡_};
-ghost use Prim.Native.Nat.{ℕ, _+_, _-_, _*_, _/_, _%_, _<_, _≤_, _∣_};
-ghost use lib.ListN.{length, getD};
+// "The reduced run passes between two stages, each calling the other: one divides by a monic polynomial, one clears content and unit
+// factors." Each calls the other on a falling number built of the degree and the modulus.
+//
+// A stage's window w (reduced_units/specs/States has the whole layout):
+//
+//   p.t       the degree of H, monic, at 0: its t + 1 words, then the t words of the multiplier found
+//   p.pa      A, of degree a, with a leading unit
+//   p.pb      B, of a words for the content stage and of degree b for the division stage
+//   p.al      the multiplier of A
+//   p.be      the multiplier of B
+//
+// The multipliers have l words, modulo n; A and B are polynomials modulo v, a divisor of n. A stage keeps H and leaves the multiplier
+// found; the other words of the window are room, of which nothing is promised afterwards.
+ghost use Prim.Native.Nat.{_+_};
 ghost use Rattle.windows.specs.Window.{Kept};
-ghost use Rattle.reduced_units.specs.States.{Stage};
-ghost use Rattle.reduced_stages.specs.Outcomes.{Answers};
+ghost use Rattle.reduced_units.specs.States.{StageAt};
+ghost use Rattle.reduced_stages.specs.StageAnswers.{DivisionAsked, StageAnswer};
+use reduced_units::Places;
 use residue::Attempt;
 
-// A of degree a at pa with a leading unit, B of a words at pb, modulo v; their multipliers at al and be, modulo n.
-pub fn content_stage(
-    w: &mut [u32],
-    n: u32,
-    v: u32,
-    t: usize,
-    pa: usize,
-    a: usize,
-    pb: usize,
-    al: usize,
-    be: usize,
-    l: usize,
-) -> Attempt
-    requires { ⌜ Stage n v t pa a pb a al be l (now w) ⌝ }
-    ensures { λ r. ⌜ Answers n v t pa a pb a al be (now (w .entry)) (now (w .exit)) r ⌝ }
-    ensures { λ _. ⌜ Kept (t + 1) (now (w .entry)) (now (w .exit)) ⌝ }
+// The content and the unit factor of B are cleared, unless the leading word of B is a unit; the division stage goes on.
+pub fn content_stage(w: &mut [u32], n: u32, v: u32, p: Places, a: usize, l: usize) -> Attempt
+    requires { ⌜ StageAt n v p a a l (now w) ⌝ }
+    ensures { λ r. ⌜ StageAnswer n v p a a (now (w .entry)) (now (w .exit)) r ⌝ }
+    ensures { λ _. ⌜ Kept (p .t + 1) (now (w .entry)) (now (w .exit)) ⌝ }
 {
+    let t = p.t;
+    let pb = p.pb;
     let x = bezout::cofactor(v, w[pb + (a - 1)]);
     if x.g == 1 {
         if a == 1 {
-            windows::scale(w, n, x.s, be, t + 1, t);
+            windows::scale(w, n, x.s, p.be, t + 1, t);
             return Attempt::Value(1);
         }
-        return division_stage(w, n, v, t, pa, a, pb, a - 1, x.s, al, be, l);
+        return division_stage(w, n, v, p, a, a - 1, x.s, l);
     }
-    match reduced_clearing::clear_contents(w, n, v, t, pa, a, pb, al, be, l) {
+    match reduced_clearing::clear_contents(w, n, v, p, a, l) {
         reduced_clearing::Clearing::Done(d) => Attempt::Value(d),
-        reduced_clearing::Clearing::Parts(p, q) => Attempt::Splits(p, q),
+        reduced_clearing::Clearing::Parts(f, g) => Attempt::Splits(f, g),
         reduced_clearing::Clearing::Next(c, s, m) => match division_stage(
             w,
             n,
             v / c,
-            t,
-            pa,
+            p,
             a,
-            pb,
             s,
             1,
-            al,
-            be,
             m,
         ) {
             Attempt::Value(d) => Attempt::Value(c * d),
-            Attempt::Splits(p, q) => Attempt::Splits(p, q),
+            Attempt::Splits(f, g) => Attempt::Splits(f, g),
         },
     }
 }
 
-// A of degree a at pa, B of degree b at pb, whose leading word has the inverse i modulo v.
+// A is divided by B, whose leading word has the inverse i modulo v; the content stage goes on with B and the remainder, which change
+// places with A and B.
 pub fn division_stage(
     w: &mut [u32],
     n: u32,
     v: u32,
-    t: usize,
-    pa: usize,
+    p: Places,
     a: usize,
-    pb: usize,
     b: usize,
     i: u32,
-    al: usize,
-    be: usize,
     l: usize,
 ) -> Attempt
-    requires { ⌜ (Stage n v t pa a pb (b + 1) al be l (now w)) × ((1 ≤ b) × ((b < a) × ((i * getD (now w) (pb + b) 0) % v ≡ 1 % v))) ⌝ }
-    ensures { λ r. ⌜ Answers n v t pa a pb (b + 1) al be (now (w .entry)) (now (w .exit)) r ⌝ }
-    ensures { λ _. ⌜ Kept (t + 1) (now (w .entry)) (now (w .exit)) ⌝ }
+    requires { ⌜ DivisionAsked n v p a b i l (now w) ⌝ }
+    ensures { λ r. ⌜ StageAnswer n v p a (b + 1) (now (w .entry)) (now (w .exit)) r ⌝ }
+    ensures { λ _. ⌜ Kept (p .t + 1) (now (w .entry)) (now (w .exit)) ⌝ }
 {
-    window_division::divide_keeping(w, v, pb, b, pa, a, i);
-    let m = reduced_products::take_product(w, n, t, pa + b, a + 1 - b, be, l, al);
-    content_stage(w, n, v, t, pb, b, pa, be, al, m)
+    window_division::divide_keeping(w, v, p.pb, b, p.pa, a, i);
+    let m = reduced_products::take_product(w, n, p.t, p.pa + b, a + 1 - b, p.be, l, p.al);
+    let exchanged = Places {
+        t: p.t,
+        pa: p.pb,
+        pb: p.pa,
+        al: p.be,
+        be: p.al,
+    };
+    content_stage(w, n, v, exchanged, b, m)
 }

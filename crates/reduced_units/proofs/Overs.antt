@@ -11,29 +11,28 @@ use Rattle.windows.specs.Window.{piece, Moved, zeroed, second, Below, Around, A
 use Rattle.windows.proofs.Leaf.{lt-or-le, piece-at, piece-over, around-at}
 use Rattle.windows.proofs.Lift.{moved-around}
 use Rattle.reduced_multipliers.specs.Leads.{Taken}
-use Rattle.reduced_products.specs.Products.{Factors, MonicAt, TakenFrom}
+use Rattle.reduced_products.specs.Products.{Factors, MonicAtZero, TakenFrom}
 use Rattle.reduced_units.specs.States.{Multiplier}
-use Rattle.reduced_units.specs.Factorings.{OverUnit}
+use Rattle.reduced_units.specs.Factorings.{OverAsked, OverUnit}
 use Rattle.reduced_units.proofs.Regions.{apart-low, apart-swap, below-apart, piece-apart, multiplier-apart, multiplier-short, monic-apart}
 
-module _ (n t x len be l y : ℕ) (w w₁ : List ℕ) (pos : 1 ≤ n) (one : 1 ≤ len) (some : 1 ≤ l) (most : l ≤ t) (low : t + 1 ≤ be) (next : be + 2 * (t + 1) ≤ x)
-    (last : x + len ≤ y) (fits : y + (len + t) ≤ length w) (monic : MonicAt n t w) (small : Below n x len w) (mu : Multiplier n t be l w) (cl : Moved zeroed y y (len + t) w w₁) where
+module _ (n t x len be l y : ℕ) (w w₁ : List ℕ) (asked : OverAsked n t x len be l y w) (cl : Moved zeroed y y (len + t) w w₁) where
   cleared : Around y (len + t) w w₁
   cleared = moved-around cl
 
-  pub over-monic : MonicAt n t w₁
-  over-monic = monic-apart (omega arith) cleared monic
+  pub over-monic : MonicAtZero n t w₁
+  over-monic = monic-apart (omega arith) cleared (asked .monic)
 
   pub over-factors : Factors n x len be l y w₁
   over-factors = record {
-    first = below-apart (apart-low x len y (len + t) last) cleared small;
-    product = record { at = λ k h. subst (λ (z : ℕ). z < n) (sym (cl .mid k (omega arith))) pos };
-    apart-first = apart-low x len y (len + l - 1) last;
+    first = below-apart (apart-low x len y (len + t) (asked .last)) cleared (asked .below);
+    product = record { at = λ k h. subst (λ (z : ℕ). z < n) (sym (cl .mid k (omega arith))) (asked .positive) };
+    apart-first = apart-low x len y (len + l - 1) (asked .last);
     apart-second = apart-low be l y (len + l - 1) (omega arith);
   }
 
   mu₁ : Multiplier n t be l w₁
-  mu₁ = multiplier-apart (apart-low be (2 * (t + 1)) y (len + t) (omega arith)) cleared mu
+  mu₁ = multiplier-apart (apart-low be (2 * (t + 1)) y (len + t) (omega arith)) cleared (asked .multiplier)
 
   module _ (r : ℕ) (w₂ w₃ : List ℕ) (tk : TakenFrom n t x len be l y r w₁ w₂) (cp : Moved second y be t w₂ w₃) where
     -- the words of the product, as a polynomial
@@ -51,7 +50,7 @@ module _ (n t x len be l y : ℕ) (w w₁ : List ℕ) (pos : 1 ≤ n) (one : 1 �
     unfolding P
     P-small k = ⊎-elim
         (λ b. subst (λ (z : ℕ). z < n) (sym (piece-at w₂ y (len + l - 1) k b)) (tk .below .at k b))
-        (λ b. subst (λ (z : ℕ). z < n) (sym (piece-over w₂ y (len + l - 1) k b)) pos)
+        (λ b. subst (λ (z : ℕ). z < n) (sym (piece-over w₂ y (len + l - 1) k b)) (asked .positive))
         (lt-or-le k (len + l - 1))
 
     P-zero : (k : ℕ) → r ≤ k → P k ≡ 0
@@ -79,7 +78,7 @@ module _ (n t x len be l y : ℕ) (w w₁ : List ℕ) (pos : 1 ≤ n) (one : 1 �
     same-h = piece-apart (apart-low 0 (t + 1) y (len + t) (omega arith)) cleared (omega arith)
 
     same-x : piece w₁ x len ≡ piece w x len
-    same-x = piece-apart (apart-low x len y (len + t) last) cleared (omega arith)
+    same-x = piece-apart (apart-low x len y (len + t) (asked .last)) cleared (omega arith)
 
     same-be : piece w₁ be (2 * (t + 1)) ≡ piece w be (2 * (t + 1))
     same-be = piece-apart (apart-low be (2 * (t + 1)) y (len + t) (omega arith)) cleared (omega arith)
@@ -103,7 +102,7 @@ module _ (n t x len be l y : ℕ) (w w₁ : List ℕ) (pos : 1 ≤ n) (one : 1 �
       longer = ⊎-elim (λ h. omega (arith, tk .full h)) (λ h. omega arith) (lt-or-le r t);
       most = tk .within;
       multiplier = record {
-        below = record { at = λ k h. ⊎-elim (λ b. subst (λ (z : ℕ). z < n) (sym (placed k b)) (P-small k)) (λ b. subst (λ (z : ℕ). z < n) (sym (above k b h)) pos) (lt-or-le k t) };
+        below = record { at = λ k h. ⊎-elim (λ b. subst (λ (z : ℕ). z < n) (sym (placed k b)) (P-small k)) (λ b. subst (λ (z : ℕ). z < n) (sym (above k b h)) (asked .positive)) (lt-or-le k t) };
         zero = λ k h b. ⊎-elim (λ c. placed k c ∙ P-zero k h) (λ c. above k c b) (lt-or-le k t);
       };
       taken = record {

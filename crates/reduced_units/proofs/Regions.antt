@@ -10,8 +10,8 @@ use Rattle.definitions.specs.Polynomials.{coef}
 use Rattle.windows.specs.Window.{piece, Below, Around, Apart, Kept}
 use Rattle.windows.proofs.Leaf.{lt-or-le, piece-at, piece-over, piece-same, apart-at}
 use Rattle.reduced_multipliers.specs.Leads.{Leads}
-use Rattle.reduced_products.specs.Products.{MonicAt}
-use Rattle.reduced_units.specs.States.{Places, Multiplier}
+use Rattle.reduced_products.specs.Products.{MonicAtZero}
+use Rattle.reduced_units.specs.States.{PlacesApart, Multiplier}
 
 -- the words of a part, as a polynomial
 pub part-piece : (w : List ℕ) (p a m : ℕ) → m ≡ a → take m (drop p w) ≡ piece w p a
@@ -41,7 +41,7 @@ multiplier-apart x r h = record { below = below-apart x r (h .below); zero = λ 
 pub multiplier-more : {n t p l : ℕ} {w : List ℕ} (l' : ℕ) → l ≤ l' → Multiplier n t p l w → Multiplier n t p l' w
 multiplier-more l' h m = record { below = m .below; zero = λ k a b. m .zero k (omega arith) b }
 
-pub monic-apart : {n t b m : ℕ} {w w' : List ℕ} → t + 1 ≤ b → Around b m w w' → MonicAt n t w → MonicAt n t w'
+pub monic-apart : {n t b m : ℕ} {w w' : List ℕ} → t + 1 ≤ b → Around b m w w' → MonicAtZero n t w → MonicAtZero n t w'
 monic-apart {n} h r x = record {
   lead = r .low _ (omega arith) ∙ x .lead;
   below = record { at = λ k p. subst (λ (y : ℕ). y < n) (sym (r .low (0 + k) (omega arith))) (x .below .at k p) };
@@ -57,7 +57,7 @@ pub kept-piece : {x : ℕ} {w w' : List ℕ} → Kept x w w' → x ≤ length w 
 kept-piece {x} {w} {w'} p h = piece-same w w' 0 x (omega arith) (p .same) (λ k q. p .low (0 + k) (omega arith))
 
 -- A and B change places
-pub places-swap : {t pa pb al be : ℕ} → Places t pa pb al be → Places t pb pa be al
+pub places-swap : {t pa pb al be : ℕ} → PlacesApart t pa pb al be → PlacesApart t pb pa be al
 places-swap p = record {
   a-low = p .b-low;
   a-high = p .b-high;

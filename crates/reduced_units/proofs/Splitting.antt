@@ -13,10 +13,9 @@ use Rattle.windows.specs.Window.{piece, Moved, second, Below, Around, Apart, Ou
 use Rattle.windows.proofs.Leaf.{lt-or-le, piece-at, piece-over, piece-same, around-at}
 use Rattle.windows.proofs.Lift.{moved-around, moved-copy, piece-equal, mid-length, was, piece-mid, window, is-now, piece-put}
 use Rattle.window_factor.specs.Factors.{LeadingUnit, Given, Factored}
-use Rattle.reduced_units.specs.Factorings.{UnitSplit, unit-place}
+use Rattle.reduced_units.specs.Factorings.{SplitAsked, UnitSplit, unit-place}
 
-module _ (ν t pb a s i m : ℕ) (w w₁ : List ℕ) (is-m : m ≡ 3 * (t + 1)) (shorter : s < a) (within : a ≤ t) (low : pb + a ≤ 8 * (t + 1)) (fits : 11 * (t + 1) ≤ length w)
-    (small : Below ν pb a w) (lu : LeadingUnit ν s i (piece w pb a)) (cp : Moved second pb (8 * (t + 1)) a w w₁) where
+module _ (ν t pb a s i m : ℕ) (w w₁ : List ℕ) (is-m : m ≡ 3 * (t + 1)) (asked : SplitAsked ν t pb a s i w) (cp : Moved second pb (8 * (t + 1)) a w w₁) where
   inside : 8 * (t + 1) + m ≤ length w₁
   inside = omega (arith, cp .same)
 
@@ -35,9 +34,9 @@ module _ (ν t pb a s i m : ℕ) (w w₁ : List ℕ) (is-m : m ≡ 3 * (t + 1)) 
 
   pub split-given : Given ν (a - 1) s i (midOf (8 * (t + 1)) m w₁)
   split-given = record {
-    below = record { at = λ k h. subst (λ (x : ℕ). x < ν) (sym (was (8 * (t + 1)) m w₁ inside (8 * (t + 1) + k) (0 + k) (omega arith) (omega arith) ∙ cp .mid k (omega arith))) (small .at k (omega arith)) };
-    unit = ap (λ (f : List ℕ). (i * coef f s) % ν) copied ∙ ap (λ (x : ℕ). x % ν) (mul-comm i (coef (piece w pb a) s)) ∙ lu .inverse .one;
-    nilpotent = λ k h. subst (λ (f : List ℕ). IsNilpotent ν (coef f k)) (sym copied) (lu .nilpotent k h);
+    below = record { at = λ k h. subst (λ (x : ℕ). x < ν) (sym (was (8 * (t + 1)) m w₁ inside (8 * (t + 1) + k) (0 + k) (omega arith) (omega arith) ∙ cp .mid k (omega arith))) (asked .below .at k (omega arith)) };
+    unit = ap (λ (f : List ℕ). (i * coef f s) % ν) copied ∙ ap (λ (x : ℕ). x % ν) (mul-comm i (coef (piece w pb a) s)) ∙ asked .lead .inverse .one;
+    nilpotent = λ k h. subst (λ (f : List ℕ). IsNilpotent ν (coef f k)) (sym copied) (asked .lead .nilpotent k h);
   }
 
   module _ (ys : List ℕ) (ly : length ys ≡ length (midOf (8 * (t + 1)) m w₁)) (fc : Factored ν (a - 1) s (midOf (8 * (t + 1)) m w₁) ys) (w₃ : List ℕ)

@@ -4,7 +4,7 @@ use mathlib.Core.List.{List, []}
 use mathlib.Core.Logic.{⊎-elim}
 use Prim.Native.Nat.{ℕ, zero, suc, _+_, _-_, _*_, _%_, _≤_, _<_}
 use native.Mathlib.Omega.{arith}
-use native.Mathlib.Nat.{mul-le-mul}
+use native.Mathlib.Nat.{mul-le-mul, le-of-dvd}
 use lib.ListN.{length, getD}
 use Rattle.definitions.specs.Residues.{K}
 use Rattle.definitions.specs.Polynomials.{coef, Multiplied, UnitPolynomial}
@@ -12,8 +12,8 @@ use Rattle.numbers.specs.Logarithm.{K-monotone, K-positive}
 use Rattle.windows.specs.Window.{piece, Below, Around, Apart, Outside}
 use Rattle.windows.proofs.Leaf.{lt-or-le, piece-same, around-at}
 use Rattle.reduced_multipliers.specs.Leads.{Taken, NegatedInverse}
-use Rattle.reduced_products.specs.Products.{MonicAt}
-use Rattle.reduced_units.specs.States.{Multiplier, stage-room}
+use Rattle.reduced_products.specs.Products.{MonicAtZero}
+use Rattle.reduced_units.specs.States.{Multiplier, Stage, stage-room}
 use Rattle.reduced_units.specs.Factorings.{UnitSplit, Negated, OverUnit, UnitTaken, unit-place}
 use Rattle.reduced_units.proofs.Regions.{apart-low, below-apart, piece-apart, multiplier-apart, monic-apart}
 
@@ -24,13 +24,21 @@ inverse-most n ν t k a b c =
     let q : K ν * (k + 1) ≤ K n * t = mul-le-mul (K-monotone ν n (omega arith) b) c in
     omega arith
 
-module _ (n ν t pb a be l s : ℕ) (w w₁ : List ℕ) (pos : 1 ≤ n) (two : 2 ≤ ν) (small : ν ≤ n) (shorter : s < a) (within : a ≤ t) (some : 1 ≤ l) (most : l ≤ t) (room : stage-room n t ≤ length w)
-    (low : t + 1 ≤ pb) (next : pb + (t + 1) ≤ be) (last : be + 2 * (t + 1) ≤ 8 * (t + 1)) (monic : MonicAt n t w) (mu : Multiplier n t be l w) (sp : UnitSplit ν t pb a s w w₁) where
+module _ (n ν t pa pb a al be l s : ℕ) (w w₁ : List ℕ) (stage : Stage n ν t pa a pb a al be l w) (shorter : s < a) (sp : UnitSplit ν t pb a s w w₁) where
+  small : ν ≤ n
+  small = le-of-dvd (stage .positive) (stage .divides)
+
+  room : stage-room n t ≤ length w
+  room = stage .room
+
+  within : a ≤ t
+  within = stage .within
+
   degree : a - 1 - s + 1 ≡ a - s
   degree = omega arith
 
   bound : K ν * (a - 1 - s) + 1 ≤ K n * t
-  bound = inverse-most n ν t (a - 1 - s) two small (omega arith)
+  bound = inverse-most n ν t (a - 1 - s) (stage .above) small (omega (arith, within))
 
   -- what the inverse asks
   pub unit-room : unit-place t a s + (a - 1 - s + 1) + (K ν * (a - 1 - s) + 1) ≤ length w₁
@@ -46,10 +54,10 @@ module _ (n ν t pb a be l s : ℕ) (w w₁ : List ℕ) (pos : 1 ≤ n) (two : 2
   same-h₁ : piece w₁ 0 (t + 1) ≡ piece w 0 (t + 1)
   same-h₁ = piece-same w w₁ 0 (t + 1) (omega arith) (sp .outside .same) (λ k h. word (0 + k) (omega arith) (λ i q e. omega arith))
 
-  monic₁ : MonicAt n t w₁
+  monic₁ : MonicAtZero n t w₁
   monic₁ = record {
-    lead = word t (omega arith) (λ i q e. omega arith) ∙ monic .lead;
-    below = record { at = λ k h. subst (λ (x : ℕ). x < n) (sym (word (0 + k) (omega arith) (λ i q e. omega arith))) (monic .below .at k h) };
+    lead = word t (omega arith) (λ i q e. omega arith) ∙ stage .monic .lead;
+    below = record { at = λ k h. subst (λ (x : ℕ). x < n) (sym (word (0 + k) (omega arith) (λ i q e. omega arith))) (stage .monic .below .at k h) };
   }
 
   be-word : (k : ℕ) → k < 2 * (t + 1) → getD w₁ (be + k) 0 ≡ getD w (be + k) 0
@@ -57,8 +65,8 @@ module _ (n ν t pb a be l s : ℕ) (w w₁ : List ℕ) (pos : 1 ≤ n) (two : 2
 
   mu₁ : Multiplier n t be l w₁
   mu₁ = record {
-    below = record { at = λ k h. subst (λ (x : ℕ). x < n) (sym (be-word k h)) (mu .below .at k h) };
-    zero = λ k h h'. be-word k h' ∙ mu .zero k h h';
+    below = record { at = λ k h. subst (λ (x : ℕ). x < n) (sym (be-word k h)) (stage .beta .below .at k h) };
+    zero = λ k h h'. be-word k h' ∙ stage .beta .zero k h h';
   }
 
   same-be₁ : piece w₁ be (2 * (t + 1)) ≡ piece w be (2 * (t + 1))
@@ -80,14 +88,14 @@ module _ (n ν t pb a be l s : ℕ) (w w₁ : List ℕ) (pos : 1 ≤ n) (two : 2
     pub over-length : 1 ≤ len
     over-length = omega (arith, ng .is-len)
 
-    pub over-h : MonicAt n t w₂
+    pub over-h : MonicAtZero n t w₂
     over-h = monic-apart (omega arith) (ng .around) monic₁
 
     pub over-words : Below n (unit-place t a s + (a - 1 - s + 1)) len w₂
     over-words = record { at = λ k h. lower (ng .below .at k h) }
       where
         lower : {x : ℕ} → x < ν → x < n
-        lower h = omega arith
+        lower h = omega (arith, small)
 
     pub over-multiplier : Multiplier n t be l w₂
     over-multiplier = multiplier-apart (apart-low be (2 * (t + 1)) (unit-place t a s + (a - 1 - s + 1)) len (omega arith)) (ng .around) mu₁

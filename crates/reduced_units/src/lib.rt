@@ -4,21 +4,36 @@
 //   negate_inverse    -1 over a unit polynomial
 //   over_unit         a multiplier over a unit polynomial
 //   take_unit         the three together
-ghost use mathlib.Core.Path.{_≡_};
-ghost use Prim.Native.Nat.{ℕ, max, _+_, _-_, _*_, _/_, _%_, _<_, _≤_, _∣_};
-ghost use lib.ListN.{length, getD};
+//
+// The places of a stage's window (specs/States has the whole layout), in `Places`:
+//
+//   t         the degree of the monic polynomial at 0
+//   pa, pb    the polynomials A and B
+//   al, be    the multiplier of A and that of B
+//
+// n is the modulus of the multipliers, v that of A and B; A has degree a, and B a words; the multipliers have l words, and zeros above.
+ghost use Prim.Native.Nat.{_+_, _*_, _<_, _≤_};
+ghost use lib.ListN.{length};
 ghost use Rattle.definitions.specs.Residues.{K};
 ghost use Rattle.definitions.specs.Polynomials.{UnitPolynomial};
-ghost use Rattle.windows.specs.Window.{piece, Below};
+ghost use Rattle.windows.specs.Window.{piece};
 ghost use Rattle.window_factor.specs.Factors.{LeadingUnit};
-ghost use Rattle.reduced_products.specs.Products.{MonicAt};
-ghost use Rattle.reduced_units.specs.States.{Multiplier, stage-room};
-ghost use Rattle.reduced_units.specs.Factorings.{UnitSplit, Negated, OverUnit, UnitTaken};
+ghost use Rattle.reduced_units.specs.States.{StageAt};
+ghost use Rattle.reduced_units.specs.Factorings.{SplitAsked, UnitSplit, Negated, OverAsked, OverUnit, UnitTaken};
 
-// B of a words at pb, whose highest coefficient that is not nilpotent is that at s, with the inverse i: the monic factor of degree s takes its place.
+// Where a stage finds A, B and their multipliers.
+pub struct Places {
+    pub t: usize,
+    pub pa: usize,
+    pub pb: usize,
+    pub al: usize,
+    pub be: usize,
+}
+
+// B of a words at pb, whose highest coefficient that is not nilpotent is that at s, with the inverse i: the monic factor of degree s
+// takes its place.
 fn split_unit(w: &mut [u32], v: u32, t: usize, pb: usize, a: usize, s: usize, i: u32)
-    requires { ⌜ (2 ≤ v) × ((s < a) × ((a ≤ t) × ((pb + a ≤ 8 * (t + 1)) × (11 * (t + 1) ≤ length (now w))))) ⌝ }
-    requires { ⌜ (Below v pb a (now w)) × (LeadingUnit v s i (piece (now w) pb a)) ⌝ }
+    requires { ⌜ SplitAsked v t pb a s i (now w) ⌝ }
     ensures { λ _. ⌜ UnitSplit v t pb a s (now (w .entry)) (now (w .exit)) ⌝ }
 {
     let b = 8 * (t + 1);
@@ -38,7 +53,8 @@ pub fn negate_inverse(w: &mut [u32], v: u32, x: usize, k: usize) -> usize
     len
 }
 
-// The multiplier of l words at be over the unit polynomial whose negated inverse stands at x; y is room. Answers the number of its words.
+// The multiplier of l words at be over the unit polynomial whose negated inverse, of len words, stands at x; y is room. Answers the
+// number of its words.
 fn over_unit(
     w: &mut [u32],
     n: u32,
@@ -49,8 +65,7 @@ fn over_unit(
     l: usize,
     y: usize,
 ) -> usize
-    requires { ⌜ (1 ≤ n) × ((1 ≤ t) × ((1 ≤ len) × ((1 ≤ l) × ((l ≤ t) × ((t + 1 ≤ be) × ((be + 2 * (t + 1) ≤ x) × ((x + len ≤ y) × (y + (len + t) ≤ length (now w))))))))) ⌝ }
-    requires { ⌜ (MonicAt n t (now w)) × ((Below n x len (now w)) × (Multiplier n t be l (now w))) ⌝ }
+    requires { ⌜ OverAsked n t x len be l y (now w) ⌝ }
     ensures { λ r. ⌜ OverUnit n t x len be l y r (now (w .entry)) (now (w .exit)) ⌝ }
 {
     windows::clear(w, y, len + t);
@@ -59,24 +74,24 @@ fn over_unit(
     r
 }
 
-// The unit factor of B is taken out of it and of its multiplier. Answers the number of words of the multiplier.
+// The unit factor of B is taken out of it and of its multiplier. The highest coefficient of B that is not nilpotent is that at s, with
+// the inverse i. Answers the number of words of the multiplier.
 pub fn take_unit(
     w: &mut [u32],
     n: u32,
     v: u32,
-    t: usize,
-    pb: usize,
+    p: Places,
     a: usize,
-    be: usize,
     l: usize,
     s: usize,
     i: u32,
 ) -> usize
-    requires { ⌜ (1 ≤ n) × ((2 ≤ v) × ((v ≤ n) × ((s < a) × ((a ≤ t) × ((1 ≤ l) × ((l ≤ t) × (stage-room n t ≤ length (now w)))))))) ⌝ }
-    requires { ⌜ (t + 1 ≤ pb) × ((pb + (t + 1) ≤ be) × (be + 2 * (t + 1) ≤ 8 * (t + 1))) ⌝ }
-    requires { ⌜ (MonicAt n t (now w)) × ((Below v pb a (now w)) × ((LeadingUnit v s i (piece (now w) pb a)) × (Multiplier n t be l (now w)))) ⌝ }
-    ensures { λ r. ⌜ UnitTaken n v t pb a be s l r (now (w .entry)) (now (w .exit)) ⌝ }
+    requires { ⌜ (StageAt n v p a a l (now w)) × ((s < a) × (LeadingUnit v s i (piece (now w) (p .pb) a))) ⌝ }
+    ensures { λ r. ⌜ UnitTaken n v (p .t) (p .pb) a (p .be) s l r (now (w .entry)) (now (w .exit)) ⌝ }
 {
+    let t = p.t;
+    let pb = p.pb;
+    let be = p.be;
     split_unit(w, v, t, pb, a, s, i);
     let x = 8 * (t + 1) + (a + (s + 1) + s);
     let k = a - 1 - s;

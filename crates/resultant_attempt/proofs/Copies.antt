@@ -20,7 +20,7 @@ use Rattle.theory.specs.ResultantLaws.{signed, reversed, resultant-reversed, re
 use Rattle.windows.specs.Window.{piece, Kept}
 use Rattle.windows.proofs.Leaf.{piece-at, piece-length}
 use Rattle.windows.proofs.Lift.{mid-length, window}
-use Rattle.resultant_steps.specs.Answers.{AnswerOf}
+use Rattle.resultant_steps.specs.AttemptAnswers.{ValueOrSplit}
 use Rattle.residue.specs.declared.Attempt.{Attempt}
 use Rattle.resultant_steps.specs.Layouts.{Beside, words-at, words-back}
 use Rattle.resultant_steps.proofs.Degrees.{deg-of, resultant-lt}
@@ -53,9 +53,9 @@ module _ (n a d b e s : ℕ) (w w₁ : List ℕ) (pl : Placed n a d b e s w) (nz
         (pl .pair .first .at);
   }
 
-  pub stacked-answer : (r : Attempt) → AnswerOf n (resultant n (piece (onward w₁ s) (e + 1) (d + 1)) (piece (onward w₁ s) 0 (e + 1))) r
-      → AnswerOf n (resultant n (piece w a (d + 1)) (piece w b (e + 1))) r
-  stacked-answer r = subst (λ (x : ℕ). AnswerOf n x r) (ap₂ (resultant n)
+  pub stacked-answer : (r : Attempt) → ValueOrSplit n (resultant n (piece (onward w₁ s) (e + 1) (d + 1)) (piece (onward w₁ s) 0 (e + 1))) r
+      → ValueOrSplit n (resultant n (piece w a (d + 1)) (piece w b (e + 1))) r
+  stacked-answer r = subst (λ (x : ℕ). ValueOrSplit n x r) (ap₂ (resultant n)
       (beside-second (words-at w b) (words-at w a) (e + 1) (d + 1) s (length w₁ - s) w w₁ bs fit enough (piece w a (d + 1))
       (piece-length w a (d + 1) (omega arith)) (λ k l. piece-at w a (d + 1) k l))
       (beside-first (words-at w b) (words-at w a) (e + 1) (d + 1) s (length w₁ - s) w w₁ bs fit enough (piece w b (e + 1))
@@ -126,9 +126,9 @@ module _ (n a t e x : ℕ) (w w₁ : List ℕ) (pt : Part n a t e x w) (bs : Bes
       (ap (λ (y : ℕ). y % n) (one-mul (getD w (a + t) 0) ∙ h))
 
   pub monic-answer : (r : Attempt)
-      → AnswerOf n (resultant n (piece (onward w₁ x) 0 (t + 1)) (piece (onward w₁ x) (t + 1) (e + 1))) r
-      → AnswerOf n (resultant n (piece w a (t + 1)) (piece w 0 (e + 1))) r
-  monic-answer r = subst (λ (y : ℕ). AnswerOf n y r)
+      → ValueOrSplit n (resultant n (piece (onward w₁ x) 0 (t + 1)) (piece (onward w₁ x) (t + 1) (e + 1))) r
+      → ValueOrSplit n (resultant n (piece w a (t + 1)) (piece w 0 (e + 1))) r
+  monic-answer r = subst (λ (y : ℕ). ValueOrSplit n y r)
       (part-answer (words-at w a) (words-at w 0) n a t e x w w₁ pt bs (piece w a (t + 1)) (piece w 0 (e + 1))
       (piece-length w a (t + 1) (omega (arith, pt .first, pt .fits))) (piece-length w 0 (e + 1) (omega (arith, pt .second, pt .fits)))
       (λ k l. piece-at w a (t + 1) k l) (λ k l. piece-at w 0 (e + 1) k l))

@@ -21,7 +21,7 @@ use Rattle.theory.specs.ResultantLaws.{resultant-cong, resultant-content, resul
 use borrow.Rule.Slice.PartMut.{midOf}
 use Rattle.windows.specs.Window.{piece, Moved, quotient-by, reduced-by, Below, Content}
 use Rattle.windows.proofs.Leaf.{lt-or-le, piece-at, piece-length}
-use Rattle.resultant_steps.specs.Layouts.{Primitive, Cleared}
+use Rattle.resultant_steps.specs.Layouts.{Primitive, ContentCleared}
 use Rattle.resultant_steps.proofs.Degrees.{deg-of}
 
 -- ---- numbers
@@ -109,29 +109,33 @@ pub content-left : {n c : ℕ} {f : List ℕ} → 1 ≤ n → Content n f c → 
 content-left {n} {c} l h = pos-of-dvd-of-pos (subst (λ (x : ℕ). n / c ∣ x) (factors n c (h .divides-n)) (dvd-mul-left (n / c) c)) l
 
 pub cleared : (n c d e m : ℕ) (w w₁ w₂ : List ℕ) → m ≡ d + 1 → e + 1 + (d + 1) ≤ length w → Content n (midOf (e + 1) m w) c
-    → Moved (quotient-by c) (e + 1) (e + 1) (d + 1) w w₁ → Moved (reduced-by (n / c)) 0 0 (e + 1) w₁ w₂ → Cleared n d e c w w₂
+    → Moved (quotient-by c) (e + 1) (e + 1) (d + 1) w w₁ → Moved (reduced-by (n / c)) 0 0 (e + 1) w₁ w₂ → ContentCleared n d e c w w₂
 unfolding piece
 cleared n c d e m w w₁ w₂ h fits ct x y = record {
   content = subst (λ (k : ℕ). Content n (midOf (e + 1) k w) c) h ct;
-  same = y .same ∙ x .same;
+  around = record {
+    same = y .same ∙ x .same;
+    low = λ k l. absurd (omega arith);
+    high = λ k l. y .high k (omega arith) ∙ x .high k (omega arith);
+  };
   first = λ k l. y .high (e + 1 + k) (omega arith) ∙ x .mid k l;
   second = λ k l. ap (λ (i : ℕ). getD w₂ i 0) (sym (zero-add k)) ∙ y .mid k l
       ∙ ap (λ (i : ℕ). i % (n / c)) (ap (λ (i : ℕ). getD w₁ i 0) (zero-add k) ∙ x .low k (omega arith));
 }
 
 module _ (n c d e : ℕ) (w w' : List ℕ) (two : 2 ≤ n) (one : 1 ≤ d) (near : d ≤ e) (fits : e + 1 + (d + 1) ≤ length w)
-    (below : Below n 0 (e + 1 + (d + 1)) w) (cl : Cleared n d e c w w') where
+    (below : Below n 0 (e + 1 + (d + 1)) w) (cl : ContentCleared n d e c w w') where
   lf : length (piece w (e + 1) (d + 1)) ≡ d + 1
   lf = piece-length w (e + 1) (d + 1) fits
 
   lf' : length (piece w' (e + 1) (d + 1)) ≡ d + 1
-  lf' = piece-length w' (e + 1) (d + 1) (omega (arith, cl .same))
+  lf' = piece-length w' (e + 1) (d + 1) (omega (arith, cl .around .same))
 
   lg : length (piece w 0 (e + 1)) ≡ e + 1
   lg = piece-length w 0 (e + 1) (omega arith)
 
   lg' : length (piece w' 0 (e + 1)) ≡ e + 1
-  lg' = piece-length w' 0 (e + 1) (omega (arith, cl .same))
+  lg' = piece-length w' 0 (e + 1) (omega (arith, cl .around .same))
 
   divides : (k : ℕ) → k < d + 1 → c ∣ getD w (e + 1 + k) 0
   divides k l = subst (λ (x : ℕ). c ∣ x) (piece-at w (e + 1) (d + 1) k l) (cl .content .divides k (omega (arith, lf)))

@@ -6,7 +6,7 @@ use Prim.Native.Nat.{ℕ, _*_, _%_, _≤_, _<_, _∣_}
 use native.Mathlib.Omega.{arith}
 use native.Mathlib.Nat.{mod-lt, le-of-dvd}
 use Rattle.theory.specs.ResultantLaws.{signed}
-use Rattle.resultant_steps.specs.Answers.{AnswerOf, Follows}
+use Rattle.resultant_steps.specs.AttemptAnswers.{ValueOrSplit, Follows}
 use Rattle.residue.specs.declared.Attempt.{Attempt}
 use Rattle.resultant_steps.proofs.Signs.{signed-lt}
 
@@ -19,5 +19,5 @@ value-sign n k v r h x a = (h ∙ ap (signed n k) (a .0), subst (λ (y : ℕ). y
 pub value-lift : (n m v x : ℕ) → 2 ≤ n → m ∣ n → (v ≡ x) × (v < m) → (v ≡ x) × (v < n)
 value-lift n m v x l h a = (a .0, let z : m ≤ n = le-of-dvd (omega arith) h in omega (arith, a .1))
 
-pub followed : {n : ℕ} {F : ℕ → ℕ} {x y : ℕ} {r s : Attempt} → Follows n F r s → AnswerOf n x r → F x ≡ y → AnswerOf n y s
-followed {n} {F} {x} {y} {r} {s} f a e = subst (λ (z : ℕ). AnswerOf n z s) e (f .at x a)
+pub followed : {n : ℕ} {F : ℕ → ℕ} {x y : ℕ} {r s : Attempt} → Follows n F r s → ValueOrSplit n x r → F x ≡ y → ValueOrSplit n y s
+followed {n} {F} {x} {y} {r} {s} f a e = subst (λ (z : ℕ). ValueOrSplit n z s) e (f .at x a)

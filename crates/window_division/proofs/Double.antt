@@ -4,11 +4,11 @@ use mathlib.Core.List.{List}
 use mathlib.Core.Logic.{⊎-elim}
 use Prim.Native.Nat.{ℕ, zero, suc, _+_, _-_, _*_, _%_, _≤_, _<_}
 use native.Mathlib.Omega.{arith}
-use native.Mathlib.Nat.{mod-lt, mul-mod-right, zero-mod, add-zero, zero-add, add-assoc, zero-mul, mul-zero, mul-one, eq-or-lt-of-le}
-use lib.ListN.{length, getD}
-use Rattle.numbers.specs.Congruence.{Cong, c-refl, c-sym, c-trans, c-eq, c-add, c-mul, c-mod, ring}
+use native.Mathlib.Nat.{mod-lt, mul-mod-right, zero-mod, add-zero, add-assoc, mul-zero, mul-one, eq-or-lt-of-le}
+use lib.ListN.{getD}
+use Rattle.numbers.specs.Congruence.{Cong, c-refl, c-trans, c-eq, c-add, c-mul, c-mod, ring}
 use Rattle.definitions.specs.Polynomials.{coef, convolve}
-use Rattle.windows.specs.Window.{piece, Below, Around, Apart}
+use Rattle.windows.specs.Window.{piece, Apart}
 use Rattle.windows.proofs.Leaf.{lt-or-le, piece-at, piece-over, apart-at}
 use Rattle.window_division.proofs.Turns.{Dividing, convolve-add, convolve-spot, spot, spot-off, risen, risen-at, risen-low}
 use Rattle.windows.specs.Window.{Paired, behind}

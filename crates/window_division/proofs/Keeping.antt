@@ -2,15 +2,15 @@
 use mathlib.Core.Path.{_≡_, refl, sym, ap, ap₂, subst, _∙_, fun-ext}
 use mathlib.Core.List.{List}
 use mathlib.Core.Logic.{⊎-elim}
-use Prim.Native.Nat.{ℕ, zero, suc, _+_, _-_, _*_, _%_, _≤_, _<_}
+use Prim.Native.Nat.{ℕ, suc, _+_, _-_, _*_, _%_, _≤_, _<_}
 use native.Mathlib.Omega.{arith}
 use native.Mathlib.Nat.{mod-lt, eq-or-lt-of-le, add-assoc, add-zero, zero-add}
 use native.Mathlib.Decide.{ℕ-discrete}
 use lib.ListN.{length, getD, set, length-set}
 use lib.Seq.{getD-set-same, getD-set-other}
 use Rattle.numbers.specs.Congruence.{Cong}
-use Rattle.definitions.specs.Polynomials.{coef, convolve, Divided}
-use Rattle.windows.specs.Window.{piece, Moved, addMul, Below, Around, Apart, Paired}
+use Rattle.definitions.specs.Polynomials.{coef, convolve}
+use Rattle.windows.specs.Window.{piece, Moved, addMul, Below, Apart, Paired}
 use Rattle.windows.proofs.Leaf.{lt-or-le, piece-at, piece-over, piece-same}
 use Rattle.window_division.specs.Remainders.{Quotient}
 use Rattle.window_division.proofs.Turns.{Dividing, dividing-start, start-quotient, dividing-step, dividing-quotient, spot, spot-off, spot-low, spot-at}

@@ -5,13 +5,13 @@ use mathlib.Core.Logic.{⊎-elim}
 use Prim.Native.Nat.{ℕ, zero, suc, _+_, _-_, _*_, _%_, _≤_, _<_}
 use native.Mathlib.Omega.{arith}
 use native.Mathlib.Nat.{mod-lt, mul-mod-right, zero-mod, add-zero, zero-add, add-assoc, zero-mul, mul-zero, mul-one, add-mul, eq-or-lt-of-le}
-use lib.ListN.{length, getD}
-use Rattle.numbers.specs.Congruence.{Cong, c-refl, c-sym, c-trans, c-eq, c-add, c-mul, c-mod, ring}
+use lib.ListN.{getD}
+use Rattle.numbers.specs.Congruence.{Cong, c-refl, c-trans, c-eq, c-add, c-mul, c-mod, ring}
 use Rattle.definitions.specs.Polynomials.{coef, convolve}
 use Rattle.theory.specs.Words.{convolve-zero, convolve-suc}
 use Rattle.windows.specs.Window.{piece, Moved, addMul, Below, Around, Apart}
 use Rattle.windows.proofs.Leaf.{lt-or-le, piece-at, piece-over, apart-at}
-use Rattle.window_division.specs.Remainders.{Pair, Remainder}
+use Rattle.window_division.specs.Remainders.{Remainder}
 
 -- ---- products with 0, with a sum, with one term
 

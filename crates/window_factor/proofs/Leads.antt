@@ -9,7 +9,7 @@ use lib.ListN.{length, List·getD-eq-default}
 use Rattle.definitions.specs.Residues.{Inverse, IsNilpotent, Splitting}
 use Rattle.definitions.specs.Polynomials.{coef}
 use Rattle.numbers.specs.Nilpotents.{radical-zero, radical-nilpotent}
-use Rattle.window_factor.specs.Factors.{LeadingUnit, SplitOf, Nilpotents}
+use Rattle.window_factor.specs.Factors.{LeadingUnit, SplitOf, AllNilpotents}
 
 pub record NilpotentFrom (n t : ℕ) (f : List ℕ) : Type 0 where
   pub at : (k : ℕ) → t ≤ k → IsNilpotent n (coef f k)
@@ -25,7 +25,7 @@ from-step {n} {t} {f} x l h = record {
   at = λ k b. ⊎-elim (λ e. subst (λ (y : ℕ). IsNilpotent n (coef f y)) e h) (λ c. x .at k (omega arith)) (eq-or-lt-of-le b);
 }
 
-pub from-end : {n t : ℕ} {f : List ℕ} → NilpotentFrom n t f → t ≡ 0 → Nilpotents n f
+pub from-end : {n t : ℕ} {f : List ℕ} → NilpotentFrom n t f → t ≡ 0 → AllNilpotents n f
 from-end x e = record { at = λ k. x .at k (omega arith) }
 
 pub leading-unit : {n t i : ℕ} {f : List ℕ} → NilpotentFrom n t f → 0 < t → t ≤ length f → Inverse n (coef f (t - 1)) i

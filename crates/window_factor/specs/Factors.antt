@@ -2,12 +2,15 @@
 --
 --   HighestOf n f r       r tells of the highest coefficient of f that is not nilpotent
 --   SplitOf n p q         n is p q, both above 1 and coprime
---   Given, Round, Factored   unit times monic: what is asked, what a round leaves, what then stands in the buffer
---   Series                the words of a power series with a given product
+--   LeadingUnit n t i f   coefficient t of f has the inverse i, and those above it are nilpotent
+--   AllNilpotents n f     every coefficient of f is nilpotent
+--   Given, Factored       unit times monic: what is asked of f, and what then stands in the buffer
+--   RoundGiven, Round     one division of f by H: what is asked, and what it leaves
+--   SeriesGiven, Series   the words of a power series with a given product: what the next word asks, and what stands at the end
 use mathlib.Core.Path.{_≡_}
 use mathlib.Core.List.{List}
-use Prim.Native.Nat.{ℕ, zero, suc, _+_, _-_, _*_, _%_, _<_}
-use lib.ListN.{length}
+use Prim.Native.Nat.{ℕ, zero, suc, _+_, _-_, _*_, _%_, _<_, _≤_}
+use lib.ListN.{length, getD}
 use Rattle.definitions.specs.Residues.{Inverse, IsNilpotent, Coprime}
 use Rattle.definitions.specs.Polynomials.{coef, convolve, constant, Divided, Multiplied, UnitPolynomial}
 use Rattle.windows.specs.Window.{piece, Below, Around}
@@ -22,19 +25,20 @@ pub record LeadingUnit (n t i : ℕ) (f : List ℕ) : Type 0 where
   pub inverse : Inverse n (coef f t) i
   pub nilpotent : (k : ℕ) → t < k → IsNilpotent n (coef f k)
 
+-- "Then n = n1 times n2, both above 1 and coprime"
 pub record SplitOf (n p q : ℕ) : Type 0 where
   pub product : p * q ≡ n
   pub above₁ : 1 < p
   pub above₂ : 1 < q
   pub coprime : Coprime p q
 
-pub record Nilpotents (n : ℕ) (f : List ℕ) : Type 0 where
+pub record AllNilpotents (n : ℕ) (f : List ℕ) : Type 0 where
   pub at : (k : ℕ) → IsNilpotent n (coef f k)
 
 abbrev pub HighestOf : ℕ → List ℕ → Highest → Type 0
 HighestOf n f (UnitAt' t i) = LeadingUnit n t i f
 HighestOf n f (Splits p q) = SplitOf n p q
-HighestOf n f AllNilpotent = Nilpotents n f
+HighestOf n f AllNilpotent = AllNilpotents n f
 
 -- ---- unit times monic: f of d + 1 words, H of t + 1 words, room for the division of f by H
 
@@ -42,6 +46,15 @@ pub record Given (n d t i : ℕ) (w : List ℕ) : Type 0 where
   pub below : Below n 0 (d + 1) w
   pub unit : (i * coef (piece w 0 (d + 1)) t) % n ≡ 1 % n
   pub nilpotent : (k : ℕ) → t < k → IsNilpotent n (coef (piece w 0 (d + 1)) k)
+
+-- f and H are residues, H is monic, and the room takes a copy of f
+pub record RoundGiven (n d t : ℕ) (w : List ℕ) : Type 0 where
+  pub positive : 1 ≤ n
+  pub within : t ≤ d
+  pub fits : d + 1 + (t + 1 + (d + 1)) ≤ length w
+  pub below-f : Below n 0 (d + 1) w
+  pub below-h : Below n (d + 1) (t + 1) w
+  pub monic : getD w (d + 1 + t) 0 ≡ 1
 
 -- the room holds remainder and quotient of f by H
 pub record Round (n d t : ℕ) (w w' : List ℕ) : Type 0 where
@@ -65,6 +78,13 @@ pub record Factored (n d t : ℕ) (w w' : List ℕ) : Type 0 where
 abbrev pub next-word : ℕ → ℕ → ℕ → (ℕ → ℕ) → (ℕ → ℕ) → ℕ → ℕ
 next-word n i s U Y zero = s
 next-word n i s U Y (suc j) = ((n - i) * (convolve (λ x. U (suc x)) Y j % n)) % n
+
+-- the j words of Y so far are residues
+pub record SeriesGiven (n k i j : ℕ) (w : List ℕ) : Type 0 where
+  pub positive : 1 ≤ n
+  pub inverse : i ≤ n
+  pub fits : k + 1 + j ≤ length w
+  pub below : Below n (k + 1) j w
 
 pub record Series (n k s len : ℕ) (w w' : List ℕ) : Type 0 where
   pub around : Around (k + 1) len w w'

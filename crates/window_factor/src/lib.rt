@@ -1,16 +1,22 @@
 // Unit times monic, in windows of one buffer, and what it stands on.
 //
+//   w, n   the buffer and the modulus
+//   d      the degree of f, which stands at 0
+//   t, i   the place of the highest coefficient of f that is no nilpotent, a unit, and its inverse; H, monic of degree t, stands at h,
+//          the unit polynomial U in the upper words of the room at v
+//   k      the degree of U where U stands at 0, for its inverse as a power series
+//
 //   highest_of          the highest coefficient that is not nilpotent
 //   divide_copy         a copy of f divided by H
 //   unit_times_monic    f = U H, U a unit polynomial, H monic
 //   series_word         one word of s U_0 / U as a power series
 //   series_inverse      all of them: the inverse of U where s is that of U_0
 ghost use mathlib.Core.Path.{_≡_};
-ghost use Prim.Native.Nat.{_+_, _-_, _*_, _%_, _<_, _≤_};
-ghost use lib.ListN.{length, getD};
+ghost use Prim.Native.Nat.{_+_, _*_, _%_, _<_, _≤_};
+ghost use lib.ListN.{length};
 ghost use Rattle.definitions.specs.Polynomials.{coef};
-ghost use Rattle.windows.specs.Window.{piece, Below};
-ghost use Rattle.window_factor.specs.Factors.{HighestOf, Round, Given, Factored, next-word, Series};
+ghost use Rattle.windows.specs.Window.{piece};
+ghost use Rattle.window_factor.specs.Factors.{HighestOf, RoundGiven, Round, Given, Factored, SeriesGiven, next-word, Series};
 
 // A unit with its place and its inverse; a coefficient that splits n into two factors; or neither.
 pub enum Highest {
@@ -41,9 +47,8 @@ pub fn highest_of(s: &[u32], n: u32) -> Highest
 }
 
 // A copy of f divided by H: f of d + 1 words at 0, H of t + 1 words after it, and then d + 1 words for remainder and quotient.
-pub fn divide_copy(w: &mut [u32], n: u32, d: usize, t: usize)
-    requires { ⌜ (1 ≤ n) × ((t ≤ d) × (d + 1 + (t + 1 + (d + 1)) ≤ length (now w))) ⌝ }
-    requires { ⌜ (Below n 0 (d + 1) (now w)) × ((Below n (d + 1) (t + 1) (now w)) × (getD (now w) (d + 1 + t) 0 ≡ 1)) ⌝ }
+fn divide_copy(w: &mut [u32], n: u32, d: usize, t: usize)
+    requires { ⌜ RoundGiven n d t (now w) ⌝ }
     ensures { λ _. ⌜ Round n d t (now (w .entry)) (now (w .exit)) ⌝ }
 {
     let h = d + 1;
@@ -77,8 +82,8 @@ pub fn unit_times_monic(w: &mut [u32], n: u32, d: usize, t: usize, i: u32)
 }
 
 // Word j of Y, where Y U = s U_0 and i is the inverse of U_0: U stands at 0, and the words of Y before j stand after it.
-pub fn series_word(w: &[u32], n: u32, k: usize, i: u32, s: u32, j: usize) -> u32
-    requires { ⌜ (1 ≤ n) × ((i ≤ n) × ((k + 1 + j ≤ length (now w)) × Below n (k + 1) j (now w))) ⌝ }
+fn series_word(w: &[u32], n: u32, k: usize, i: u32, s: u32, j: usize) -> u32
+    requires { ⌜ SeriesGiven n k i j (now w) ⌝ }
     ensures { λ r. ⌜ r ≡ next-word n i s (coef (piece (now (w .entry)) 0 (k + 1))) (coef (piece (now (w .entry)) (k + 1) j)) j ⌝ }
 {
     if j == 0 {

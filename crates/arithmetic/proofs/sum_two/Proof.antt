@@ -8,10 +8,10 @@ use Rattle.arithmetic.proofs.sum_two.Statement.{statement}
 use Rattle.arithmetic.proofs.sum_two.Tie as tie
 
 mul-p : tie.Need-mul-p
-mul-p c = record { fits = below 32 (c .fits .c .fits) (c .fits .a .fits) }
+mul-p c = record { fits = below 32 (search needs) (search needs) }
 
 mul-q : tie.Need-mul-q
-mul-q c = record { fits = below 32 (c .fits .m .fits) (c .fits .b .fits) }
+mul-q c = record { fits = below 32 (search needs) (search needs) }
 
 add-q : tie.Need-add-q
 add-q c =

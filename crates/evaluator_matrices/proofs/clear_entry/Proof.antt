@@ -12,29 +12,45 @@ abbrev μ-loop : tie.MeasureT-loop
 μ-loop n i j r₀ r = cell r i j
 
 loop-holds : tie.Need-loop-holds Inv-loop μ-loop
-loop-holds c = combined-none (c .pre .1)
+loop-holds c = combined-none (c .pre .residues)
 
 reduce-row-requires : tie.Need-reduce-row-requires Inv-loop μ-loop
-reduce-row-requires c κs = (
-  (c .before .before .before .pre .0 .0, (omega arith, (omega arith, (omega arith, omega arith)))),
-  (c .before .before .loop .inv .residues, omega arith),
-)
+reduce-row-requires c κs =
+    record {
+      modulus = c .before .before .before .pre .modulus;
+      row = omega arith;
+      other = omega arith;
+      column = omega arith;
+      apart = omega arith;
+      residues = c .before .before .loop .inv .residues;
+      divisor = omega arith;
+    }
 
 exchange-requires : tie.Need-exchange-requires Inv-loop μ-loop
-exchange-requires c κs = (
-  (c .before .before .before .before .before .before .pre .0 .0, (omega arith, (omega arith, omega arith))),
-  c .before .before .reduce-row .ensures .combined .residues,
-)
+exchange-requires c κs =
+    record {
+      modulus = c .before .before .before .before .before .before .pre .modulus;
+      first = omega arith;
+      second = omega arith;
+      apart = omega arith;
+      residues = c .before .before .reduce-row .ensures .combined .residues;
+    }
 
 returns : tie.Need-returns Inv-loop μ-loop
 returns c = let s = c .before .before .before in
     swapped (s .before .before .before .loop .inv) (s .reduce-row .ensures) (omega arith) (c .before .if2 .taken) (c .exchange .ensures)
 
 reduce-row-requires-2 : tie.Need-reduce-row-requires-2 Inv-loop μ-loop
-reduce-row-requires-2 c κs = (
-  (c .before .before .before .before .before .before .pre .0 .0, (omega arith, (omega arith, (omega arith, omega arith)))),
-  (c .before .before .reduce-row .ensures .combined .residues, omega arith),
-)
+reduce-row-requires-2 c κs =
+    record {
+      modulus = c .before .before .before .before .before .before .pre .modulus;
+      row = omega arith;
+      other = omega arith;
+      column = omega arith;
+      apart = omega arith;
+      residues = c .before .before .reduce-row .ensures .combined .residues;
+      divisor = omega arith;
+    }
 
 loop-less : tie.Need-loop-less Inv-loop μ-loop
 loop-less c = let s = c .before .before .before in

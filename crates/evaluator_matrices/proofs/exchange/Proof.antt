@@ -7,9 +7,9 @@ use Rattle.evaluator_matrices.proofs.exchange.Tie as tie
 
 returns : tie.Need-returns
 returns c = let s = c .before .before .before in
-    let p = s .pre .0 in
+    let p = s .pre in
     let l : length (s .args .t1) ≡ 8 = search needs in
-    exchanged _ _ _ _ _ (p .0) (p .1 .0) (p .1 .1 .0) (p .1 .1 .1) l (s .pre .1) (c .before .subtract-multiple .ensures)
+    exchanged _ _ _ _ _ (p .modulus) (p .first) (p .second) (p .apart) l (p .residues) (c .before .subtract-multiple .ensures)
 
 pub exchange-spec : {M : Type 1} → statement M
 exchange-spec =

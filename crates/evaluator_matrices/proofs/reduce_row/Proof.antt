@@ -7,13 +7,14 @@ use Rattle.evaluator_matrices.proofs.reduce_row.Tie as tie
 
 subtract-multiple-requires : tie.Need-subtract-multiple-requires
 subtract-multiple-requires c κs = let s = c .before .before .before .before in
-    (s .pre .0 .0, quotient-below _ _ _ (s .pre .1 .0 .at _ _ (s .pre .0 .1 .0) (s .pre .0 .1 .1 .1 .0)) (s .pre .1 .1))
+    let p = s .pre in
+    (p .modulus, quotient-below _ _ _ (p .residues .at _ _ (p .row) (p .column)) (p .divisor))
 
 returns : tie.Need-returns
 returns c = let s = c .before .before .before .before .before in
-    let p = s .pre .0 in
+    let p = s .pre in
     let l : length (s .args .t1) ≡ 8 = search needs in
-    row-reduced _ _ _ _ _ _ (p .0) (p .1 .0) (p .1 .1 .0) (p .1 .1 .1 .0) (p .1 .1 .1 .1) l (s .pre .1 .0) (s .pre .1 .1)
+    row-reduced _ _ _ _ _ _ (p .modulus) (p .row) (p .other) (p .column) (p .apart) l (p .residues) (p .divisor)
     (c .subtract-multiple .ensures)
 
 pub reduce-row-spec : {M : Type 1} → statement M

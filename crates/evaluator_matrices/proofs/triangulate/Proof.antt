@@ -2,13 +2,13 @@ use borrow.Author.Needs.{needs}
 use mathlib.Core.Path.{_≡_}
 use Prim.Native.Nat.{_-_, _≤_}
 use native.Mathlib.Omega.{arith}
-use Rattle.evaluator_matrices.specs.Elimination.{Triangular, Kept}
+use Rattle.evaluator_matrices.specs.Elimination.{Triangular, MinorKept}
 use Rattle.evaluator_matrices.proofs.Columns.{triangulating-start, kept-both}
 use Rattle.evaluator_matrices.proofs.triangulate.Statement.{statement}
 use Rattle.evaluator_matrices.proofs.triangulate.Tie as tie
 
 abbrev Inv-loop : tie.InvT-loop
-Inv-loop n size r₀ j₀ r j = (j ≤ size) × (Kept n size r₀ r × Triangular size j r)
+Inv-loop n size r₀ j₀ r j = (j ≤ size) × (MinorKept n size r₀ r × Triangular size j r)
 
 abbrev μ-loop : tie.MeasureT-loop
 μ-loop n size r₀ j₀ r j = size - j
@@ -18,7 +18,8 @@ loop-holds c = (omega arith, triangulating-start (c .pre .1))
 
 clear-column-requires : tie.Need-clear-column-requires Inv-loop μ-loop
 clear-column-requires c κs = let i = c .before .loop .inv .1 in
-    ((c .before .before .pre .0 .0, (c .loop-test .taken, c .before .before .pre .0 .1)), (i .0 .residues, i .1))
+    let p = c .before .before .pre .0 in
+    record { modulus = p .0; column = c .loop-test .taken; size = p .1; residues = i .0 .residues; cleared = i .1 }
 
 loop-again : tie.Need-loop-again Inv-loop μ-loop
 loop-again c = let e = c .clear-column .ensures in

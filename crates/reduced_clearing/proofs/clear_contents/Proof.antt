@@ -19,44 +19,44 @@ use Rattle.reduced_clearing.proofs.clear_contents.Tie as tie
 returns : tie.Need-returns
 returns c = let s = c .before .before .before .before .before .before .before .before .before in
     let st = s .pre in
-    let z : s .args .pb + s .args .a - s .args .pb ≡ s .args .a = omega arith in
-    let ct = subst (λ (f : List ℕ). Content (s .args .v) f (c .before .before .before .before .before .content .result)) (part-piece (s .args .w .now) (s .args .pb) (s .args .a) _ z) (c .before .before .before .before .before .content .ensures) in
-    let cv = subst (Content (s .args .v) (piece (s .args .w .now) (s .args .pb) (s .args .a))) (c .before .before .before .before .if1 .taken) ct in
+    let z : s .args .p .pb + s .args .a - s .args .p .pb ≡ s .args .a = omega arith in
+    let ct = subst (λ (f : List ℕ). Content (s .args .v) f (c .before .before .before .before .before .content .result)) (part-piece (s .args .w .now) (s .args .p .pb) (s .args .a) _ z) (c .before .before .before .before .before .content .ensures) in
+    let cv = subst (Content (s .args .v) (piece (s .args .w .now) (s .args .p .pb) (s .args .a))) (c .before .before .before .before .if1 .taken) ct in
     (none-solved _ _ _ _ _ _ _ _ _ _ _ st cv (c .before .before .clear .ensures), none-kept _ _ _ _ _ _ _ _ _ _ _ st cv (c .before .before .clear .ensures))
 
 take-content-requires : tie.Need-take-content-requires
 take-content-requires c κs = let s = c .before .before .before .before .before .before in
     let st = s .pre in
-    let z : s .args .pb + s .args .a - s .args .pb ≡ s .args .a = omega arith in
-    let ct = subst (λ (f : List ℕ). Content (s .args .v) f (c .before .before .content .result)) (part-piece (s .args .w .now) (s .args .pb) (s .args .a) _ z) (c .before .before .content .ensures) in
+    let z : s .args .p .pb + s .args .a - s .args .p .pb ≡ s .args .a = omega arith in
+    let ct = subst (λ (f : List ℕ). Content (s .args .v) f (c .before .before .content .result)) (part-piece (s .args .w .now) (s .args .p .pb) (s .args .a) _ z) (c .before .before .content .ensures) in
     let p = content-positive _ _ _ _ _ _ _ _ _ _ _ st ct in
     let q = content-above _ _ _ _ _ _ _ _ _ _ _ st ct (c .before .if1 .left) in
     let r = st .room in
     let y = st .places in
     let e = st .within in
     let o = st .positive in
-    (omega arith, (omega arith, (omega arith, (omega arith, (omega arith, omega arith)))))
+    record { positive = omega arith; content = omega arith; quotient = omega arith; multiplier = omega arith; second = omega arith; first = omega arith }
 
 div-highest-of : tie.Need-div-highest-of
 div-highest-of c = let s = c .before .before .before .before .before .before .before .before .before .before .before in
     let st = s .pre in
-    let z : s .args .pb + s .args .a - s .args .pb ≡ s .args .a = omega arith in
-    let ct = subst (λ (f : List ℕ). Content (s .args .v) f (c .before .before .before .before .before .before .before .content .result)) (part-piece (s .args .w .now) (s .args .pb) (s .args .a) _ z) (c .before .before .before .before .before .before .before .content .ensures) in
+    let z : s .args .p .pb + s .args .a - s .args .p .pb ≡ s .args .a = omega arith in
+    let ct = subst (λ (f : List ℕ). Content (s .args .v) f (c .before .before .before .before .before .before .before .content .result)) (part-piece (s .args .w .now) (s .args .p .pb) (s .args .a) _ z) (c .before .before .before .before .before .before .before .content .ensures) in
     content-positive _ _ _ _ _ _ _ _ _ _ _ st ct
 
 highest-of-requires : tie.Need-highest-of-requires
 highest-of-requires c κs = let s = c .before .before .before .before .before .before .before .before .before .before .before in
     let st = s .pre in
-    let z : s .args .pb + s .args .a - s .args .pb ≡ s .args .a = omega arith in
-    let ct = subst (λ (f : List ℕ). Content (s .args .v) f (c .before .before .before .before .before .before .before .content .result)) (part-piece (s .args .w .now) (s .args .pb) (s .args .a) _ z) (c .before .before .before .before .before .before .before .content .ensures) in
+    let z : s .args .p .pb + s .args .a - s .args .p .pb ≡ s .args .a = omega arith in
+    let ct = subst (λ (f : List ℕ). Content (s .args .v) f (c .before .before .before .before .before .before .before .content .result)) (part-piece (s .args .w .now) (s .args .p .pb) (s .args .a) _ z) (c .before .before .before .before .before .before .before .content .ensures) in
     content-above _ _ _ _ _ _ _ _ _ _ _ st ct (c .before .before .before .before .before .before .if1 .left)
 
 returns-2 : tie.Need-returns-2
 returns-2 c = let s = c .before .before .before .before .before .before .before .before .before .before .before .before .before .before .before in
     let st = s .pre in
-    let z : s .args .pb + s .args .a - s .args .pb ≡ s .args .a = omega arith in
-    let ct = subst (λ (f : List ℕ). Content (s .args .v) f (c .before .before .before .before .before .before .before .before .before .before .before .content .result)) (part-piece (s .args .w .now) (s .args .pb) (s .args .a) _ z) (c .before .before .before .before .before .before .before .before .before .before .before .content .ensures) in
-    let hp = subst (HighestOf (s .args .v / c .before .before .before .before .before .before .before .before .before .before .before .content .result) (take (s .args .pb + s .args .a - s .args .pb) (drop (s .args .pb) (c .before .before .before .before .before .before .before .before .take-content .last .0)))) (c .before .p .given .1) (c .before .before .before .highest-of .ensures) in (
+    let z : s .args .p .pb + s .args .a - s .args .p .pb ≡ s .args .a = omega arith in
+    let ct = subst (λ (f : List ℕ). Content (s .args .v) f (c .before .before .before .before .before .before .before .before .before .before .before .content .result)) (part-piece (s .args .w .now) (s .args .p .pb) (s .args .a) _ z) (c .before .before .before .before .before .before .before .before .before .before .before .content .ensures) in
+    let hp = subst (HighestOf (s .args .v / c .before .before .before .before .before .before .before .before .before .before .before .content .result) (take (s .args .p .pb + s .args .a - s .args .p .pb) (drop (s .args .p .pb) (c .before .before .before .before .before .before .before .before .take-content .last .0)))) (c .before .f .given .1) (c .before .before .before .highest-of .ensures) in (
       split-splitter _ _ _ _ (subst (λ (x : ℕ). s .args .v / c .before .before .before .before .before .before .before .before .before .before .before .content .result ∣ x) (sym (content-whole _ _ _ _ _ _ _ _ _ _ _ st ct)) (dvd-mul-left _ _)) hp,
       content-kept _ _ _ _ _ _ _ _ _ _ _ st ct (c .before .before .before .before .before .before .before .before .before .before .if1 .left) _ (c .before .before .before .before .before .before .before .before .take-content .ensures),
     )
@@ -64,45 +64,42 @@ returns-2 c = let s = c .before .before .before .before .before .before .before 
 returns-3 : tie.Need-returns-3
 returns-3 c = let s = c .before .before .before .before .before .before .before .before .before .before .before .before .before .before in
     let st = s .pre in
-    let z : s .args .pb + s .args .a - s .args .pb ≡ s .args .a = omega arith in
-    let ct = subst (λ (f : List ℕ). Content (s .args .v) f (c .before .before .before .before .before .before .before .before .before .before .content .result)) (part-piece (s .args .w .now) (s .args .pb) (s .args .a) _ z) (c .before .before .before .before .before .before .before .before .before .before .content .ensures) in
-    let hp = subst (HighestOf (s .args .v / c .before .before .before .before .before .before .before .before .before .before .content .result) (take (s .args .pb + s .args .a - s .args .pb) (drop (s .args .pb) (c .before .before .before .before .before .before .before .take-content .last .0)))) (c .enum-told .given .1) (c .before .before .highest-of .ensures) in (
+    let z : s .args .p .pb + s .args .a - s .args .p .pb ≡ s .args .a = omega arith in
+    let ct = subst (λ (f : List ℕ). Content (s .args .v) f (c .before .before .before .before .before .before .before .before .before .before .content .result)) (part-piece (s .args .w .now) (s .args .p .pb) (s .args .a) _ z) (c .before .before .before .before .before .before .before .before .before .before .content .ensures) in
+    let hp = subst (HighestOf (s .args .v / c .before .before .before .before .before .before .before .before .before .before .content .result) (take (s .args .p .pb + s .args .a - s .args .p .pb) (drop (s .args .p .pb) (c .before .before .before .before .before .before .before .take-content .last .0)))) (c .enum-told .given .1) (c .before .before .highest-of .ensures) in (
       absurd (content-primitive _ _ _ _ _ _ _ _ _ _ _ st ct (c .before .before .before .before .before .before .before .before .before .if1 .left) _ (c .before .before .before .before .before .before .before .take-content .ensures)
-          (λ k. subst (λ (f : List ℕ). IsNilpotent (s .args .v / c .before .before .before .before .before .before .before .before .before .before .content .result) (coef f k)) (part-piece (c .before .before .before .before .before .before .before .take-content .last .0) (s .args .pb) (s .args .a) _ z) (hp .at k))),
+          (λ k. subst (λ (f : List ℕ). IsNilpotent (s .args .v / c .before .before .before .before .before .before .before .before .before .before .content .result) (coef f k)) (part-piece (c .before .before .before .before .before .before .before .take-content .last .0) (s .args .p .pb) (s .args .a) _ z) (hp .at k))),
       content-kept _ _ _ _ _ _ _ _ _ _ _ st ct (c .before .before .before .before .before .before .before .before .before .if1 .left) _ (c .before .before .before .before .before .before .before .take-content .ensures),
     )
 
 div-take-unit : tie.Need-div-take-unit
 div-take-unit c = let s = c .before .before .before .before .before .before .before .before .before .before .before .before .before .before .before .before in
     let st = s .pre in
-    let z : s .args .pb + s .args .a - s .args .pb ≡ s .args .a = omega arith in
-    let ct = subst (λ (f : List ℕ). Content (s .args .v) f (c .before .before .before .before .before .before .before .before .before .before .before .before .content .result)) (part-piece (s .args .w .now) (s .args .pb) (s .args .a) _ z) (c .before .before .before .before .before .before .before .before .before .before .before .before .content .ensures) in
+    let z : s .args .p .pb + s .args .a - s .args .p .pb ≡ s .args .a = omega arith in
+    let ct = subst (λ (f : List ℕ). Content (s .args .v) f (c .before .before .before .before .before .before .before .before .before .before .before .before .content .result)) (part-piece (s .args .w .now) (s .args .p .pb) (s .args .a) _ z) (c .before .before .before .before .before .before .before .before .before .before .before .before .content .ensures) in
     content-positive _ _ _ _ _ _ _ _ _ _ _ st ct
 
 take-unit-requires : tie.Need-take-unit-requires
 take-unit-requires c κs = let s = c .before .before .before .before .before .before .before .before .before .before .before .before .before .before .before .before in
     let st = s .pre in
-    let z : s .args .pb + s .args .a - s .args .pb ≡ s .args .a = omega arith in
-    let ct = subst (λ (f : List ℕ). Content (s .args .v) f (c .before .before .before .before .before .before .before .before .before .before .before .before .content .result)) (part-piece (s .args .w .now) (s .args .pb) (s .args .a) _ z) (c .before .before .before .before .before .before .before .before .before .before .before .before .content .ensures) in
+    let z : s .args .p .pb + s .args .a - s .args .p .pb ≡ s .args .a = omega arith in
+    let ct = subst (λ (f : List ℕ). Content (s .args .v) f (c .before .before .before .before .before .before .before .before .before .before .before .before .content .result)) (part-piece (s .args .w .now) (s .args .p .pb) (s .args .a) _ z) (c .before .before .before .before .before .before .before .before .before .before .before .before .content .ensures) in
     let tk = c .before .before .before .before .before .before .before .before .before .take-content .ensures in
     let ne = c .before .before .before .before .before .before .before .before .before .before .before .if1 .left in
     let s1 = content-stage _ _ _ _ _ _ _ _ _ _ _ st ct ne _ tk in
-    let hp = subst (HighestOf (s .args .v / c .before .before .before .before .before .before .before .before .before .before .before .before .content .result) (take (s .args .pb + s .args .a - s .args .pb) (drop (s .args .pb) (c .before .before .before .before .before .before .before .before .before .take-content .last .0)))) (c .before .before .x .given .1) (c .before .before .before .before .highest-of .ensures) in
+    let hp = subst (HighestOf (s .args .v / c .before .before .before .before .before .before .before .before .before .before .before .before .content .result) (take (s .args .p .pb + s .args .a - s .args .p .pb) (drop (s .args .p .pb) (c .before .before .before .before .before .before .before .before .before .take-content .last .0)))) (c .before .before .x .given .1) (c .before .before .before .before .highest-of .ensures) in
     let same = content-kept _ _ _ _ _ _ _ _ _ _ _ st ct ne _ tk .same in
     let room = st .room in
     let high = st .places .b-high in
     let short = st .within in
-    let lu = subst (LeadingUnit (s .args .v / c .before .before .before .before .before .before .before .before .before .before .before .before .content .result) _ _) (part-piece (c .before .before .before .before .before .before .before .before .before .take-content .last .0) (s .args .pb) (s .args .a) _ z) hp in
-    let y = s1 .places in (
-      (s1 .positive, (s1 .above, (le-of-dvd (s1 .positive) (s1 .divides), (shorter-than _ _ _ _ _ _ (omega arith) lu, (s1 .within, (s1 .some, (s1 .most, s1 .room))))))),
-      ((omega arith, (omega arith, omega arith)), (s1 .monic, (s1 .second, (lu, s1 .beta)))),
-    )
+    let lu = subst (LeadingUnit (s .args .v / c .before .before .before .before .before .before .before .before .before .before .before .before .content .result) _ _) (part-piece (c .before .before .before .before .before .before .before .before .before .take-content .last .0) (s .args .p .pb) (s .args .a) _ z) hp in
+    (s1, (shorter-than _ _ _ _ _ _ (omega arith) lu, lu))
 
 copy-requires : tie.Need-copy-requires
 copy-requires c κs = let s = c .before .before .before .before .before .before .before .before .before .before .before .before .before .before .before .before .before .before .before .before .before in
     let st = s .pre in
-    let z : s .args .pb + s .args .a - s .args .pb ≡ s .args .a = omega arith in
-    let ct = subst (λ (f : List ℕ). Content (s .args .v) f (c .before .before .before .before .before .before .before .before .before .before .before .before .before .before .before .before .before .content .result)) (part-piece (s .args .w .now) (s .args .pb) (s .args .a) _ z) (c .before .before .before .before .before .before .before .before .before .before .before .before .before .before .before .before .before .content .ensures) in
+    let z : s .args .p .pb + s .args .a - s .args .p .pb ≡ s .args .a = omega arith in
+    let ct = subst (λ (f : List ℕ). Content (s .args .v) f (c .before .before .before .before .before .before .before .before .before .before .before .before .before .before .before .before .before .content .result)) (part-piece (s .args .w .now) (s .args .p .pb) (s .args .a) _ z) (c .before .before .before .before .before .before .before .before .before .before .before .before .before .before .before .before .before .content .ensures) in
     let r = st .room in
     let y = st .places in
     let u = c .before .before .before .before .take-unit .ensures .same in
@@ -112,16 +109,16 @@ copy-requires c κs = let s = c .before .before .before .before .before .before 
 returns-4 : tie.Need-returns-4
 returns-4 c = let s = c .before .before .before .before .before .before .before .before .before .before .before .before .before .before .before .before .before .before .before .before .before .before .before .before in
     let st = s .pre in
-    let z : s .args .pb + s .args .a - s .args .pb ≡ s .args .a = omega arith in
-    let ct = subst (λ (f : List ℕ). Content (s .args .v) f (c .before .before .before .before .before .before .before .before .before .before .before .before .before .before .before .before .before .before .before .before .content .result)) (part-piece (s .args .w .now) (s .args .pb) (s .args .a) _ z) (c .before .before .before .before .before .before .before .before .before .before .before .before .before .before .before .before .before .before .before .before .content .ensures) in
+    let z : s .args .p .pb + s .args .a - s .args .p .pb ≡ s .args .a = omega arith in
+    let ct = subst (λ (f : List ℕ). Content (s .args .v) f (c .before .before .before .before .before .before .before .before .before .before .before .before .before .before .before .before .before .before .before .before .content .result)) (part-piece (s .args .w .now) (s .args .p .pb) (s .args .a) _ z) (c .before .before .before .before .before .before .before .before .before .before .before .before .before .before .before .before .before .before .before .before .content .ensures) in
     let tk = c .before .before .before .before .before .before .before .before .before .before .before .before .before .before .before .before .before .take-content .ensures in
     let ne = c .before .before .before .before .before .before .before .before .before .before .before .before .before .before .before .before .before .before .before .if1 .left in
-    let hp = subst (HighestOf (s .args .v / c .before .before .before .before .before .before .before .before .before .before .before .before .before .before .before .before .before .before .before .before .content .result) (take (s .args .pb + s .args .a - s .args .pb) (drop (s .args .pb) (c .before .before .before .before .before .before .before .before .before .before .before .before .before .before .before .before .before .take-content .last .0)))) (c .before .before .before .before .before .before .before .before .before .before .x .given .1) (c .before .before .before .before .before .before .before .before .before .before .before .before .highest-of .ensures) in
+    let hp = subst (HighestOf (s .args .v / c .before .before .before .before .before .before .before .before .before .before .before .before .before .before .before .before .before .before .before .before .content .result) (take (s .args .p .pb + s .args .a - s .args .p .pb) (drop (s .args .p .pb) (c .before .before .before .before .before .before .before .before .before .before .before .before .before .before .before .before .before .take-content .last .0)))) (c .before .before .before .before .before .before .before .before .before .before .x .given .1) (c .before .before .before .before .before .before .before .before .before .before .before .before .highest-of .ensures) in
     let same = content-kept _ _ _ _ _ _ _ _ _ _ _ st ct ne _ tk .same in
     let room = st .room in
     let high = st .places .b-high in
     let short = st .within in
-    let lu = subst (LeadingUnit (s .args .v / c .before .before .before .before .before .before .before .before .before .before .before .before .before .before .before .before .before .before .before .before .content .result) _ _) (part-piece (c .before .before .before .before .before .before .before .before .before .before .before .before .before .before .before .before .before .take-content .last .0) (s .args .pb) (s .args .a) _ z) hp in
+    let lu = subst (LeadingUnit (s .args .v / c .before .before .before .before .before .before .before .before .before .before .before .before .before .before .before .before .before .before .before .before .content .result) _ _) (part-piece (c .before .before .before .before .before .before .before .before .before .before .before .before .before .before .before .before .before .take-content .last .0) (s .args .p .pb) (s .args .a) _ z) hp in
     let b = shorter-than _ _ _ _ _ _ (omega arith) lu in (
       last-solved _ _ _ _ _ _ _ _ _ _ _ _ _ _ _ st ct ne tk b (c .before .before .before .before .before .before .before .take-unit .ensures) (c .before .before .before .before .if2 .taken) _ (c .before .before .copy .ensures),
       last-kept _ _ _ _ _ _ _ _ _ _ _ _ _ _ _ st ct ne tk b (c .before .before .before .before .before .before .before .take-unit .ensures) (c .before .before .before .before .if2 .taken) _ (c .before .before .copy .ensures),
@@ -130,16 +127,16 @@ returns-4 c = let s = c .before .before .before .before .before .before .before 
 returns-5 : tie.Need-returns-5
 returns-5 c = let s = c .before .before .before .before .before .before .before .before .before .before .before .before .before .before .before .before .before .before .before .before in
     let st = s .pre in
-    let z : s .args .pb + s .args .a - s .args .pb ≡ s .args .a = omega arith in
-    let ct = subst (λ (f : List ℕ). Content (s .args .v) f (c .before .before .before .before .before .before .before .before .before .before .before .before .before .before .before .before .content .result)) (part-piece (s .args .w .now) (s .args .pb) (s .args .a) _ z) (c .before .before .before .before .before .before .before .before .before .before .before .before .before .before .before .before .content .ensures) in
+    let z : s .args .p .pb + s .args .a - s .args .p .pb ≡ s .args .a = omega arith in
+    let ct = subst (λ (f : List ℕ). Content (s .args .v) f (c .before .before .before .before .before .before .before .before .before .before .before .before .before .before .before .before .content .result)) (part-piece (s .args .w .now) (s .args .p .pb) (s .args .a) _ z) (c .before .before .before .before .before .before .before .before .before .before .before .before .before .before .before .before .content .ensures) in
     let tk = c .before .before .before .before .before .before .before .before .before .before .before .before .before .take-content .ensures in
     let ne = c .before .before .before .before .before .before .before .before .before .before .before .before .before .before .before .if1 .left in
-    let hp = subst (HighestOf (s .args .v / c .before .before .before .before .before .before .before .before .before .before .before .before .before .before .before .before .content .result) (take (s .args .pb + s .args .a - s .args .pb) (drop (s .args .pb) (c .before .before .before .before .before .before .before .before .before .before .before .before .before .take-content .last .0)))) (c .before .before .before .before .before .before .x .given .1) (c .before .before .before .before .before .before .before .before .highest-of .ensures) in
+    let hp = subst (HighestOf (s .args .v / c .before .before .before .before .before .before .before .before .before .before .before .before .before .before .before .before .content .result) (take (s .args .p .pb + s .args .a - s .args .p .pb) (drop (s .args .p .pb) (c .before .before .before .before .before .before .before .before .before .before .before .before .before .take-content .last .0)))) (c .before .before .before .before .before .before .x .given .1) (c .before .before .before .before .before .before .before .before .highest-of .ensures) in
     let same = content-kept _ _ _ _ _ _ _ _ _ _ _ st ct ne _ tk .same in
     let room = st .room in
     let high = st .places .b-high in
     let short = st .within in
-    let lu = subst (LeadingUnit (s .args .v / c .before .before .before .before .before .before .before .before .before .before .before .before .before .before .before .before .content .result) _ _) (part-piece (c .before .before .before .before .before .before .before .before .before .before .before .before .before .take-content .last .0) (s .args .pb) (s .args .a) _ z) hp in
+    let lu = subst (LeadingUnit (s .args .v / c .before .before .before .before .before .before .before .before .before .before .before .before .before .before .before .before .content .result) _ _) (part-piece (c .before .before .before .before .before .before .before .before .before .before .before .before .before .take-content .last .0) (s .args .p .pb) (s .args .a) _ z) hp in
     let b = shorter-than _ _ _ _ _ _ (omega arith) lu in (
       both-cleared _ _ _ _ _ _ _ _ _ _ _ _ _ _ _ st ct ne tk b (c .before .before .before .take-unit .ensures) (pos-of-ne-zero (c .if2 .left)),
       both-kept _ _ _ _ _ _ _ _ _ _ _ _ _ _ _ st ct ne tk b (c .before .before .before .take-unit .ensures),

@@ -15,8 +15,8 @@ over-first-requires : tie.Need-over-first-requires
 over-first-requires c κs = let s = c .before .before .before .before .before .before .before .before .before in
     let p = s .pre .0 in
     let r : s .args .d ≤ s .args .d = omega arith in (
-      (p .0, (omega arith, (omega arith, (constant-room _ _ _ _ (s .args .y .now) (s .args .x .now) (p .0) (p .1 .0) (s .pre .1), omega (arith, p .1 .1 .0, cofactor-fits (s .args .n) (s .args .d) (s .args .e) (s .args .d) (p .0) r))))),
-      constant-unit _ _ _ _ (s .args .y .now) (s .args .x .now) (p .0) (p .1 .0) (s .pre .1),
+      (p .above, (omega arith, (omega arith, (constant-room _ _ _ _ (s .args .y .now) (s .args .x .now) (p .above) (p .room) (s .pre .1), omega (arith, p .long-x, cofactor-fits (s .args .n) (s .args .d) (s .args .e) (s .args .d) (p .above) r))))),
+      constant-unit _ _ _ _ (s .args .y .now) (s .args .x .now) (p .above) (p .room) (s .pre .1),
     )
 
 same-length-3 : tie.Need-same-length-3
@@ -26,8 +26,8 @@ returns : tie.Need-returns
 returns c = let s = c .before .before .before .before .before .before .before .before .before .before .before .before .before .before in
     let p = s .pre .0 in (
       subst (λ (y : List ℕ). Certified (s .args .n) (L (s .args .n) (s .args .d) (s .args .e)) (piece (s .args .w .now) (s .args .e + 1) (s .args .d + 1)) (piece (s .args .w .now) 0 (s .args .e + 1)) (c .before .before .before .before .over-first .last .0) y 1)
-          (sym (c .before .before .before .before .before .before .before .before .before .wipe .ensures)) (constant-certified _ _ _ _ (s .args .y .now) _ (p .0) (p .1 .0) (s .pre .1) (c .before .before .before .before .over-first .ensures .0)),
-      c .before .before .before .before .over-first .ensures .1 ∙ length-set (s .args .w .now) 0 1,
+          (sym (c .before .before .before .before .before .before .before .before .before .wipe .ensures)) (constant-certified _ _ _ _ (s .args .y .now) _ (p .above) (p .room) (s .pre .1) (c .before .before .before .before .over-first .ensures .0)),
+      record { same = c .before .before .before .before .over-first .ensures .1 ∙ length-set (s .args .w .now) 0 1 },
     )
 
 pub constant-spec : {M : Type 1} → statement M

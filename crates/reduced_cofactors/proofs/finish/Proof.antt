@@ -1,4 +1,5 @@
 use Rattle.reduced_cofactors.proofs.Finishing.{finish-unit, finish-room, finished}
+use Rattle.reduced_cofactors.specs.Cofactors.{monic-place}
 use Rattle.reduced_units.proofs.Regions.{part-piece}
 use Rattle.windows.specs.Window.{piece, Loaded}
 use native.Mathlib.Omega.{arith}
@@ -11,29 +12,30 @@ use Rattle.reduced_cofactors.proofs.finish.Tie as tie
 
 over-first-requires : tie.Need-over-first-requires
 over-first-requires c κs = let s = c .before .before .before .before .before .before .before .before .before .before .before .before .before .before .before .before .before .before .before .before .before .before .before in
-    let p = s .pre .0 in
-    let h = s .pre .1 .1 in
-    let x = s .pre .1 .0 in (
-      (p .0, (omega arith, (omega arith, (finish-room _ _ _ _ _ _ _ _ _ (p .0) (p .1 .0) (p .1 .1 .0) (p .1 .1 .1) (h .1 .0) (h .1 .1 .1) (c .before .before .before .before .before .before .before .before .before .before .before .before .before .before .before .before .before .before .exact-quotient .ensures) (c .before .before .before .before .before .before .before .before .before .before .before .before .before .before .copy .ensures), x .0)))),
-      finish-unit _ _ _ _ _ _ _ _ _ (p .0) (p .1 .0) (p .1 .1 .0) (p .1 .1 .1) (h .1 .0) (h .1 .1 .1) (c .before .before .before .before .before .before .before .before .before .before .before .before .before .before .before .before .before .before .exact-quotient .ensures) (c .before .before .before .before .before .before .before .before .before .before .before .before .before .before .copy .ensures),
+    let p = s .pre .1 in (
+      (p .above, (omega arith, (omega arith, (finish-room _ _ _ _ _ _ _ _ _ _ _ p (c .before .before .before .before .before .before .before .before .before .before .before .before .before .before .before .before .before .before .exact-quotient .ensures) (c .before .before .before .before .before .before .before .before .before .before .before .before .before .before .copy .ensures), p .long-x)))),
+      finish-unit _ _ _ _ _ _ _ _ _ _ _ p (c .before .before .before .before .before .before .before .before .before .before .before .before .before .before .before .before .before .before .exact-quotient .ensures) (c .before .before .before .before .before .before .before .before .before .before .before .before .before .before .copy .ensures),
     )
 
 returns : tie.Need-returns
 returns c = let s = c .before .before .before .before .before .before .before .before .before .before .before .before .before .before .before .before .before .before .before .before .before .before .before .before .before .before .before .before in
-    let p = s .pre .0 in
-    let h = s .pre .1 .1 in
-    let a = s .args .q + (s .args .t + 1) in
+    let p = s .pre .1 in
+    let a = monic-place (s .args .d) (s .args .e) + (s .args .t + 1) in
     let z : a + s .args .t - a ≡ s .args .t = omega arith in
     let ld = subst (λ (f : List ℕ). Loaded (s .args .n) 0 f (c .before .before .before .before .before .before .before .before .before .before .before .before .before .before .before .wipe .last .0) (c .before .before .before .before .before .before .before .before .before .load .last .0)) (part-piece (c .before .before .before .before .before .before .before .before .before .before .before .before .before .before .before .before .before .before .before .copy .last .0) a (s .args .t) _ z) (c .before .before .before .before .before .before .before .before .before .load .ensures) in (
-      finished _ _ _ _ _ _ _ _ _ (p .0) (p .1 .0) (p .1 .1 .0) (p .1 .1 .1) (h .1 .0) (h .1 .1 .1) (c .before .before .before .before .before .before .before .before .before .before .before .before .before .before .before .before .before .before .before .before .before .before .before .exact-quotient .ensures) (c .before .before .before .before .before .before .before .before .before .before .before .before .before .before .before .before .before .before .before .copy .ensures) (s .args .y .now) _ _
+      finished _ _ _ _ _ _ _ _ _ _ _ p (c .before .before .before .before .before .before .before .before .before .before .before .before .before .before .before .before .before .before .before .before .before .before .before .exact-quotient .ensures) (c .before .before .before .before .before .before .before .before .before .before .before .before .before .before .before .before .before .before .before .copy .ensures) _ _
           (subst (λ (x : List ℕ). Loaded (s .args .n) 0 (piece (c .before .before .before .before .before .before .before .before .before .before .before .before .before .before .before .before .before .before .before .copy .last .0) a (s .args .t)) x (c .before .before .before .before .before .before .before .before .before .load .last .0)) (c .before .before .before .before .before .before .before .before .before .before .before .before .before .before .before .wipe .ensures) ld) (c .before .before .before .before .over-first .ensures .0),
-      c .before .before .before .before .over-first .ensures .1 ∙ c .before .before .before .before .before .before .before .before .before .before .before .before .before .before .before .before .before .before .before .copy .ensures .same ∙ c .before .before .before .before .before .before .before .before .before .before .before .before .before .before .before .before .before .before .before .before .before .before .before .exact-quotient .ensures .around .same,
+      record { same = c .before .before .before .before .over-first .ensures .1 ∙ c .before .before .before .before .before .before .before .before .before .before .before .before .before .before .before .before .before .before .before .copy .ensures .same ∙ c .before .before .before .before .before .before .before .before .before .before .before .before .before .before .before .before .before .before .before .before .before .before .before .exact-quotient .ensures .around .same },
     )
 
 pub finish-spec : {M : Type 1} → statement M
 finish-spec =
     tie.close
     (tie.spec
+    (λ c. search needs)
+    (λ c. search needs)
+    (λ c. search needs)
+    (λ c. search needs)
     (λ c κs. search needs)
     (λ c. search needs)
     (λ c. search needs)

@@ -19,10 +19,10 @@ loop-holds : tie.Need-loop-holds Inv-loop μ-loop
 loop-holds c = (omega arith, subtracting-start _ _ _ _ _ _ _ _ (c .before .pre .1 .product))
 
 sub-add-pair : tie.Need-sub-add-pair Inv-loop μ-loop
-sub-add-pair c = le-of-lt (first-small (c .before .before .before .before .loop .inv .1) (c .before .before .before .before .before .before .pre .1 .apart-first) (c .before .before .before .before .before .before .pre .1 .first) (c .before .before .before .before .loop .j + 1) (omega arith))
+sub-add-pair c = le-of-lt (first-small (c .before .before .before .before .loop .inv .1) (c .before .before .before .before .before .before .pre .1 .apart-first) (c .before .before .before .before .before .before .pre .1 .first) _ (omega arith))
 
 sub-add-pair-2 : tie.Need-sub-add-pair-2 Inv-loop μ-loop
-sub-add-pair-2 c = le-of-lt (first-small (c .before .before .before .before .loop .inv .1) (c .before .before .before .before .before .before .pre .1 .apart-first) (c .before .before .before .before .before .before .pre .1 .first) (c .before .before .before .before .loop .j) (omega arith))
+sub-add-pair-2 c = le-of-lt (first-small (c .before .before .before .before .loop .inv .1) (c .before .before .before .before .before .before .pre .1 .apart-first) (c .before .before .before .before .before .before .pre .1 .first) _ (omega arith))
 
 add-pair-requires : tie.Need-add-pair-requires Inv-loop μ-loop
 add-pair-requires c κs = let s = c .before .before .before .before .before .before in
@@ -33,7 +33,7 @@ add-pair-requires c κs = let s = c .before .before .before .before .before .bef
     )
 
 sub-mul-add-mod : tie.Need-sub-mul-add-mod Inv-loop μ-loop
-sub-mul-add-mod c = le-of-lt (first-small (c .before .before .before .before .before .before .before .before .loop .inv .1) (c .before .before .before .before .before .before .before .before .before .before .pre .1 .apart-first) (c .before .before .before .before .before .before .before .before .before .before .pre .1 .first) (c .before .before .before .before .before .before .before .before .loop .j + 1) (omega arith))
+sub-mul-add-mod c = le-of-lt (first-small (c .before .before .before .before .before .before .before .before .loop .inv .1) (c .before .before .before .before .before .before .before .before .before .before .pre .1 .apart-first) (c .before .before .before .before .before .before .before .before .before .before .pre .1 .first) _ (omega arith))
 
 loop-again : tie.Need-loop-again Inv-loop μ-loop
 loop-again c = let s = c .before .before .before .before .before .before .before .before .before .before .before .before in

@@ -6,30 +6,20 @@ use Rattle.reduced_units.proofs.over_unit.Tie as tie
 
 take-product-requires : tie.Need-take-product-requires
 take-product-requires c κs = let s = c .before .before .before .before .before .before in
-    let p = s .pre .0 .1 in
-    let q = p .1 .1 .1 .1 in
-    let h = s .pre .1 in
     let r = c .before .before .before .clear .ensures in
     let g = r .same in (
       (omega arith, (omega arith, (omega arith, (omega arith, (omega arith, omega arith))))),
-      (
-        over-factors _ _ _ _ _ _ _ _ _ (s .pre .0 .0) (p .1 .0) (p .1 .1 .0) (p .1 .1 .1 .0) (q .0) (q .1 .0) (q .1 .1 .0) (q .1 .1 .1) (h .0) (h .1 .0) (h .1 .1) r,
-        (
-          omega arith,
-          (
-            omega arith,
-            over-monic _ _ _ _ _ _ _ _ _ (s .pre .0 .0) (p .1 .0) (p .1 .1 .0) (p .1 .1 .1 .0) (q .0) (q .1 .0) (q .1 .1 .0) (q .1 .1 .1) (h .0) (h .1 .0) (h .1 .1) r,
-          ),
-        ),
-      ),
+      record {
+        factors = over-factors _ _ _ _ _ _ _ _ _ (s .pre) r;
+        degree = s .pre .degree;
+        after = omega arith;
+        monic = over-monic _ _ _ _ _ _ _ _ _ (s .pre) r;
+      },
     )
 
 returns : tie.Need-returns
 returns c = let s = c .before .before .before .before .before .before .before .before .before .before .before .before .before in
-    let p = s .pre .0 .1 in
-    let q = p .1 .1 .1 .1 in
-    let h = s .pre .1 in
-    over-done _ _ _ _ _ _ _ _ _ (s .pre .0 .0) (p .1 .0) (p .1 .1 .0) (p .1 .1 .1 .0) (q .0) (q .1 .0) (q .1 .1 .0) (q .1 .1 .1) (h .0) (h .1 .0) (h .1 .1)
+    over-done _ _ _ _ _ _ _ _ _ (s .pre)
     (c .before .before .before .before .before .before .before .before .before .before .clear .ensures) _ _ _ (c .before .before .before .before .before .before .take-product .ensures) (c .before .before .copy .ensures)
 
 pub over-unit-spec : {M : Type 1} → statement M

@@ -9,18 +9,16 @@ use Rattle.reduced_units.proofs.split_unit.Tie as tie
 
 unit-times-monic-requires : tie.Need-unit-times-monic-requires
 unit-times-monic-requires c κs = let s = c .before .before .before .before .before .before in
-    let p = s .pre .0 in
     let g = c .before .before .before .copy .ensures in
     let z : 8 * (s .args .t + 1) + 3 * (s .args .t + 1) - 8 * (s .args .t + 1) ≡ 3 * (s .args .t + 1) = omega arith in (
-      (p .0, (omega arith, split-room _ _ _ _ _ _ _ _ _ z (p .1 .0) (p .1 .1 .0) (p .1 .1 .1 .0) (p .1 .1 .1 .1) (s .pre .1 .0) (s .pre .1 .1) g)),
-      split-given _ _ _ _ _ _ _ _ _ z (p .1 .0) (p .1 .1 .0) (p .1 .1 .1 .0) (p .1 .1 .1 .1) (s .pre .1 .0) (s .pre .1 .1) g,
+      (s .pre .above, (omega arith, split-room _ _ _ _ _ _ _ _ _ z (s .pre) g)),
+      split-given _ _ _ _ _ _ _ _ _ z (s .pre) g,
     )
 
 returns : tie.Need-returns
 returns c = let s = c .before .before .before .before .before .before .before .before .before .before .before .before .before in
-    let p = s .pre .0 in
     let z : 8 * (s .args .t + 1) + 3 * (s .args .t + 1) - 8 * (s .args .t + 1) ≡ 3 * (s .args .t + 1) = omega arith in
-    split-done _ _ _ _ _ _ _ _ _ z (p .1 .0) (p .1 .1 .0) (p .1 .1 .1 .0) (p .1 .1 .1 .1) (s .pre .1 .0) (s .pre .1 .1) (c .before .before .before .before .before .before .before .before .before .before .copy .ensures)
+    split-done _ _ _ _ _ _ _ _ _ z (s .pre) (c .before .before .before .before .before .before .before .before .before .before .copy .ensures)
     (c .before .before .before .before .before .before .unit-times-monic .last .0) (c .before .before .before .before .before .before .unit-times-monic .kept .0) (c .before .before .before .before .before .before .unit-times-monic .ensures) _ (c .before .before .copy2 .ensures)
 
 pub split-unit-spec : {M : Type 1} → statement M

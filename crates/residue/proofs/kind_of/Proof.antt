@@ -26,19 +26,19 @@ loop-holds : tie.Need-loop-holds Inv-loop μ-loop
 loop-holds c = parts-start (omega arith) (c .before .before .before .before .before .before .cofactor .ensures) (c .before .before .before .before .if1 .left) (c .gcd .ensures)
 
 loop-less : tie.Need-loop-less Inv-loop μ-loop
-loop-less c = div-lt-self (c .before .before .loop .inv .positive) (c .before .loop-test .taken)
+loop-less c = div-lt-self (c .before .before .loop .inv .positive) (omega arith)
 
 loop-again : tie.Need-loop-again Inv-loop μ-loop
-loop-again c = parts-step (c .before .before .loop .inv) (c .before .loop-test .taken) (c .gcd2 .ensures)
+loop-again c = parts-step (c .before .before .loop .inv) (omega arith) (c .gcd2 .ensures)
 
 div-t10 : tie.Need-div-t10 Inv-loop μ-loop
 div-t10 c = c .before .before .loop .inv .positive
 
 returns-3 : tie.Need-returns-3 Inv-loop μ-loop
-returns-3 c = parts-nilpotent (c .before .before .loop .inv) (c .if3 .taken)
+returns-3 c = parts-nilpotent (c .before .before .loop .inv) (omega arith)
 
 returns-4 : tie.Need-returns-4 Inv-loop μ-loop
-returns-4 c = parts-splitting (c .before .before .loop .inv) (c .before .loop-test .left) (c .if3 .left)
+returns-4 c = parts-splitting (c .before .before .loop .inv) (omega arith) (c .if3 .left)
 
 pub kind-of-spec : {M : Type 1} → statement M
 kind-of-spec =

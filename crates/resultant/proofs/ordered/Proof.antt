@@ -6,12 +6,12 @@ use Rattle.resultant.proofs.ordered.Tie as tie
 euclid-requires : tie.Need-euclid-requires
 euclid-requires c κs = let s = c .before .before .before .before .before .before .before .before .before .before .before .before .args in
     let p = c .before .before .before .before .before .before .before .before .before .before .before .before .pre in
-    placed-asked (s .n) (s .f .now) (s .g .now) (s .w .now) (c .before .before .before .before .before .before .before .load .last .0) (c .before .before .before .load2 .last .0) (p .0 .0) (p .0 .1 .0) (p .0 .1 .1) (p .1) (c .before .before .before .before .before .before .before .load .ensures) (c .before .before .before .load2 .ensures)
+    placed-asked (s .n) (s .f .now) (s .g .now) (s .w .now) (c .before .before .before .before .before .before .before .load .last .0) (c .before .before .before .load2 .last .0) (p .0) (p .1 .0) (p .1 .1) (c .before .before .before .before .before .before .before .load .ensures) (c .before .before .before .load2 .ensures)
 
 returns : tie.Need-returns
 returns c = let s = c .before .before .before .before .before .before .before .before .before .before .before .before .before .before .before .args in
     let p = c .before .before .before .before .before .before .before .before .before .before .before .before .before .before .before .pre in
-    loaded-answer (s .n) (s .f .now) (s .g .now) (s .w .now) (c .before .before .before .before .before .before .before .before .before .before .load .last .0) (c .before .before .before .before .before .before .load2 .last .0) (p .0 .0) (p .0 .1 .0) (p .0 .1 .1) (p .1) (c .before .before .before .before .before .before .before .before .before .before .load .ensures) (c .before .before .before .before .before .before .load2 .ensures) (c .before .before .euclid .result) (c .before .before .euclid .ensures .0)
+    loaded-answer (s .n) (s .f .now) (s .g .now) (s .w .now) (c .before .before .before .before .before .before .before .before .before .before .load .last .0) (c .before .before .before .before .before .before .load2 .last .0) (p .0) (p .1 .0) (p .1 .1) (c .before .before .before .before .before .before .before .before .before .before .load .ensures) (c .before .before .before .before .before .before .load2 .ensures) (c .before .before .euclid .result) (c .before .before .euclid .ensures .0)
 
 pub ordered-spec : {M : Type 1} → statement M
 ordered-spec =

@@ -4,9 +4,9 @@ use borrow.Rule.Slice.PartMut.{midOf, putMid}
 use Rattle.resultant_steps.proofs.SideBySide.{onward}
 use Rattle.resultant_steps.proofs.Contents.{content-positive, content-whole, content-times}
 use Rattle.resultant_steps.proofs.Turned.{followed}
-use Rattle.resultant_steps.specs.Answers.{AnswerOf}
+use Rattle.resultant_steps.specs.AttemptAnswers.{ValueOrSplit}
 use Rattle.residue.specs.declared.Attempt.{Attempt}
-use Rattle.window_factor.specs.Factors.{HighestOf, LeadingUnit, Nilpotents}
+use Rattle.window_factor.specs.Factors.{HighestOf, LeadingUnit, AllNilpotents}
 use Rattle.resultant_attempt.proofs.Remaining.{at-constant, divisor-asked, divide-asked, next-asked, times-next}
 use Rattle.resultant_attempt.proofs.Copies.{copies-fit, stacked-asked, stacked-answer, part-fits, monic-constant, monic-asked, monic-answer, monic-kept, kept-none, unit-asked, unit-sign}
 use Rattle.resultant_attempt.proofs.Leads.{stacked-fits, cleared-asked, cleared-divides, not-all-nilpotent, lent, lead-asked, lead-below, given-in}
@@ -143,20 +143,6 @@ by-content-clear-content-requires t c κs = let s = c .before .before .args in
     let st = c .before .before .pre .1 in
     (omega (arith, st .two), stacked-fits (s .n) (s .d) (s .e) (s .w .now) st)
 
-by-content-same-length : (t : ℕ) → by-content-lts.Need-same-length (
-  clear-content-reads.Asked,
-  clear-content-reads.Learnt,
-  primitive-below t,
-  primitive.Post,
-  lifted-reads.Asked,
-  lifted-reads.Learnt,
-  power-reads.Asked,
-  power-reads.Learnt,
-  times-reads.Asked,
-  times-reads.Learnt,
-) (by-content-at t) by-content.Post
-by-content-same-length t c = search needs
-
 by-content-returns : (t : ℕ) → by-content-lts.Need-returns (
   clear-content-reads.Asked,
   clear-content-reads.Learnt,
@@ -223,48 +209,6 @@ by-content-lifted-requires t c κs = let s = c .before .before .before .before .
   },
 )
 
-by-content-power-requires : (t : ℕ) → by-content-lts.Need-power-requires (
-  clear-content-reads.Asked,
-  clear-content-reads.Learnt,
-  primitive-below t,
-  primitive.Post,
-  lifted-reads.Asked,
-  lifted-reads.Learnt,
-  power-reads.Asked,
-  power-reads.Learnt,
-  times-reads.Asked,
-  times-reads.Learnt,
-) (by-content-at t) by-content.Post
-by-content-power-requires t c κs = search needs
-
-by-content-times-requires : (t : ℕ) → by-content-lts.Need-times-requires (
-  clear-content-reads.Asked,
-  clear-content-reads.Learnt,
-  primitive-below t,
-  primitive.Post,
-  lifted-reads.Asked,
-  lifted-reads.Learnt,
-  power-reads.Asked,
-  power-reads.Learnt,
-  times-reads.Asked,
-  times-reads.Learnt,
-) (by-content-at t) by-content.Post
-by-content-times-requires t c κs = search needs
-
-by-content-same-length-2 : (t : ℕ) → by-content-lts.Need-same-length-2 (
-  clear-content-reads.Asked,
-  clear-content-reads.Learnt,
-  primitive-below t,
-  primitive.Post,
-  lifted-reads.Asked,
-  lifted-reads.Learnt,
-  power-reads.Asked,
-  power-reads.Learnt,
-  times-reads.Asked,
-  times-reads.Learnt,
-) (by-content-at t) by-content.Post
-by-content-same-length-2 t c = search needs
-
 by-content-returns-2 : (t : ℕ) → by-content-lts.Need-returns-2 (
   clear-content-reads.Asked,
   clear-content-reads.Learnt,
@@ -285,62 +229,6 @@ by-content-returns-2 t c = let s = c .before .before .before .before .before .be
     followed (c .times .ensures) (c .before .before .lifted .ensures .at (s .n / g) (resultant (s .n / g) (piece w1 (s .e + 1) (s .d + 1)) (piece w1 0 (s .e + 1))) (cleared-divides (s .n) g (s .d) (s .e) (s .w .now) w1 cl) (c .before .before .before .before .before .primitive .ensures))
     (content-times (s .n) g (s .d) (s .e) (s .w .now) w1 (st .two) (st .one) (st .near) (stacked-fits (s .n) (s .d) (s .e) (s .w .now) st) (st .below) cl (c .before .before .before .before .before .before .before .if1 .left) (c .before .power .result) (c .before .power .ensures))
 
-euclid-add-lead : (t : ℕ) → euclid-lts.Need-add-lead (
-  power-reads.Asked,
-  power-reads.Learnt,
-  cofactor-reads.Asked,
-  cofactor-reads.Learnt,
-  step-below t,
-  step.Post,
-  copy-pair-reads.Asked,
-  copy-pair-reads.Learnt,
-  by-content-below t,
-  by-content.Post,
-) (euclid-at t) euclid.Post
-euclid-add-lead t c = search needs
-
-euclid-mul-lead : (t : ℕ) → euclid-lts.Need-mul-lead (
-  power-reads.Asked,
-  power-reads.Learnt,
-  cofactor-reads.Asked,
-  cofactor-reads.Learnt,
-  step-below t,
-  step.Post,
-  copy-pair-reads.Asked,
-  copy-pair-reads.Learnt,
-  by-content-below t,
-  by-content.Post,
-) (euclid-at t) euclid.Post
-euclid-mul-lead t c = search needs
-
-euclid-slice-read-lead : (t : ℕ) → euclid-lts.Need-slice-read-lead (
-  power-reads.Asked,
-  power-reads.Learnt,
-  cofactor-reads.Asked,
-  cofactor-reads.Learnt,
-  step-below t,
-  step.Post,
-  copy-pair-reads.Asked,
-  copy-pair-reads.Learnt,
-  by-content-below t,
-  by-content.Post,
-) (euclid-at t) euclid.Post
-euclid-slice-read-lead t c = search needs
-
-euclid-power-requires : (t : ℕ) → euclid-lts.Need-power-requires (
-  power-reads.Asked,
-  power-reads.Learnt,
-  cofactor-reads.Asked,
-  cofactor-reads.Learnt,
-  step-below t,
-  step.Post,
-  copy-pair-reads.Asked,
-  copy-pair-reads.Learnt,
-  by-content-below t,
-  by-content.Post,
-) (euclid-at t) euclid.Post
-euclid-power-requires t c κs = search needs
-
 euclid-returns : (t : ℕ) → euclid-lts.Need-returns (
   power-reads.Asked,
   power-reads.Learnt,
@@ -354,21 +242,7 @@ euclid-returns : (t : ℕ) → euclid-lts.Need-returns (
   by-content.Post,
 ) (euclid-at t) euclid.Post
 euclid-returns t c = let s = c .before .before .before .before .args in
-    (at-constant (s .n) (s .a) (s .d) (s .b) (s .e) (s .s) (c .power .result) (s .w .now) (c .before .before .before .before .pre .1) (c .before .if1 .taken) (c .power .ensures), refl)
-
-euclid-cofactor-requires : (t : ℕ) → euclid-lts.Need-cofactor-requires (
-  power-reads.Asked,
-  power-reads.Learnt,
-  cofactor-reads.Asked,
-  cofactor-reads.Learnt,
-  step-below t,
-  step.Post,
-  copy-pair-reads.Asked,
-  copy-pair-reads.Learnt,
-  by-content-below t,
-  by-content.Post,
-) (euclid-at t) euclid.Post
-euclid-cofactor-requires t c κs = search needs
+    (at-constant (s .n) (s .a) (s .d) (s .b) (s .e) (s .s) (c .power .result) (s .w .now) (c .before .before .before .before .pre .1) (c .before .if1 .taken) (c .power .ensures), record { same = refl })
 
 euclid-step-requires : (t : ℕ) → euclid-lts.Need-step-requires (
   power-reads.Asked,
@@ -385,20 +259,6 @@ euclid-step-requires : (t : ℕ) → euclid-lts.Need-step-requires (
 euclid-step-requires t c κs = let s = c .before .before .before .before .before .before .before .args in
     (omega (arith, c .before .before .before .before .before .before .before .pre .0), divisor-asked (s .n) (s .a) (s .d) (s .b) (s .e) (s .s) (c .before .before .before .cofactor .result .g) (c .before .before .before .cofactor .result .s) (s .w .now) (c .before .before .before .before .before .before .before .pre .1) (c .before .before .before .before .if1 .left) (c .before .before .before .cofactor .ensures) (c .before .if2 .taken))
 
-euclid-same-length : (t : ℕ) → euclid-lts.Need-same-length (
-  power-reads.Asked,
-  power-reads.Learnt,
-  cofactor-reads.Asked,
-  cofactor-reads.Learnt,
-  step-below t,
-  step.Post,
-  copy-pair-reads.Asked,
-  copy-pair-reads.Learnt,
-  by-content-below t,
-  by-content.Post,
-) (euclid-at t) euclid.Post
-euclid-same-length t c = search needs
-
 euclid-returns-2 : (t : ℕ) → euclid-lts.Need-returns-2 (
   power-reads.Asked,
   power-reads.Learnt,
@@ -411,35 +271,7 @@ euclid-returns-2 : (t : ℕ) → euclid-lts.Need-returns-2 (
   by-content-below t,
   by-content.Post,
 ) (euclid-at t) euclid.Post
-euclid-returns-2 t c = (c .before .before .step .ensures, search needs)
-
-euclid-add-copy-pair : (t : ℕ) → euclid-lts.Need-add-copy-pair (
-  power-reads.Asked,
-  power-reads.Learnt,
-  cofactor-reads.Asked,
-  cofactor-reads.Learnt,
-  step-below t,
-  step.Post,
-  copy-pair-reads.Asked,
-  copy-pair-reads.Learnt,
-  by-content-below t,
-  by-content.Post,
-) (euclid-at t) euclid.Post
-euclid-add-copy-pair t c = search needs
-
-euclid-add-copy-pair-2 : (t : ℕ) → euclid-lts.Need-add-copy-pair-2 (
-  power-reads.Asked,
-  power-reads.Learnt,
-  cofactor-reads.Asked,
-  cofactor-reads.Learnt,
-  step-below t,
-  step.Post,
-  copy-pair-reads.Asked,
-  copy-pair-reads.Learnt,
-  by-content-below t,
-  by-content.Post,
-) (euclid-at t) euclid.Post
-euclid-add-copy-pair-2 t c = search needs
+euclid-returns-2 t c = (c .before .before .step .ensures, record { same = search needs })
 
 euclid-copy-pair-requires : (t : ℕ) → euclid-lts.Need-copy-pair-requires (
   power-reads.Asked,
@@ -456,62 +288,6 @@ euclid-copy-pair-requires : (t : ℕ) → euclid-lts.Need-copy-pair-requires (
 euclid-copy-pair-requires t c κs = let s = c .before .before .before .before .before .before .before .args in
     copies-fit (s .n) (s .a) (s .d) (s .b) (s .e) (s .s) (s .w .now) (c .before .before .before .before .before .before .before .pre .1) (c .before .before .before .before .if1 .left)
 
-euclid-mul-by-content : (t : ℕ) → euclid-lts.Need-mul-by-content (
-  power-reads.Asked,
-  power-reads.Learnt,
-  cofactor-reads.Asked,
-  cofactor-reads.Learnt,
-  step-below t,
-  step.Post,
-  copy-pair-reads.Asked,
-  copy-pair-reads.Learnt,
-  by-content-below t,
-  by-content.Post,
-) (euclid-at t) euclid.Post
-euclid-mul-by-content t c = search needs
-
-euclid-sub-by-content : (t : ℕ) → euclid-lts.Need-sub-by-content (
-  power-reads.Asked,
-  power-reads.Learnt,
-  cofactor-reads.Asked,
-  cofactor-reads.Learnt,
-  step-below t,
-  step.Post,
-  copy-pair-reads.Asked,
-  copy-pair-reads.Learnt,
-  by-content-below t,
-  by-content.Post,
-) (euclid-at t) euclid.Post
-euclid-sub-by-content t c = search needs
-
-euclid-part-by-content-start : (t : ℕ) → euclid-lts.Need-part-by-content-start (
-  power-reads.Asked,
-  power-reads.Learnt,
-  cofactor-reads.Asked,
-  cofactor-reads.Learnt,
-  step-below t,
-  step.Post,
-  copy-pair-reads.Asked,
-  copy-pair-reads.Learnt,
-  by-content-below t,
-  by-content.Post,
-) (euclid-at t) euclid.Post
-euclid-part-by-content-start t c = search needs
-
-euclid-part-by-content-end : (t : ℕ) → euclid-lts.Need-part-by-content-end (
-  power-reads.Asked,
-  power-reads.Learnt,
-  cofactor-reads.Asked,
-  cofactor-reads.Learnt,
-  step-below t,
-  step.Post,
-  copy-pair-reads.Asked,
-  copy-pair-reads.Learnt,
-  by-content-below t,
-  by-content.Post,
-) (euclid-at t) euclid.Post
-euclid-part-by-content-end t c = search needs
-
 euclid-by-content-requires : (t : ℕ) → euclid-lts.Need-by-content-requires (
   power-reads.Asked,
   power-reads.Learnt,
@@ -527,20 +303,6 @@ euclid-by-content-requires : (t : ℕ) → euclid-lts.Need-by-content-requires (
 euclid-by-content-requires t c κs = let s = c .before .before .before .before .before .before .before .before .before .before .before .args in
     (omega (arith, c .before .before .before .before .before .before .before .before .before .before .before .pre .0), stacked-asked (s .n) (s .a) (s .d) (s .b) (s .e) (s .s) (s .w .now) (c .before .before .before .copy-pair .last .0) (c .before .before .before .before .before .before .before .before .before .before .before .pre .1) (c .before .before .before .before .before .before .before .before .if1 .left) (c .before .before .before .copy-pair .ensures))
 
-euclid-same-length-2 : (t : ℕ) → euclid-lts.Need-same-length-2 (
-  power-reads.Asked,
-  power-reads.Learnt,
-  cofactor-reads.Asked,
-  cofactor-reads.Learnt,
-  step-below t,
-  step.Post,
-  copy-pair-reads.Asked,
-  copy-pair-reads.Learnt,
-  by-content-below t,
-  by-content.Post,
-) (euclid-at t) euclid.Post
-euclid-same-length-2 t c = search needs
-
 euclid-returns-3 : (t : ℕ) → euclid-lts.Need-returns-3 (
   power-reads.Asked,
   power-reads.Learnt,
@@ -554,139 +316,7 @@ euclid-returns-3 : (t : ℕ) → euclid-lts.Need-returns-3 (
   by-content.Post,
 ) (euclid-at t) euclid.Post
 euclid-returns-3 t c = let s = c .before .before .before .before .before .before .before .before .before .before .before .before .before .before .args in
-    (stacked-answer (s .n) (s .a) (s .d) (s .b) (s .e) (s .s) (s .w .now) (c .before .before .before .before .before .before .copy-pair .last .0) (c .before .before .before .before .before .before .before .before .before .before .before .before .before .before .pre .1) (c .before .before .before .before .before .before .before .before .before .before .before .if1 .left) (c .before .before .before .before .before .before .copy-pair .ensures) (c .before .before .by-content .result) (c .before .before .by-content .ensures), search needs)
-
-factors-add-a : (t : ℕ) → factors-lts.Need-add-a (
-  unit-times-monic-reads.Asked,
-  unit-times-monic-reads.Learnt,
-  monic-part-below t,
-  monic-part.Post,
-  unit-part-below t,
-  unit-part.Post,
-  times-reads.Asked,
-  times-reads.Learnt,
-) (factors-at t) factors.Post
-factors-add-a t c = search needs
-
-factors-add-l : (t : ℕ) → factors-lts.Need-add-l (
-  unit-times-monic-reads.Asked,
-  unit-times-monic-reads.Learnt,
-  monic-part-below t,
-  monic-part.Post,
-  unit-part-below t,
-  unit-part.Post,
-  times-reads.Asked,
-  times-reads.Learnt,
-) (factors-at t) factors.Post
-factors-add-l t c = search needs
-
-factors-add-h : (t : ℕ) → factors-lts.Need-add-h (
-  unit-times-monic-reads.Asked,
-  unit-times-monic-reads.Learnt,
-  monic-part-below t,
-  monic-part.Post,
-  unit-part-below t,
-  unit-part.Post,
-  times-reads.Asked,
-  times-reads.Learnt,
-) (factors-at t) factors.Post
-factors-add-h t c = search needs
-
-factors-add-v : (t : ℕ) → factors-lts.Need-add-v (
-  unit-times-monic-reads.Asked,
-  unit-times-monic-reads.Learnt,
-  monic-part-below t,
-  monic-part.Post,
-  unit-part-below t,
-  unit-part.Post,
-  times-reads.Asked,
-  times-reads.Learnt,
-) (factors-at t) factors.Post
-factors-add-v t c = search needs
-
-factors-add-v-2 : (t : ℕ) → factors-lts.Need-add-v-2 (
-  unit-times-monic-reads.Asked,
-  unit-times-monic-reads.Learnt,
-  monic-part-below t,
-  monic-part.Post,
-  unit-part-below t,
-  unit-part.Post,
-  times-reads.Asked,
-  times-reads.Learnt,
-) (factors-at t) factors.Post
-factors-add-v-2 t c = search needs
-
-factors-add-u : (t : ℕ) → factors-lts.Need-add-u (
-  unit-times-monic-reads.Asked,
-  unit-times-monic-reads.Learnt,
-  monic-part-below t,
-  monic-part.Post,
-  unit-part-below t,
-  unit-part.Post,
-  times-reads.Asked,
-  times-reads.Learnt,
-) (factors-at t) factors.Post
-factors-add-u t c = search needs
-
-factors-add-x : (t : ℕ) → factors-lts.Need-add-x (
-  unit-times-monic-reads.Asked,
-  unit-times-monic-reads.Learnt,
-  monic-part-below t,
-  monic-part.Post,
-  unit-part-below t,
-  unit-part.Post,
-  times-reads.Asked,
-  times-reads.Learnt,
-) (factors-at t) factors.Post
-factors-add-x t c = search needs
-
-factors-mul-unit-times-monic : (t : ℕ) → factors-lts.Need-mul-unit-times-monic (
-  unit-times-monic-reads.Asked,
-  unit-times-monic-reads.Learnt,
-  monic-part-below t,
-  monic-part.Post,
-  unit-part-below t,
-  unit-part.Post,
-  times-reads.Asked,
-  times-reads.Learnt,
-) (factors-at t) factors.Post
-factors-mul-unit-times-monic t c = search needs
-
-factors-sub-unit-times-monic : (t : ℕ) → factors-lts.Need-sub-unit-times-monic (
-  unit-times-monic-reads.Asked,
-  unit-times-monic-reads.Learnt,
-  monic-part-below t,
-  monic-part.Post,
-  unit-part-below t,
-  unit-part.Post,
-  times-reads.Asked,
-  times-reads.Learnt,
-) (factors-at t) factors.Post
-factors-sub-unit-times-monic t c = search needs
-
-factors-part-unit-times-monic-start : (t : ℕ) → factors-lts.Need-part-unit-times-monic-start (
-  unit-times-monic-reads.Asked,
-  unit-times-monic-reads.Learnt,
-  monic-part-below t,
-  monic-part.Post,
-  unit-part-below t,
-  unit-part.Post,
-  times-reads.Asked,
-  times-reads.Learnt,
-) (factors-at t) factors.Post
-factors-part-unit-times-monic-start t c = search needs
-
-factors-part-unit-times-monic-end : (t : ℕ) → factors-lts.Need-part-unit-times-monic-end (
-  unit-times-monic-reads.Asked,
-  unit-times-monic-reads.Learnt,
-  monic-part-below t,
-  monic-part.Post,
-  unit-part-below t,
-  unit-part.Post,
-  times-reads.Asked,
-  times-reads.Learnt,
-) (factors-at t) factors.Post
-factors-part-unit-times-monic-end t c = search needs
+    (stacked-answer (s .n) (s .a) (s .d) (s .b) (s .e) (s .s) (s .w .now) (c .before .before .before .before .before .before .copy-pair .last .0) (c .before .before .before .before .before .before .before .before .before .before .before .before .before .before .pre .1) (c .before .before .before .before .before .before .before .before .before .before .before .if1 .left) (c .before .before .before .before .before .before .copy-pair .ensures) (c .before .before .by-content .result) (c .before .before .by-content .ensures), record { same = search needs })
 
 factors-unit-times-monic-requires : (t : ℕ) → factors-lts.Need-unit-times-monic-requires (
   unit-times-monic-reads.Asked,
@@ -722,30 +352,6 @@ factors-monic-part-requires t c κs = let s = c .before .before .before .before 
       ),
     )
 
-factors-enum-known-y : (t : ℕ) → factors-lts.Need-enum-known-y (
-  unit-times-monic-reads.Asked,
-  unit-times-monic-reads.Learnt,
-  monic-part-below t,
-  monic-part.Post,
-  unit-part-below t,
-  unit-part.Post,
-  times-reads.Asked,
-  times-reads.Learnt,
-) (factors-at t) factors.Post
-factors-enum-known-y t c = search needs
-
-factors-sub-unit-part : (t : ℕ) → factors-lts.Need-sub-unit-part (
-  unit-times-monic-reads.Asked,
-  unit-times-monic-reads.Learnt,
-  monic-part-below t,
-  monic-part.Post,
-  unit-part-below t,
-  unit-part.Post,
-  times-reads.Asked,
-  times-reads.Learnt,
-) (factors-at t) factors.Post
-factors-sub-unit-part t c = search needs
-
 factors-unit-part-requires : (t : ℕ) → factors-lts.Need-unit-part-requires (
   unit-times-monic-reads.Asked,
   unit-times-monic-reads.Learnt,
@@ -767,42 +373,6 @@ factors-unit-part-requires t c κs = let s = c .before .before .before .before .
       ),
     )
 
-factors-times-requires : (t : ℕ) → factors-lts.Need-times-requires (
-  unit-times-monic-reads.Asked,
-  unit-times-monic-reads.Learnt,
-  monic-part-below t,
-  monic-part.Post,
-  unit-part-below t,
-  unit-part.Post,
-  times-reads.Asked,
-  times-reads.Learnt,
-) (factors-at t) factors.Post
-factors-times-requires t c κs = search needs
-
-factors-enum-known-p : (t : ℕ) → factors-lts.Need-enum-known-p (
-  unit-times-monic-reads.Asked,
-  unit-times-monic-reads.Learnt,
-  monic-part-below t,
-  monic-part.Post,
-  unit-part-below t,
-  unit-part.Post,
-  times-reads.Asked,
-  times-reads.Learnt,
-) (factors-at t) factors.Post
-factors-enum-known-p t c = search needs
-
-factors-same-length : (t : ℕ) → factors-lts.Need-same-length (
-  unit-times-monic-reads.Asked,
-  unit-times-monic-reads.Learnt,
-  monic-part-below t,
-  monic-part.Post,
-  unit-part-below t,
-  unit-part.Post,
-  times-reads.Asked,
-  times-reads.Learnt,
-) (factors-at t) factors.Post
-factors-same-length t c = search needs
-
 factors-returns : (t : ℕ) → factors-lts.Need-returns (
   unit-times-monic-reads.Asked,
   unit-times-monic-reads.Learnt,
@@ -819,20 +389,8 @@ factors-returns t c = let s = c .before .before .before .before .before .before 
     let h = c .before .before .before .before .before .before .before .before .before .before .monic-part in
     let w1 : List ℕ = putMid (s .e + 1) (length (s .w .now) - (s .e + 1)) (s .w .now) (u .last .0) in
     let y = c .before .before .before .before .before .before .y .given in
-    let hy = subst (λ (r : Attempt). AnswerOf (s .n) (resultant (s .n) (piece w1 (s .e + 1 + (s .d + 1)) (s .t + 1)) (piece w1 0 (s .e + 1))) r) (y .1) (h .ensures .0) in
+    let hy = subst (λ (r : Attempt). ValueOrSplit (s .n) (resultant (s .n) (piece w1 (s .e + 1 + (s .d + 1)) (s .t + 1)) (piece w1 0 (s .e + 1))) r) (y .1) (h .ensures .0) in
     followed (c .times .ensures) (c .before .before .before .unit-part .ensures) (product-times (s .n) (s .d) (s .e) (s .t) (s .w .now) (u .last .0) (p .0) (p .1) (u .kept .0) (u .ensures) (h .last .0) (h .ensures .1) (y .0 .0) (hy .0))
-
-factors-same-length-2 : (t : ℕ) → factors-lts.Need-same-length-2 (
-  unit-times-monic-reads.Asked,
-  unit-times-monic-reads.Learnt,
-  monic-part-below t,
-  monic-part.Post,
-  unit-part-below t,
-  unit-part.Post,
-  times-reads.Asked,
-  times-reads.Learnt,
-) (factors-at t) factors.Post
-factors-same-length-2 t c = search needs
 
 factors-returns-2 : (t : ℕ) → factors-lts.Need-returns-2 (
   unit-times-monic-reads.Asked,
@@ -846,7 +404,7 @@ factors-returns-2 : (t : ℕ) → factors-lts.Need-returns-2 (
 ) (factors-at t) factors.Post
 factors-returns-2 t c = let s = c .before .before .before .before .before .before .before .before .before .before .before .before .args in
     let w1 : List ℕ = putMid (s .e + 1) (length (s .w .now) - (s .e + 1)) (s .w .now) (c .before .before .before .before .before .before .before .before .before .unit-times-monic .last .0) in
-    subst (λ (r : Attempt). AnswerOf (s .n) (resultant (s .n) (piece w1 (s .e + 1 + (s .d + 1)) (s .t + 1)) (piece w1 0 (s .e + 1))) r) (c .before .p .given .1) (c .before .before .before .before .before .monic-part .ensures .0)
+    subst (λ (r : Attempt). ValueOrSplit (s .n) (resultant (s .n) (piece w1 (s .e + 1 + (s .d + 1)) (s .t + 1)) (piece w1 0 (s .e + 1))) r) (c .before .p .given .1) (c .before .before .before .before .before .monic-part .ensures .0)
 
 monic-part-returns : (t : ℕ) → monic-part-lts.Need-returns (
   copy-pair-reads.Asked,
@@ -857,22 +415,6 @@ monic-part-returns : (t : ℕ) → monic-part-lts.Need-returns (
 monic-part-returns t c = let s = c .before .before .args in
     (monic-constant (s .n) (s .a) (s .t) (s .e) (s .x) (s .w .now) (c .before .before .pre .1 .0) (c .before .before .pre .1 .1) (c .if1 .taken), kept-none (s .x) (s .w .now))
 
-monic-part-add-l : (t : ℕ) → monic-part-lts.Need-add-l (
-  copy-pair-reads.Asked,
-  copy-pair-reads.Learnt,
-  step-below t,
-  step.Post,
-) (monic-part-at t) monic-part.Post
-monic-part-add-l t c = search needs
-
-monic-part-add-m : (t : ℕ) → monic-part-lts.Need-add-m (
-  copy-pair-reads.Asked,
-  copy-pair-reads.Learnt,
-  step-below t,
-  step.Post,
-) (monic-part-at t) monic-part.Post
-monic-part-add-m t c = search needs
-
 monic-part-copy-pair-requires : (t : ℕ) → monic-part-lts.Need-copy-pair-requires (
   copy-pair-reads.Asked,
   copy-pair-reads.Learnt,
@@ -882,46 +424,6 @@ monic-part-copy-pair-requires : (t : ℕ) → monic-part-lts.Need-copy-pair-requ
 monic-part-copy-pair-requires t c κs = let s = c .before .before .before .args in
     part-fits (s .n) (s .a) (s .t) (s .e) (s .x) (s .w .now) (c .before .before .before .pre .1 .0)
 
-monic-part-mul-step : (t : ℕ) → monic-part-lts.Need-mul-step (
-  copy-pair-reads.Asked,
-  copy-pair-reads.Learnt,
-  step-below t,
-  step.Post,
-) (monic-part-at t) monic-part.Post
-monic-part-mul-step t c = search needs
-
-monic-part-sub-step : (t : ℕ) → monic-part-lts.Need-sub-step (
-  copy-pair-reads.Asked,
-  copy-pair-reads.Learnt,
-  step-below t,
-  step.Post,
-) (monic-part-at t) monic-part.Post
-monic-part-sub-step t c = search needs
-
-monic-part-part-step-start : (t : ℕ) → monic-part-lts.Need-part-step-start (
-  copy-pair-reads.Asked,
-  copy-pair-reads.Learnt,
-  step-below t,
-  step.Post,
-) (monic-part-at t) monic-part.Post
-monic-part-part-step-start t c = search needs
-
-monic-part-part-step-end : (t : ℕ) → monic-part-lts.Need-part-step-end (
-  copy-pair-reads.Asked,
-  copy-pair-reads.Learnt,
-  step-below t,
-  step.Post,
-) (monic-part-at t) monic-part.Post
-monic-part-part-step-end t c = search needs
-
-monic-part-add-step : (t : ℕ) → monic-part-lts.Need-add-step (
-  copy-pair-reads.Asked,
-  copy-pair-reads.Learnt,
-  step-below t,
-  step.Post,
-) (monic-part-at t) monic-part.Post
-monic-part-add-step t c = search needs
-
 monic-part-step-requires : (t : ℕ) → monic-part-lts.Need-step-requires (
   copy-pair-reads.Asked,
   copy-pair-reads.Learnt,
@@ -930,14 +432,6 @@ monic-part-step-requires : (t : ℕ) → monic-part-lts.Need-step-requires (
 ) (monic-part-at t) monic-part.Post
 monic-part-step-requires t c κs = let s = c .before .before .before .before .before .before .before .args in
     (omega (arith, c .before .before .before .before .before .before .before .pre .0), monic-asked (s .n) (s .a) (s .t) (s .e) (s .x) (s .w .now) (c .before .before .before .copy-pair .last .0) (c .before .before .before .before .before .before .before .pre .1 .0) (c .before .before .before .copy-pair .ensures) (c .before .before .before .before .before .before .before .pre .1 .1) (c .before .before .before .before .before .if1 .left))
-
-monic-part-same-length : (t : ℕ) → monic-part-lts.Need-same-length (
-  copy-pair-reads.Asked,
-  copy-pair-reads.Learnt,
-  step-below t,
-  step.Post,
-) (monic-part-at t) monic-part.Post
-monic-part-same-length t c = search needs
 
 monic-part-returns-2 : (t : ℕ) → monic-part-lts.Need-returns-2 (
   copy-pair-reads.Asked,
@@ -950,96 +444,6 @@ monic-part-returns-2 t c = let s = c .before .before .before .before .before .be
       monic-answer (s .n) (s .a) (s .t) (s .e) (s .x) (s .w .now) w1 (c .before .before .before .before .before .before .before .before .before .before .pre .1 .0) (c .before .before .before .before .before .before .copy-pair .ensures) (c .before .before .step .result) (c .before .before .step .ensures),
       monic-kept (s .n) (s .a) (s .t) (s .e) (s .x) (s .w .now) w1 (c .before .before .before .before .before .before .before .before .before .before .pre .1 .0) (c .before .before .before .before .before .before .copy-pair .ensures) (c .before .before .step .last .0) (c .before .before .step .kept .0),
     )
-
-primitive-add-a : (t : ℕ) → primitive-lts.Need-add-a (
-  highest-of-reads.Asked,
-  highest-of-reads.Learnt,
-  step-below t,
-  step.Post,
-  factors-below t,
-  factors.Post,
-) (primitive-at t) primitive.Post
-primitive-add-a t c = search needs
-
-primitive-add-s : (t : ℕ) → primitive-lts.Need-add-s (
-  highest-of-reads.Asked,
-  highest-of-reads.Learnt,
-  step-below t,
-  step.Post,
-  factors-below t,
-  factors.Post,
-) (primitive-at t) primitive.Post
-primitive-add-s t c = search needs
-
-primitive-add-s-2 : (t : ℕ) → primitive-lts.Need-add-s-2 (
-  highest-of-reads.Asked,
-  highest-of-reads.Learnt,
-  step-below t,
-  step.Post,
-  factors-below t,
-  factors.Post,
-) (primitive-at t) primitive.Post
-primitive-add-s-2 t c = search needs
-
-primitive-mul-highest-of : (t : ℕ) → primitive-lts.Need-mul-highest-of (
-  highest-of-reads.Asked,
-  highest-of-reads.Learnt,
-  step-below t,
-  step.Post,
-  factors-below t,
-  factors.Post,
-) (primitive-at t) primitive.Post
-primitive-mul-highest-of t c = search needs
-
-primitive-sub-highest-of : (t : ℕ) → primitive-lts.Need-sub-highest-of (
-  highest-of-reads.Asked,
-  highest-of-reads.Learnt,
-  step-below t,
-  step.Post,
-  factors-below t,
-  factors.Post,
-) (primitive-at t) primitive.Post
-primitive-sub-highest-of t c = search needs
-
-primitive-part-highest-of-start : (t : ℕ) → primitive-lts.Need-part-highest-of-start (
-  highest-of-reads.Asked,
-  highest-of-reads.Learnt,
-  step-below t,
-  step.Post,
-  factors-below t,
-  factors.Post,
-) (primitive-at t) primitive.Post
-primitive-part-highest-of-start t c = search needs
-
-primitive-part-highest-of-end : (t : ℕ) → primitive-lts.Need-part-highest-of-end (
-  highest-of-reads.Asked,
-  highest-of-reads.Learnt,
-  step-below t,
-  step.Post,
-  factors-below t,
-  factors.Post,
-) (primitive-at t) primitive.Post
-primitive-part-highest-of-end t c = search needs
-
-primitive-highest-of-requires : (t : ℕ) → primitive-lts.Need-highest-of-requires (
-  highest-of-reads.Asked,
-  highest-of-reads.Learnt,
-  step-below t,
-  step.Post,
-  factors-below t,
-  factors.Post,
-) (primitive-at t) primitive.Post
-primitive-highest-of-requires t c κs = search needs
-
-primitive-enum-known-t : (t : ℕ) → primitive-lts.Need-enum-known-t (
-  highest-of-reads.Asked,
-  highest-of-reads.Learnt,
-  step-below t,
-  step.Post,
-  factors-below t,
-  factors.Post,
-) (primitive-at t) primitive.Post
-primitive-enum-known-t t c = search needs
 
 primitive-step-requires : (t : ℕ) → primitive-lts.Need-step-requires (
   highest-of-reads.Asked,
@@ -1054,16 +458,6 @@ primitive-step-requires t c κs = let s = c .before .before .before .before .bef
     let m : ℕ = s .e + 1 + (s .d + 1) - (s .e + 1) in
     let u = lent (LeadingUnit (s .n) (g .0 .0) (g .0 .1 .0)) (s .e + 1) (s .d + 1) m (s .w .now) (omega arith) (subst (HighestOf (s .n) (midOf (s .e + 1) m (s .w .now))) (g .1) (c .before .before .before .before .before .highest-of .ensures)) in
     (omega (arith, c .before .before .before .before .before .before .before .before .before .pre .0), lead-asked (s .n) (s .d) (s .e) (g .0 .0) (g .0 .1 .0) (s .w .now) (c .before .before .before .before .before .before .before .before .before .pre .1 .0) u (c .before .if1 .taken))
-
-primitive-same-length : (t : ℕ) → primitive-lts.Need-same-length (
-  highest-of-reads.Asked,
-  highest-of-reads.Learnt,
-  step-below t,
-  step.Post,
-  factors-below t,
-  factors.Post,
-) (primitive-at t) primitive.Post
-primitive-same-length t c = search needs
 
 primitive-returns : (t : ℕ) → primitive-lts.Need-returns (
   highest-of-reads.Asked,
@@ -1089,36 +483,6 @@ primitive-factors-requires t c κs = let s = c .before .before .before .before .
     let u = lent (LeadingUnit (s .n) (g .0 .0) (g .0 .1 .0)) (s .e + 1) (s .d + 1) m (s .w .now) (omega arith) (subst (HighestOf (s .n) (midOf (s .e + 1) m (s .w .now))) (g .1) (c .before .before .before .before .before .highest-of .ensures)) in
     (omega (arith, c .before .before .before .before .before .before .before .before .before .pre .0), ((c .before .before .before .before .before .before .before .before .before .pre .1 .0, lead-below (s .n) (s .d) (s .e) (g .0 .0) (g .0 .1 .0) (s .w .now) (c .before .before .before .before .before .before .before .before .before .pre .1 .0) u (c .before .if1 .left)), u))
 
-primitive-enum-known-p : (t : ℕ) → primitive-lts.Need-enum-known-p (
-  highest-of-reads.Asked,
-  highest-of-reads.Learnt,
-  step-below t,
-  step.Post,
-  factors-below t,
-  factors.Post,
-) (primitive-at t) primitive.Post
-primitive-enum-known-p t c = search needs
-
-primitive-enum-told : (t : ℕ) → primitive-lts.Need-enum-told (
-  highest-of-reads.Asked,
-  highest-of-reads.Learnt,
-  step-below t,
-  step.Post,
-  factors-below t,
-  factors.Post,
-) (primitive-at t) primitive.Post
-primitive-enum-told t c = search needs
-
-primitive-same-length-2 : (t : ℕ) → primitive-lts.Need-same-length-2 (
-  highest-of-reads.Asked,
-  highest-of-reads.Learnt,
-  step-below t,
-  step.Post,
-  factors-below t,
-  factors.Post,
-) (primitive-at t) primitive.Post
-primitive-same-length-2 t c = search needs
-
 primitive-returns-2 : (t : ℕ) → primitive-lts.Need-returns-2 (
   highest-of-reads.Asked,
   highest-of-reads.Learnt,
@@ -1128,16 +492,6 @@ primitive-returns-2 : (t : ℕ) → primitive-lts.Need-returns-2 (
   factors.Post,
 ) (primitive-at t) primitive.Post
 primitive-returns-2 t c = c .before .before .factors .ensures
-
-primitive-same-length-3 : (t : ℕ) → primitive-lts.Need-same-length-3 (
-  highest-of-reads.Asked,
-  highest-of-reads.Learnt,
-  step-below t,
-  step.Post,
-  factors-below t,
-  factors.Post,
-) (primitive-at t) primitive.Post
-primitive-same-length-3 t c = search needs
 
 primitive-returns-3 : (t : ℕ) → primitive-lts.Need-returns-3 (
   highest-of-reads.Asked,
@@ -1151,16 +505,6 @@ primitive-returns-3 t c = let s = c .before .before .before .before .before .bef
     let m : ℕ = s .e + 1 + (s .d + 1) - (s .e + 1) in
     subst (HighestOf (s .n) (midOf (s .e + 1) m (s .w .now))) (c .before .p .given .1) (c .before .before .before .highest-of .ensures)
 
-primitive-same-length-4 : (t : ℕ) → primitive-lts.Need-same-length-4 (
-  highest-of-reads.Asked,
-  highest-of-reads.Learnt,
-  step-below t,
-  step.Post,
-  factors-below t,
-  factors.Post,
-) (primitive-at t) primitive.Post
-primitive-same-length-4 t c = search needs
-
 primitive-returns-4 : (t : ℕ) → primitive-lts.Need-returns-4 (
   highest-of-reads.Asked,
   highest-of-reads.Learnt,
@@ -1172,43 +516,7 @@ primitive-returns-4 : (t : ℕ) → primitive-lts.Need-returns-4 (
 primitive-returns-4 t c = let s = c .before .before .before .before .before .before .args in
     let m : ℕ = s .e + 1 + (s .d + 1) - (s .e + 1) in
     absurd (not-all-nilpotent (s .n) (piece (s .w .now) (s .e + 1) (s .d + 1)) (c .before .before .before .before .before .before .pre .1 .0 .two) (c .before .before .before .before .before .before .pre .1 .1)
-    (lent (Nilpotents (s .n)) (s .e + 1) (s .d + 1) m (s .w .now) (omega arith) (subst (HighestOf (s .n) (midOf (s .e + 1) m (s .w .now))) (c .enum-told .given .1) (c .before .before .highest-of .ensures))))
-
-step-add-lead : (t : ℕ) → step-lts.Need-add-lead (
-  divide-reads.Asked,
-  divide-reads.Learnt,
-  euclid-below t,
-  euclid.Post,
-  power-reads.Asked,
-  power-reads.Learnt,
-  times-reads.Asked,
-  times-reads.Learnt,
-) (step-at t) step.Post
-step-add-lead t c = search needs
-
-step-mul-lead : (t : ℕ) → step-lts.Need-mul-lead (
-  divide-reads.Asked,
-  divide-reads.Learnt,
-  euclid-below t,
-  euclid.Post,
-  power-reads.Asked,
-  power-reads.Learnt,
-  times-reads.Asked,
-  times-reads.Learnt,
-) (step-at t) step.Post
-step-mul-lead t c = search needs
-
-step-slice-read-lead : (t : ℕ) → step-lts.Need-slice-read-lead (
-  divide-reads.Asked,
-  divide-reads.Learnt,
-  euclid-below t,
-  euclid.Post,
-  power-reads.Asked,
-  power-reads.Learnt,
-  times-reads.Asked,
-  times-reads.Learnt,
-) (step-at t) step.Post
-step-slice-read-lead t c = search needs
+    (lent (AllNilpotents (s .n)) (s .e + 1) (s .d + 1) m (s .w .now) (omega arith) (subst (HighestOf (s .n) (midOf (s .e + 1) m (s .w .now))) (c .enum-told .given .1) (c .before .before .highest-of .ensures))))
 
 step-divide-requires : (t : ℕ) → step-lts.Need-divide-requires (
   divide-reads.Asked,
@@ -1222,18 +530,6 @@ step-divide-requires : (t : ℕ) → step-lts.Need-divide-requires (
 ) (step-at t) step.Post
 step-divide-requires t c κs = let s = c .before .before .before .args in
     divide-asked (s .n) (s .a) (s .d) (s .b) (s .e) (s .s) (s .i) (s .w .now) (c .before .before .before .pre .1)
-
-step-sub-euclid : (t : ℕ) → step-lts.Need-sub-euclid (
-  divide-reads.Asked,
-  divide-reads.Learnt,
-  euclid-below t,
-  euclid.Post,
-  power-reads.Asked,
-  power-reads.Learnt,
-  times-reads.Asked,
-  times-reads.Learnt,
-) (step-at t) step.Post
-step-sub-euclid t c = search needs
 
 step-euclid-requires : (t : ℕ) → step-lts.Need-euclid-requires (
   divide-reads.Asked,
@@ -1249,66 +545,6 @@ step-euclid-requires t c κs = let s = c .before .before .before .before .before
     let dv = c .before .before .before .before .before .before .before .pre .1 in
     (omega (arith, c .before .before .before .before .before .before .before .pre .0, dv .one), next-asked (s .n) (s .a) (s .d) (s .b) (s .e) (s .s) (s .i) (s .w .now) (c .before .before .before .divide .last .0) dv (c .before .before .before .divide .ensures))
 
-step-add-power : (t : ℕ) → step-lts.Need-add-power (
-  divide-reads.Asked,
-  divide-reads.Learnt,
-  euclid-below t,
-  euclid.Post,
-  power-reads.Asked,
-  power-reads.Learnt,
-  times-reads.Asked,
-  times-reads.Learnt,
-) (step-at t) step.Post
-step-add-power t c = search needs
-
-step-sub-power : (t : ℕ) → step-lts.Need-sub-power (
-  divide-reads.Asked,
-  divide-reads.Learnt,
-  euclid-below t,
-  euclid.Post,
-  power-reads.Asked,
-  power-reads.Learnt,
-  times-reads.Asked,
-  times-reads.Learnt,
-) (step-at t) step.Post
-step-sub-power t c = search needs
-
-step-power-requires : (t : ℕ) → step-lts.Need-power-requires (
-  divide-reads.Asked,
-  divide-reads.Learnt,
-  euclid-below t,
-  euclid.Post,
-  power-reads.Asked,
-  power-reads.Learnt,
-  times-reads.Asked,
-  times-reads.Learnt,
-) (step-at t) step.Post
-step-power-requires t c κs = search needs
-
-step-times-requires : (t : ℕ) → step-lts.Need-times-requires (
-  divide-reads.Asked,
-  divide-reads.Learnt,
-  euclid-below t,
-  euclid.Post,
-  power-reads.Asked,
-  power-reads.Learnt,
-  times-reads.Asked,
-  times-reads.Learnt,
-) (step-at t) step.Post
-step-times-requires t c κs = search needs
-
-step-same-length : (t : ℕ) → step-lts.Need-same-length (
-  divide-reads.Asked,
-  divide-reads.Learnt,
-  euclid-below t,
-  euclid.Post,
-  power-reads.Asked,
-  power-reads.Learnt,
-  times-reads.Asked,
-  times-reads.Learnt,
-) (step-at t) step.Post
-step-same-length t c = search needs
-
 step-returns : (t : ℕ) → step-lts.Need-returns (
   divide-reads.Asked,
   divide-reads.Learnt,
@@ -1323,66 +559,6 @@ step-returns t c = let s = c .before .before .before .before .before .before .be
     followed (c .times .ensures) (c .before .before .before .before .euclid .ensures .0)
     (times-next (s .n) (s .a) (s .d) (s .b) (s .e) (s .s) (s .i) (s .w .now) (c .before .before .before .before .before .before .before .before .divide .last .0) (c .before .before .before .before .before .before .before .before .before .before .before .before .pre .1) (c .before .before .before .before .before .before .before .before .divide .ensures) (c .before .power .result) (c .before .power .ensures))
 
-unit-part-mul-cofactor : (t : ℕ) → unit-part-lts.Need-mul-cofactor (
-  cofactor-reads.Asked,
-  cofactor-reads.Learnt,
-  copy-pair-reversed-reads.Asked,
-  copy-pair-reversed-reads.Learnt,
-  step-below t,
-  step.Post,
-  times-sign-reads.Asked,
-  times-sign-reads.Learnt,
-) (unit-part-at t) unit-part.Post
-unit-part-mul-cofactor t c = search needs
-
-unit-part-slice-read-cofactor : (t : ℕ) → unit-part-lts.Need-slice-read-cofactor (
-  cofactor-reads.Asked,
-  cofactor-reads.Learnt,
-  copy-pair-reversed-reads.Asked,
-  copy-pair-reversed-reads.Learnt,
-  step-below t,
-  step.Post,
-  times-sign-reads.Asked,
-  times-sign-reads.Learnt,
-) (unit-part-at t) unit-part.Post
-unit-part-slice-read-cofactor t c = search needs
-
-unit-part-cofactor-requires : (t : ℕ) → unit-part-lts.Need-cofactor-requires (
-  cofactor-reads.Asked,
-  cofactor-reads.Learnt,
-  copy-pair-reversed-reads.Asked,
-  copy-pair-reversed-reads.Learnt,
-  step-below t,
-  step.Post,
-  times-sign-reads.Asked,
-  times-sign-reads.Learnt,
-) (unit-part-at t) unit-part.Post
-unit-part-cofactor-requires t c κs = search needs
-
-unit-part-add-l : (t : ℕ) → unit-part-lts.Need-add-l (
-  cofactor-reads.Asked,
-  cofactor-reads.Learnt,
-  copy-pair-reversed-reads.Asked,
-  copy-pair-reversed-reads.Learnt,
-  step-below t,
-  step.Post,
-  times-sign-reads.Asked,
-  times-sign-reads.Learnt,
-) (unit-part-at t) unit-part.Post
-unit-part-add-l t c = search needs
-
-unit-part-add-m : (t : ℕ) → unit-part-lts.Need-add-m (
-  cofactor-reads.Asked,
-  cofactor-reads.Learnt,
-  copy-pair-reversed-reads.Asked,
-  copy-pair-reversed-reads.Learnt,
-  step-below t,
-  step.Post,
-  times-sign-reads.Asked,
-  times-sign-reads.Learnt,
-) (unit-part-at t) unit-part.Post
-unit-part-add-m t c = search needs
-
 unit-part-copy-pair-reversed-requires : (t : ℕ) → unit-part-lts.Need-copy-pair-reversed-requires (
   cofactor-reads.Asked,
   cofactor-reads.Learnt,
@@ -1395,66 +571,6 @@ unit-part-copy-pair-reversed-requires : (t : ℕ) → unit-part-lts.Need-copy-pa
 ) (unit-part-at t) unit-part.Post
 unit-part-copy-pair-reversed-requires t c κs = let s = c .before .before .before .before .args in
     part-fits (s .n) (s .a) (s .k) (s .e) (s .x) (s .w .now) (c .before .before .before .before .pre .1 .0)
-
-unit-part-mul-step : (t : ℕ) → unit-part-lts.Need-mul-step (
-  cofactor-reads.Asked,
-  cofactor-reads.Learnt,
-  copy-pair-reversed-reads.Asked,
-  copy-pair-reversed-reads.Learnt,
-  step-below t,
-  step.Post,
-  times-sign-reads.Asked,
-  times-sign-reads.Learnt,
-) (unit-part-at t) unit-part.Post
-unit-part-mul-step t c = search needs
-
-unit-part-sub-step : (t : ℕ) → unit-part-lts.Need-sub-step (
-  cofactor-reads.Asked,
-  cofactor-reads.Learnt,
-  copy-pair-reversed-reads.Asked,
-  copy-pair-reversed-reads.Learnt,
-  step-below t,
-  step.Post,
-  times-sign-reads.Asked,
-  times-sign-reads.Learnt,
-) (unit-part-at t) unit-part.Post
-unit-part-sub-step t c = search needs
-
-unit-part-part-step-start : (t : ℕ) → unit-part-lts.Need-part-step-start (
-  cofactor-reads.Asked,
-  cofactor-reads.Learnt,
-  copy-pair-reversed-reads.Asked,
-  copy-pair-reversed-reads.Learnt,
-  step-below t,
-  step.Post,
-  times-sign-reads.Asked,
-  times-sign-reads.Learnt,
-) (unit-part-at t) unit-part.Post
-unit-part-part-step-start t c = search needs
-
-unit-part-part-step-end : (t : ℕ) → unit-part-lts.Need-part-step-end (
-  cofactor-reads.Asked,
-  cofactor-reads.Learnt,
-  copy-pair-reversed-reads.Asked,
-  copy-pair-reversed-reads.Learnt,
-  step-below t,
-  step.Post,
-  times-sign-reads.Asked,
-  times-sign-reads.Learnt,
-) (unit-part-at t) unit-part.Post
-unit-part-part-step-end t c = search needs
-
-unit-part-add-step : (t : ℕ) → unit-part-lts.Need-add-step (
-  cofactor-reads.Asked,
-  cofactor-reads.Learnt,
-  copy-pair-reversed-reads.Asked,
-  copy-pair-reversed-reads.Learnt,
-  step-below t,
-  step.Post,
-  times-sign-reads.Asked,
-  times-sign-reads.Learnt,
-) (unit-part-at t) unit-part.Post
-unit-part-add-step t c = search needs
 
 unit-part-step-requires : (t : ℕ) → unit-part-lts.Need-step-requires (
   cofactor-reads.Asked,
@@ -1484,18 +600,6 @@ unit-part-times-sign-requires t c κs = let s = c .before .before .before .befor
     let w1 = c .before .before .before .before .before .before .copy-pair-reversed .last .0 in
     let u : List ℕ = onward w1 (s .x) in
     record { x = resultant (s .n) (piece u 0 (s .k + 1)) (piece u (s .k + 1) (s .e + 1)); is = c .before .before .step .ensures }
-
-unit-part-same-length : (t : ℕ) → unit-part-lts.Need-same-length (
-  cofactor-reads.Asked,
-  cofactor-reads.Learnt,
-  copy-pair-reversed-reads.Asked,
-  copy-pair-reversed-reads.Learnt,
-  step-below t,
-  step.Post,
-  times-sign-reads.Asked,
-  times-sign-reads.Learnt,
-) (unit-part-at t) unit-part.Post
-unit-part-same-length t c = search needs
 
 unit-part-returns : (t : ℕ) → unit-part-lts.Need-returns (
   cofactor-reads.Asked,
@@ -1537,14 +641,14 @@ pub +by-content+euclid+factors+monic-part+primitive+step+unit-part-spec :
     (by-content-at t)
     by-content.Post
     (by-content-clear-content-requires t)
-    (by-content-same-length t)
+    (λ c. search needs)
     (by-content-returns t)
     (by-content-div-primitive t)
     (by-content-primitive-requires t)
     (by-content-lifted-requires t)
-    (by-content-power-requires t)
-    (by-content-times-requires t)
-    (by-content-same-length-2 t)
+    (λ c κs. search needs)
+    (λ c κs. search needs)
+    (λ c. search needs)
     (by-content-returns-2 t))
     (λ t. euclid-lts.spec (
       power-reads.Asked,
@@ -1560,24 +664,24 @@ pub +by-content+euclid+factors+monic-part+primitive+step+unit-part-spec :
     )
     (euclid-at t)
     euclid.Post
-    (euclid-add-lead t)
-    (euclid-mul-lead t)
-    (euclid-slice-read-lead t)
-    (euclid-power-requires t)
+    (λ c. search needs)
+    (λ c. search needs)
+    (λ c. search needs)
+    (λ c κs. search needs)
     (euclid-returns t)
-    (euclid-cofactor-requires t)
+    (λ c κs. search needs)
     (euclid-step-requires t)
-    (euclid-same-length t)
+    (λ c. search needs)
     (euclid-returns-2 t)
-    (euclid-add-copy-pair t)
-    (euclid-add-copy-pair-2 t)
+    (λ c. search needs)
+    (λ c. search needs)
     (euclid-copy-pair-requires t)
-    (euclid-mul-by-content t)
-    (euclid-sub-by-content t)
-    (euclid-part-by-content-start t)
-    (euclid-part-by-content-end t)
+    (λ c. search needs)
+    (λ c. search needs)
+    (λ c. search needs)
+    (λ c. search needs)
     (euclid-by-content-requires t)
-    (euclid-same-length-2 t)
+    (λ c. search needs)
     (euclid-returns-3 t))
     (λ t. factors-lts.spec (
       unit-times-monic-reads.Asked,
@@ -1591,27 +695,27 @@ pub +by-content+euclid+factors+monic-part+primitive+step+unit-part-spec :
     )
     (factors-at t)
     factors.Post
-    (factors-add-a t)
-    (factors-add-l t)
-    (factors-add-h t)
-    (factors-add-v t)
-    (factors-add-v-2 t)
-    (factors-add-u t)
-    (factors-add-x t)
-    (factors-mul-unit-times-monic t)
-    (factors-sub-unit-times-monic t)
-    (factors-part-unit-times-monic-start t)
-    (factors-part-unit-times-monic-end t)
+    (λ c. search needs)
+    (λ c. search needs)
+    (λ c. search needs)
+    (λ c. search needs)
+    (λ c. search needs)
+    (λ c. search needs)
+    (λ c. search needs)
+    (λ c. search needs)
+    (λ c. search needs)
+    (λ c. search needs)
+    (λ c. search needs)
     (factors-unit-times-monic-requires t)
     (factors-monic-part-requires t)
-    (factors-enum-known-y t)
-    (factors-sub-unit-part t)
+    (λ c. search needs)
+    (λ c. search needs)
     (factors-unit-part-requires t)
-    (factors-times-requires t)
-    (factors-enum-known-p t)
-    (factors-same-length t)
+    (λ c κs. search needs)
+    (λ c. search needs)
+    (λ c. search needs)
     (factors-returns t)
-    (factors-same-length-2 t)
+    (λ c. search needs)
     (factors-returns-2 t))
     (λ t. monic-part-lts.spec (
       copy-pair-reads.Asked,
@@ -1622,16 +726,16 @@ pub +by-content+euclid+factors+monic-part+primitive+step+unit-part-spec :
     (monic-part-at t)
     monic-part.Post
     (monic-part-returns t)
-    (monic-part-add-l t)
-    (monic-part-add-m t)
+    (λ c. search needs)
+    (λ c. search needs)
     (monic-part-copy-pair-requires t)
-    (monic-part-mul-step t)
-    (monic-part-sub-step t)
-    (monic-part-part-step-start t)
-    (monic-part-part-step-end t)
-    (monic-part-add-step t)
+    (λ c. search needs)
+    (λ c. search needs)
+    (λ c. search needs)
+    (λ c. search needs)
+    (λ c. search needs)
     (monic-part-step-requires t)
-    (monic-part-same-length t)
+    (λ c. search needs)
     (monic-part-returns-2 t))
     (λ t. primitive-lts.spec (
       highest-of-reads.Asked,
@@ -1643,26 +747,26 @@ pub +by-content+euclid+factors+monic-part+primitive+step+unit-part-spec :
     )
     (primitive-at t)
     primitive.Post
-    (primitive-add-a t)
-    (primitive-add-s t)
-    (primitive-add-s-2 t)
-    (primitive-mul-highest-of t)
-    (primitive-sub-highest-of t)
-    (primitive-part-highest-of-start t)
-    (primitive-part-highest-of-end t)
-    (primitive-highest-of-requires t)
-    (primitive-enum-known-t t)
+    (λ c. search needs)
+    (λ c. search needs)
+    (λ c. search needs)
+    (λ c. search needs)
+    (λ c. search needs)
+    (λ c. search needs)
+    (λ c. search needs)
+    (λ c κs. search needs)
+    (λ c. search needs)
     (primitive-step-requires t)
-    (primitive-same-length t)
+    (λ c. search needs)
     (primitive-returns t)
     (primitive-factors-requires t)
-    (primitive-enum-known-p t)
-    (primitive-enum-told t)
-    (primitive-same-length-2 t)
+    (λ c. search needs)
+    (λ c. search needs)
+    (λ c. search needs)
     (primitive-returns-2 t)
-    (primitive-same-length-3 t)
+    (λ c. search needs)
     (primitive-returns-3 t)
-    (primitive-same-length-4 t)
+    (λ c. search needs)
     (primitive-returns-4 t))
     (λ t. step-lts.spec (
       divide-reads.Asked,
@@ -1676,17 +780,17 @@ pub +by-content+euclid+factors+monic-part+primitive+step+unit-part-spec :
     )
     (step-at t)
     step.Post
-    (step-add-lead t)
-    (step-mul-lead t)
-    (step-slice-read-lead t)
+    (λ c. search needs)
+    (λ c. search needs)
+    (λ c. search needs)
     (step-divide-requires t)
-    (step-sub-euclid t)
+    (λ c. search needs)
     (step-euclid-requires t)
-    (step-add-power t)
-    (step-sub-power t)
-    (step-power-requires t)
-    (step-times-requires t)
-    (step-same-length t)
+    (λ c. search needs)
+    (λ c. search needs)
+    (λ c κs. search needs)
+    (λ c κs. search needs)
+    (λ c. search needs)
     (step-returns t))
     λ t. unit-part-lts.spec (
       cofactor-reads.Asked,
@@ -1700,18 +804,18 @@ pub +by-content+euclid+factors+monic-part+primitive+step+unit-part-spec :
     )
     (unit-part-at t)
     unit-part.Post
-    (unit-part-mul-cofactor t)
-    (unit-part-slice-read-cofactor t)
-    (unit-part-cofactor-requires t)
-    (unit-part-add-l t)
-    (unit-part-add-m t)
+    (λ c. search needs)
+    (λ c. search needs)
+    (λ c κs. search needs)
+    (λ c. search needs)
+    (λ c. search needs)
     (unit-part-copy-pair-reversed-requires t)
-    (unit-part-mul-step t)
-    (unit-part-sub-step t)
-    (unit-part-part-step-start t)
-    (unit-part-part-step-end t)
-    (unit-part-add-step t)
+    (λ c. search needs)
+    (λ c. search needs)
+    (λ c. search needs)
+    (λ c. search needs)
+    (λ c. search needs)
     (unit-part-step-requires t)
     (unit-part-times-sign-requires t)
-    (unit-part-same-length t)
+    (λ c. search needs)
     (unit-part-returns t)

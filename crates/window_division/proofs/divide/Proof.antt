@@ -3,8 +3,8 @@ use borrow.Author.Needs.{needs}
 use Rattle.window_division.proofs.Turns.{Dividing, dividing-start, dividing-step, dividing-end}
 use Rattle.window_division.proofs.Double.{double-step}
 use native.Mathlib.Omega.{arith}
-use mathlib.Core.Path.{_≡_, refl, sym, ap, subst, _∙_}
-use Prim.Native.Nat.{ℕ, _+_, _*_, _-_, _%_, _≤_, _<_}
+use mathlib.Core.Path.{_≡_, refl, sym, subst}
+use Prim.Native.Nat.{ℕ, _+_, _-_, _≤_, _<_}
 use native.Mathlib.Nat.{le-of-lt, mod-lt}
 use Rattle.window_division.proofs.divide.Statement.{statement}
 use Rattle.window_division.proofs.divide.Tie as tie

@@ -3,8 +3,8 @@ use borrow.Author.Needs.{needs}
 use lib.ListN.{getD}
 use Rattle.window_division.proofs.Keeping.{Keeping, keeping-start, keeping-double, keeping-single, keeping-end}
 use native.Mathlib.Omega.{arith}
-use mathlib.Core.Path.{_≡_, refl, sym, ap, subst, _∙_}
-use Prim.Native.Nat.{ℕ, _+_, _*_, _-_, _%_, _≤_, _<_}
+use mathlib.Core.Path.{_≡_, refl, sym, subst, _∙_}
+use Prim.Native.Nat.{ℕ, _+_, _-_, _≤_, _<_}
 use native.Mathlib.Nat.{le-of-lt, mod-lt}
 use Rattle.window_division.proofs.divide_keeping.Statement.{statement}
 use Rattle.window_division.proofs.divide_keeping.Tie as tie

@@ -9,9 +9,9 @@ use Rattle.window_factor.proofs.series_word.Tie as tie
 
 product-word-requires : tie.Need-product-word-requires
 product-word-requires c κs = let s = c .before .before .before .before in (
-  s .pre .0,
+  s .pre .positive,
   series-residues (s .args .n) (s .args .k) (s .args .j) (s .args .k + 1 + s .args .j - (s .args .k + 1)) (s .args .w .now)
-      (omega arith) (s .pre .1 .1 .0) (s .pre .1 .1 .1),
+      (omega arith) (s .pre .fits) (s .pre .below),
 )
 
 returns-2 : tie.Need-returns-2

@@ -21,8 +21,14 @@ loop-holds c = let s = c .before .before .before .before .before in
 divide-copy-requires : tie.Need-divide-copy-requires Inv-loop μ-loop
 divide-copy-requires c κs = let s = c .before .before .before .before .before .before .before in
     let q = c .before .loop in
-    let l = q .inv .0 .same in
-    ((omega arith, (s .pre .0 .1 .0, omega (arith, q .inv .0 .same))), (q .inv .1 .small, (q .inv .1 .below, q .inv .1 .lead)))
+    record {
+      positive = omega arith;
+      within = s .pre .0 .1 .0;
+      fits = omega (arith, q .inv .0 .same);
+      below-f = q .inv .1 .small;
+      below-h = q .inv .1 .below;
+      monic = q .inv .1 .lead;
+    }
 
 returns : tie.Need-returns Inv-loop μ-loop
 returns c = let s = c .before .before .before .before .before .before .before .before .before .before .before .before .before .before in
