@@ -18,7 +18,7 @@ use Rattle.theory.specs.ReachedSteps.{Times, coef-beyond}
 use Rattle.theory.specs.ReducedLaws.{reduced-content}
 use Rattle.windows.specs.Window.{piece, Moved, quotient-by, Loaded, Content, Below}
 use Rattle.windows.proofs.Leaf.{lt-or-le, piece-at, piece-over, piece-length}
-use Rattle.window_factor.specs.Factors.{SplitOf, Nilpotents as NilpotentWords}
+use Rattle.window_factor.specs.Factors.{SplitOf, AllNilpotents as NilpotentWords}
 use Rattle.reduced_multipliers.specs.Joining.{combination-content}
 use Rattle.reduced_units.specs.States.{Splitter}
 use Rattle.reduced_cofactors.specs.Cofactors.{Certified, core-room}

@@ -5,7 +5,7 @@ use lib.ListN.{length, take, drop}
 use Rattle.reduced_attempt.proofs.Halves.{common-positive, common-above, room-less, length-less, below-second, below-first, part-first, arranged-nilpotents, product-most, half-certified, half-splitter, part-divides}
 use Rattle.reduced_units.proofs.Regions.{part-piece}
 use Rattle.reduced_clearing.proofs.UnitSteps.{split-splitter}
-use Rattle.window_factor.specs.Factors.{HighestOf, LeadingUnit, Nilpotents as NilpotentWords}
+use Rattle.window_factor.specs.Factors.{HighestOf, LeadingUnit, AllNilpotents as NilpotentWords}
 use Rattle.definitions.specs.Polynomials.{L}
 use Rattle.reduced_cofactors.specs.Cofactors.{CoreAnswer}
 use Rattle.windows.specs.Window.{piece}
