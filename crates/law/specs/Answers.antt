@@ -5,7 +5,7 @@
 --   law-of-the-answers                                     POINT 3
 use mathlib.Core.Path.{_≡_, refl, _∙_, ap}
 use mathlib.Core.List.{List, [], _∷_, _++_}
-use Prim.Native.Nat.{ℕ, _≤_}
+use Prim.Native.Nat.{ℕ, _+_, _%_, _≤_}
 use lib.ListN.{length, take, drop}
 use Rattle.definitions.specs.Polynomials.{product}
 use Rattle.theory.specs.PointThree.{LawOfProducts, point-three}

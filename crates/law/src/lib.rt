@@ -20,20 +20,6 @@ pub struct Numbers {
     pub status: u32,
 }
 
-fn refused(status: u32) -> Numbers
-    ensures { λ a. ⌜ a ≡ record { r = 0; rf = 0; rg = 0; d = 0; df = 0; dg = 0; status = status } ⌝ }
-{
-    Numbers {
-        r: 0,
-        rf: 0,
-        rg: 0,
-        d: 0,
-        df: 0,
-        dg: 0,
-        status,
-    }
-}
-
 fn sent_refusal(n: u32, f: &[u32], g: &[u32], h: &[u32]) -> u32
     ensures { λ s. ⌜ s ≡ first-refusal (law-sent narrow n (now (f .entry)) (now (g .entry)) (now (h .entry))) ⌝ }
 {
@@ -146,13 +132,29 @@ pub fn law_of_products(
 {
     let sent = sent_refusal(n, f, g, h);
     if sent != 0 {
-        return refused(sent);
+        return Numbers {
+            r: 0,
+            rf: 0,
+            rg: 0,
+            d: 0,
+            df: 0,
+            dg: 0,
+            status: sent,
+        };
     }
     let m = (f.len() - 1) + (g.len() - 1) + 1;
     let l = reduced::cofactor_length(n, m, h.len());
     let room = room_refusal(p.len(), m, u.len(), v.len(), l, work.len());
     if room != 0 {
-        return refused(room);
+        return Numbers {
+            r: 0,
+            rf: 0,
+            rg: 0,
+            d: 0,
+            df: 0,
+            dg: 0,
+            status: room,
+        };
     }
     polynomial_product::product(n, f, g, p);
     let r = resultants(n, &p[0..m], f, g, h, work);
