@@ -153,3 +153,10 @@ module _ (n : ℕ) (f g u v work : List ℕ) (s : ℕ) (e : s ≡ first-refusal 
           };
           work-is = ew;
         }
+
+-- the same for a value and a status that are handed on
+pub handed-on : {n : ℕ} {f g u u' v v' work work' : List ℕ} {D : ℕ} (x y : ℕ) → (x ≡ D) × (y ≡ 0)
+    → ReducedAnswer narrow n f g u u' v v' work work' D 0 → ReducedAnswer narrow n f g u u' v v' work work' x y
+handed-on {n} {f} {g} {u} {u'} {v} {v'} {work} {work'} x y i a =
+    subst (λ (t : ℕ). ReducedAnswer narrow n f g u u' v v' work work' x t) (sym (i .1))
+    (subst (λ (t : ℕ). ReducedAnswer narrow n f g u u' v v' work work' t 0) (sym (i .0)) a)

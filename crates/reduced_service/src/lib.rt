@@ -1,8 +1,18 @@
 // The reduced resultant with its cofactors as a service: from any words and lengths an answer, or a numbered refusal.
 ghost use mathlib.Core.Path.{_≡_};
+ghost use lib.ListN.{length, replicate};
 ghost use Rattle.refusals.specs.Refusals.{narrow};
 ghost use Rattle.reduced_service.specs.ReducedService.{ReducedAnswer};
 use refusals::Answer;
+
+// "After an answered call the whole working buffer is zero."
+fn answered(value: u32, work: &mut [u32]) -> Answer
+    ensures { λ r. ⌜ (r .value ≡ value) × (r .status ≡ 0) ⌝ }
+    ensures { λ _. ⌜ now (work .exit) ≡ replicate (length (now (work .entry))) 0 ⌝ }
+{
+    windows::wipe(work);
+    Answer { value, status: 0 }
+}
 
 // The reduced resultant D of f and g modulo n, with cofactors in the first L words of u and of v.
 pub fn reduced_resultant(
@@ -43,9 +53,5 @@ pub fn reduced_resultant(
         };
     }
     let found = reduced::run(&mut u[0..l], &mut v[0..l], work, n, f, g);
-    windows::wipe(work);
-    Answer {
-        value: found,
-        status: 0,
-    }
+    answered(found, work)
 }

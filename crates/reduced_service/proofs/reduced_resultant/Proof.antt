@@ -2,7 +2,7 @@ use mathlib.Core.Path.{_≡_, sym, ap, _∙_}
 use Prim.Native.Nat.{ℕ, _-_}
 use native.Mathlib.Omega.{arith}
 use lib.ListN.{replicate}
-use Rattle.reduced_service.proofs.Returning.{refused, length-asked, first-short, second-short, work-short, done, enough, modulus-two, part-long, part-length}
+use Rattle.reduced_service.proofs.Returning.{refused, length-asked, first-short, second-short, work-short, done, enough, modulus-two, part-long, part-length, handed-on}
 use borrow.Author.Needs.{needs}
 use Rattle.reduced_service.proofs.reduced_resultant.Statement.{statement}
 use Rattle.reduced_service.proofs.reduced_resultant.Tie as tie
@@ -70,11 +70,13 @@ returns-5 c =
     let m : l - 0 ≡ l = omega arith in
     let u = fourth .before .before .if2 .left in
     let v = fourth .before .if3 .left in
-    done _ _ _ _ _ _ (i .before .refusal-two .result) (i .before .refusal-two .ensures) (i .if1 .left) l (len .cofactor-length .ensures)
+    let last = c .before .before in
+    handed-on _ _ (last .answered .ensures .0)
+    (done _ _ _ _ _ _ (i .before .refusal-two .result) (i .before .refusal-two .ensures) (i .if1 .left) l (len .cofactor-length .ensures)
     (l - 0) m _ _ (r .run .last .0) (r .run .last .1 .0) _ u v (fourth .if4 .left)
     (part-length (l - 0) l (start .args .u .now) (r .run .last .0) m u (r .run .kept .0))
     (part-length (l - 0) l (start .args .v .now) (r .run .last .1 .0) m v (r .run .kept .1 .0)) (r .run .ensures .0)
-    (c .before .before .wipe .ensures ∙ ap (λ (x : ℕ). replicate x 0) (r .run .ensures .1 .same))
+    (last .answered .ensures .1 ∙ ap (λ (x : ℕ). replicate x 0) (r .run .ensures .1 .same)))
 
 pub reduced-resultant-spec : {M : Type 1} → statement M
 reduced-resultant-spec =
