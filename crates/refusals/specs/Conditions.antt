@@ -18,7 +18,8 @@ use lib.Dec.{T, ltb, eqb, ltb→lt, nltb→le}
 use lib.ListN.{length}
 use borrow.Author.Tests.{lt-ltb, eqb-true}
 use Rattle.definitions.specs.Polynomials.{coef, Residues}
-use Rattle.refusals.specs.Refusals.{Width, narrow, bad-modulus, bad-length, all-below, short, Tested, first-of, first-refusal, refusals-one, refusals-two}
+use Rattle.refusals.specs.Refusals.{Width, narrow, bad-modulus, bad-length, all-below, short}
+use Rattle.refusals.specs.Refusals.{Tested, first-of, first-refusal, refusals-one, refusals-two}
 
 -- "Modulus n: 2 to" the width's bound
 pub record ServedModulus (W : Width) (n : ℕ) : Type 0 where
@@ -51,7 +52,10 @@ modulus-fails W n = go (ltb n 2) (ltb n (W .bound)) refl refl
   where
     go : (s t : Bool) → ltb n 2 ≡ s → ltb n (W .bound) ≡ t → Fails (cond s true (not t)) (ServedModulus W n)
     go true t e h = record { passed = λ z. yes-no refl z; failed = λ z m. let a = below n 2 e in let b = m .least in omega arith }
-    go false true e h = record { passed = λ z. record { least = not-below n 2 e; most = below n (W .bound) h }; failed = λ z. yes-no z refl }
+    go false true e h = record {
+      passed = λ z. record { least = not-below n 2 e; most = below n (W .bound) h };
+      failed = λ z. yes-no z refl;
+    }
     go false false e h = record {
       passed = λ z. yes-no refl z;
       failed = λ z m. let a = not-below n (W .bound) h in let b = m .most in omega arith;

@@ -191,7 +191,7 @@ enum Tried {
 
 // Whether the plain evaluator answers x.
 fn evaluates_to(n: u32, f: &[u32], g: &[u32], x: u32) -> bool {
-    let b = evaluator::evaluate(n, f, g);
+    let b: refusals::Answer = evaluator::evaluate(n, f, g);
     if b.status != 0 {
         return false;
     }
