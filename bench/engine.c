@@ -1,5 +1,6 @@
 /* Times of the engine beside FLINT's and PARI's, in one run, over pools of different pairs, and where those two fail or answer
- * another number. Each figure is the best of several passes over the pool, in microseconds a call. Build and run: make -C bench */
+ * another number. Each figure is the best of several passes over the pool, in microseconds a call. Where a value of the engine is
+ * not the one it is compared with, or a call is refused, the program says which and exits with 1. Build and run: make -C bench */
 #include <stdio.h>
 #include <stdlib.h>
 #include <string.h>
@@ -15,9 +16,8 @@
 #define POOL 100
 #define PASSES 15
 #define MOST 49
-#define COFACTOR 1489
 
-static uint32_t work[8192], u[COFACTOR], v[COFACTOR];
+static uint32_t work[JINGCOBU_WORK], u[JINGCOBU_COFACTOR], v[JINGCOBU_COFACTOR];
 static uint32_t first[POOL][MOST], second[POOL][MOST];
 static volatile uint32_t sink;
 
@@ -26,6 +26,28 @@ static uint32_t draw(void)
 {
     state ^= state << 13; state ^= state >> 7; state ^= state << 17;
     return (uint32_t) (state >> 16);
+}
+
+static int wrong;
+
+/* the resultant of pair p, compared with another number of it */
+static void compare(const char *with, uint32_t n, int d, int p, uint32_t other)
+{
+    jingcobu_answer a = jingcobu_resultant(n, first[p], d + 1, second[p], d + 1, work, JINGCOBU_WORK);
+    if (a.status == JINGCOBU_OK && a.value == other) return;
+    wrong++;
+    printf("WRONG: n = %u, d = e = %d, pair %d: value %u and status %u, %s %u\n", n, d, p, a.value, a.status, with, other);
+}
+
+/* D of pair p, compared with n (common factor) or 1 (none), for prime n */
+static void compare_reduced(uint32_t n, int d, int p, int common)
+{
+    jingcobu_answer a = jingcobu_reduced_resultant(n, first[p], d + 1, second[p], d + 1, u, JINGCOBU_COFACTOR, v, JINGCOBU_COFACTOR,
+                                                   work, JINGCOBU_WORK);
+    if (a.status == JINGCOBU_OK && a.value == (common ? n : 1)) return;
+    wrong++;
+    printf("WRONG: n = %u, d = e = %d, pair %d: D %u and status %u, but the polynomials have %s\n", n, d, p, a.value, a.status,
+           common ? "a common factor" : "no common factor");
 }
 
 static double now(void)
@@ -68,7 +90,7 @@ static double engine_resultant(uint32_t n, int d)
     for (int pass = 0; pass < PASSES; pass++) {
         double t = now();
         for (int r = 0; r < 10; r++)
-            for (int p = 0; p < POOL; p++) sink = jingcobu_resultant(n, first[p], d + 1, second[p], d + 1, work, 8192).value;
+            for (int p = 0; p < POOL; p++) sink = jingcobu_resultant(n, first[p], d + 1, second[p], d + 1, work, JINGCOBU_WORK).value;
         t = (now() - t) / (10 * POOL);
         if (t < best) best = t;
     }
@@ -81,7 +103,7 @@ static double engine_reduced(uint32_t n, int d)
     for (int pass = 0; pass < PASSES; pass++) {
         double t = now();
         for (int r = 0; r < 10; r++)
-            for (int p = 0; p < POOL; p++) sink = jingcobu_reduced_resultant(n, first[p], d + 1, second[p], d + 1, u, COFACTOR, v, COFACTOR, work, 8192).value;
+            for (int p = 0; p < POOL; p++) sink = jingcobu_reduced_resultant(n, first[p], d + 1, second[p], d + 1, u, JINGCOBU_COFACTOR, v, JINGCOBU_COFACTOR, work, JINGCOBU_WORK).value;
         t = (now() - t) / (10 * POOL);
         if (t < best) best = t;
     }
@@ -119,14 +141,15 @@ static void prime_modulus(uint32_t n, int d)
     nmod_poly_t h, s, t;
     fill(n, d);
     nmod_poly_init(h, n); nmod_poly_init(s, n); nmod_poly_init(t, n);
-    int wrong = 0;
     for (int p = 0; p < POOL; p++) {
         nmod_poly_init(f[p], n); nmod_poly_init(g[p], n);
         for (int k = 0; k <= d; k++) {
             nmod_poly_set_coeff_ui(f[p], k, first[p][k]);
             nmod_poly_set_coeff_ui(g[p], k, second[p][k]);
         }
-        if (nmod_poly_resultant(f[p], g[p]) != jingcobu_resultant(n, first[p], d + 1, second[p], d + 1, work, 8192).value) wrong++;
+        compare("FLINT nmod_poly_resultant", n, d, p, (uint32_t) nmod_poly_resultant(f[p], g[p]));
+        nmod_poly_gcd(h, f[p], g[p]);
+        compare_reduced(n, d, p, h->length > 1);
     }
     double ours = engine_resultant(n, d), best = 1e30;
     for (int pass = 0; pass < PASSES; pass++) {
@@ -136,7 +159,7 @@ static void prime_modulus(uint32_t n, int d)
         c = (now() - c) / (10 * POOL);
         if (c < best) best = c;
     }
-    printf("n = %u, d = e = %2d: resultant %8.2f us, FLINT nmod_poly_resultant %8.2f us, ratio %.2f; different values: %d of %d\n", n, d, ours, best, ours / best, wrong, POOL);
+    printf("n = %u, d = e = %2d: resultant %8.2f us, FLINT nmod_poly_resultant %8.2f us, ratio %.2f\n", n, d, ours, best, ours / best);
     pari(n, d, ours);
     ours = engine_reduced(n, d); best = 1e30;
     for (int pass = 0; pass < PASSES; pass++) {
@@ -160,7 +183,6 @@ static int by_size(const void *a, const void *b)
 static void composite(uint32_t n, const char *name, const uint32_t *primes, int count, int d)
 {
     double ratio[POOL];
-    int wrong = 0;
     fmpz_poly_t f, g;
     fmpz_t r;
     fill_divisors(n, primes, count, d);
@@ -172,10 +194,10 @@ static void composite(uint32_t n, const char *name, const uint32_t *primes, int 
             fmpz_poly_set_coeff_ui(g, k, second[p][k]);
         }
         double ours = 1e30, theirs = 1e30;
-        uint32_t value = 0, other = 0;
+        uint32_t other = 0;
         for (int pass = 0; pass < 5; pass++) {
             double t = now();
-            value = jingcobu_resultant(n, first[p], d + 1, second[p], d + 1, work, 8192).value;
+            sink = jingcobu_resultant(n, first[p], d + 1, second[p], d + 1, work, JINGCOBU_WORK).value;
             t = now() - t;
             if (t < ours) ours = t;
             t = now();
@@ -184,12 +206,12 @@ static void composite(uint32_t n, const char *name, const uint32_t *primes, int 
             t = now() - t;
             if (t < theirs) theirs = t;
         }
-        if (value != other) wrong++;
+        compare("FLINT fmpz_poly_resultant modulo n", n, d, p, other);
         ratio[p] = theirs / ours;
     }
     qsort(ratio, POOL, sizeof(double), by_size);
-    printf("n = %s, d = e = %d, zero divisors: FLINT fmpz_poly_resultant modulo n takes %.1f times our time in the median, %.1f at the least; different values: %d of %d\n",
-           name, d, ratio[POOL / 2], ratio[0], wrong, POOL);
+    printf("n = %s, d = e = %d, zero divisors: FLINT fmpz_poly_resultant modulo n takes %.1f times our time in the median, %.1f at the least\n",
+           name, d, ratio[POOL / 2], ratio[0]);
     fmpz_poly_clear(f); fmpz_poly_clear(g); fmpz_clear(r);
 }
 
@@ -218,14 +240,32 @@ static long flint_resultant(uint32_t n, const uint32_t *f, int fl, const uint32_
     return got;
 }
 
+/* FLINT's integer resultant modulo n of pair p */
+static uint32_t integer_resultant(uint32_t n, int d, int p)
+{
+    fmpz_poly_t f, g;
+    fmpz_t r;
+    fmpz_poly_init(f); fmpz_poly_init(g); fmpz_init(r);
+    for (int k = 0; k <= d; k++) {
+        fmpz_poly_set_coeff_ui(f, k, first[p][k]);
+        fmpz_poly_set_coeff_ui(g, k, second[p][k]);
+    }
+    fmpz_poly_resultant(r, f, g);
+    uint32_t value = (uint32_t) fmpz_fdiv_ui(r, n);
+    fmpz_poly_clear(f); fmpz_poly_clear(g); fmpz_clear(r);
+    return value;
+}
+
 static void where_others_fail(uint32_t n, const char *name, const uint32_t *primes, int count)
 {
     int fails = 0, other = 0;
     fill_divisors(n, primes, count, 6);
     for (int p = 0; p < POOL; p++) {
+        uint32_t right = integer_resultant(n, 6, p);
+        compare("FLINT fmpz_poly_resultant modulo n", n, 6, p, right);
         long r = flint_resultant(n, first[p], 7, second[p], 7);
         if (r < 0) fails++;
-        else if ((uint32_t) r != jingcobu_resultant(n, first[p], 7, second[p], 7, work, 8192).value) other++;
+        else if ((uint32_t) r != right) other++;
     }
     printf("n = %s, d = e = 6, zero divisors: FLINT nmod_poly_resultant fails at %d and answers another number at %d of %d pairs\n", name, fails, other, POOL);
 }
@@ -233,8 +273,12 @@ static void where_others_fail(uint32_t n, const char *name, const uint32_t *prim
 static void zero_top(void)
 {
     const uint32_t f[] = { 2, 1, 0 }, g[] = { 1, 1 };
-    printf("n = 5, f = 2,1,0, g = 1,1 (sent degrees 2 and 1): resultant %u, FLINT nmod_poly_resultant %ld\n",
-           jingcobu_resultant(5, f, 3, g, 2, work, 8192).value, flint_resultant(5, f, 3, g, 2));
+    jingcobu_answer a = jingcobu_resultant(5, f, 3, g, 2, work, JINGCOBU_WORK);
+    printf("n = 5, f = 2,1,0, g = 1,1 (sent degrees 2 and 1): resultant %u, FLINT nmod_poly_resultant %ld\n", a.value, flint_resultant(5, f, 3, g, 2));
+    if (a.status != JINGCOBU_OK || a.value != 1) {
+        wrong++;
+        printf("WRONG: n = 5, f = 2,1,0, g = 1,1: value %u and status %u, the resultant is 1\n", a.value, a.status);
+    }
     fflush(stdout);
     if (system("printf 'print(\"PARI polresultant there: \", lift(polresultant(Mod(1,5)*Polrev([2,1,0]),Mod(1,5)*Polrev([1,1]))))\\nprint(\"PARI polresultant of 3+2x and 1+4x modulo 12: \", iferr(lift(polresultant(Mod(1,12)*Polrev([3,2]),Mod(1,12)*Polrev([1,4]))),E,E), \" (the resultant is 2)\")\\n' | gp -q -f 2> /dev/null")) printf("PARI (gp) did not answer\n");
 }
@@ -252,5 +296,6 @@ int main(void)
     where_others_fail(223092870u, "223092870", many, 9);
     where_others_fail(2176782336u, "6^12", six, 2);
     zero_top();
-    return 0;
+    printf("wrong values of the engine: %d\n", wrong);
+    return wrong != 0;
 }

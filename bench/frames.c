@@ -1,5 +1,6 @@
 /* Frames a second through the frame program, beside the time that the engine itself takes on the same pairs: 100,000 frames of
- * degree 8 and 10,000 of degree 48, modulo 4294967291. Build and run: make -C bench */
+ * degree 8 and 10,000 of degree 48, modulo 4294967291. It exits with 1 where an
+ * answer of the frame program is not the engine's, or the frame program fails. Build and run: make -C bench */
 #include <stdio.h>
 #include <stdlib.h>
 #include <string.h>
@@ -7,7 +8,8 @@
 #include "../include/jingcobu.h"
 
 #define MODULUS 4294967291u
-static uint32_t work[8192];
+static uint32_t work[JINGCOBU_WORK];
+static int wrong;
 static uint64_t state = 20261115;
 static uint32_t draw(void)
 {
@@ -40,27 +42,36 @@ static void measure(int count, int d)
         double t = now();
         for (int i = 0; i < count; i++) {
             uint32_t *w = words + (size_t) i * 2 * (d + 1);
-            values[i] = jingcobu_resultant(MODULUS, w, d + 1, w + d + 1, d + 1, work, 8192).value;
+            jingcobu_answer a = jingcobu_resultant(MODULUS, w, d + 1, w + d + 1, d + 1, work, JINGCOBU_WORK);
+            if (a.status != JINGCOBU_OK) {
+                printf("WRONG: degree %d, pair %d: refused with %u\n", d, i, a.status);
+                exit(1);
+            }
+            values[i] = a.value;
         }
         t = now() - t;
         if (t < engine) engine = t;
         t = now();
-        if (system("../target/bin/desk < /tmp/jingcobu_frames > /tmp/jingcobu_answers")) exit(1);
+        if (system("../target/bin/desk < /tmp/jingcobu_frames > /tmp/jingcobu_answers")) {
+            printf("WRONG: the frame program did not exit with 0\n");
+            exit(1);
+        }
         t = now() - t;
         if (t < program) program = t;
     }
-    int wrong = 0;
     char line[20], should[20];
     file = fopen(out, "r");
-    for (int i = 0; i < count; i++) {
-        snprintf(should, sizeof should, "0100%08x\n", values[i]);
-        if (!file || !fgets(line, sizeof line, file) || strcmp(line, should)) wrong++;
+    for (int i = 0; i <= count; i++) {
+        char *got = file ? fgets(line, sizeof line, file) : NULL;
+        snprintf(should, sizeof should, "0100%08x\n", i < count ? values[i] : 0);
+        if (i < count ? got && !strcmp(line, should) : !got) continue;
+        if (!wrong++) printf("WRONG: degree %d, answer %d is %s", d, i, got ? line : "not there\n");
     }
     if (file) fclose(file);
     remove(in);
     remove(out);
-    printf("degree %2d: %d frames, %.0f frames a second; the engine alone would take %.2f of that time; reading and writing cost %.2f of the engine's work; wrong answers: %d\n",
-           d, count, count / program, engine / program, program / engine - 1, wrong);
+    printf("degree %2d: %d frames, %.0f frames a second; the engine alone would take %.2f of that time; reading and writing cost %.2f of the engine's work\n",
+           d, count, count / program, engine / program, program / engine - 1);
     free(words);
     free(values);
 }
@@ -69,5 +80,6 @@ int main(void)
 {
     measure(100000, 8);
     measure(10000, 48);
-    return 0;
+    printf("wrong answers of the frame program: %d\n", wrong);
+    return wrong != 0;
 }

@@ -1,6 +1,7 @@
 /* Times of product and division beside the same loops in plain C, in one run. Each figure is the best of several passes over a pool of
  * drawn pairs, in microseconds a call. "one % a term" is the schoolbook loop, for comparison. The modulus is read from a volatile.
- * Build and run, here: (cd .. && rt staticlib polynomial_bench) && gcc -O2 -o polynomial polynomial.c ../target/staticlib/libpolynomial_bench.a && ./polynomial */
+ * Where a product or a division is not that of the schoolbook loop, the program says which and exits with 1.
+ * Build and run: make -C bench */
 #include <stdint.h>
 #include <stddef.h>
 #include <stdio.h>
@@ -157,20 +158,33 @@ static double division(int which, size_t fl, size_t gl)
     return best;
 }
 
+static int wrong;
+
+static void differ(const char *what, size_t fl, size_t gl, int p)
+{
+    wrong++;
+    printf("WRONG: %s of %zu by %zu words, pair %d\n", what, fl, gl, p);
+}
+
 static void check(size_t fl, size_t gl)
 {
     uint32_t c[64], d[64];
     for (int p = 0; p < POOL; p++) {
-        memset(a, 0, sizeof a); memset(c, 0, sizeof c);
         if (fl + gl <= 50) {
-            polynomial_bench_product(modulus, first[p], fl, second[p], gl, a, 64);
+            memset(a, 0, sizeof a); memset(c, 0, sizeof c);
+            Answer z = polynomial_bench_product(modulus, first[p], fl, second[p], gl, a, 64);
             plain_product(modulus, first[p], fl, second[p], gl, c, 64);
-            if (memcmp(a, c, sizeof a)) printf("products differ\n");
+            if (z.status || z.value || memcmp(a, c, sizeof a)) differ("product", fl, gl, p);
+            memset(a, 0, sizeof a);
+            if (c_product(modulus, first[p], fl, second[p], gl, a, 64) || memcmp(a, c, sizeof a)) differ("product in C", fl, gl, p);
         }
         memset(a, 0, sizeof a); memset(c, 0, sizeof c); memset(b, 0, sizeof b); memset(d, 0, sizeof d);
-        polynomial_bench_division(modulus, first[p], fl, second[p], gl, a, 64, b, 64);
+        Answer z = polynomial_bench_division(modulus, first[p], fl, second[p], gl, a, 64, b, 64);
         plain_division(modulus, first[p], fl, second[p], gl, c, 64, d, 64);
-        if (memcmp(a, c, sizeof a) || memcmp(b, d, sizeof b)) printf("divisions differ\n");
+        if (z.status || z.value || memcmp(a, c, sizeof a) || memcmp(b, d, sizeof b)) differ("division", fl, gl, p);
+        memset(a, 0, sizeof a); memset(b, 0, sizeof b);
+        if (c_division(modulus, first[p], fl, second[p], gl, a, 64, b, 64) || memcmp(a, c, sizeof a) || memcmp(b, d, sizeof b))
+            differ("division in C", fl, gl, p);
     }
 }
 
@@ -189,10 +203,12 @@ int main(void)
     check(25, 25);
     check(49, 25);
     check(9, 5);
+    check(5, 5);
     printf("%-28s %8s %8s %8s   %s\n", "microseconds a call", "Rattle", "C", "one %", "Rattle / C");
     row("product 25 by 25 words", product(0, 25, 25), product(1, 25, 25), product(2, 25, 25));
     row("product 5 by 5 words", product(0, 5, 5), product(1, 5, 5), product(2, 5, 5));
     row("division 49 by 25 words", division(0, 49, 25), division(1, 49, 25), division(2, 49, 25));
     row("division 9 by 5 words", division(0, 9, 5), division(1, 9, 5), division(2, 9, 5));
-    return sum == 1 ? 2 : 0;
+    printf("wrong products and divisions: %d (sum %u)\n", wrong, sum);
+    return wrong != 0;
 }

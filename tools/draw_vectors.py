@@ -1,11 +1,11 @@
 #!/usr/bin/env python3
-"""Draws the pairs of the test program `vectors` and computes their numbers by PARI, independently of the engine.
+"""Draws the pairs of the test program `vectors` and of tests/host.c, and computes their numbers independently of the engine.
 
-Writes crates/vectors/stdin (one frame of kind 01 a line) and crates/vectors/stdout (resultant, D, in hexadecimal; D as dashes
-where it is not computed here). The resultant is the integer determinant of the Sylvester matrix in the sent degrees, modulo n.
-D, for degrees up to 5, is the least constant in the Hermite normal form of the multiples x^i f, x^j g and n. Needs gp (PARI).
-It is not needed to run the gate."""
-import os, random, subprocess
+Writes crates/vectors/stdin (one frame of kind 01 a line) and crates/vectors/stdout (resultant and D, in hexadecimal). The
+resultant is PARI's integer determinant of the Sylvester matrix in the sent degrees, modulo n. D is that of tools/ideal_constants.py,
+which says how it is found and proves it of each pair. Needs gp (PARI). It is not needed to run the gate."""
+import os, random
+from ideal_constants import gp, reduced_resultant
 
 SEED = 20261115
 random.seed(SEED)
@@ -79,13 +79,8 @@ def determinant(m, n):
     return 'matdet([%s])%%%d' % (';'.join(','.join(map(str, r)) for r in m), n)
 
 
-def multiples(n, f, g):
-    size = (n.bit_length() + 1) * max(len(f), len(g))
-    columns = []
-    for h in (f, g):
-        for i in range(size - len(h) + 1):
-            columns.append([0] * i + h + [0] * (size - len(h) - i))
-    return size, columns
+def product(n, f, g):
+    return [sum(f[i] * g[k - i] for i in range(len(f)) if 0 <= k - i < len(g)) % n for k in range(len(f) + len(g) - 1)]
 
 
 def main():
@@ -101,24 +96,16 @@ def main():
     rows.append((2**32 - 1, [random.randrange(2**32 - 1) for _ in range(49)], [random.randrange(2**32 - 1) for _ in range(49)]))
     rows.append((2**31, polynomial(2**31, 48, True), polynomial(2**31, 48, True)))
     rows += STARRED
-    script = []
-    for n, f, g in rows:
-        m = sylvester(f, g)
-        script.append('print(%s);' % determinant(m, n))
-        if max(len(f), len(g)) <= 6:
-            size, columns = multiples(n, f, g)
-            script.append('print(mathnfmodid([%s]~,%d)[1,1]);' % (';'.join(','.join(map(str, c)) for c in columns), n))
-        else:
-            script.append('print(-1);')
-    answer = subprocess.run(['gp', '-q', '-f', '--stacksize', '1000000000'], input='\n'.join(script) + '\n', capture_output=True, text=True)
-    numbers = [int(x) for x in answer.stdout.split()]
-    assert len(numbers) == 2 * len(rows), (len(numbers), len(rows), answer.stderr[:500])
+    for n, c in ((2**31, 2**10), (3**20, 3**7), (6**12, 2**5 * 3**4), (223092870, 230), (4294967291, 4294967291), (4294967295, 771)):
+        h = [random.randrange(n) for _ in range(7)]        # full degree, with a common factor of degree 6 modulo c
+        rows.append((n, *([(x + c * random.randrange(n)) % n for x in product(n, h, polynomial(n, 42, True))] for _ in range(2))))
+    determinants = gp(['print(%s);' % determinant(sylvester(f, g), n) for n, f, g in rows])
+    assert len(determinants) == len(rows)
     os.makedirs(out, exist_ok=True)
     with open(os.path.join(out, 'stdin'), 'w') as frames, open(os.path.join(out, 'stdout'), 'w') as figures:
-        for i, (n, f, g) in enumerate(rows):
-            r, D = numbers[2 * i], numbers[2 * i + 1]
+        for (n, f, g), r in zip(rows, determinants):
             frames.write('01%08x%02x%02x%s\n' % (n, len(f) - 1, len(g) - 1, ''.join('%08x' % x for x in f + g)))
-            figures.write('%08x %s\n' % (r % n, '%08x' % D if D >= 0 else '--------'))
+            figures.write('%08x %08x\n' % (r % n, reduced_resultant(n, f, g)))
 
 
 main()

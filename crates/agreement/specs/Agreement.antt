@@ -1,19 +1,24 @@
--- The plain evaluator and the engine agree wherever both serve: two programs that share no more than the arithmetic of residues answer one
--- number, since each promises the resultant of the definitions.
+-- The plain evaluator and the resultant agree wherever both answer: two programs that share no more than the arithmetic of residues
+-- answer one number, since each promises the resultant of the definitions.
 --
---   EvaluatorAnswer     all that is promised of a call of the evaluator
 --   evaluator-agrees    where both answer, they answer the same
-use mathlib.Core.Path.{_≡_, sym, _∙_}
+--   BothAnswers         what is promised of a call of both
+use mathlib.Core.Path.{_≡_, sym, ap, _∙_}
 use mathlib.Core.List.{List}
 use Prim.Native.Nat.{ℕ}
 use Rattle.definitions.specs.Resultants.{resultant}
-use Rattle.refusals.specs.Refusals.{answered}
-use Rattle.evaluator.specs.Status.{refusal}
-use Rattle.engine.specs.Services.{ResultantAnswer}
+use Rattle.refusals.specs.Refusals.{Width, answered}
+use Rattle.evaluator.specs.EvaluatorService.{EvaluatorAnswer}
+use Rattle.resultant_service.specs.ResultantService.{ResultantAnswer}
 
-pub record EvaluatorAnswer (n : ℕ) (f g : List ℕ) (value status : ℕ) : Type 0 where
-  pub status-is : status ≡ refusal n f g
-  pub value-is : value ≡ answered status (resultant n f g)
+-- "The plain evaluator takes two sent polynomials and answers their Sylvester determinant modulo n": what the resultant is
+pub evaluator-agrees : (W W' : Width) (n : ℕ) (f g work work' : List ℕ) (x s y t : ℕ) → EvaluatorAnswer W n f g x s
+    → ResultantAnswer W' n f g work work' y t → s ≡ 0 → t ≡ 0 → x ≡ y
+evaluator-agrees W W' n f g work work' x s y t a b p q =
+    a .value-is ∙ ap (λ (k : ℕ). answered k (resultant n f g)) (p ∙ sym q) ∙ sym (b .value-is)
 
-pub evaluator-agrees : (n : ℕ) (f g work work' : List ℕ) (x y : ℕ) → EvaluatorAnswer n f g x 0 → ResultantAnswer n f g work work' y 0 → x ≡ y
-evaluator-agrees n f g work work' x y a b = a .value-is ∙ sym (b .value-is)
+-- x and s are the value and the status of the evaluator, y and t those of the resultant
+pub record BothAnswers (W : Width) (n : ℕ) (f g work work' : List ℕ) (x s y t : ℕ) : Type 0 where
+  pub evaluator-is : EvaluatorAnswer W n f g x s
+  pub resultant-is : ResultantAnswer W n f g work work' y t
+  pub equal : s ≡ 0 → t ≡ 0 → x ≡ y

@@ -13,7 +13,8 @@ use mathlib.Core.Path.{_≡_, refl, sym, _∙_, ap, ap₂}
 use mathlib.Core.List.{List, [], _∷_}
 use Prim.Native.Nat.{ℕ, zero, suc, compare, Ordering, Ordering·lt, Ordering·eq, Ordering·gt}
 use lib.Dec.{T, isEq, eqb→eq}
-use Rattle.algebra.specs.Ring.{CRing, neg-zero, add-zero, add-left-comm, mul-zero, mul-neg, mul-left-comm, add-mul, neg-neg, neg-mul, neg-of-add, add-neg-cancel, neg-add-cancel}
+use Rattle.algebra.specs.Ring.{CRing, neg-zero, add-zero, add-left-comm, mul-zero, mul-neg, mul-left-comm}
+use Rattle.algebra.specs.Ring.{add-mul, neg-neg, neg-mul, neg-of-add, add-neg-cancel, neg-add-cancel}
 
 infixl 65 _⊕_
 infixl 70 _⊗_

@@ -28,7 +28,8 @@ use Rattle.algebra.specs.Ring.{CRing, mul-left-comm, pw}
 use Rattle.algebra.specs.Rows.{over-stack, fix-rows}
 use Rattle.algebra.specs.SentLaws.{Rs}
 use Rattle.algebra.specs.Series.{conv-hom, conv, conv-comm}
-use Rattle.algebra.specs.Stack.{stack-stack, rows-cong, up-comm, up-swap, up, stack-all, stack-bottom, stack-map, stack-top, stack-drop, up-is, stack}
+use Rattle.algebra.specs.Stack.{stack-stack, rows-cong, up-comm, up-swap, up, stack-all}
+use Rattle.algebra.specs.Stack.{stack-bottom, stack-map, stack-top, stack-drop, up-is, stack}
 use Rattle.algebra.specs.Sum.{sum-cong}
 
 module _ {R : Type 0} (𝓡 : CRing R) where

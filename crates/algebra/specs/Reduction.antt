@@ -17,7 +17,8 @@ use lib.IntN.{ℤ, pos, negsuc, negℤ, _+ℤ_, _*ℤ_, subℕ}
 use Rattle.algebra.specs.Determinant.{det, det-hom}
 use Rattle.algebra.specs.Integers.{ℤ-ring}
 use Rattle.algebra.specs.Residues.{Res, toRes, Res-ring, mul-mod}
-use Rattle.algebra.specs.Ring.{CRing, add-zero, add-left-comm, add-neg, add-cancel, mul-neg, neg-neg, neg-mul, neg-of-add, Hom, neg-zero}
+use Rattle.algebra.specs.Ring.{CRing, add-zero, add-left-comm, add-neg, add-cancel}
+use Rattle.algebra.specs.Ring.{mul-neg, neg-neg, neg-mul, neg-of-add, Hom, neg-zero}
 
 -- a map of the numbers, carried on to the integers
 abbrev pub ext : {S : Type 0} → CRing S → (ℕ → S) → ℤ → S

@@ -8,7 +8,8 @@
 use mathlib.Core.Path.{_≡_, sym, _∙_, ap, ap₂}
 use Prim.Native.Nat.{ℕ, suc, _%_, _+_, _*_, _/_, _-_, Fin}
 use native.Mathlib.Decide.{Fin·val-path}
-use native.Mathlib.Nat.{mod-add-mod, add-mod-mod, add-mul-mod-self-left, div-add-mod, mod-lt, mod-mod, mod-self, mod-eq-of-lt, zero-lt-suc, add-assoc, add-comm, mul-assoc, mul-comm, mul-add, one-mul, le-of-lt, sub-add-cancel}
+use native.Mathlib.Nat.{mod-add-mod, add-mod-mod, add-mul-mod-self-left, div-add-mod, mod-lt, mod-mod, mod-self, mod-eq-of-lt}
+use native.Mathlib.Nat.{zero-lt-suc, add-assoc, add-comm, mul-assoc, mul-comm, mul-add, one-mul, le-of-lt, sub-add-cancel}
 use native.Mathlib.Omega.{arith}
 use Rattle.algebra.specs.Ring.{CRing}
 

@@ -17,7 +17,8 @@ use mathlib.Core.Path.{_≡_, refl, sym, _∙_, ap, ap₂, fun-ext}
 use Prim.Native.Nat.{ℕ, zero, suc, _<_, _≤_, _+_ as _+ℕ_, _-_ as _-ℕ_, _*_ as _*ℕ_}
 use native.Mathlib.Omega.{arith}
 use Rattle.algebra.specs.Determinant.{prod-const, det, det-upper}
-use Rattle.algebra.specs.LeadingLaws.{res-drop-first, res-drop-second, res-scale-first, res-scale-second, res-swap, res-reverse, res-add}
+use Rattle.algebra.specs.LeadingLaws.{res-drop-first, res-drop-second, res-scale-first}
+use Rattle.algebra.specs.LeadingLaws.{res-scale-second, res-swap, res-reverse, res-add}
 use Rattle.algebra.specs.Resultant.{shift, res, shift-low, shift-own}
 use Rattle.algebra.specs.Reverse.{rv, rv-out, rv-zero, conv-rv, rv-add, rv-scale}
 use Rattle.algebra.specs.Ring.{CRing, pw, pw-one}

@@ -9,7 +9,7 @@ ghost use Prim.Native.Nat.{min, _+_, _-_, _*_, _%_, _<_, _≤_};
 ghost use Rattle.definitions.specs.Polynomials.{coef, convolve, Residues};
 
 // x + y modulo m. The sum may pass 64 bits, so it is compared before it is made.
-pub fn add_within(m: u64, x: u64, y: u64) -> u64
+fn add_within(m: u64, x: u64, y: u64) -> u64
     requires { ⌜ (x < m) × (y ≤ m) ⌝ }
     ensures { λ r. ⌜ r ≡ (x + y) % m ⌝ }
 {
@@ -21,7 +21,7 @@ pub fn add_within(m: u64, x: u64, y: u64) -> u64
 }
 
 // x + a b modulo m.
-pub fn add_product(m: u64, x: u64, a: u32, b: u32) -> u64
+fn add_product(m: u64, x: u64, a: u32, b: u32) -> u64
     requires { ⌜ (x < m) × (a * b ≤ m) ⌝ }
     ensures { λ r. ⌜ r ≡ (x + a * b) % m ⌝ }
 {
@@ -29,7 +29,7 @@ pub fn add_product(m: u64, x: u64, a: u32, b: u32) -> u64
 }
 
 // The first place of f whose word meets one of g, of len words, in word k.
-pub fn first(k: usize, len: usize) -> usize
+fn first(k: usize, len: usize) -> usize
     requires { ⌜ 1 ≤ len ⌝ }
     ensures { λ r. ⌜ r ≡ k + 1 - len ⌝ }
 {
@@ -40,7 +40,7 @@ pub fn first(k: usize, len: usize) -> usize
 }
 
 // The place after the last word of f, of len words, that meets one of g in word k.
-pub fn end(k: usize, len: usize) -> usize
+fn end(k: usize, len: usize) -> usize
     ensures { λ r. ⌜ r ≡ min (k + 1) len ⌝ }
 {
     if k < len {

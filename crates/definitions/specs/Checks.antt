@@ -1,4 +1,5 @@
--- The definitions at numbers of document 01 where a run goes astray: each check here fails if its definition is changed in the way that document warns of.
+-- The definitions at numbers of document 01 where a run goes astray: each check here fails if its definition is changed in the way that
+-- document warns of.
 --
 --   convolve-beyond    a product has no words beyond its length
 --   zero-top           zero top words count in Sylvester's matrix

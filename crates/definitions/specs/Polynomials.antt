@@ -8,8 +8,8 @@
 --   L n d e               the length of a cofactor
 use mathlib.Core.Path.{_≡_}
 use mathlib.Core.List.{List, [], _∷_}
-use mathlib.Core.Bool.{Bool, true, false}
-use Prim.Native.Nat.{ℕ, zero, suc, pred, max, _+_, _*_, _-_, _%_, _<_, _≤_}
+use mathlib.Core.Bool.{true, false}
+use Prim.Native.Nat.{ℕ, zero, suc, pred, max, _+_, _*_, _-_, _%_, _<_}
 use lib.ListN.{length, getD}
 use lib.Dec.{eqb}
 use Rattle.definitions.specs.Residues.{K, IsUnit, IsNilpotent}
@@ -53,9 +53,9 @@ pub record Residues (n : ℕ) (f : List ℕ) : Type 0 where
 pub record Multiplied (n : ℕ) (f a b : List ℕ) : Type 0 where
   pub at : (k : ℕ) → coef f k % n ≡ convolve (coef a) (coef b) k % n
 
--- g = q f + r modulo n
-pub record Divided (n : ℕ) (g f q r : List ℕ) : Type 0 where
-  pub at : (k : ℕ) → (convolve (coef q) (coef f) k + coef r k) % n ≡ coef g k % n
+-- f = q g + r modulo n
+pub record Divided (n : ℕ) (f g q r : List ℕ) : Type 0 where
+  pub at : (k : ℕ) → (convolve (coef q) (coef g) k + coef r k) % n ≡ coef f k % n
 
 -- "h monic of degree t"
 pub record Monic (n t : ℕ) (h : List ℕ) : Type 0 where

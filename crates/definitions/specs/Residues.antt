@@ -6,7 +6,7 @@
 --   Splitting n a n₁ n₂    a splits n into n₁ and n₂
 --   GcdWithCofactors       g = s a + t b is the greatest common divisor of a, b and n
 use mathlib.Core.Path.{_≡_}
-use mathlib.Core.Bool.{Bool, true, false}
+use mathlib.Core.Bool.{true, false}
 use Prim.Native.Nat.{ℕ, zero, suc, _+_, _*_, _/_, _%_, _^_, _<_, _≤_, _∣_}
 use lib.Dec.{leb}
 

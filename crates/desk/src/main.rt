@@ -1,16 +1,25 @@
 // The frame program: reads job frames from standard input, one a line, and writes an answer line for each to standard output.
-// It answers the lines that are complete before it reads again. Where a read fails it ends as at the end of the input; where a
-// write is not taken it stops.
+// It answers the lines that are complete before it reads again. Where a read fails or a write is not taken, it says so on standard
+// error, with the reason, and stops; an unfinished line is then not answered.
 use libc::STDIN_FILENO;
 use libc::STDOUT_FILENO;
 ghost use Prim.Native.Nat.{_≤_};
 ghost use lib.ListN.{length};
 
-// What a read came to: an unfinished line is held, the input has ended, or a write was not taken.
+// What a read came to: an unfinished line is held, the input has ended, or a call has failed.
 enum Turn {
     Held(usize),
     Ended,
     Stopped,
+}
+
+// Writes answers; where they are not taken, it says so.
+fn put(answers: &[u8]) -> bool {
+    if io::write_all(STDOUT_FILENO, answers) {
+        return true;
+    }
+    os::fail(b"desk: standard output does not take the answers");
+    false
 }
 
 // Reads once, answers the lines that end in what came, and holds the rest. A character can end a line, and a line's answer has
@@ -20,13 +29,17 @@ fn take_turn(held: usize, line: &mut [u8], out: &mut [u8]) -> Turn
 {
     let mut piece = io::buffer();
     let got = libc::read(STDIN_FILENO, &mut piece);
+    if got < 0 {
+        os::fail(b"desk: standard input cannot be read");
+        return Turn::Stopped;
+    }
     let n = io::count(got, &piece);
     if n == 0 {
         return Turn::Ended;
     }
-    let p = reader::step(held, line, &piece[0..n], out);
+    let p = frame_reader::step(held, line, &piece[0..n], out);
     let written = p.written;
-    if io::write_all(STDOUT_FILENO, &out[0..written]) {
+    if put(&out[0..written]) {
         return Turn::Held(p.held);
     }
     Turn::Stopped
@@ -36,8 +49,8 @@ fn take_turn(held: usize, line: &mut [u8], out: &mut [u8]) -> Turn
 fn end(held: usize, line: &[u8], out: &mut [u8])
     requires { ⌜ (798 ≤ length (now line)) × (13 ≤ length (now out)) ⌝ }
 {
-    let written = reader::finish(held, line, out);
-    io::write_all(STDOUT_FILENO, &out[0..written]);
+    let written = frame_reader::finish(held, line, out);
+    put(&out[0..written]);
 }
 
 // A proved loop has to end, and nothing says that an input does: it counts its turns down from a number that no run uses up.

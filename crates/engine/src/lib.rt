@@ -1,54 +1,46 @@
-// The two services of the vote, exported to C (include/jingcobu.h): the resultant, and the reduced resultant with cofactors.
-// Any caller, any words and lengths: an answer, or a numbered refusal.
+// The boundary to C: one exported function for each service that C programs call (include/jingcobu.h). Each calls its service and
+// promises the same record; nothing is decided here.
+//
+//   jingcobu_resultant            resultant_service::resultant
+//   jingcobu_reduced_resultant    reduced_service::reduced_resultant
+//   jingcobu_product              polynomial_product::product
 ghost use mathlib.Core.Path.{_≡_};
-ghost use Prim.Native.Nat.{ℕ};
-ghost use Rattle.engine.specs.Services.{ResultantAnswer, ReducedAnswer};
+ghost use Rattle.refusals.specs.Refusals.{narrow};
+ghost use Rattle.resultant_service.specs.ResultantService.{ResultantAnswer};
+ghost use Rattle.reduced_service.specs.ReducedService.{ReducedAnswer};
+ghost use Rattle.polynomial_product.specs.ProductService.{ProductAnswer};
 use refusals::Answer;
 
 // The resultant of f and g modulo n, in the sent degrees.
 #[no_mangle]
 pub extern "C" fn jingcobu_resultant(n: u32, f: &[u32], g: &[u32], work: &mut [u32]) -> Answer
-    ensures { λ r. ⌜ ResultantAnswer n (now (f .entry)) (now (g .entry)) (now (work .entry)) (now (work .exit)) (r .value) (r .status) ⌝ }
+    ensures { λ r. ⌜ ResultantAnswer narrow n (now (f .entry)) (now (g .entry)) (now (work .entry)) (now (work .exit))
+        (r .value) (r .status) ⌝ }
 {
-    let status = refusals::refusal_two(n, f, g);
-    if status != 0 {
-        return Answer { value: 0, status };
-    }
-    if work.len() < 8192 {
-        return Answer { value: 0, status: 7 };
-    }
-    let value = resultant::run(work, n, f, g);
-    windows::wipe(work);
-    Answer { value, status: 0 }
+    resultant_service::resultant(n, f, g, work)
 }
 
 // The reduced resultant D of f and g modulo n, with cofactors in the first L words of u and of v.
 #[no_mangle]
-pub extern "C" fn jingcobu_reduced_resultant(n: u32, f: &[u32], g: &[u32], u: &mut [u32], v: &mut [u32], work: &mut [u32]) -> Answer
-    ensures { λ r. ⌜ ReducedAnswer n (now (f .entry)) (now (g .entry)) (now (u .entry)) (now (u .exit)) (now (v .entry)) (now (v .exit))
-      (now (work .entry)) (now (work .exit)) (r .value) (r .status) ⌝ }
+pub extern "C" fn jingcobu_reduced_resultant(
+    n: u32,
+    f: &[u32],
+    g: &[u32],
+    u: &mut [u32],
+    v: &mut [u32],
+    work: &mut [u32],
+) -> Answer
+    ensures { λ r. ⌜ ReducedAnswer narrow n (now (f .entry)) (now (g .entry)) (now (u .entry)) (now (u .exit)) (now (v .entry))
+        (now (v .exit)) (now (work .entry)) (now (work .exit)) (r .value) (r .status) ⌝ }
 {
-    let refusal = refusals::refusal_two(n, f, g);
-    if refusal != 0 {
-        return Answer {
-            value: 0,
-            status: refusal,
-        };
-    }
-    let l = reduced::cofactor_length(n, f.len(), g.len());
-    if u.len() < l {
-        return Answer { value: 0, status: 6 };
-    }
-    if v.len() < l {
-        return Answer { value: 0, status: 6 };
-    }
-    if work.len() < 8192 {
-        return Answer { value: 0, status: 7 };
-    }
-    let found = reduced::run(&mut u[0..l], &mut v[0..l], work, n, f, g);
-    windows::wipe(work);
-    Answer {
-        value: found,
-        status: 0,
-    }
+    reduced_service::reduced_resultant(n, f, g, u, v, work)
+}
+
+// The product of f and g modulo n, in the first d + e + 1 words of out.
+#[no_mangle]
+pub extern "C" fn jingcobu_product(n: u32, f: &[u32], g: &[u32], out: &mut [u32]) -> Answer
+    ensures { λ r. ⌜ ProductAnswer narrow n (now (f .entry)) (now (g .entry)) (now (out .entry)) (now (out .exit))
+        (r .value) (r .status) ⌝ }
+{
+    polynomial_product::product(n, f, g, out)
 }

@@ -18,9 +18,9 @@ use lib.IntN.{pos, natAbs}
 use lib.ListN.{length, List·getD-eq-default}
 use Rattle.definitions.specs.Polynomials.{coef, deg, Residues}
 use Rattle.definitions.specs.Resultants.{entry, sylvester, resultant}
-use Rattle.matrices.specs.Elimination.{cell, ResidueCells}
-use Rattle.matrices.specs.LeadingMinors.{leading-minor, minor-sylvester}
-use Rattle.evaluator.specs.Sylvester.{Filled}
+use Rattle.evaluator_matrices.specs.Elimination.{cell, ResidueCells}
+use Rattle.evaluator_matrices.specs.LeadingMinors.{leading-minor, minor-sylvester}
+use Rattle.evaluator.specs.Sylvester.{HoldsSylvester}
 
 -- the sent degree, and d + e, as the code takes them
 less-one : (l : ℕ) → l - 1 ≡ pred l
@@ -57,7 +57,7 @@ sylvester-second f g e r c h l =
     ∙ sym (ap (λ (t : Bool). cond t (entry (deg f) f r c) (entry (deg g) g (r - deg g) c))
     (le-ltb r (deg g) (subst (λ (x : ℕ). x ≤ r) (h ∙ less-one (length g)) l)))
 
-pub filled-residues : (n : ℕ) (f g : List ℕ) (m : List (List ℕ)) → 1 ≤ n → Residues n f → Residues n g → Filled f g m → ResidueCells n m
+pub filled-residues : (n : ℕ) (f g : List ℕ) (m : List (List ℕ)) → 1 ≤ n → Residues n f → Residues n g → HoldsSylvester f g m → ResidueCells n m
 filled-residues n f g m one hf hg h = record { at = λ r c p q. either (ltb r (deg g)) r c (h .at r c p q) }
   where
     below : (f : List ℕ) → Residues n f → (k : ℕ) → coef f k < n
@@ -78,7 +78,7 @@ filled-residues n f g m one hf hg h = record { at = λ r c p q. either (ltb r (d
         row (leb (r - deg g) c) (leb c (r - deg g + deg g)) (coef g (r - deg g + deg g - c)) (cell m r c)
         (below g hg (r - deg g + deg g - c)) e
 
-pub evaluated : (n : ℕ) (f g : List ℕ) (m : List (List ℕ)) → length f - 1 + (length g - 1) ≤ 8 → Filled f g m
+pub evaluated : (n : ℕ) (f g : List ℕ) (m : List (List ℕ)) → length f - 1 + (length g - 1) ≤ 8 → HoldsSylvester f g m
     → leading-minor n (length f - 1 + (length g - 1)) (cell m) ≡ resultant n f g
 evaluated n f g m l h =
     ap (λ (k : ℕ). leading-minor n k (cell m)) (degrees f g)

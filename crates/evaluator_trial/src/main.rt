@@ -28,7 +28,7 @@ fn end_line() {
 fn mix_pair(h: u32, n: u32, f: [u32; 9], d: usize, g: [u32; 9], e: usize) -> u32
     requires { ⌜ (d ≤ 8) × (e ≤ 8) ⌝ }
 {
-    let r = evaluator::evaluate(n, &f[0..d + 1], &g[0..e + 1]);
+    let r: refusals::Answer = evaluator::evaluate(n, &f[0..d + 1], &g[0..e + 1]);
     mix(mix(h, r.value), r.status)
 }
 
@@ -145,7 +145,7 @@ fn drawn_line(n: u32)
 }
 
 fn full_line(n: u32, f: &[u32], g: &[u32]) {
-    let r = evaluator::evaluate(n, f, g);
+    let r: refusals::Answer = evaluator::evaluate(n, f, g);
     number(n as u64);
     io::write_all(1, &[b' ']);
     number(f.len() as u64);

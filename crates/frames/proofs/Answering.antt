@@ -6,7 +6,7 @@ use Prim.Native.Nat.{ℕ, _+_, _-_, _≤_}
 use native.Mathlib.Omega.{arith}
 use lib.ListN.{length, take, drop, length-drop}
 use lib.Seq.{take-all}
-use Rattle.engine.specs.Services.{left}
+use Rattle.refusals.specs.Refusals.{left}
 use Rattle.frames.specs.declared.Head.{Head}
 use Rattle.frames.specs.declared.Head.the-variants.{Frame, Other}
 use Rattle.frames.specs.Frames.{kind-of, modulus-of, first-degree, count-of, words-of, frame-words}

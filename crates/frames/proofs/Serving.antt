@@ -1,41 +1,45 @@
 -- What the services answer to a frame's job: the buffers are long enough, so that refusals 6 and 7 cannot come.
 use mathlib.Core.Path.{_≡_, refl, sym, ap, ap₂, _∙_, subst}
-use mathlib.Core.Bool.{Bool, cond}
-use mathlib.Core.List.{List}
+use mathlib.Core.Bool.{Bool}
+use mathlib.Core.List.{List, [], _∷_, _++_}
 use Prim.Native.Nat.{ℕ, zero, suc, max, pred, _+_, _-_, _^_, _<_, _≤_}
 use native.Mathlib.Nat.{mul-le-mul}
 use native.Mathlib.Omega.{arith}
 use lib.ListN.{length, take, drop}
-use borrow.Author.Tests.{le-ltb}
 use Rattle.definitions.specs.Residues.{K}
 use Rattle.definitions.specs.Polynomials.{deg, L}
 use Rattle.definitions.specs.Resultants.{resultant, Reduced}
 use Rattle.numbers.specs.Logarithm.{K-below}
-use Rattle.refusals.specs.Refusals.{refusal-two, short-result, short-work, first-of, answered}
-use Rattle.refusals.proofs.Accepted.{Accepted, accepted-two}
-use Rattle.engine.specs.Services.{reduced-status, ResultantAnswer, ReducedAnswer, ReducedLeft}
+use Rattle.refusals.specs.Refusals.{narrow, Tested, short, first-of, first-refusal, refusals-two, answered}
+use Rattle.refusals.specs.Conditions.{Accepted, accepted-two}
+use Rattle.refusals.proofs.Statuses.{first-append, long-enough}
+use Rattle.resultant_service.specs.ResultantService.{ResultantAnswer}
+use Rattle.reduced_service.specs.ReducedService.{reduced-status, ReducedAnswer, ReducedLeft}
 use Rattle.frames.specs.Frames.{Value, Served}
 use Rattle.frames.proofs.Answering.{first-handed, second-handed}
 
--- a working buffer that is long enough
-enough-work : (l : ℕ) → 8192 ≤ l → short-work l ≡ 0
-enough-work l h = ap (λ (b : Bool). cond b 7 0) (le-ltb l 8192 h)
+-- refusals that cannot come where those before them do not
+first-all : (a b : List Tested) → (first-refusal a ≡ 0 → first-refusal b ≡ 0) → first-refusal (a ++ b) ≡ first-refusal a
+first-all a b h = first-append a b ∙ go (first-refusal a) (first-refusal b) h
+  where
+    go : (x y : ℕ) → (x ≡ 0 → y ≡ 0) → first-of x y ≡ x
+    go zero y h = h refl
+    go (suc x) y h = refl
 
--- a refusal that cannot come where those before it do not
-first-all : (a b : ℕ) → (a ≡ 0 → b ≡ 0) → first-of a b ≡ a
-first-all zero b h = h refl
-first-all (suc a) b h = refl
+-- a working buffer that is long enough
+enough-work : (l : ℕ) → 8192 ≤ l → first-refusal ((7, short l 8192) ∷ []) ≡ 0
+enough-work l h = sym (long-enough 7 l 8192 [] 0 h refl)
 
 value-known : (s x v : ℕ) → v ≡ answered s x → (s ≡ 0 → v ≡ x) × ((s ≡ 0 → ⊥) → v ≡ 0)
 value-known zero x v e = ((λ _. e), λ n. absurd (n refl))
 value-known (suc s) x v e = ((λ h. absurd (omega arith)), λ _. e)
 
-resultant-served : {n v r : ℕ} {f g w w' : List ℕ} → 8192 ≤ length w → ResultantAnswer n f g w w' v r → Served 1 n f g r v w w'
+resultant-served : {n v r : ℕ} {f g w w' : List ℕ} → 8192 ≤ length w → ResultantAnswer narrow n f g w w' v r → Served 1 n f g r v w w'
 resultant-served {n} {v} {r} {f} {g} {w} l a =
     let k = value-known r (resultant n f g) v (a .value-is) in
     record {
       outcome = record {
-        status = a .status-is ∙ first-all (refusal-two n f g) (short-work (length w)) (λ _. enough-work (length w) l);
+        status = a .status-is ∙ first-all (refusals-two narrow n f g) ((7, short (length w) 8192) ∷ []) (λ _. enough-work (length w) l);
         value = k .0;
         refused = k .1;
       };
@@ -44,11 +48,8 @@ resultant-served {n} {v} {r} {f} {g} {w} l a =
 
 -- ---- the reduced resultant
 
-enough-result : (l m : ℕ) → m ≤ l → short-result l m ≡ 0
-enough-result l m h = ap (λ (b : Bool). cond b 6 0) (le-ltb l m h)
-
 -- "so 1489 words always suffice": K is at most 31, and the degrees at most 48
-cofactor-most : (n : ℕ) (f g : List ℕ) → n < 2 ^ 32 → Accepted n f → Accepted n g → L n (deg f) (deg g) ≤ 1489
+cofactor-most : (n : ℕ) (f g : List ℕ) → n < 2 ^ 32 → Accepted narrow n f → Accepted narrow n g → L n (deg f) (deg g) ≤ 1489
 cofactor-most n f g h a b =
     let k : K n < 32 = K-below n 32 (omega (arith, a .modulus)) h in
     let d : pred (length f) ≤ 48 = omega (arith, a .few) in
@@ -56,12 +57,17 @@ cofactor-most n f g h a b =
     omega (arith, mul-le-mul {n₁ = K n} {m₁ = max (pred (length f)) (pred (length g))} {n₂ = 31} {m₂ = 48} (omega arith) (omega arith))
 
 -- refusals 6 and 7 do not come
-nothing-short : (n : ℕ) (f g : List ℕ) (l : ℕ) → n < 2 ^ 32 → 8192 ≤ l → refusal-two n f g ≡ 0
-    → first-of (short-result 1489 (L n (deg f) (deg g))) (first-of (short-result 1489 (L n (deg f) (deg g))) (short-work l)) ≡ 0
+abbrev later : ℕ → List ℕ → List ℕ → ℕ → List Tested
+later n f g l = (6, short 1489 (L n (deg f) (deg g))) ∷ (6, short 1489 (L n (deg f) (deg g))) ∷ (7, short l 8192) ∷ []
+
+nothing-short : (n : ℕ) (f g : List ℕ) (l : ℕ) → n < 2 ^ 32 → 8192 ≤ l → first-refusal (refusals-two narrow n f g) ≡ 0
+    → first-refusal (later n f g l) ≡ 0
 nothing-short n f g l small h z =
-    let b = accepted-two n f g z in
-    let e = enough-result 1489 (L n (deg f) (deg g)) (cofactor-most n f g small (b .0) (b .1)) in
-    ap₂ first-of e (ap₂ first-of e (enough-work l h))
+    let b = accepted-two narrow n f g z in
+    let m : ℕ = L n (deg f) (deg g) in
+    let e = cofactor-most n f g small (b .0) (b .1) in
+    sym (long-enough 6 1489 m ((6, short 1489 m) ∷ (7, short l 8192) ∷ []) 0 e
+    (long-enough 6 1489 m ((7, short l 8192) ∷ []) 0 e (sym (enough-work l h))))
 
 result-known : (s n : ℕ) (f g u u' v v' : List ℕ) (x : ℕ) → ReducedLeft s n f g u u' v v' x
     → (s ≡ 0 → Reduced n f g x) × ((s ≡ 0 → ⊥) → x ≡ 0)
@@ -74,15 +80,15 @@ value-reduced (suc zero) n f g v h l r = absurd (h refl)
 value-reduced (suc (suc k)) n f g v h l r = r
 
 reduced-served : {k n x r : ℕ} {f g u u' v v' w w' : List ℕ} → (k ≡ 1 → ⊥) → 1 ≤ k → n < 2 ^ 32 → length u ≡ 1489 → length v ≡ 1489
-    → 8192 ≤ length w → ReducedAnswer n f g u u' v v' w w' x r → Served k n f g r x w w'
+    → 8192 ≤ length w → ReducedAnswer narrow n f g u u' v v' w w' x r → Served k n f g r x w w'
 reduced-served {k} {n} {x} {r} {f} {g} {u} {u'} {v} {v'} {w} one some small lu lv l a =
     let q = result-known r n f g u u' v v' x (a .result) in
     record {
       outcome = record {
         status =
             a .status-is
-            ∙ ap₂ (λ (y z : ℕ). reduced-status n f g y z (length w)) lu lv
-            ∙ first-all (refusal-two n f g) _ (nothing-short n f g (length w) small l);
+            ∙ ap₂ (λ (y z : ℕ). reduced-status narrow n f g y z (length w)) lu lv
+            ∙ first-all (refusals-two narrow n f g) (later n f g (length w)) (nothing-short n f g (length w) small l);
         value = λ z. value-reduced k n f g x one some (q .0 z);
         refused = q .1;
       };
@@ -98,13 +104,13 @@ module _ (k d : ℕ) (m : List ℕ) {n v r : ℕ} {w w' : List ℕ} where
       subst (λ (x : List ℕ × List ℕ). Served k n (x .0) (x .1) r v w w') (λ i. (first-handed (d + 1) m i, second-handed (d + 1) m i)) p
 
   pub served-resultant : k ≡ 1 → 8192 ≤ length w
-      → ResultantAnswer n (take (d + 1 - 0) m) (take (length m - (d + 1)) (drop (d + 1) m)) w w' v r
+      → ResultantAnswer narrow n (take (d + 1 - 0) m) (take (length m - (d + 1)) (drop (d + 1) m)) w w' v r
       → Served k n (take (d + 1) m) (drop (d + 1) m) r v w w'
   served-resultant one l a =
       handed-on (subst (λ (x : ℕ). Served x n (take (d + 1 - 0) m) (take (length m - (d + 1)) (drop (d + 1) m)) r v w w') (sym one)
       (resultant-served l a))
 
   pub served-reduced : {u u' x x' : List ℕ} → (k ≡ 1 → ⊥) → 1 ≤ k → n < 2 ^ 32 → length u ≡ 1489 → length x ≡ 1489 → 8192 ≤ length w
-      → ReducedAnswer n (take (d + 1 - 0) m) (take (length m - (d + 1)) (drop (d + 1) m)) u u' x x' w w' v r
+      → ReducedAnswer narrow n (take (d + 1 - 0) m) (take (length m - (d + 1)) (drop (d + 1) m)) u u' x x' w w' v r
       → Served k n (take (d + 1) m) (drop (d + 1) m) r v w w'
   served-reduced one some small lu lx l a = handed-on (reduced-served one some small lu lx l a)

@@ -5,6 +5,7 @@
 --   words-of k t                                                  k words of eight digits each
 --   first-polynomial s, second-polynomial s                       the polynomials of a frame s
 --   is-frame s                                                    whether s is a frame
+--   job-refusals n f g                                            the refusals of a job, in their order
 --   Outcome k n f g r v                                           r and v are the status and the value of a job
 --   answer-line k r v                                             the line that says so
 --   AnswerOf s a                                                  a is the answer line of the line s
@@ -15,8 +16,7 @@ use Prim.Native.Nat.{ℕ, zero, suc, _+_, _*_}
 use lib.ListN.{length, take, drop}
 use lib.Dec.{leb, eqb}
 use Rattle.definitions.specs.Resultants.{resultant, Reduced}
-use Rattle.refusals.specs.Refusals.{refusal-two}
-use Rattle.engine.specs.Services.{left}
+use Rattle.refusals.specs.Refusals.{narrow, Tested, first-refusal, refusals-two, left}
 use Rattle.hexadecimal.specs.Hexadecimal.{all-digits, number-of, digits-of}
 
 -- "kind (2 digits, 01 resultant, 02 reduced resultant), n (8), d (2), e (2)"
@@ -60,9 +60,13 @@ Value zero n f g v = ⊥
 Value (suc zero) n f g v = v ≡ resultant n f g
 Value (suc (suc k)) n f g v = Reduced n f g v
 
--- The refusals 1, 2 and 3, as of the services; "Each returns its number and value 0".
+-- The refusals 1, 2 and 3, as of the services. A frame's line and the program's buffers leave none of the others.
+abbrev pub job-refusals : ℕ → List ℕ → List ℕ → List Tested
+job-refusals n f g = refusals-two narrow n f g
+
+-- "Each returns its number and value 0".
 pub record Outcome (k n : ℕ) (f g : List ℕ) (r v : ℕ) : Type 0 where
-  pub status : r ≡ refusal-two n f g
+  pub status : r ≡ first-refusal (job-refusals n f g)
   pub value : r ≡ 0 → Value k n f g v
   pub refused : (r ≡ 0 → ⊥) → v ≡ 0
 
@@ -83,7 +87,7 @@ pub data AnswerOf (s : List ℕ) : List ℕ → Type 0 where
 
 -- the status of the job of a frame s
 abbrev pub refusal-of : List ℕ → ℕ
-refusal-of s = refusal-two (modulus-of s) (first-polynomial s) (second-polynomial s)
+refusal-of s = first-refusal (job-refusals (modulus-of s) (first-polynomial s) (second-polynomial s))
 
 -- the working words w after the line s: as a service leaves them, and as they were where none is called
 abbrev pub left-after : List ℕ → List ℕ → List ℕ

@@ -103,11 +103,11 @@ fn serve(kind: u32, n: u32, words: &[u32], d: usize, work: &mut [u32]) -> Answer
     let f = &words[0..d + 1];
     let g = &words[d + 1..];
     if kind == 1 {
-        return engine::jingcobu_resultant(n, f, g, work);
+        return resultant_service::resultant(n, f, g, work);
     }
     let mut u = cofactor_words();
     let mut v = cofactor_words();
-    engine::jingcobu_reduced_resultant(n, f, g, &mut u, &mut v, work)
+    reduced_service::reduced_resultant(n, f, g, &mut u, &mut v, work)
 }
 
 // Writes the answer to the line s from place `at` on.

@@ -1,4 +1,8 @@
 -- The table of digits' values: one test, computed over its entries, says that each is right.
+--
+--   values                 the table, 48 above the value, 64 where a character is no digit
+--   value-at, value-is     what an entry says of its character
+--   digit-low, digit-high  the characters outside the table are no digits
 use mathlib.Core.Path.{_≡_, refl, ap, _∙_}
 use mathlib.Core.Bool.{Bool, true, _&&_}
 use mathlib.Core.List.{List, [], _∷_}

@@ -1,4 +1,11 @@
 -- Laws of hexadecimal texts: how texts join, how large a number they spell, and that reading undoes writing.
+--
+--   and-both, and-assoc, and-false    two tests
+--   all-digits-append, all-digits-part, all-digits-after    digits of a joined text, of a part, of the rest
+--   spelled-append, number-snoc       the number of a joined text
+--   spelled-below, number-below       how large it is
+--   digits-length, digits-are-digits, digit-character    what is written: k characters, digits, each with its value
+--   number-digits                     read again, it is the number written
 use mathlib.Core.Path.{_≡_, refl, sym, ap, ap₂, _∙_}
 use mathlib.Core.Bool.{Bool, true, false, _&&_, false≢true}
 use mathlib.Core.List.{List, [], _∷_, _++_}

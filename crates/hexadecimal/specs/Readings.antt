@@ -1,4 +1,7 @@
 -- What a text reads as: the number that its digits spell, or something else where a character is no digit.
+--
+--   if-digits b x    the number x where b is true
+--   reading-of s     what the text s reads as
 use mathlib.Core.Bool.{Bool, true, false}
 use mathlib.Core.List.{List}
 use Prim.Native.Nat.{ℕ}

@@ -1,4 +1,10 @@
-// Lower-case hexadecimal: from characters to numbers and back. What the contracts cite is in specs/Hexadecimal.antt.
+// Lower-case hexadecimal: from characters to numbers and back. What the contracts cite is in specs/Hexadecimal.antt and
+// specs/Readings.antt.
+//
+//   Reading      a number, or something else
+//   number       what characters spell
+//   character    the digit of a value
+//   write        a number in digits
 ghost use mathlib.Core.Path.{_≡_};
 ghost use mathlib.Core.List.{_++_};
 ghost use Prim.Native.Nat.{_+_, _≤_, _<_};

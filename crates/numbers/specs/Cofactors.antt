@@ -4,7 +4,8 @@
 --   cofactors-of          had from a cofactor of a modulo n and one of b modulo the first divisor
 use mathlib.Core.Path.{_≡_, sym, ap, subst, _∙_}
 use Prim.Native.Nat.{ℕ, _+_, _-_, _*_, _/_, _%_, _<_, _≤_}
-use native.Mathlib.Nat.{dvd-trans, dvd-antisymm, mod-self, zero-mod, mod-lt, mul-div-cancel', pos-of-dvd-of-pos, le-of-dvd, mul-one, add-sub-of-le}
+use native.Mathlib.Nat.{dvd-trans, dvd-antisymm, mod-self, zero-mod, mod-lt, mul-div-cancel'}
+use native.Mathlib.Nat.{pos-of-dvd-of-pos, le-of-dvd, mul-one, add-sub-of-le}
 use native.Mathlib.Omega.{arith}
 use Rattle.definitions.specs.Residues.{Gcd, GcdWithCofactors}
 use Rattle.numbers.specs.Congruence.{Cong, c-refl, c-trans, c-eq, c-add, c-mul, c-mod, c-sub, c-cancel, dvd-c, ring}

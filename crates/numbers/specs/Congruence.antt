@@ -4,7 +4,9 @@
 --   ring          the ruleset by which `simp` compares sums of products
 use mathlib.Core.Path.{_≡_, refl, sym, ap, subst, _∙_}
 use Prim.Native.Nat.{ℕ, zero, suc, _+_, _-_, _*_, _/_, _%_, _^_, _<_, _≤_, _∣_}
-use native.Mathlib.Nat.{mod-lt, mod-mod, add-mod, mod-self, zero-mod, mul-add-mod-self-left, div-add-mod, add-zero, zero-add, add-sub-of-le, add-assoc, add-comm, add-left-comm, mul-comm, mul-assoc, mul-left-comm, add-mul, mul-add, pow-zero, pow-suc, mod-mod-of-dvd, mod-eq-zero-of-dvd, dvd-of-mod-eq-zero, mul-div-cancel'}
+use native.Mathlib.Nat.{mod-lt, mod-mod, add-mod, mod-self, zero-mod, mul-add-mod-self-left, div-add-mod, add-zero, zero-add}
+use native.Mathlib.Nat.{add-sub-of-le, add-assoc, add-comm, add-left-comm, mul-comm, mul-assoc, mul-left-comm, add-mul, mul-add}
+use native.Mathlib.Nat.{pow-zero, pow-suc, mod-mod-of-dvd, mod-eq-zero-of-dvd, dvd-of-mod-eq-zero, mul-div-cancel'}
 use native.Mathlib.Omega.{arith}
 
 -- the laws of + and *, by which `simp` brings both sides of an equation to one form
@@ -90,7 +92,8 @@ dvd-c {m} {a} c = dvd-of-mod-eq-zero m (c .same ∙ zero-mod m)
 
 -- to be congruent is to differ by a multiple of n
 pub dvd-difference : {n x y : ℕ} → 0 < n → x ≤ y → Cong n x y → n ∣ y - x
-dvd-difference {n} {x} {y} pos l c = dvd-c (c-cancel x pos (c-trans (c-eq {b = y} (omega arith)) (c-trans (c-sym c) (c-eq (sym (zero-add x))))))
+dvd-difference {n} {x} {y} pos l c =
+    dvd-c (c-cancel x pos (c-trans (c-eq {b = y} (omega arith)) (c-trans (c-sym c) (c-eq (sym (zero-add x))))))
 
 pub c-difference : {n x y : ℕ} → x ≤ y → n ∣ y - x → Cong n x y
 c-difference {n} {x} {y} l d =

@@ -3,15 +3,26 @@
 --   coprime-divides     a divisor of a w, coprime to a, divides w
 --   coprime-product     two coprime divisors of z: their product divides z
 --   coprime-times       coprime to a and to b, hence to a b
+--   coprime-power       coprime to a, hence to each power of a
+--   coprime-of-bezout   s a + t b is 1 modulo a b
 use mathlib.Core.Path.{_≡_, sym, subst, _∙_}
-use Prim.Native.Nat.{ℕ, zero, suc, _*_, _/_, _^_, _≤_, _∣_}
-use native.Mathlib.Nat.{dvd-trans, mul-dvd-mul-right, mul-div-cancel', mul-comm, mul-zero, one-mul, pow-zero, pow-suc, dvd-one, pos-of-dvd-of-pos}
+use Prim.Native.Nat.{ℕ, zero, suc, _+_, _*_, _/_, _^_, _≤_, _∣_}
+use native.Mathlib.Nat.{dvd-trans, mul-dvd-mul-right, mul-div-cancel', mul-comm, mul-zero}
+use native.Mathlib.Nat.{one-mul, pow-zero, pow-suc, dvd-one, dvd-add, dvd-mul-left, dvd-mul-right, pos-of-dvd-of-pos}
 use Rattle.definitions.specs.Residues.{Coprime}
-use Rattle.numbers.specs.Congruence.{c-refl, c-sym, c-trans, c-eq, c-mul, c-zero, dvd-c, ring}
+use Rattle.numbers.specs.Congruence.{Cong, c-refl, c-sym, c-trans, c-eq, c-mul, c-dvd, c-zero, dvd-c, ring}
 use Rattle.numbers.specs.Units.{unit-of-coprime}
 
 pub coprime-sym : {a b : ℕ} → Coprime a b → Coprime b a
 coprime-sym c = record { only = λ k p q. c .only k q p }
+
+-- a common divisor of a and b divides s a + t b, and so 1
+pub coprime-of-bezout : {a b : ℕ} (s t : ℕ) → Cong (a * b) (s * a + t * b) 1 → Coprime a b
+coprime-of-bezout {a} {b} s t c = record {
+  only = λ k p q. dvd-one .0 (dvd-c
+      (c-trans (c-sym (c-dvd (dvd-trans k p (dvd-mul-right a b)) c))
+      (c-zero (dvd-add k (dvd-trans k p (dvd-mul-left a s)) (dvd-trans k q (dvd-mul-left b t))))));
+}
 
 pub coprime-one : (a : ℕ) → Coprime 1 a
 coprime-one a = record { only = λ k p q. dvd-one .0 p }

@@ -7,7 +7,8 @@
 use mathlib.Core.Path.{_≡_, sym, subst, _∙_}
 use mathlib.Core.Logic.{⊎-elim}
 use Prim.Native.Nat.{ℕ, zero, suc, _+_, _-_, _*_, _/_, _%_, _<_, _≤_, _∣_}
-use native.Mathlib.Nat.{dvd-mod-iff, dvd-refl, dvd-zero, dvd-antisymm, mod-lt, mod-self, zero-mod, zero-mul, one-mul, div-add-mod, eq-zero-or-pos, le-of-lt}
+use native.Mathlib.Nat.{dvd-mod-iff, dvd-refl, dvd-zero, dvd-antisymm, mod-lt, mod-self}
+use native.Mathlib.Nat.{zero-mod, zero-mul, one-mul, div-add-mod, eq-zero-or-pos, le-of-lt}
 use native.Mathlib.Omega.{arith}
 use Rattle.numbers.specs.Congruence.{Cong, c-refl, c-sym, c-trans, c-eq, c-add, c-mul, c-mod, c-sub, c-cancel, ring}
 

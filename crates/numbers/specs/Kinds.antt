@@ -9,13 +9,17 @@
 use mathlib.Core.Path.{_≡_, sym, ap, subst, _∙_}
 use mathlib.Core.Logic.{_⊎_, inl, inr}
 use Prim.Native.Nat.{ℕ, zero, suc, _*_, _/_, _^_, _<_, _≤_, _∣_}
-use native.Mathlib.Nat.{dvd-refl, dvd-trans, mul-dvd-mul, mod-eq-zero-of-dvd, div-mul-cancel, mul-div-cancel, mul-div-cancel', pow-suc, pow-zero, mul-assoc, mul-one, mul-comm, one-mul, zero-mul, pos-of-ne-zero, pos-of-dvd-of-pos, lt-of-lt-of-le, le-mul-of-pos-right, dvd-mul-right, dvd-mul-left, dvd-of-mod-eq-zero, dvd-antisymm, div-lt-self, eq-of-mul-eq-mul-left, le-of-lt}
+use native.Mathlib.Nat.{dvd-refl, dvd-trans, mul-dvd-mul, mod-eq-zero-of-dvd, div-mul-cancel, mul-div-cancel}
+use native.Mathlib.Nat.{mul-div-cancel', pow-suc, pow-zero, mul-assoc, mul-one, mul-comm, one-mul, zero-mul}
+use native.Mathlib.Nat.{pos-of-ne-zero, pos-of-dvd-of-pos, lt-of-lt-of-le, le-mul-of-pos-right, dvd-mul-right}
+use native.Mathlib.Nat.{dvd-mul-left, dvd-of-mod-eq-zero, dvd-antisymm, div-lt-self, eq-of-mul-eq-mul-left, le-of-lt}
 use native.Mathlib.Decide.{decLt, ℕ-discrete}
 use native.Mathlib.Omega.{arith}
 use Rattle.definitions.specs.Residues.{IsUnit, IsNilpotent, Coprime, Splitting}
-use Rattle.numbers.specs.Congruence.{c-dvd, c-trans, c-eq}
+use Rattle.numbers.specs.Congruence.{c-dvd}
 use Rattle.numbers.specs.Divisors.{IsGcd, GcdCofactor, HasCofactor, bezout-exists, gcd-exists}
-use Rattle.numbers.specs.Units.{cofactor-inverse, unit-of-coprime, coprime-of-gcd, coprime-of-unit, unit-dvd, unit-divides-power}
+use Rattle.numbers.specs.Units.{cofactor-inverse, unit-of-coprime, coprime-of-gcd, coprime-of-unit, unit-dvd}
+use Rattle.numbers.specs.Units.{inverse-times, unit-divides-power}
 use Rattle.numbers.specs.Coprimality.{coprime-sym, coprime-dvd, coprime-divides, coprime-power}
 
 pub record Parts (n a m h : ℕ) : Type 0 where
@@ -60,7 +64,8 @@ parts-step {n} {a} {m} {h} {h'} q l f =
 pub parts-nilpotent : {n a m h : ℕ} → Parts n a m h → m ≡ 1 → IsNilpotent n a
 parts-nilpotent {n} {a} {m} q e = record {
   exponent = q .k;
-  power = mod-eq-zero-of-dvd n (subst (λ (x : ℕ). x ∣ a ^ q .k) (sym (mul-one (q .p)) ∙ ap (λ (x : ℕ). q .p * x) (sym e) ∙ q .product) (q .divides));
+  power = mod-eq-zero-of-dvd n (subst (λ (x : ℕ). x ∣ a ^ q .k)
+      (sym (mul-one (q .p)) ∙ ap (λ (x : ℕ). q .p * x) (sym e) ∙ q .product) (q .divides));
 }
 
 -- m is left, and has nothing in common with a
@@ -77,8 +82,7 @@ parts-splitting {n} {a} {m} {h} q l ne =
       above₁ = q .above;
       above₂ = more;
       coprime = record {
-        only = λ d dp dm. unit-divides-power d a (unit .inverse) (q .k)
-            (c-dvd dm (c-trans (c-eq (mul-comm (unit .inverse) a)) (record { same = unit .is .one }))) (dvd-trans d dp (q .divides));
+        only = λ d dp dm. unit-divides-power d a (unit .inverse) (q .k) (c-dvd dm (inverse-times unit)) (dvd-trans d dp (q .divides));
       };
       nilpotent = record { exponent = q .k; power = mod-eq-zero-of-dvd (q .p) (q .divides) };
       unit = unit;
@@ -88,14 +92,15 @@ parts-splitting {n} {a} {m} {h} q l ne =
 
 no-power : {n a : ℕ} → 2 ≤ n → IsUnit n a → (k : ℕ) → n ∣ a ^ k → ⊥
 no-power {n} {a} l u k d =
-    let one : n ≡ 1 = unit-divides-power n a (u .inverse) k (c-trans (c-eq (mul-comm (u .inverse) a)) (record { same = u .is .one })) d in omega arith
+    let one : n ≡ 1 = unit-divides-power n a (u .inverse) k (inverse-times u) d in omega arith
 
 pub unit-not-nilpotent : {n a : ℕ} → 2 ≤ n → IsUnit n a → IsNilpotent n a → ⊥
 unit-not-nilpotent {n} l u x = no-power l u (x .exponent) (dvd-of-mod-eq-zero n (x .power))
 
 pub unit-not-splitting : {n a n₁ n₂ : ℕ} → IsUnit n a → Splitting n a n₁ n₂ → ⊥
 unit-not-splitting {n} {a} {n₁} {n₂} u x =
-    unit-not-nilpotent (x .above₁) (unit-dvd (le-of-lt (x .above₁)) (subst (λ (z : ℕ). n₁ ∣ z) (x .product) (dvd-mul-right n₁ n₂)) u) (x .nilpotent)
+    let d : n₁ ∣ n = subst (λ (z : ℕ). n₁ ∣ z) (x .product) (dvd-mul-right n₁ n₂) in
+    unit-not-nilpotent (x .above₁) (unit-dvd (le-of-lt (x .above₁)) d u) (x .nilpotent)
 
 pub nilpotent-not-splitting : {n a n₁ n₂ : ℕ} → IsNilpotent n a → Splitting n a n₁ n₂ → ⊥
 nilpotent-not-splitting {n} {a} {n₁} {n₂} y x =
@@ -108,7 +113,8 @@ nilpotent-not-splitting {n} {a} {n₁} {n₂} y x =
 first-divides : {n a n₁ n₂ m₁ m₂ : ℕ} → Splitting n a n₁ n₂ → Splitting n a m₁ m₂ → n₁ ∣ m₁
 first-divides {n} {a} {n₁} {n₂} {m₁} {m₂} x y =
     let k : ℕ = x .nilpotent .exponent in
-    let c : Coprime n₁ m₂ = coprime-sym (coprime-dvd (dvd-refl m₂) (dvd-of-mod-eq-zero n₁ (x .nilpotent .power)) (coprime-power (le-of-lt (y .above₂)) (coprime-of-unit (y .unit)) k)) in
+    let apart : Coprime m₂ (a ^ k) = coprime-power (le-of-lt (y .above₂)) (coprime-of-unit (y .unit)) k in
+    let c : Coprime n₁ m₂ = coprime-sym (coprime-dvd (dvd-refl m₂) (dvd-of-mod-eq-zero n₁ (x .nilpotent .power)) apart) in
     coprime-divides m₁ (le-of-lt (x .above₁)) c
     (subst (λ (z : ℕ). n₁ ∣ z) (x .product ∙ sym (y .product) ∙ mul-comm m₁ m₂) (dvd-mul-right n₁ n₂))
 

@@ -5,7 +5,8 @@
 --   nilpotent-power    (a ^ K n) % n is 0
 use mathlib.Core.Path.{_≡_, sym, ap, subst, _∙_}
 use Prim.Native.Nat.{ℕ, suc, _+_, _-_, _*_, _%_, _^_, _≤_, _∣_}
-use native.Mathlib.Nat.{dvd-trans, dvd-zero, dvd-add, dvd-mul-right, dvd-mul-left-of-dvd, dvd-mod-iff, mod-eq-zero-of-dvd, dvd-of-mod-eq-zero, mul-comm, mul-dvd-mul, mul-le-mul, pow-suc, pow-zero, one-dvd, add-sub-of-le, le-of-eq}
+use native.Mathlib.Nat.{dvd-trans, dvd-zero, dvd-add, dvd-mul-right, dvd-mul-left-of-dvd, dvd-mod-iff, mod-eq-zero-of-dvd}
+use native.Mathlib.Nat.{dvd-of-mod-eq-zero, mul-comm, mul-dvd-mul, mul-le-mul, pow-suc, pow-zero, one-dvd, add-sub-of-le, le-of-eq}
 use lib.Pow.{pow-add}
 use Rattle.definitions.specs.Residues.{K, IsNilpotent}
 use Rattle.numbers.specs.Logarithm.{K-largest}

@@ -9,7 +9,8 @@
 use mathlib.Core.Path.{_≡_, sym, subst, _∙_}
 use mathlib.Core.Logic.{_⊎_, inl, inr, ⊎-elim}
 use Prim.Native.Nat.{ℕ, zero, suc, _+_, _-_, _*_, _/_, _^_, _≤_, _<_, _∣_}
-use native.Mathlib.Nat.{dvd-refl, dvd-trans, le-of-dvd, pos-of-dvd-of-pos, mul-div-cancel', mul-comm, mul-dvd-mul, mul-le-mul-right, one-dvd, mul-zero, mul-one, eq-or-lt-of-le, le-antisymm}
+use native.Mathlib.Nat.{dvd-refl, dvd-trans, le-of-dvd, pos-of-dvd-of-pos, mul-div-cancel', mul-comm}
+use native.Mathlib.Nat.{mul-dvd-mul, mul-le-mul-right, one-dvd, mul-zero, mul-one, eq-or-lt-of-le, le-antisymm}
 use native.Mathlib.Decide.{decDvd, ℕ-discrete}
 use native.Mathlib.Omega.{arith}
 use Rattle.definitions.specs.Residues.{IsUnit, Coprime}
@@ -61,7 +62,11 @@ rise n m pos v ne =
     let q : ℕ = n / m in
     let e : m * q ≡ n = mul-div-cancel' m v in
     let f = prime-of q (above q e) in
-    record { p = f .p; prime = f .prime; divides = subst (λ (x : ℕ). f .p * m ∣ x) (mul-comm q m ∙ e) (mul-dvd-mul (f .p) m (f .divides) (dvd-refl m)) }
+    record {
+      p = f .p;
+      prime = f .prime;
+      divides = subst (λ (x : ℕ). f .p * m ∣ x) (mul-comm q m ∙ e) (mul-dvd-mul (f .p) m (f .divides) (dvd-refl m));
+    }
   where
     above : (q : ℕ) → m * q ≡ n → 1 < q
     above zero e = absurd (let z = mul-zero m in omega arith)

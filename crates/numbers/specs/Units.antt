@@ -1,8 +1,15 @@
 -- Units modulo n: the inverse is one; a is a unit exactly when it has no divisor in common with n.
+--
+--   cofactor-inverse, unit-of    a cofactor of 1 is the inverse; so is the residue of any s with s a = 1
+--   inverse-times, inverse-unique    the inverse times a is 1; two inverses are one
+--   unit-dvd                     a unit modulo n is one modulo each divisor of n
+--   unit-of-coprime, coprime-of-unit, coprime-of-gcd, gcd-of-coprime    units, coprime numbers, and a gcd that is 1
+--   unit-divides-power           what divides a power of a, where a is a unit, is 1
 use mathlib.Core.Path.{_≡_, sym, ap, subst, _∙_}
 use mathlib.Core.Logic.{⊎-elim}
 use Prim.Native.Nat.{ℕ, zero, suc, _*_, _%_, _^_, _≤_, _∣_}
-use native.Mathlib.Nat.{mod-eq-of-lt, mod-lt, mul-mod-right, mul-comm, mul-one, one-mul, mul-zero, eq-or-lt-of-le, pow-suc, pow-zero, dvd-one, dvd-trans, dvd-mul-right}
+use native.Mathlib.Nat.{mod-eq-of-lt, mod-lt, mul-mod-right, mul-comm, mul-one, one-mul, mul-zero}
+use native.Mathlib.Nat.{eq-or-lt-of-le, pow-suc, pow-zero, dvd-one, dvd-trans, dvd-mul-left}
 use native.Mathlib.Omega.{arith}
 use Rattle.definitions.specs.Residues.{Inverse, IsUnit, Coprime}
 use Rattle.numbers.specs.Congruence.{Cong, c-refl, c-sym, c-trans, c-eq, c-mul, c-mod, c-dvd, c-zero, dvd-c, ring}
@@ -23,6 +30,10 @@ cofactor-inverse {n} {a} {g} {s} l c e =
         let u : 1 % n ≡ 1 = mod-eq-of-lt l in
         omega arith
 
+-- the inverse times a is 1
+pub inverse-times : {n a : ℕ} (u : IsUnit n a) → Cong n (u .inverse * a) 1
+inverse-times {n} {a} u = c-trans (c-eq (mul-comm (u .inverse) a)) (record { same = u .is .one })
+
 -- two inverses are one
 pub inverse-unique : {n a i j : ℕ} → Inverse n a i → Inverse n a j → i ≡ j
 inverse-unique {n} {a} {i} {j} p q =
@@ -42,7 +53,7 @@ unit-of {n} {a} s l c = record {
 
 -- what is a unit modulo n is one modulo each divisor of n
 pub unit-dvd : {m n a : ℕ} → 1 ≤ m → m ∣ n → IsUnit n a → IsUnit m a
-unit-dvd {m} {n} {a} l d u = unit-of (u .inverse) l (c-dvd d (c-trans (c-eq (mul-comm (u .inverse) a)) (record { same = u .is .one })))
+unit-dvd l d u = unit-of (u .inverse) l (c-dvd d (inverse-times u))
 
 -- to be a unit modulo n is to have no divisor in common with n
 pub unit-of-coprime : {n a : ℕ} → 1 ≤ n → Coprime n a → IsUnit n a
@@ -57,7 +68,10 @@ pub gcd-of-coprime : {n a g : ℕ} → Coprime n a → IsGcd n a g → g ≡ 1
 gcd-of-coprime {n} {a} {g} c d = c .only g (d .left) (d .right)
 
 pub coprime-of-unit : {n a : ℕ} → IsUnit n a → Coprime n a
-coprime-of-unit {n} {a} u = record { only = λ k p q. dvd-one .0 (dvd-c (c-trans (c-sym (c-dvd p (record { same = u .is .one }))) (c-zero (dvd-trans k q (dvd-mul-right a (u .inverse)))))) }
+coprime-of-unit {n} {a} u = record {
+  only = λ k p q. dvd-one .0 (dvd-c
+      (c-trans (c-sym (c-dvd p (inverse-times u))) (c-zero (dvd-trans k q (dvd-mul-left a (u .inverse))))));
+}
 
 -- a number that divides a power of a, where s a is 1 modulo it, is 1
 pub unit-divides-power : (d a s k : ℕ) → Cong d (s * a) 1 → d ∣ a ^ k → d ≡ 1

@@ -6,8 +6,9 @@
 // Results are lent one word too few, as many as needed, or more; some polynomials are too long or hold a word that is no residue;
 // some working buffers are one word too short.
 ghost use mathlib.Core.Path.{_≡_};
-ghost use Prim.Native.Nat.{_+_, _-_, _*_, _≤_};
+ghost use Prim.Native.Nat.{_≤_};
 ghost use lib.ListN.{length};
+ghost use Rattle.polynomial_trial.specs.Sizes.{Lengths, Rooms};
 use refusals::Answer;
 
 // ---- writing
@@ -136,14 +137,17 @@ fn length_of(x: u32) -> usize
 
 // The number of words that the first result of a service needs, for polynomials of l and m words.
 fn needed(service: u32, n: u32, l: usize, m: usize) -> usize
-    requires { ⌜ (1 ≤ l) × ((l ≤ 50) × ((1 ≤ m) × (m ≤ 50))) ⌝ }
+    requires { ⌜ Lengths l m ⌝ }
     ensures { λ r. ⌜ (1 ≤ r) × (r ≤ 2000) ⌝ }
 {
     if service == 0 {
         return l + m - 1;
     }
     if service == 1 {
-        return polynomial::excess(l, m) + 1;
+        if l < m {
+            return 1;
+        }
+        return l - m + 1;
     }
     if service == 2 {
         return l;
@@ -166,18 +170,18 @@ fn apply(
     work: &mut [u32],
 ) -> Answer {
     if service == 0 {
-        return polynomial::product(n, f, g, a);
+        return polynomial_product::product(n, f, g, a);
     }
     if service == 1 {
-        return polynomial::division(n, f, g, a, b);
+        return polynomial_division::division(n, f, g, a, b);
     }
     if service == 2 {
-        return polynomial_units::unit_times_monic(n, f, a, b, work);
+        return polynomial_factors::unit_times_monic(n, f, a, b, work);
     }
     if service == 3 {
-        return polynomial_units::inverse(n, f, a, work);
+        return polynomial_inverse::inverse(n, f, a, work);
     }
-    polynomial::true_degree(n, f)
+    polynomial_degree::true_degree(n, f)
 }
 
 // The answer and every lent word join the checksum; cut words are lent for the first result, and end working words.
@@ -196,7 +200,10 @@ fn run(
     requires { ⌜ (cut ≤ length (now a)) × (end ≤ length (now work)) ⌝ }
 {
     let r = apply(service, n, f, g, &mut a[0..cut], b, &mut work[0..end]);
-    let s = mix_words(mix(mix(h, r.value), r.status), polynomial::leading(n, f));
+    let s = mix_words(
+        mix(mix(h, r.value), r.status),
+        polynomial_degree::leading(n, f),
+    );
     mix_words(mix_words(mix_words(s, a), b), work)
 }
 
@@ -228,8 +235,7 @@ fn case_of(
     x: u32,
     h: u32,
 ) -> u32
-    requires { ⌜ (1 ≤ length (now f)) × ((length (now f) ≤ 50) × ((1 ≤ length (now g)) × (length (now g) ≤ 50))) ⌝ }
-    requires { ⌜ (2003 ≤ length (now a)) × (8192 ≤ length (now work)) ⌝ }
+    requires { ⌜ (Lengths (length (now f)) (length (now g))) × ((2003 ≤ length (now a)) × (8192 ≤ length (now work))) ⌝ }
 {
     spoil(n, f, x);
     set_words(a, 7);
@@ -254,8 +260,7 @@ fn trial(
     x: u32,
     h: u32,
 ) -> Drawn
-    requires { ⌜ (1 ≤ n) × ((50 ≤ length (now f)) × (50 ≤ length (now g))) ⌝ }
-    requires { ⌜ (2003 ≤ length (now a)) × (8192 ≤ length (now work)) ⌝ }
+    requires { ⌜ (1 ≤ n) × Rooms (length (now f)) (length (now g)) (length (now a)) (length (now work)) ⌝ }
 {
     let x1 = draw(x);
     let x2 = draw(x1);
@@ -299,8 +304,7 @@ fn cases(
     b: &mut [u32],
     work: &mut [u32],
 ) -> u32
-    requires { ⌜ (1 ≤ n) × ((service ≤ 4) × ((50 ≤ length (now f)) × (50 ≤ length (now g)))) ⌝ }
-    requires { ⌜ (2003 ≤ length (now a)) × (8192 ≤ length (now work)) ⌝ }
+    requires { ⌜ (1 ≤ n) × ((service ≤ 4) × Rooms (length (now f)) (length (now g)) (length (now a)) (length (now work))) ⌝ }
 {
     let mut x = mix(service + 1, n);
     let mut h: u32 = 0;

@@ -1,17 +1,22 @@
-// The reduced resultant D of two polynomials modulo n, with cofactors u and v: u f + v g = D. The run makes an attempt modulo n; where n splits,
-// it calls itself on each of the two coprime factors and joins the answers by the Chinese remainder.
+// The reduced resultant D of two polynomials modulo n, with cofactors u and v: u f + v g = D. The run makes an attempt modulo n; where n
+// splits, it calls itself on each of the two coprime factors and joins the answers by the Chinese remainder.
+//
+//   cofactor_length    L, the words of a cofactor
+//   save, merge, mix   the cofactors of the first factor are saved, and joined with those of the second
+//   run                D and the cofactors
 ghost use mathlib.Core.Path.{_≡_};
-ghost use Prim.Native.Nat.{ℕ, max, _+_, _-_, _*_, _/_, _%_, _<_, _≤_, _∣_};
-ghost use lib.ListN.{length, getD};
+ghost use Prim.Native.Nat.{_+_, _-_, _*_, _<_, _≤_};
+ghost use lib.ListN.{length};
 ghost use Rattle.definitions.specs.Polynomials.{L};
-ghost use Rattle.factor.specs.Factors.{SplitOf};
-ghost use Rattle.cofactors.specs.Cofactors.{Certified};
-ghost use Rattle.reduced.specs.Runs.{Mixed, Saved, Merged, run-room};
+ghost use Rattle.windows.specs.Window.{Scratch};
+ghost use Rattle.reduced_cofactors.specs.Cofactors.{Certified};
+ghost use Rattle.reduced.specs.Runs.{MixedWords, SaveAsked, Saved, MergeAsked, Merged, RunAsked};
+use residue::Attempt;
 
 // u[j] = a * s[j] + b * u[j]; s ends before u does, or with it.
 fn mix(u: &mut [u32], s: &[u32], n: u32, a: u32, b: u32)
     requires { ⌜ (1 ≤ n) × (length (now s) ≤ length (now u)) ⌝ }
-    ensures { λ _. ⌜ Mixed n a b (now (s .entry)) (now (u .entry)) (now (u .exit)) ⌝ }
+    ensures { λ _. ⌜ MixedWords n a b (now (s .entry)) (now (u .entry)) (now (u .exit)) ⌝ }
 {
     let z = u.len();
     windows::scale(u, n, b, 0, 0, z);
@@ -36,8 +41,9 @@ pub fn cofactor_length(p: u32, a: usize, b: usize) -> usize
 
 // The cofactors modulo n in u and v, for polynomials of a and b words, are saved in front of w. Answers their length.
 fn save(w: &mut [u32], u: &[u32], v: &[u32], n: u32, a: usize, b: usize) -> usize
-    requires { ⌜ (1 ≤ n) × ((1 ≤ a) × ((1 ≤ b) × ((2 * L n (a - 1) (b - 1) ≤ length (now w)) × ((L n (a - 1) (b - 1) ≤ length (now u)) × (L n (a - 1) (b - 1) ≤ length (now v)))))) ⌝ }
-    ensures { λ r. ⌜ (r ≡ L n (a - 1) (b - 1)) × Saved n (L n (a - 1) (b - 1)) (now (u .entry)) (now (v .entry)) (now (w .entry)) (now (w .exit)) ⌝ }
+    requires { ⌜ SaveAsked n a b (now u) (now v) (now w) ⌝ }
+    ensures { λ r. ⌜ r ≡ L n (a - 1) (b - 1) ⌝ }
+    ensures { λ r. ⌜ Saved n r (now (u .entry)) (now (v .entry)) (now (w .entry)) (now (w .exit)) ⌝ }
 {
     let l = cofactor_length(n, a, b);
     windows::load(w, 0, &u[0..l], n);
@@ -47,8 +53,7 @@ fn save(w: &mut [u32], u: &[u32], v: &[u32], n: u32, a: usize, b: usize) -> usiz
 
 // The saved cofactors modulo p, of a, are joined with those modulo q, of b.
 fn merge(u: &mut [u32], v: &mut [u32], w: &[u32], p: u32, q: u32, l: usize, a: u32, b: u32)
-    requires { ⌜ (2 * l ≤ length (now w)) × ((l ≤ length (now u)) × ((l ≤ length (now v)) × (p * q < 4294967296))) ⌝ }
-    requires { ⌜ SplitOf (p * q) p q ⌝ }
+    requires { ⌜ MergeAsked p q l (now u) (now v) (now w) ⌝ }
     ensures { λ _. ⌜ Merged p q l a b (now (w .entry)) (now (u .entry)) (now (u .exit)) (now (v .entry)) (now (v .exit)) ⌝ }
 {
     let n = p * q;
@@ -58,15 +63,17 @@ fn merge(u: &mut [u32], v: &mut [u32], w: &[u32], p: u32, q: u32, l: usize, a: u
     mix(v, &w[l..l + l], n, x, y);
 }
 
-// D, with cofactors in u and v: u f + v g = D. At a split each of the two factors is worked as a modulus of its own.
+// "each of the two factors is worked as a modulus of its own, and the answers are joined by the Chinese remainder." D, with cofactors in u
+// and v: every word of these is below n, and those from place L on are 0.
 pub fn run(u: &mut [u32], v: &mut [u32], w: &mut [u32], n: u32, f: &[u32], g: &[u32]) -> u32
-    requires { ⌜ (2 ≤ n) × ((1 ≤ length (now f)) × ((1 ≤ length (now g)) × ((run-room n (max (length (now f) - 1) (length (now g) - 1)) ≤ length (now w)) × ((L n (length (now f) - 1) (length (now g) - 1) ≤ length (now u)) × (L n (length (now f) - 1) (length (now g) - 1) ≤ length (now v)))))) ⌝ }
-    ensures { λ r. ⌜ Certified n (L n (length (now (f .entry)) - 1) (length (now (g .entry)) - 1)) (now (f .entry)) (now (g .entry)) (now (u .exit)) (now (v .exit)) r ⌝ }
-    ensures { λ _. ⌜ length (now (w .exit)) ≡ length (now (w .entry)) ⌝ }
+    requires { ⌜ RunAsked n (now f) (now g) (now u) (now v) (now w) ⌝ }
+    ensures { λ r. ⌜ Certified n (L n (length (now (f .entry)) - 1) (length (now (g .entry)) - 1)) (now (f .entry)) (now (g .entry))
+        (now (u .exit)) (now (v .exit)) r ⌝ }
+    ensures { λ _. ⌜ Scratch (now (w .entry)) (now (w .exit)) ⌝ }
 {
-    match attempts::attempt(u, v, w, n, f, g) {
-        stages::Outcome::Value(d) => d,
-        stages::Outcome::Splits(p, q) => {
+    match reduced_attempt::attempt(u, v, w, n, f, g) {
+        Attempt::Value(d) => d,
+        Attempt::Splits(p, q) => {
             let a = run(u, v, w, p, f, g);
             let l = save(w, u, v, p, f.len(), g.len());
             let z = w.len();

@@ -1,14 +1,24 @@
 // The refusals that every service shares, and the answer of a service.
+//
+//   bad_modulus, bad_length, all_below    the tests of the refusals 1, 2 and 3
+//   refusal_one, refusal_two              the first of them that applies to one polynomial, or to two
 ghost use mathlib.Core.Path.{_≡_};
 ghost use Prim.Native.Nat.{ℕ};
 ghost use lib.ListN.{length};
-ghost use Rattle.refusals.specs.Refusals.{all-below, bad-length, refusal-one, refusal-two};
+ghost use Rattle.refusals.specs.Refusals.{narrow, bad-modulus, bad-length, all-below, first-refusal, refusals-one, refusals-two};
 
 // What a service answers: the number, and 0 or the number of the refusal.
 #[repr(C)]
 pub struct Answer {
     pub value: u32,
     pub status: u32,
+}
+
+// Whether n is 0 or 1. No word of 32 bits is at the bound.
+pub fn bad_modulus(n: u32) -> bool
+    ensures { λ r. ⌜ r ≡ bad-modulus narrow n ⌝ }
+{
+    n < 2
 }
 
 // Whether every word of f is a residue.
@@ -37,9 +47,9 @@ pub fn bad_length(f: &[u32]) -> bool
 
 // Refusals 1, 2 and 3 of one polynomial; 0 where none applies.
 pub fn refusal_one(n: u32, f: &[u32]) -> u32
-    ensures { λ r. ⌜ r ≡ refusal-one n (now (f .entry)) ⌝ }
+    ensures { λ r. ⌜ r ≡ first-refusal (refusals-one narrow n (now (f .entry))) ⌝ }
 {
-    if n < 2 {
+    if bad_modulus(n) {
         return 1;
     }
     if bad_length(f) {
@@ -53,9 +63,9 @@ pub fn refusal_one(n: u32, f: &[u32]) -> u32
 
 // Refusals 1, 2 and 3 of two polynomials; 0 where none applies.
 pub fn refusal_two(n: u32, f: &[u32], g: &[u32]) -> u32
-    ensures { λ r. ⌜ r ≡ refusal-two n (now (f .entry)) (now (g .entry)) ⌝ }
+    ensures { λ r. ⌜ r ≡ first-refusal (refusals-two narrow n (now (f .entry)) (now (g .entry))) ⌝ }
 {
-    if n < 2 {
+    if bad_modulus(n) {
         return 1;
     }
     if bad_length(f) {

@@ -41,7 +41,8 @@ pub record TheKind (n a : ℕ) : Type 0 where
 pub kind-one : (n a : ℕ) → 2 ≤ n → TheKind n a
 kind-one n a l =
     ⊎-elim (λ (u : IsUnit n a). the (Unit' (u .inverse)) (u .is))
-    (λ (y : IsNilpotent n a ⊎ Splits n a). ⊎-elim (λ (x : IsNilpotent n a). the Nilpotent x) (λ (z : Splits n a). the (Splits' (z .n₁) (z .n₂)) (z .is)) y)
+    (λ (y : IsNilpotent n a ⊎ Splits n a).
+    ⊎-elim (λ (x : IsNilpotent n a). the Nilpotent x) (λ (z : Splits n a). the (Splits' (z .n₁) (z .n₂)) (z .is)) y)
     (kind-exists n a l)
   where
     the : (r : Kind) → KindOf n a r → TheKind n a

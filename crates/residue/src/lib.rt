@@ -1,6 +1,7 @@
 // Kinds of residues, greatest common divisors with cofactors, joining residues of coprime moduli, and the modulus with its K. The
 // functions here ask for what they need; the services that refuse stand in `residue_services`.
 //
+//   Attempt       a value, or a split of the modulus
 //   kind_of       what a residue is: a unit, nilpotent, or splitting
 //   idempotent    the residue modulo n1 n2 that is 1 modulo n1 and 0 modulo n2
 //   join          the residue modulo n1 n2 that is x modulo n1 and y modulo n2
@@ -15,6 +16,12 @@ ghost use Rattle.residue.specs.Kinds.{KindOf};
 pub enum Kind {
     Unit(u32),
     Nilpotent,
+    Splits(u32, u32),
+}
+
+// What an attempt modulo n comes to: a value, or two coprime factors above 1, of n or of a divisor of n.
+pub enum Attempt {
+    Value(u32),
     Splits(u32, u32),
 }
 

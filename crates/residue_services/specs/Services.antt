@@ -1,18 +1,23 @@
--- What the residue services promise. Each refuses with 1, then 3, and answers 0 then: "Each returns its number and value 0".
+-- What the residue services answer, over any width W. Each refuses with 1, then 3, and the value is 0 then.
 --
---   refusal-residue n a       1 or 3 for one residue, 0 where neither applies
---   refusal-residues n a b    1 or 3 for two
---   GcdPromised               what the gcd with cofactors is, and after a refusal
---   number-of, values-of      document 01's number and values for each case of the answer on a residue's kind
---   KindPromised              what the values are, and after a refusal
---   values-one                the values that are true of a residue are one list
-use mathlib.Core.Path.{_≡_, refl, sym, ap, _∙_}
-use mathlib.Core.Bool.{cond}
+--   refusals-residue, refusals-residues    the refusals of one residue and of two, in their order
+--   ResidueAnswer t x                      all that is promised of a service with the refusals t and the value x
+--   SumAnswer, DifferenceAnswer, ResidueProductAnswer, PowerAnswer    the same of each service
+--   GcdPromised                            all that is promised of the gcd with cofactors
+--   answer-number, answer-values           document 01's number and values for each case of the answer on a residue's kind
+--   KindPromised                           all that is promised of the kind
+--   residue-listed, residues-listed        each refusal under its condition and no other
+--   values-one                             the values that are true of a residue are one list
+use mathlib.Core.Path.{_≡_, refl, sym, ap, subst, _∙_}
+use mathlib.Core.Bool.{Bool, true, false, not}
 use mathlib.Core.List.{List, [], _∷_}
-use Prim.Native.Nat.{ℕ, zero, suc, _≤_}
-use lib.Dec.{ltb}
+use Prim.Native.Nat.{ℕ, zero, suc, _+_, _-_, _*_, _%_, _^_, _≤_, _<_}
+use native.Mathlib.Omega.{arith}
+use borrow.Author.Tests.{ltb-true, ltb-false}
+use lib.Dec.{T, ltb}
 use Rattle.definitions.specs.Residues.{Inverse, IsNilpotent, Splitting, GcdWithCofactors}
-use Rattle.refusals.specs.Refusals.{bad-modulus}
+use Rattle.refusals.specs.Refusals.{Width, Tested, bad-modulus, first-refusal, answered}
+use Rattle.refusals.specs.Conditions.{Fails, Listed, ServedModulus, modulus-fails}
 use Rattle.residue.specs.declared.Kind.{Kind}
 use Rattle.residue.specs.declared.Kind.the-variants.{Unit as Unit', Nilpotent, Splits}
 use Rattle.residue.specs.Kinds.{KindOf, kind-unique}
@@ -20,21 +25,43 @@ use Rattle.residue_services.specs.declared.KindAnswer.{KindAnswer}
 use Rattle.residue_services.specs.declared.KindAnswer.the-variants.{Known, Refused}
 
 -- "3: … a single residue given, is n or more."
-abbrev pub refusal-residue : ℕ → ℕ → ℕ
-refusal-residue n a = cond (bad-modulus n) 1 (cond (ltb a n) 0 3)
+abbrev pub refusals-residue : Width → ℕ → ℕ → List Tested
+refusals-residue W n a = (1, bad-modulus W n) ∷ (3, not (ltb a n)) ∷ []
 
-abbrev pub refusal-residues : ℕ → ℕ → ℕ → ℕ
-refusal-residues n a b = cond (bad-modulus n) 1 (cond (ltb a n) (cond (ltb b n) 0 3) 3)
+abbrev pub refusals-residues : Width → ℕ → ℕ → ℕ → List Tested
+refusals-residues W n a b = (1, bad-modulus W n) ∷ (3, not (ltb a n)) ∷ (3, not (ltb b n)) ∷ []
 
--- the status comes first: g, s and t where it is 0, and 0 for each after a refusal
-abbrev pub GcdPromised : ℕ → ℕ → ℕ → ℕ → ℕ → ℕ → ℕ → Type 0
-GcdPromised zero n a b g s t = GcdWithCofactors n a b g s t
-GcdPromised (suc r) n a b g s t = (g ≡ 0) × ((s ≡ 0) × (t ≡ 0))
+-- "Each returns its number and value 0"
+pub record ResidueAnswer (t : List Tested) (x value status : ℕ) : Type 0 where
+  pub status-is : status ≡ first-refusal t
+  pub value-is : value ≡ answered status x
+
+-- "residues modulo n"
+abbrev pub SumAnswer : Width → (n a b value status : ℕ) → Type 0
+SumAnswer W n a b value status = ResidueAnswer (refusals-residues W n a b) ((a + b) % n) value status
+
+abbrev pub DifferenceAnswer : Width → (n a b value status : ℕ) → Type 0
+DifferenceAnswer W n a b value status = ResidueAnswer (refusals-residues W n a b) ((a + (n - b)) % n) value status
+
+abbrev pub ResidueProductAnswer : Width → (n a b value status : ℕ) → Type 0
+ResidueProductAnswer W n a b value status = ResidueAnswer (refusals-residues W n a b) ((a * b) % n) value status
+
+abbrev pub PowerAnswer : Width → (n a k value status : ℕ) → Type 0
+PowerAnswer W n a k value status = ResidueAnswer (refusals-residue W n a) ((a ^ k) % n) value status
+
+-- "g = gcd(a, b, n) from 1 to n, with residues s and t so that s times a plus t times b is g modulo n."; 0 for each after a refusal
+abbrev pub GcdValues : (status n a b g s t : ℕ) → Type 0
+GcdValues zero n a b g s t = GcdWithCofactors n a b g s t
+GcdValues (suc r) n a b g s t = (g ≡ 0) × ((s ≡ 0) × (t ≡ 0))
+
+pub record GcdPromised (W : Width) (n a b g s t status : ℕ) : Type 0 where
+  pub status-is : status ≡ first-refusal (refusals-residues W n a b)
+  pub values-are : GcdValues status n a b g s t
 
 -- the number of each case: 0, or that of the refusal
-abbrev pub number-of : KindAnswer → ℕ
-number-of (Known k) = 0
-number-of (Refused r) = r
+abbrev pub answer-number : KindAnswer → ℕ
+answer-number (Known k) = 0
+answer-number (Refused r) = r
 
 -- the values of each case: "unit with its inverse, nilpotent, or splitting with two factors"; after a refusal the value 0
 abbrev pub kind-values : Kind → List ℕ
@@ -42,30 +69,48 @@ kind-values (Unit' i) = i ∷ []
 kind-values Nilpotent = []
 kind-values (Splits n₁ n₂) = n₁ ∷ n₂ ∷ []
 
-abbrev pub values-of : KindAnswer → List ℕ
-values-of (Known k) = kind-values k
-values-of (Refused r) = 0 ∷ []
+abbrev pub answer-values : KindAnswer → List ℕ
+answer-values (Known k) = kind-values k
+answer-values (Refused r) = 0 ∷ []
 
 -- no value: nilpotent; one: the inverse; two: the factors
-abbrev pub KindValues : ℕ → ℕ → List ℕ → Type 0
-KindValues n a [] = IsNilpotent n a
-KindValues n a (i ∷ []) = Inverse n a i
-KindValues n a (n₁ ∷ n₂ ∷ []) = Splitting n a n₁ n₂
-KindValues n a (x ∷ y ∷ z ∷ v) = ⊥
+abbrev pub TrueValues : ℕ → ℕ → List ℕ → Type 0
+TrueValues n a [] = IsNilpotent n a
+TrueValues n a (i ∷ []) = Inverse n a i
+TrueValues n a (n₁ ∷ n₂ ∷ []) = Splitting n a n₁ n₂
+TrueValues n a (x ∷ y ∷ z ∷ v) = ⊥
 
--- the status comes first
-abbrev pub KindPromised : ℕ → ℕ → ℕ → List ℕ → Type 0
-KindPromised zero n a v = KindValues n a v
-KindPromised (suc r) n a v = v ≡ 0 ∷ []
+abbrev pub KindValues : (status n a : ℕ) → List ℕ → Type 0
+KindValues zero n a v = TrueValues n a v
+KindValues (suc r) n a v = v ≡ 0 ∷ []
+
+pub record KindPromised (W : Width) (n a : ℕ) (r : KindAnswer) : Type 0 where
+  pub status-is : answer-number r ≡ first-refusal (refusals-residue W n a)
+  pub values-are : KindValues (answer-number r) n a (answer-values r)
+
+-- the conditions of an answer: so `status-zero` and `status-is` (refusals/Conditions) say when the status is 0, and when it is k
+residue-fails : (n a : ℕ) → Fails (not (ltb a n)) (a < n)
+residue-fails n a = go (ltb a n) refl
+  where
+    go : (t : Bool) → ltb a n ≡ t → Fails (not t) (a < n)
+    go true e = record { passed = λ z. ltb-true a n e; failed = λ z h. subst T (sym z) tt }
+    go false e = record { passed = λ z. absurd (subst T z tt); failed = λ z h. let l = ltb-false a n e in omega arith }
+
+pub residue-listed : (W : Width) (n a : ℕ) → Listed (refusals-residue W n a) (ServedModulus W n ∷ (a < n) ∷ [])
+residue-listed W n a = ((omega arith, modulus-fails W n), ((omega arith, residue-fails n a), tt))
+
+pub residues-listed : (W : Width) (n a b : ℕ) → Listed (refusals-residues W n a b) (ServedModulus W n ∷ (a < n) ∷ (b < n) ∷ [])
+residues-listed W n a b =
+    ((omega arith, modulus-fails W n), ((omega arith, residue-fails n a), ((omega arith, residue-fails n b), tt)))
 
 -- The promise fixes the answer: the values that are true of a residue are one list, so is the case.
-values-kind : (n a : ℕ) (v : List ℕ) → KindValues n a v → (k : Kind) × (KindOf n a k × (kind-values k ≡ v))
+values-kind : (n a : ℕ) (v : List ℕ) → TrueValues n a v → (k : Kind) × (KindOf n a k × (kind-values k ≡ v))
 values-kind n a [] h = (Nilpotent, (h, refl))
 values-kind n a (i ∷ []) h = (Unit' i, (h, refl))
 values-kind n a (n₁ ∷ n₂ ∷ []) h = (Splits n₁ n₂, (h, refl))
 values-kind n a (x ∷ y ∷ z ∷ v) h = absurd h
 
-pub values-one : (n a : ℕ) → 2 ≤ n → (v w : List ℕ) → KindValues n a v → KindValues n a w → v ≡ w
+pub values-one : (n a : ℕ) → 2 ≤ n → (v w : List ℕ) → TrueValues n a v → TrueValues n a w → v ≡ w
 values-one n a l v w h k =
     let x = values-kind n a v h in
     let y = values-kind n a w k in

@@ -5,9 +5,10 @@
 //   gcd_with_cofactors    gcd(a, b, n) as s a + t b modulo n
 //   classify              the kind of a residue
 ghost use mathlib.Core.Path.{_≡_};
-ghost use Prim.Native.Nat.{ℕ, _+_, _-_, _*_, _%_, _^_};
-ghost use Rattle.refusals.specs.Refusals.{answered};
-ghost use Rattle.residue_services.specs.Services.{refusal-residue, refusal-residues, GcdPromised, number-of, values-of, KindPromised};
+ghost use Rattle.refusals.specs.Refusals.{narrow, first-refusal};
+ghost use Rattle.residue_services.specs.Services.{refusals-residue, refusals-residues};
+ghost use Rattle.residue_services.specs.Services.{SumAnswer, DifferenceAnswer, ResidueProductAnswer, PowerAnswer};
+ghost use Rattle.residue_services.specs.Services.{GcdPromised, KindPromised};
 use refusals::Answer;
 use residue::Kind;
 
@@ -27,37 +28,33 @@ pub enum KindAnswer {
 }
 
 // Refusals 1 and 3 of one residue; 0 where neither applies.
-pub fn refusal_residue(n: u32, a: u32) -> u32
-    ensures { λ r. ⌜ r ≡ refusal-residue n a ⌝ }
+fn refusal_residue(n: u32, a: u32) -> u32
+    ensures { λ r. ⌜ r ≡ first-refusal (refusals-residue narrow n a) ⌝ }
 {
-    if n < 2 {
-        return 1;
-    }
-    if a < n {
-        return 0;
-    }
-    3
-}
-
-// Refusals 1 and 3 of two residues; 0 where neither applies.
-pub fn refusal_residues(n: u32, a: u32, b: u32) -> u32
-    ensures { λ r. ⌜ r ≡ refusal-residues n a b ⌝ }
-{
-    if n < 2 {
+    let bad = refusals::bad_modulus(n);
+    if bad {
         return 1;
     }
     if a >= n {
         return 3;
     }
-    if b < n {
-        return 0;
+    0
+}
+
+// Refusals 1 and 3 of two residues; 0 where neither applies.
+fn refusal_residues(n: u32, a: u32, b: u32) -> u32
+    ensures { λ r. ⌜ r ≡ first-refusal (refusals-residues narrow n a b) ⌝ }
+{
+    let first = refusal_residue(n, a);
+    if first != 0 {
+        return first;
     }
-    3
+    refusal_residue(n, b)
 }
 
 // a + b modulo n.
 pub fn sum(n: u32, a: u32, b: u32) -> Answer
-    ensures { λ r. ⌜ (r .status ≡ refusal-residues n a b) × (r .value ≡ answered (refusal-residues n a b) ((a + b) % n)) ⌝ }
+    ensures { λ r. ⌜ SumAnswer narrow n a b (r .value) (r .status) ⌝ }
 {
     let status = refusal_residues(n, a, b);
     if status != 0 {
@@ -71,7 +68,7 @@ pub fn sum(n: u32, a: u32, b: u32) -> Answer
 
 // a - b modulo n: the residue that with b makes a.
 pub fn difference(n: u32, a: u32, b: u32) -> Answer
-    ensures { λ r. ⌜ (r .status ≡ refusal-residues n a b) × (r .value ≡ answered (refusal-residues n a b) ((a + (n - b)) % n)) ⌝ }
+    ensures { λ r. ⌜ DifferenceAnswer narrow n a b (r .value) (r .status) ⌝ }
 {
     let status = refusal_residues(n, a, b);
     if status != 0 {
@@ -85,7 +82,7 @@ pub fn difference(n: u32, a: u32, b: u32) -> Answer
 
 // a b modulo n.
 pub fn product(n: u32, a: u32, b: u32) -> Answer
-    ensures { λ r. ⌜ (r .status ≡ refusal-residues n a b) × (r .value ≡ answered (refusal-residues n a b) ((a * b) % n)) ⌝ }
+    ensures { λ r. ⌜ ResidueProductAnswer narrow n a b (r .value) (r .status) ⌝ }
 {
     let status = refusal_residues(n, a, b);
     if status != 0 {
@@ -99,7 +96,7 @@ pub fn product(n: u32, a: u32, b: u32) -> Answer
 
 // a to the power k modulo n; the 0-th power is 1.
 pub fn power(n: u32, a: u32, k: usize) -> Answer
-    ensures { λ r. ⌜ (r .status ≡ refusal-residue n a) × (r .value ≡ answered (refusal-residue n a) ((a ^ k) % n)) ⌝ }
+    ensures { λ r. ⌜ PowerAnswer narrow n a k (r .value) (r .status) ⌝ }
 {
     let status = refusal_residue(n, a);
     if status != 0 {
@@ -113,7 +110,7 @@ pub fn power(n: u32, a: u32, k: usize) -> Answer
 
 // "g = gcd(a, b, n) from 1 to n, with residues s and t so that s times a plus t times b is g modulo n."
 pub fn gcd_with_cofactors(n: u32, a: u32, b: u32) -> GcdAnswer
-    ensures { λ r. ⌜ (r .status ≡ refusal-residues n a b) × GcdPromised (refusal-residues n a b) n a b (r .g) (r .s) (r .t) ⌝ }
+    ensures { λ r. ⌜ GcdPromised narrow n a b (r .g) (r .s) (r .t) (r .status) ⌝ }
 {
     let status = refusal_residues(n, a, b);
     if status != 0 {
@@ -135,7 +132,7 @@ pub fn gcd_with_cofactors(n: u32, a: u32, b: u32) -> GcdAnswer
 
 // "unit with its inverse, nilpotent, or splitting with two factors"
 pub fn classify(n: u32, a: u32) -> KindAnswer
-    ensures { λ r. ⌜ (number-of r ≡ refusal-residue n a) × KindPromised (refusal-residue n a) n a (values-of r) ⌝ }
+    ensures { λ r. ⌜ KindPromised narrow n a r ⌝ }
 {
     let status = refusal_residue(n, a);
     if status != 0 {

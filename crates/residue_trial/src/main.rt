@@ -2,7 +2,8 @@
 // made by tools/residue_figures.py, from the definitions and by other methods.
 //
 // A line for each n from 0 to 64: n, K, and a checksum of the answers of sum, difference, product, power, gcd with cofactors and
-// kind at all a and b from 0 to 64, refusals included. Then the residues modulo 12 in full, joining, and full lines at the ends of the range.
+// kind at all a and b from 0 to 64, refusals included. Then the residues modulo 12 in full, joining, and full lines at the ends of
+// the range.
 ghost use Prim.Native.Nat.{ℕ, _≤_};
 use refusals::Answer;
 use residue::Kind;

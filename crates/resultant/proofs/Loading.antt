@@ -3,7 +3,7 @@
 --   placed-asked      what the attempt at them asks
 --   loaded-answer     its answer is about the sent polynomials
 --   swapped-sign      the resultant of g and f, with the sign (-1)^(d e)
---   working-enough    8192 words are enough for 49 words each
+--   sizes-same        the sizes after a run that loses the working words
 use mathlib.Core.Path.{_≡_, refl, sym, ap, ap₂, subst, _∙_}
 use mathlib.Core.List.{List}
 use mathlib.Core.Logic.{⊎-elim}
@@ -15,40 +15,33 @@ use Rattle.definitions.specs.Polynomials.{coef}
 use Rattle.definitions.specs.Resultants.{resultant}
 use Rattle.theory.specs.ReachedSteps.{coef-beyond}
 use Rattle.theory.specs.ResultantLaws.{signed, resultant-cong, resultant-swap}
-use Rattle.windows.specs.Window.{piece, Loaded}
+use Rattle.windows.specs.Window.{piece, Loaded, Scratch}
 use Rattle.windows.proofs.Leaf.{lt-or-le, piece-at, piece-length}
-use Rattle.steps.specs.Answers.{AnswerOf}
-use Rattle.steps.specs.declared.Attempt.{Attempt}
-use Rattle.steps.proofs.Degrees.{deg-of}
-use Rattle.attempt.specs.Rooms.{room}
-use Rattle.attempt.specs.Stages.{Placed}
-use Rattle.resultant.specs.Sizes.{Served}
+use Rattle.resultant_steps.specs.AttemptAnswers.{ValueOrSplit}
+use Rattle.residue.specs.declared.Attempt.{Attempt}
+use Rattle.resultant_steps.proofs.Degrees.{deg-of}
+use Rattle.resultant_attempt.specs.Rooms.{room}
+use Rattle.resultant_attempt.specs.Stages.{Placed}
+use Rattle.resultant.specs.Sizes.{RunSizes}
 
--- enough working words for f of l words and g of m
-pub working-enough : (l m k : ℕ) → 1 ≤ l → l ≤ 49 → 1 ≤ m → m ≤ 49 → 8192 ≤ k → l + m + room (l - 1) (m - 1) ≤ k
-working-enough l m k l₁ l₂ m₁ m₂ h = omega (arith, mul-le-mul less less)
-  where
-    less : l - 1 ≤ 48
-    less = omega arith
+pub sizes-same : {f g w w' : List ℕ} → Scratch w w' → RunSizes f g w → RunSizes f g w'
+sizes-same h s = record {
+  least-f = s .least-f;
+  most-f = s .most-f;
+  least-g = s .least-g;
+  most-g = s .most-g;
+  working = omega (arith, h .same, s .working);
+}
 
-pub served-same : {f g w w' : List ℕ} → length w' ≡ length w → Served f g w → Served f g w'
-served-same h s = record { least-f = s .least-f; most-f = s .most-f; least-g = s .least-g; most-g = s .most-g; working = omega (arith, s .working) }
+module _ (n : ℕ) (f g w w₁ w₂ : List ℕ) (two : 2 ≤ n) (s : RunSizes f g w) (near : length f ≤ length g)
+    (lf : Loaded n 0 f w w₁) (lg : Loaded n (length f) g w₁ w₂) where
+  less : length f - 1 ≤ 48
+  less = omega (arith, s .most-f)
 
-pub ordered-asked : (n : ℕ) (f g w : List ℕ) → 2 ≤ n → Served f g w → length f ≤ length g
-    → ((2 ≤ n) × ((1 ≤ length f) × (length f ≤ length g))) × (length f + length g + room (length f - 1) (length g - 1) ≤ length w)
-ordered-asked n f g w two s l = (
-  (two, (s .least-f, l)),
-  working-enough (length f) (length g) (length w) (s .least-f) (s .most-f)
-      (s .least-g) (s .most-g) (s .working),
-)
+  -- the attempt's room
+  fits : length f + length g + room (length f - 1) (length g - 1) ≤ length w
+  fits = omega (arith, s .working, s .least-f, s .most-f, s .least-g, s .most-g, mul-le-mul less less)
 
-pub swapped-asked : (n : ℕ) (f g w : List ℕ) → 2 ≤ n → Served f g w → length g < length f
-    → ((2 ≤ n) × ((1 ≤ length g) × (length g ≤ length f))) × (length g + length f + room (length g - 1) (length f - 1) ≤ length w)
-swapped-asked n f g w two s l =
-    ordered-asked n g f w two (record { least-f = s .least-g; most-f = s .most-g; least-g = s .least-f; most-g = s .most-f; working = s .working }) (omega arith)
-
-module _ (n : ℕ) (f g w w₁ w₂ : List ℕ) (two : 2 ≤ n) (one : 1 ≤ length f) (near : length f ≤ length g)
-    (fits : length f + length g + room (length f - 1) (length g - 1) ≤ length w) (lf : Loaded n 0 f w w₁) (lg : Loaded n (length f) g w₁ w₂) where
   first : (k : ℕ) → k < length f → getD w₂ (0 + k) 0 ≡ coef f k % n
   first k l = lg .low (0 + k) (omega arith) ∙ lf .mid k l
 
@@ -64,7 +57,7 @@ module _ (n : ℕ) (f g w w₁ w₂ : List ℕ) (two : 2 ≤ n) (one : 1 ≤ len
     near = omega arith;
     first = omega arith;
     second = omega arith;
-    fits = omega (arith, lf .same, lg .same);
+    fits = omega (arith, lf .same, lg .same, fits);
     pair = record {
       first = record { at = λ k l. subst (λ (x : ℕ). x < n) (sym (first k (omega arith))) (mod-lt (coef f k) (omega arith)) };
       second = record { at = λ k l. subst (λ (x : ℕ). x < n) (sym (lg .mid k (omega arith))) (mod-lt (coef g k) (omega arith)) };
@@ -105,13 +98,13 @@ module _ (n : ℕ) (f g w w₁ w₂ : List ℕ) (two : 2 ≤ n) (one : 1 ≤ len
       resultant-cong m F f G g (ap pred length-F) (ap pred length-G) (λ k. subst (λ (x : ℕ). coef F k % x ≡ coef f k % x) h (same-F k))
       (λ k. subst (λ (x : ℕ). coef G k % x ≡ coef g k % x) h (same-G k))
 
-  pub loaded-answer : (r : Attempt) → AnswerOf n (resultant n (piece w₂ 0 (length f - 1 + 1)) (piece w₂ (length f) (length g - 1 + 1))) r
-      → AnswerOf n (resultant n f g) r
+  pub loaded-answer : (r : Attempt) → ValueOrSplit n (resultant n (piece w₂ 0 (length f - 1 + 1)) (piece w₂ (length f) (length g - 1 + 1))) r
+      → ValueOrSplit n (resultant n f g) r
   unfolding F G
-  loaded-answer r = subst (λ (x : ℕ). AnswerOf n x r) (same-resultant n refl)
+  loaded-answer r = subst (λ (x : ℕ). ValueOrSplit n x r) (same-resultant n refl)
 
 -- f and g in the other order
-pub swapped-sign : (n : ℕ) (f g w : List ℕ) → 2 ≤ n → Served f g w → signed n ((length f - 1) * (length g - 1)) (resultant n g f) ≡ resultant n f g
+pub swapped-sign : (n : ℕ) (f g w : List ℕ) → 2 ≤ n → RunSizes f g w → signed n ((length f - 1) * (length g - 1)) (resultant n g f) ≡ resultant n f g
 swapped-sign zero f g w two s = absurd (omega arith)
 swapped-sign (suc m) f g w two s =
     let lf : length f ≡ length f - 1 + 1 = omega (arith, s .least-f) in

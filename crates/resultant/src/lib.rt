@@ -1,50 +1,61 @@
 // The resultant of two polynomials modulo n, in their sent degrees.
 //
+//   f, g   the sent words; l and m are their numbers
+//   w      the working window: f from 0 on, g after it, and the attempt's room from l + m on
+//
 //   run      the resultant; a split of n is worked on each factor and joined
-//   once     one attempt, in either order of f and g
+//   once     one attempt
 //   ordered  one attempt where f has no more words than g
+//   swapped  one attempt where g has no more words than f
 ghost use mathlib.Core.Path.{_≡_};
-ghost use Prim.Native.Nat.{_+_, _-_, _<_, _≤_};
+ghost use Prim.Native.Nat.{_≤_};
 ghost use lib.ListN.{length};
 ghost use Rattle.definitions.specs.Resultants.{resultant};
-ghost use Rattle.steps.specs.Answers.{AnswerOf};
-ghost use Rattle.attempt.specs.Rooms.{room};
-ghost use Rattle.resultant.specs.Sizes.{Served};
-use steps::Attempt;
+ghost use Rattle.windows.specs.Window.{Scratch};
+ghost use Rattle.resultant_steps.specs.AttemptAnswers.{ValueOrSplit};
+ghost use Rattle.resultant.specs.Sizes.{RunSizes};
+use residue::Attempt;
 
 // f and g are loaded modulo n, f first.
 fn ordered(w: &mut [u32], n: u32, f: &[u32], g: &[u32]) -> Attempt
-    requires { ⌜ (2 ≤ n) × ((1 ≤ length (now f)) × (length (now f) ≤ length (now g))) ⌝ }
-    requires { ⌜ length (now f) + length (now g) + room (length (now f) - 1) (length (now g) - 1) ≤ length (now w) ⌝ }
-    ensures { λ r. ⌜ AnswerOf n (resultant n (now (f .entry)) (now (g .entry))) r ⌝ }
+    requires { ⌜ (2 ≤ n) × (RunSizes (now f) (now g) (now w) × (length (now f) ≤ length (now g))) ⌝ }
+    ensures { λ r. ⌜ ValueOrSplit n (resultant n (now (f .entry)) (now (g .entry))) r ⌝ }
 {
     let l = f.len();
     let m = g.len();
     windows::load(w, 0, f, n);
     windows::load(w, l, g, n);
-    attempt::euclid(w, n, 0, l - 1, l, m - 1, l + m)
+    resultant_attempt::euclid(w, n, 0, l - 1, l, m - 1, l + m)
 }
 
-// The one with fewer words goes first; a swap costs the sign (-1)^(d e).
-fn once(w: &mut [u32], n: u32, f: &[u32], g: &[u32]) -> Attempt
-    requires { ⌜ (2 ≤ n) × Served (now f) (now g) (now w) ⌝ }
-    ensures { λ r. ⌜ AnswerOf n (resultant n (now (f .entry)) (now (g .entry))) r ⌝ }
+// A swap costs the sign (-1)^(d e).
+fn swapped(w: &mut [u32], n: u32, f: &[u32], g: &[u32]) -> Attempt
+    requires { ⌜ (2 ≤ n) × (RunSizes (now f) (now g) (now w) × (length (now g) ≤ length (now f))) ⌝ }
+    ensures { λ r. ⌜ ValueOrSplit n (resultant n (now (f .entry)) (now (g .entry))) r ⌝ }
 {
     let l = f.len();
     let m = g.len();
-    if l <= m {
+    let r = ordered(w, n, g, f);
+    resultant_steps::times_sign(n, l - 1, m - 1, r)
+}
+
+// The one with fewer words goes first.
+fn once(w: &mut [u32], n: u32, f: &[u32], g: &[u32]) -> Attempt
+    requires { ⌜ (2 ≤ n) × RunSizes (now f) (now g) (now w) ⌝ }
+    ensures { λ r. ⌜ ValueOrSplit n (resultant n (now (f .entry)) (now (g .entry))) r ⌝ }
+{
+    if f.len() <= g.len() {
         return ordered(w, n, f, g);
     }
-    let r = ordered(w, n, g, f);
-    steps::times_sign(n, l - 1, m - 1, r)
+    swapped(w, n, f, g)
 }
 
 // "At a splitting coefficient, each of the two factors is worked as a modulus of its own, and the answers are joined by the
 // Chinese remainder." The words of f and g may be any; they count modulo n.
 pub fn run(w: &mut [u32], n: u32, f: &[u32], g: &[u32]) -> u32
-    requires { ⌜ (2 ≤ n) × Served (now f) (now g) (now w) ⌝ }
+    requires { ⌜ (2 ≤ n) × RunSizes (now f) (now g) (now w) ⌝ }
     ensures { λ r. ⌜ r ≡ resultant n (now (f .entry)) (now (g .entry)) ⌝ }
-    ensures { λ _. ⌜ length (now (w .exit)) ≡ length (now (w .entry)) ⌝ }
+    ensures { λ _. ⌜ Scratch (now (w .entry)) (now (w .exit)) ⌝ }
 {
     match once(w, n, f, g) {
         Attempt::Value(v) => v,

@@ -1,5 +1,12 @@
 -- The worked examples of document 01, checked against the definitions, and values from outside: K and L, the kinds of residues, division,
 -- unit times monic, inverse, true degree, the row that is not starred, and products and resultants that another program gave.
+--
+--   k-of-12, k-of-largest, length-of-cofactors, longest-cofactor    K and L
+--   unit-5, nilpotent-6, splits-2    the three kinds modulo 12
+--   division-12, factors-4, inverse-8    division, unit times monic, inverse
+--   degree-below-zeros, degree-over-zeros, degree-of-zero    the true degree
+--   largest-modulus, content-stays    the row that is not starred; a content that is no factor of D
+--   resultant-of-product, resultant-of-first, resultant-of-second, seven-rows    values of another program
 use mathlib.Core.Path.{_≡_, refl}
 use mathlib.Core.List.{[], _∷_}
 use Prim.Native.Nat.{zero, suc}

@@ -19,7 +19,8 @@ use native.Mathlib.Omega.{arith}
 use lib.IntN.{pos}
 use lib.ListN.{length}
 use lib.Seq.{ext-getD}
-use Rattle.definitions.specs.Polynomials.{coef, deg, convolve, constant, Residues, Monic, UnitPolynomial, Division, UnitTimesMonic, InverseOf}
+use Rattle.definitions.specs.Polynomials.{coef, deg, convolve, constant, Residues, Monic}
+use Rattle.definitions.specs.Polynomials.{UnitPolynomial, Division, UnitTimesMonic, InverseOf}
 use Rattle.definitions.specs.Residues.{IsUnit, IsNilpotent}
 use Rattle.algebra.specs.Division.{Lead, Quotient, divide, divide-unique}
 use Rattle.algebra.specs.Reduction.{reduce-hom}

@@ -3,10 +3,11 @@
 --
 --   plus-mod, times-mod              sums and products of equal remainders
 --   mul-mod-mul, lift-mod, drop-mod  remainders modulo n and modulo c n
---   convolve-mod, convolve-scale, convolve-add-left    sums of products
+--   convolve-mod, convolve-scale, convolve-scale-left, convolve-add-left    sums of products
+--   convolve-constant, constant-scale    products with a constant
 --   coef-whole, coef-beyond          a tabulated list; beyond the words
 --   Times n c f f′                   f is c f′ modulo n
---   content-divides, content-down, content-up    D1
+--   content-both, content-divides, content-down, content-up    D1
 --   monic-divides, monic-down, monic-up          D4
 --
 -- Letters: c is a content, C a constant; h is monic of degree t, r = c r′; u, v are multipliers; k is a place.
@@ -14,24 +15,27 @@ use mathlib.Core.Path.{_≡_, refl, sym, _∙_, ap, ap₂, fun-ext, subst}
 use mathlib.Core.List.{List}
 use Prim.Native.Nat.{ℕ, zero, suc, _<_, _≤_, _%_, _/_, _∣_, _+_, _*_, _-_}
 use native.Mathlib.Decide.{Fin·val-path, decLt}
-use native.Mathlib.Nat.{zero-div, mod-lt, mod-eq-of-lt, add-mod, zero-lt-suc, div-add-mod, add-mul-mod-self-left, mod-mod-of-dvd, mul-mod-right, dvd-mod-iff, dvd-mul-right, dvd-of-mod-eq-zero, mul-div-cancel', mul-le-mul, mul-pos, eq-of-mul-eq-mul-left}
+use native.Mathlib.Nat.{zero-div, mod-lt, mod-eq-of-lt, zero-lt-suc, div-add-mod, zero-mul, add-zero}
+use native.Mathlib.Nat.{add-mul-mod-self-left, mod-mod-of-dvd, mul-mod-right, dvd-mod-iff, dvd-mul-right}
+use native.Mathlib.Nat.{dvd-of-mod-eq-zero, mul-div-cancel', mul-le-mul, mul-pos, eq-of-mul-eq-mul-left}
 use native.Mathlib.Omega.{arith}
 use lib.ListN.{length, List·getD-eq-default}
 use Rattle.definitions.specs.Polynomials.{coef, total, convolve, tabulate, constant}
 use Rattle.definitions.specs.Resultants.{Reached}
 use Rattle.algebra.specs.Division.{monic-zero, monic-rest}
-use Rattle.algebra.specs.Residues.{Res, toRes, Res-ring, mul-mod-r}
+use Rattle.algebra.specs.Residues.{Res, toRes, Res-ring}
 use Rattle.algebra.specs.Ring.{add-neg, neg-neg, neg-zero}
 use Rattle.algebra.specs.Series.{conv, Short, const}
+use Rattle.numbers.specs.Congruence.{c-refl, c-add, c-mul}
 use Rattle.theory.specs.ReachedLaws.{words-short}
-use Rattle.theory.specs.Words.{words, convolve-is, coef-tabulate, length-tabulate, total-cong}
+use Rattle.theory.specs.Words.{words, convolve-is, convolve-zero, convolve-suc, coef-tabulate, length-tabulate, total-cong}
 
 -- remainders
 pub plus-mod : (n a b c d : ℕ) → a % n ≡ b % n → c % n ≡ d % n → (a + c) % n ≡ (b + d) % n
-plus-mod n a b c d h g = add-mod a c n ∙ ap₂ (λ x y. (x + y) % n) h g ∙ sym (add-mod b d n)
+plus-mod n a b c d h g = c-add {a = a} {b = b} {c = c} {d = d} (record { same = h }) (record { same = g }) .same
 
 pub times-mod : (n x a b : ℕ) → a % n ≡ b % n → (x * a) % n ≡ (x * b) % n
-times-mod n x a b h = sym (mul-mod-r x a n) ∙ ap (λ y. (x * y) % n) h ∙ mul-mod-r x b n
+times-mod n x a b h = c-mul (c-refl {a = x}) (record { same = h }) .same
 
 pub mul-mod-mul : (c s n : ℕ) → 1 ≤ c → 1 ≤ n → (c * s) % (c * n) ≡ c * (s % n)
 mul-mod-mul c s n p q =
@@ -88,6 +92,14 @@ convolve-add-left a b q k = total-cong (suc k) _ _ (λ i l. turn (a i) (b i) (q 
     turn : (a b q : ℕ) → (a + b) * q ≡ a * q + b * q
     turn a b q = omega arith
 
+-- a constant times a polynomial
+pub convolve-constant : (c : ℕ) (F : ℕ → ℕ) (k : ℕ) → convolve (constant c) F k ≡ c * F k
+convolve-constant c F zero = convolve-zero (constant c) F
+convolve-constant c F (suc k) =
+    convolve-suc (constant c) F k
+    ∙ ap (λ x. c * F (suc k) + x) (total-scale (suc k) 0 (λ i. F (k - i)) ∙ zero-mul (total (suc k) (λ i. F (k - i))))
+    ∙ add-zero (c * F (suc k))
+
 -- a tabulated list as coefficients, where the rest is 0
 pub coef-whole : (n : ℕ) (F : ℕ → ℕ) → ((k : ℕ) → n ≤ k → F k ≡ 0) → (k : ℕ) → coef (tabulate n F) k ≡ F k
 coef-whole n F z k = go (decLt k n)
@@ -99,7 +111,7 @@ coef-whole n F z k = go (decLt k n)
 pub coef-beyond : (f : List ℕ) (k : ℕ) → length f ≤ k → coef f k ≡ 0
 coef-beyond f k l = List·getD-eq-default f 0 {n = k} l
 
-constant-scale : (c d k : ℕ) → constant (c * d) k ≡ c * constant d k
+pub constant-scale : (c d k : ℕ) → constant (c * d) k ≡ c * constant d k
 constant-scale c d zero = refl
 constant-scale c d (suc k) = omega arith
 
@@ -118,9 +130,9 @@ module _ (c n : ℕ) (c-pos : 1 ≤ c) (n-pos : 1 ≤ n) where
 
   -- D1
   module _ (f f′ g g′ : List ℕ) (tf : Times (c * n) c f f′) (tg : Times (c * n) c g g′) where
-    both : (u v : List ℕ) (k : ℕ) → (convolve (coef u) (coef f) k + convolve (coef v) (coef g) k) % (c * n) ≡
+    pub content-both : (u v : List ℕ) (k : ℕ) → (convolve (coef u) (coef f) k + convolve (coef v) (coef g) k) % (c * n) ≡
         (c * (convolve (coef u) (coef f′) k + convolve (coef v) (coef g′) k)) % (c * n)
-    both u v k =
+    content-both u v k =
         plus-mod (c * n) _ _ _ _ (convolve-times (c * n) c cn-pos u f f′ tf k) (convolve-times (c * n) c cn-pos v g g′ tg k)
         ∙ ap (λ x. x % (c * n)) (turn (convolve (coef u) (coef f′) k) (convolve (coef v) (coef g′) k))
       where
@@ -130,7 +142,7 @@ module _ (c n : ℕ) (c-pos : 1 ≤ c) (n-pos : 1 ≤ n) where
     pub content-divides : (C : ℕ) → Reached (c * n) f g C → c ∣ C
     content-divides C r =
         dvd-mod-iff c {m = C} {n = c * n} (dvd-mul-right c n) .0
-        (subst (λ (x : ℕ). c ∣ x) (sym (mul-mod-mul c _ n c-pos n-pos) ∙ sym (both (r .u) (r .v) 0) ∙ r .combination .sum 0)
+        (subst (λ (x : ℕ). c ∣ x) (sym (mul-mod-mul c _ n c-pos n-pos) ∙ sym (content-both (r .u) (r .v) 0) ∙ r .combination .sum 0)
         (dvd-mul-right c _))
 
     pub content-down : (C : ℕ) → Reached (c * n) f g (c * C) → Reached n f′ g′ C
@@ -139,7 +151,7 @@ module _ (c n : ℕ) (c-pos : 1 ≤ c) (n-pos : 1 ≤ n) where
       v = r .v;
       combination = record {
         sum = λ k. drop-mod c n _ _ c-pos n-pos
-            (sym (both (r .u) (r .v) k) ∙ r .combination .sum k ∙ ap (λ x. x % (c * n)) (constant-scale c C k));
+            (sym (content-both (r .u) (r .v) k) ∙ r .combination .sum k ∙ ap (λ x. x % (c * n)) (constant-scale c C k));
       };
     }
 
@@ -148,7 +160,7 @@ module _ (c n : ℕ) (c-pos : 1 ≤ c) (n-pos : 1 ≤ n) where
       u = r .u;
       v = r .v;
       combination = record {
-        sum = λ k. both (r .u) (r .v) k ∙ lift-mod c n _ _ c-pos n-pos (r .combination .sum k)
+        sum = λ k. content-both (r .u) (r .v) k ∙ lift-mod c n _ _ c-pos n-pos (r .combination .sum k)
             ∙ ap (λ x. x % (c * n)) (sym (constant-scale c C k));
       };
     }

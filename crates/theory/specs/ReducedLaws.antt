@@ -5,26 +5,34 @@
 --   reduced-rest         D3: g = q f + r
 --   reduced-monic        D4: h monic of degree 1 or more and r = c r′ modulo c n
 --   reduced-one          D5: modulo 1
---   reduced-split        D6: modulo n₁ n₂, coprime
+--   reduced-coprime, reduced-split    D6: modulo n₁ n₂, coprime; by Bézout's equation
+--   Mixed, combination-mixed     multipliers modulo n₁ n₂ from those modulo n₁ and modulo n₂
 --   reduced-flip         f and g exchanged
 --   InversePolynomial    i a = 1 modulo n
 --   reached-mod          what is reached modulo n is reached modulo a divisor
 --
 -- Letters: m is n less 1; c is a content, C a constant; a has the inverse i; q and r are quotient and remainder.
-use mathlib.Core.Path.{_≡_, sym, _∙_, ap, ap₂, fun-ext, subst}
+use mathlib.Core.Path.{_≡_, refl, sym, _∙_, ap, ap₂, fun-ext, subst}
 use mathlib.Core.List.{List, []}
 use Prim.Native.Nat.{ℕ, zero, suc, _<_, _≤_, _%_, _/_, _∣_, _+_, _*_}
 use native.Mathlib.Decide.{Fin·val-path}
-use native.Mathlib.Nat.{mod-one, mod-mod-of-dvd, dvd-refl, dvd-trans, dvd-add, one-dvd, dvd-mod-iff, dvd-mul-left, dvd-mul-right, mul-dvd-mul, mul-dvd-mul-left, dvd-of-mul-dvd-mul-left, mul-div-cancel', mul-le-mul, mul-pos}
+use native.Mathlib.Nat.{mod-one, mod-mod-of-dvd, zero-mod, zero-add, add-zero, zero-mul, mul-zero, one-mul}
+use native.Mathlib.Nat.{dvd-refl, dvd-trans, one-dvd, dvd-mul-left, dvd-mul-right}
+use native.Mathlib.Nat.{mul-dvd-mul, mul-dvd-mul-left, dvd-of-mul-dvd-mul-left, mul-div-cancel', mul-le-mul, mul-pos}
 use native.Mathlib.Omega.{arith}
 use lib.ListN.{length}
 use Rattle.definitions.specs.Polynomials.{Multiplied, Divided, coef, convolve, tabulate, constant}
-use Rattle.definitions.specs.Resultants.{Reached, Reduced}
+use Rattle.definitions.specs.Residues.{Coprime}
+use Rattle.definitions.specs.Resultants.{Combination, Reached, Reduced}
 use Rattle.algebra.specs.Ideal.{exchange, unit-in, unit-out, rest-in, rest-out}
 use Rattle.algebra.specs.Residues.{toRes, Res-ring}
 use Rattle.algebra.specs.Series.{conv, const}
+use Rattle.numbers.specs.Chinese.{Idempotent, idempotent-exists, chinese-same}
+use Rattle.numbers.specs.Congruence.{Cong, c-refl, c-trans, c-eq, c-add, c-mul}
+use Rattle.numbers.specs.Coprimality.{coprime-sym, coprime-dvd, coprime-product, coprime-of-bezout}
 use Rattle.theory.specs.ReachedLaws.{words-finite, constant-is, to-ring, from-ring, only-any, all-any}
-use Rattle.theory.specs.ReachedSteps.{plus-mod, times-mod, lift-mod, convolve-scale-left, convolve-add-left, coef-whole, coef-beyond, Times, content-divides, content-down, content-up, monic-divides, monic-down, monic-up}
+use Rattle.theory.specs.ReachedSteps.{convolve-mod, convolve-scale-left, convolve-add-left, coef-whole, coef-beyond}
+use Rattle.theory.specs.ReachedSteps.{Times, content-divides, content-down, content-up, monic-divides, monic-down, monic-up}
 use Rattle.theory.specs.Words.{words, convolve-is, divided-is, multiplied-is}
 
 -- D is multiplied by c when the modulus is
@@ -135,91 +143,104 @@ reached-mod d n f g C h x = record {
   };
 }
 
--- a n₁ + b n₂ is 1 modulo n₁ n₂
-module _ (n₁ n₂ a b : ℕ) (p₁ : 1 ≤ n₁) (p₂ : 1 ≤ n₂) (bezout : (a * n₁ + b * n₂) % (n₁ * n₂) ≡ 1 % (n₁ * n₂)) where
-  whole : (C : ℕ) → (b * n₂ * C + a * n₁ * C) % (n₁ * n₂) ≡ C % (n₁ * n₂)
-  whole C = ap (λ x. x % (n₁ * n₂)) (turn a b n₁ n₂ C) ∙ times-mod (n₁ * n₂) C _ 1 bezout ∙ ap (λ x. x % (n₁ * n₂)) (one C)
+-- u is a p + b q modulo n, word by word
+pub record Mixed (n a b : ℕ) (p q u : List ℕ) : Type 0 where
+  pub at : (k : ℕ) → coef u k % n ≡ (a * coef p k + b * coef q k) % n
+
+module _ {n₁ n₂ : ℕ} (p₁ : 1 ≤ n₁) (p₂ : 1 ≤ n₂) (coprime : Coprime n₁ n₂) where
+  -- multipliers of C modulo n₁ n₂ from those of C₁ modulo n₁ and of C₂ modulo n₂
+  pub combination-mixed : {a b C C₁ C₂ : ℕ} → Cong n₁ (a * C₁) C → Cong n₁ b 0 → Cong n₂ a 0 → Cong n₂ (b * C₂) C
+      → (f g u u₁ u₂ v v₁ v₂ : List ℕ) → Mixed (n₁ * n₂) a b u₁ u₂ u → Mixed (n₁ * n₂) a b v₁ v₂ v
+      → Combination n₁ f g u₁ v₁ C₁ → Combination n₂ f g u₂ v₂ C₂ → Combination (n₁ * n₂) f g u v C
+  combination-mixed {a} {b} {C} {C₁} {C₂} a₁ b₁ a₂ b₂ f g u u₁ u₂ v v₁ v₂ mu mv x y = record { sum = λ k. whole k .same }
     where
-      turn : (a b n₁ n₂ C : ℕ) → b * n₂ * C + a * n₁ * C ≡ C * (a * n₁ + b * n₂)
-      turn a b n₁ n₂ C = omega arith
+      -- what u₁ and v₁, u₂ and v₂ combine to
+      P : ℕ → ℕ
+      P k = convolve (coef u₁) (coef f) k + convolve (coef v₁) (coef g) k
 
-      one : (C : ℕ) → C * 1 ≡ C
-      one C = omega arith
+      Q : ℕ → ℕ
+      Q k = convolve (coef u₂) (coef f) k + convolve (coef v₂) (coef g) k
 
+      mixed : (u p q f : List ℕ) → Mixed (n₁ * n₂) a b p q u → (k : ℕ)
+          → Cong (n₁ * n₂) (convolve (coef u) (coef f) k) (a * convolve (coef p) (coef f) k + b * convolve (coef q) (coef f) k)
+      mixed u p q f m k = record {
+        same = convolve-mod (n₁ * n₂) (mul-pos p₁ p₂) (coef u) (λ i. a * coef p i + b * coef q i) (coef f) (coef f) (m .at) (λ i. refl) k
+            ∙ ap (λ (z : ℕ). z % (n₁ * n₂))
+            (convolve-add-left (λ i. a * coef p i) (λ i. b * coef q i) (coef f) k
+            ∙ ap₂ _+_ (convolve-scale-left a (coef p) (coef f) k) (convolve-scale-left b (coef q) (coef f) k));
+      }
+
+      turn : (x y z w : ℕ) → a * x + b * y + (a * z + b * w) ≡ a * (x + z) + b * (y + w)
+      turn x y z w = omega arith
+
+      -- a c is C, so it is at each coefficient of the constants
+      constant-cong : {n : ℕ} (a c : ℕ) → Cong n (a * c) C → (k : ℕ) → Cong n (a * constant c k) (constant C k)
+      constant-cong a c h zero = h
+      constant-cong a c h (suc k) = c-eq (mul-zero a)
+
+      -- modulo n₁ the second of the two is 0, modulo n₂ the first
+      first : (k : ℕ) → Cong n₁ (a * P k + b * Q k) (constant C k)
+      first k =
+          c-trans (c-add (c-trans (c-mul c-refl (record { same = x .sum k })) (constant-cong a C₁ a₁ k)) (c-mul b₁ (c-refl {a = Q k})))
+          (c-eq (ap (λ (z : ℕ). constant C k + z) (zero-mul (Q k)) ∙ add-zero (constant C k)))
+
+      second : (k : ℕ) → Cong n₂ (a * P k + b * Q k) (constant C k)
+      second k =
+          c-trans (c-add (c-mul a₂ (c-refl {a = P k})) (c-trans (c-mul c-refl (record { same = y .sum k })) (constant-cong b C₂ b₂ k)))
+          (c-eq (ap (λ (z : ℕ). z + constant C k) (zero-mul (P k)) ∙ zero-add (constant C k)))
+
+      whole : (k : ℕ) → Cong (n₁ * n₂) (convolve (coef u) (coef f) k + convolve (coef v) (coef g) k) (constant C k)
+      whole k =
+          c-trans (c-add (mixed u u₁ u₂ f mu k) (mixed v v₁ v₂ g mv k))
+          (c-trans (c-eq (turn _ _ _ _)) (chinese-same p₁ p₂ coprime (first k) (second k)))
+
+  -- each word with the idempotents e of n₁ and e′ of n₂
   pub split-up : (f g : List ℕ) (C : ℕ) → Reached n₁ f g C → Reached n₂ f g C → Reached (n₁ * n₂) f g C
   split-up f g C x y = record {
-    u = join (x .u) (y .u);
-    v = join (x .v) (y .v);
-    combination = record {
-      sum = λ k.
-          ap (λ z. z % (n₁ * n₂)) (ap₂ _+_ (joined (x .u) (y .u) f k) (joined (x .v) (y .v) g k)
-          ∙ turn (b * n₂) (a * n₁) (convolve (coef (x .u)) (coef f) k) (convolve (coef (y .u)) (coef f) k)
-          (convolve (coef (x .v)) (coef g) k) (convolve (coef (y .v)) (coef g) k))
-          ∙ plus-mod (n₁ * n₂) _ _ _ _ (first _ _ (x .combination .sum k)) (second _ _ (y .combination .sum k)) ∙ whole (constant C k);
-    };
+    u = mix (x .u) (y .u);
+    v = mix (x .v) (y .v);
+    combination = combination-mixed (is-one (i .1)) (is-zero (j .1)) (is-zero (i .1)) (is-one (j .1))
+        f g _ (x .u) (y .u) _ (x .v) (y .v) (mixed (x .u) (y .u)) (mixed (x .v) (y .v)) (x .combination) (y .combination);
   }
     where
-      turn : (s t p q r w : ℕ) → s * p + t * q + (s * r + t * w) ≡ s * (p + r) + t * (q + w)
-      turn s t p q r w = omega arith
+      i : (e : ℕ) × Idempotent n₁ n₂ e
+      i = idempotent-exists p₁ p₂ coprime
 
-      assoc : (b n s : ℕ) → b * n * s ≡ b * (n * s)
-      assoc b n s = omega arith
+      j : (e : ℕ) × Idempotent n₂ n₁ e
+      j = idempotent-exists p₂ p₁ (coprime-sym coprime)
 
-      comm : (n₁ n₂ : ℕ) → n₁ * n₂ ≡ n₂ * n₁
-      comm n₁ n₂ = omega arith
+      is-one : {n m e : ℕ} → Idempotent n m e → Cong n (e * C) C
+      is-one h = c-trans (c-mul (record { same = h .one }) (c-refl {a = C})) (c-eq (one-mul C))
 
-      first : (s t : ℕ) → s % n₁ ≡ t % n₁ → (b * n₂ * s) % (n₁ * n₂) ≡ (b * n₂ * t) % (n₁ * n₂)
-      first s t h =
-          ap (λ z. z % (n₁ * n₂)) (assoc b n₂ s) ∙ times-mod (n₁ * n₂) b (n₂ * s) (n₂ * t)
-          (ap (λ (z : ℕ). (n₂ * s) % z) (comm n₁ n₂) ∙ lift-mod n₂ n₁ s t p₂ p₁ h ∙ ap (λ (z : ℕ). (n₂ * t) % z) (comm n₂ n₁))
-          ∙ ap (λ z. z % (n₁ * n₂)) (sym (assoc b n₂ t))
+      is-zero : {n m e : ℕ} → Idempotent n m e → Cong m e 0
+      is-zero {n} {m} h = record { same = h .none ∙ sym (zero-mod m) }
 
-      second : (s t : ℕ) → s % n₂ ≡ t % n₂ → (a * n₁ * s) % (n₁ * n₂) ≡ (a * n₁ * t) % (n₁ * n₂)
-      second s t h =
-          ap (λ z. z % (n₁ * n₂)) (assoc a n₁ s) ∙ times-mod (n₁ * n₂) a (n₁ * s) (n₁ * t) (lift-mod n₁ n₂ s t p₁ p₂ h)
-          ∙ ap (λ z. z % (n₁ * n₂)) (sym (assoc a n₁ t))
+      mix : List ℕ → List ℕ → List ℕ
+      mix u w = tabulate (length u + length w) (λ k. i .0 * coef u k + j .0 * coef w k)
 
-      join : List ℕ → List ℕ → List ℕ
-      join u w = tabulate (length u + length w) (λ k. b * n₂ * coef u k + a * n₁ * coef w k)
-
-      joined : (u w f : List ℕ) (k : ℕ) → convolve (coef (join u w)) (coef f) k ≡ b * n₂ * convolve (coef u) (coef f) k + a * n₁ * convolve
-          (coef w) (coef f) k
-      joined u w f k =
-          ap (λ (z : ℕ → ℕ). convolve z (coef f) k) (fun-ext (coef-whole (length u + length w) (λ k. b * n₂ * coef u k + a * n₁ * coef w k)
-          (λ k l. ap₂ (λ y z. b * n₂ * y + a * n₁ * z) (coef-beyond u k (omega arith)) (coef-beyond w k (omega arith))
-          ∙ none (b * n₂) (a * n₁))))
-          ∙ convolve-add-left (λ i. b * n₂ * coef u i) (λ i. a * n₁ * coef w i) (coef f) k
-          ∙ ap₂ _+_ (convolve-scale-left (b * n₂) (coef u) (coef f) k) (convolve-scale-left (a * n₁) (coef w) (coef f) k)
+      mixed : (u w : List ℕ) → Mixed (n₁ * n₂) (i .0) (j .0) u w (mix u w)
+      mixed u w = record {
+        at = λ k. ap (λ (z : ℕ). z % (n₁ * n₂)) (coef-whole (length u + length w) (λ k. i .0 * coef u k + j .0 * coef w k)
+            (λ k l. ap₂ (λ y z. i .0 * y + j .0 * z) (coef-beyond u k (omega arith)) (coef-beyond w k (omega arith))
+            ∙ none (i .0) (j .0)) k);
+      }
         where
           none : (s t : ℕ) → s * 0 + t * 0 ≡ 0
           none s t = omega arith
 
-  pub reduced-split : (f g : List ℕ) (D₁ D₂ : ℕ) → Reduced n₁ f g D₁ → Reduced n₂ f g D₂ → Reduced (n₁ * n₂) f g (D₁ * D₂)
-  reduced-split f g D₁ D₂ x y = record {
-    divides = product-divides;
+  pub reduced-coprime : (f g : List ℕ) (D₁ D₂ : ℕ) → Reduced n₁ f g D₁ → Reduced n₂ f g D₂ → Reduced (n₁ * n₂) f g (D₁ * D₂)
+  reduced-coprime f g D₁ D₂ x y = record {
+    divides = mul-dvd-mul D₁ D₂ (x .divides) (y .divides);
     least = mul-pos (x .least) (y .least);
     most = mul-le-mul (x .most) (y .most);
-    only = λ C _ z. joint C (only-any p₁ x C (reached-mod n₁ (n₁ * n₂) f g C (dvd-mul-right n₁ n₂) z))
+    only = λ C _ z. coprime-product (x .least) (coprime-dvd (x .divides) (y .divides) coprime)
+        (only-any p₁ x C (reached-mod n₁ (n₁ * n₂) f g C (dvd-mul-right n₁ n₂) z))
         (only-any p₂ y C (reached-mod n₂ (n₁ * n₂) f g C (dvd-mul-left n₂ n₁) z));
     all = λ C _ z. split-up f g C (all-any p₁ x C (dvd-trans D₁ (dvd-mul-right D₁ D₂) z))
         (all-any p₂ y C (dvd-trans D₂ (dvd-mul-left D₂ D₁) z));
   }
-    where
-      product-divides : D₁ * D₂ ∣ n₁ * n₂
-      product-divides = mul-dvd-mul D₁ D₂ (x .divides) (y .divides)
 
-      joint : (C : ℕ) → D₁ ∣ C → D₂ ∣ C → D₁ * D₂ ∣ C
-      joint C h₁ h₂ =
-          dvd-mod-iff (D₁ * D₂) {m = C} {n = n₁ * n₂} product-divides .0
-          (subst (λ (z : ℕ). D₁ * D₂ ∣ z) (whole C)
-          (dvd-mod-iff (D₁ * D₂) {m = b * n₂ * C + a * n₁ * C} {n = n₁ * n₂} product-divides .1
-          (dvd-add (D₁ * D₂)
-          (subst (λ (z : ℕ). D₁ * D₂ ∣ z) (left b n₂ C) (dvd-trans (D₁ * D₂) (mul-dvd-mul D₁ D₂ h₁ (y .divides)) (dvd-mul-left (C * n₂) b)))
-          (subst (λ (z : ℕ). D₁ * D₂ ∣ z) (right a n₁ C) (dvd-trans (D₁ * D₂) (mul-dvd-mul D₁ D₂ (x .divides) h₂)
-          (dvd-mul-left (n₁ * C) a))))))
-        where
-          left : (b n C : ℕ) → b * (C * n) ≡ b * n * C
-          left b n C = omega arith
-
-          right : (a n C : ℕ) → a * (n * C) ≡ a * n * C
-          right a n C = omega arith
+-- where a n₁ + b n₂ is 1 modulo n₁ n₂
+pub reduced-split : (n₁ n₂ a b : ℕ) → 1 ≤ n₁ → 1 ≤ n₂ → (a * n₁ + b * n₂) % (n₁ * n₂) ≡ 1 % (n₁ * n₂) → (f g : List ℕ) (D₁ D₂ : ℕ)
+    → Reduced n₁ f g D₁ → Reduced n₂ f g D₂ → Reduced (n₁ * n₂) f g (D₁ * D₂)
+reduced-split n₁ n₂ a b p₁ p₂ bezout = reduced-coprime p₁ p₂ (coprime-of-bezout a b (record { same = bezout }))

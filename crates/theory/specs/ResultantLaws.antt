@@ -12,25 +12,29 @@
 --   resultant-mod, resultant-content, resultant-joined    modulo a divisor of n; a content; coprime moduli
 --
 -- Letters: m is n less 1; d, e are the sent degrees of f and g; c is a constant.
-use mathlib.Core.Path.{_≡_, refl, sym, _∙_, ap, ap₂, fun-ext}
+use mathlib.Core.Path.{_≡_, refl, sym, _∙_, ap, ap₂, fun-ext, subst}
 use mathlib.Core.List.{List}
 use Prim.Native.Nat.{ℕ, zero, suc, _<_, _≤_, _%_, _^_, _∣_, _+_, _*_, _-_}
 use native.Mathlib.Decide.{Fin·val-path, decLe}
-use native.Mathlib.Nat.{pow-zero, pow-suc, mul-comm, mod-mod, pow-succ', mul-pos, dvd-mul-left, dvd-refl, mod-eq-of-lt, dvd-mul-right}
+use native.Mathlib.Nat.{pow-zero, pow-suc, mul-comm, mod-mod, pow-succ', mul-pos, dvd-mul-left, dvd-refl, mod-lt, dvd-mul-right}
 use native.Mathlib.Omega.{arith}
 use lib.IntN.{ℤ, pos}
 use Rattle.definitions.specs.Polynomials.{coef, deg, tabulate, Multiplied, Divided, product}
+use Rattle.definitions.specs.Residues.{Coprime}
 use Rattle.definitions.specs.Resultants.{determinant, residue, sylvester, resultant}
 use Rattle.algebra.specs.ProductLaw.{Rs-mul}
 use Rattle.algebra.specs.Reduction.{reduce-hom, lower-reduce}
 use Rattle.algebra.specs.Residues.{Res, toRes, Res-ring, mul-mod-l}
 use Rattle.algebra.specs.Reverse.{rv, rv-at, rv-out}
 use Rattle.algebra.specs.Ring.{pw}
-use Rattle.algebra.specs.SentLaws.{Rs-drop-first, Rs-drop-second, Rs-scale-first, Rs-scale-second, Rs-swap, Rs-reverse, Rs-const-first, Rs-const-second, Rs-divide, Rs-short, Rs, Rs-add-second}
+use Rattle.algebra.specs.SentLaws.{Rs-drop-first, Rs-drop-second, Rs-scale-first, Rs-scale-second, Rs-swap, Rs-reverse}
+use Rattle.algebra.specs.SentLaws.{Rs-const-first, Rs-const-second, Rs-divide, Rs-short, Rs, Rs-add-second}
 use Rattle.algebra.specs.Series.{conv}
 use Rattle.algebra.specs.Sum.{sgn}
-use Rattle.theory.specs.ReachedSteps.{Times, times-mod, plus-mod, lift-mod}
-use Rattle.theory.specs.Words.{words, words-out, convolve-is, resultant-is, coef-tabulate, length-tabulate, divided-is, multiplied-is, words-cong, residue-reduce, words-product, deg-product}
+use Rattle.numbers.specs.Chinese.{Joined, joined-unique}
+use Rattle.theory.specs.ReachedSteps.{Times, times-mod, lift-mod}
+use Rattle.theory.specs.Words.{words, words-out, convolve-is, resultant-is, coef-tabulate, length-tabulate}
+use Rattle.theory.specs.Words.{divided-is, multiplied-is, words-cong, residue-reduce, words-product, deg-product}
 
 -- x with the sign (-1)^k, modulo n
 abbrev pub signed : ℕ → ℕ → ℕ → ℕ
@@ -225,37 +229,17 @@ resultant-content c n p q f f′ g e hf hg t =
     turn : (x : ℕ) → (c ^ suc e * x) % (c * n) ≡ (c * (c ^ e * x)) % (c * n)
     turn x = ap (λ y. y % (c * n)) (ap (λ y. y * x) (pow-succ' c e) ∙ assoc c (c ^ e) x)
 
--- the Chinese remainder: a n₁ + b n₂ is 1 modulo n₁ n₂
-pub joined : (n₁ n₂ a b : ℕ) → 1 ≤ n₁ → 1 ≤ n₂ → (a * n₁ + b * n₂) % (n₁ * n₂) ≡ 1 % (n₁ * n₂) → (x y : ℕ) → x % n₁ ≡ y % n₁
-    → x % n₂ ≡ y % n₂ → x % (n₁ * n₂) ≡ y % (n₁ * n₂)
-joined n₁ n₂ a b p₁ p₂ bez x y h₁ h₂ =
-    sym (whole x)
-    ∙ plus-mod (n₁ * n₂) _ _ _ _ (times-mod (n₁ * n₂) a (n₁ * x) (n₁ * y) (lift-mod n₁ n₂ x y p₁ p₂ h₂))
-    (times-mod (n₁ * n₂) b (n₂ * x) (n₂ * y) (ap (λ (z : ℕ). (n₂ * x) % z) (comm n₁ n₂) ∙ lift-mod n₂ n₁ x y p₂ p₁ h₁
-    ∙ ap (λ (z : ℕ). (n₂ * y) % z) (comm n₂ n₁)))
-    ∙ whole y
+-- coprime moduli: the residue that is the resultant modulo each of them
+pub resultant-joined : {n₁ n₂ : ℕ} → 1 ≤ n₁ → 1 ≤ n₂ → Coprime n₁ n₂ → (f g : List ℕ) (x : ℕ)
+    → Joined n₁ n₂ (resultant n₁ f g) (resultant n₂ f g) x → x ≡ resultant (n₁ * n₂) f g
+resultant-joined {n₁} {n₂} p₁ p₂ c f g x j = joined-unique p₁ p₂ c j (record {
+  below = subst (λ (y : ℕ). y < n₁ * n₂) (at-modulus (n₁ * n₂) (mul-pos p₁ p₂)) (mod-lt _ (mul-pos p₁ p₂));
+  first = modulo n₁ p₁ (dvd-mul-right n₁ n₂);
+  second = modulo n₂ p₂ (dvd-mul-left n₂ n₁);
+})
   where
-    comm : (u v : ℕ) → u * v ≡ v * u
-    comm u v = omega arith
+    at-modulus : (n : ℕ) → 1 ≤ n → resultant n f g % n ≡ resultant n f g
+    at-modulus n l = resultant-mod n n l l (dvd-refl n) f g
 
-    turn : (z : ℕ) → a * (n₁ * z) + b * (n₂ * z) ≡ z * (a * n₁ + b * n₂)
-    turn z = omega arith
-
-    one : (z : ℕ) → z * 1 ≡ z
-    one z = omega arith
-
-    whole : (z : ℕ) → (a * (n₁ * z) + b * (n₂ * z)) % (n₁ * n₂) ≡ z % (n₁ * n₂)
-    whole z = ap (λ w. w % (n₁ * n₂)) (turn z) ∙ times-mod (n₁ * n₂) z (a * n₁ + b * n₂) 1 bez ∙ ap (λ w. w % (n₁ * n₂)) (one z)
-
-pub resultant-joined : (n₁ n₂ a b : ℕ) → 1 ≤ n₁ → 1 ≤ n₂ → (a * n₁ + b * n₂) % (n₁ * n₂) ≡ 1 % (n₁ * n₂) → (f g : List ℕ) (x : ℕ)
-    → x < n₁ * n₂
-    → x % n₁ ≡ resultant n₁ f g → x % n₂ ≡ resultant n₂ f g → x ≡ resultant (n₁ * n₂) f g
-resultant-joined n₁ n₂ a b p₁ p₂ bez f g x l h₁ h₂ =
-    sym (mod-eq-of-lt l)
-    ∙ joined n₁ n₂ a b p₁ p₂ bez x (resultant (n₁ * n₂) f g)
-    (h₁ ∙ sym (resultant-mod n₁ (n₁ * n₂) p₁ (mul-pos p₁ p₂) (dvd-mul-right n₁ n₂) f g))
-    (h₂ ∙ sym (resultant-mod n₂ (n₁ * n₂) p₂ (mul-pos p₁ p₂) (dvd-mul-left n₂ n₁) f g))
-    ∙ resultant-mod (n₁ * n₂) (n₁ * n₂) (mul-pos p₁ p₂) (mul-pos p₁ p₂) (self (n₁ * n₂)) f g
-  where
-    self : (k : ℕ) → k ∣ k
-    self k = dvd-refl k
+    modulo : (d : ℕ) → 1 ≤ d → d ∣ n₁ * n₂ → resultant (n₁ * n₂) f g % d ≡ resultant d f g % d
+    modulo d l h = resultant-mod d (n₁ * n₂) l (mul-pos p₁ p₂) h f g ∙ sym (at-modulus d l)

@@ -4,7 +4,7 @@
 --   words m f           the coefficients of f as residues modulo m + 1
 --   coef-tabulate, length-tabulate    the words of a tabulated list
 --   determinant-is, sylvester-is, resultant-is    determinant, Sylvester's matrix and resultant
---   convolve-is, multiplied-is, divided-is        products, f = a b, and g = q f + r
+--   convolve-is, multiplied-is, divided-is        products, f = a b, and f = q g + r
 --   words-product       the product word list
 --   words-cong          words count modulo n only
 --
@@ -153,11 +153,11 @@ convolve-is m p q (suc k) =
 pub multiplied-is : (m : ℕ) (f a b : List ℕ) → Multiplied (suc m) f a b → words m f ≡ conv (Res-ring m) (words m a) (words m b)
 multiplied-is m f a b h = fun-ext (λ k. Fin·val-path (h .at k) ∙ convolve-is m (coef a) (coef b) k)
 
-pub divided-is : (m : ℕ) (g f q r : List ℕ) → Divided (suc m) g f q r
-    → words m g ≡ (λ k. Res-ring m .add (conv (Res-ring m) (words m q) (words m f) k) (words m r k))
-divided-is m g f q r h =
-    fun-ext (λ k. sym (Fin·val-path (h .at k)) ∙ reduce-hom m .h-add (pos (convolve (coef q) (coef f) k)) (pos (coef r k))
-    ∙ ap (λ (x : Res m). Res-ring m .add x (words m r k)) (convolve-is m (coef q) (coef f) k))
+pub divided-is : (m : ℕ) (f g q r : List ℕ) → Divided (suc m) f g q r
+    → words m f ≡ (λ k. Res-ring m .add (conv (Res-ring m) (words m q) (words m g) k) (words m r k))
+divided-is m f g q r h =
+    fun-ext (λ k. sym (Fin·val-path (h .at k)) ∙ reduce-hom m .h-add (pos (convolve (coef q) (coef g) k)) (pos (coef r k))
+    ∙ ap (λ (x : Res m). Res-ring m .add x (words m r k)) (convolve-is m (coef q) (coef g) k))
 
 -- words count modulo n only
 pub words-cong : (m : ℕ) (f f′ : List ℕ) → ((k : ℕ) → coef f k % suc m ≡ coef f′ k % suc m) → words m f ≡ words m f′

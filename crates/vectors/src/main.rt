@@ -1,9 +1,9 @@
 // Drawn pairs of polynomials, against another program's numbers (tools/draw_vectors.py).
 //
-// Reads frames of kind 01, one a line, and writes for each the resultant and the reduced resultant, dashes in place of the latter
-// where a degree is above 5, or a line that says what went wrong. It tries both services on the words of the frame, checks that the
-// cofactors combine f and g to D, that the words beyond L are unchanged and that the working words are zero, and, where d + e is at
-// most 8, that the plain evaluator answers the same.
+// Reads frames of kind 01, one a line, and writes for each the resultant and the reduced resultant, or a line that says what went
+// wrong; what it writes is held to the other program's numbers, both of them in every line. It tries both services on the words of
+// the frame, checks that the cofactors combine f and g to D, that the words beyond L are unchanged and that the working words are
+// zero, and, where d + e is at most 8, that the plain evaluator answers the same.
 use hexadecimal::Reading;
 use libc::STDIN_FILENO;
 use libc::STDOUT_FILENO;
@@ -191,7 +191,7 @@ enum Tried {
 
 // Whether the plain evaluator answers x.
 fn evaluates_to(n: u32, f: &[u32], g: &[u32], x: u32) -> bool {
-    let b = evaluator::evaluate(n, f, g);
+    let b: refusals::Answer = evaluator::evaluate(n, f, g);
     if b.status != 0 {
         return false;
     }
@@ -200,7 +200,7 @@ fn evaluates_to(n: u32, f: &[u32], g: &[u32], x: u32) -> bool {
 
 fn try_resultant(n: u32, f: &[u32], g: &[u32], is_small: bool, work: &mut [u32]) -> Tried {
     fill(work, 0, MARK);
-    let a = engine::jingcobu_resultant(n, f, g, work);
+    let a = resultant_service::resultant(n, f, g, work);
     if a.status != 0 {
         return Tried::Wrong(1);
     }
@@ -221,7 +221,7 @@ fn try_call(n: u32, f: &[u32], g: &[u32], u: &mut [u32], v: &mut [u32], work: &m
     fill(work, 0, MARK);
     fill(u, 0, MARK);
     fill(v, 0, MARK);
-    let a = engine::jingcobu_reduced_resultant(n, f, g, u, v, work);
+    let a = reduced_service::reduced_resultant(n, f, g, u, v, work);
     if a.status != 0 {
         return Tried::Wrong(4);
     }
@@ -291,19 +291,11 @@ fn write_failure(place: u32) {
     io::write_all(STDOUT_FILENO, b"\n");
 }
 
-fn write_word_or_dashes(dashes: bool, x: u32) {
-    if dashes {
-        io::write_all(STDOUT_FILENO, b"--------");
-        return;
-    }
-    write_word(x);
-}
-
-// The line of a pair: the resultant, and D or dashes.
-fn write_numbers(r: u32, dashes: bool, d: u32) {
+// The line of a pair: the resultant and D.
+fn write_numbers(r: u32, d: u32) {
     write_word(r);
     io::write_all(STDOUT_FILENO, b" ");
-    write_word_or_dashes(dashes, d);
+    write_word(d);
     io::write_all(STDOUT_FILENO, b"\n");
 }
 
@@ -320,7 +312,7 @@ fn finish_pair(r: u32, j: Job, f: &[u32], g: &[u32], u: &mut [u32], v: &mut [u32
     let l = cofactor_words(j.n, j.larger);
     match try_reduced(j.n, f, g, l, u, v, work) {
         Tried::Value(d) => {
-            write_numbers(r, j.larger > 5, d);
+            write_numbers(r, d);
         }
         Tried::Wrong(place) => {
             write_failure(place);

@@ -7,7 +7,8 @@
 ghost use mathlib.Core.Path.{_≡_};
 ghost use Prim.Native.Nat.{_+_, _-_, _%_, _<_, _≤_};
 ghost use lib.ListN.{length, replicate};
-ghost use Rattle.windows.specs.Window.{Moved, Clear, addMul, mulBy, second, quotient-by, reduced-by, zeroed, Paired, Apart, Below, Zeros, Content, Reversed, Loaded};
+ghost use Rattle.windows.specs.Window.{Moved, Clear, addMul, mulBy, second, quotient-by, reduced-by};
+ghost use Rattle.windows.specs.Window.{zeroed, Paired, Apart, Below, Zeros, Content, Reversed, Loaded};
 
 // w[dst + j] += c * w[src + j], for j < len.
 pub fn add_scaled(w: &mut [u32], n: u32, c: u32, src: usize, dst: usize, len: usize)

@@ -2,20 +2,12 @@ use Rattle.arithmetic.proofs.Negatives.{negative-none, negative-some}
 use borrow.Author.Needs.{needs}
 use Rattle.arithmetic.proofs.negate.Statement.{statement}
 use Rattle.arithmetic.proofs.negate.Tie as tie
-use Rattle.arithmetic.proofs.negate.Reads as reads
-use Rattle.arithmetic.proofs.negate.Lts as lts
 
--- src/lib.rt:48:9
 returns : tie.Need-returns
 returns c = negative-none _ _ (c .if1 .taken)
 
--- src/lib.rt:50:5
-sub-result : tie.Need-sub-result
-sub-result c = search needs
-
--- src/lib.rt:43:1
 returns-2 : tie.Need-returns-2
 returns-2 c = negative-some _ _ (c .before .pre .0) (c .if1 .left)
 
 pub negate-spec : {M : Type 1} → statement M
-negate-spec = tie.close (tie.spec returns sub-result returns-2)
+negate-spec = tie.close (tie.spec returns (λ c. search needs) returns-2)

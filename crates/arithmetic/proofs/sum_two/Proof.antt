@@ -6,52 +6,27 @@ use Prim.Native.Nat.{ℕ, _+_, _*_, _%_}
 use borrow.Author.Needs.{needs}
 use Rattle.arithmetic.proofs.sum_two.Statement.{statement}
 use Rattle.arithmetic.proofs.sum_two.Tie as tie
-use Rattle.arithmetic.proofs.sum_two.Reads as reads
-use Rattle.arithmetic.proofs.sum_two.Lts as lts
-use Rattle.arithmetic.proofs.reduce.Reads as reduce-reads
 
--- src/lib.rt:15:13
-mul-k : tie.Need-mul-k
-mul-k c = search needs
-
--- src/lib.rt:16:13
 mul-p : tie.Need-mul-p
-mul-p c = record { fits = below 32 (c .fits .c .fits) (c .fits .a .fits) }
+mul-p c = record { fits = below 32 (search needs) (search needs) }
 
--- src/lib.rt:17:13
 mul-q : tie.Need-mul-q
-mul-q c = record { fits = below 32 (c .fits .m .fits) (c .fits .b .fits) }
+mul-q c = record { fits = below 32 (search needs) (search needs) }
 
--- src/lib.rt:17:13
 add-q : tie.Need-add-q
 add-q c =
     let r = room (c .args .n) (c .args .m) (c .args .b) (c .args .x) (c .pre .1 .1) (c .fits .b .fits) (c .pre .1 .0) in
     record { fits = omega (arith, c .fits .n .fits) }
 
--- src/lib.rt:18:13
 sub-h : tie.Need-sub-h
 sub-h c = room (c .args .n) (c .args .m) (c .args .b) (c .args .x) (c .pre .1 .1) (c .fits .b .fits) (c .pre .1 .0)
 
--- src/lib.rt:20:9
-reduce-requires : tie.Need-reduce-requires
-reduce-requires c κs = search needs
-
--- src/lib.rt:20:9
 returns : tie.Need-returns
 returns c =
     let s = c .before .before in
     c .reduce .ensures ∙ over (s .args .n) (s .args .c * s .args .a) (s .args .m * s .args .b + s .args .x) (s .args .x + s .args .c * s .args .a + s .args .m * s .args .b)
     (room (s .args .n) (s .args .m) (s .args .b) (s .args .x) (s .pre .1 .1) (s .fits .b .fits) (s .pre .1 .0)) (c .before .if1 .taken) (omega arith)
 
--- src/lib.rt:22:22
-add-reduce : tie.Need-add-reduce
-add-reduce c = search needs
-
--- src/lib.rt:22:5
-reduce-requires-2 : tie.Need-reduce-requires-2
-reduce-requires-2 c κs = search needs
-
--- src/lib.rt:11:1
 returns-2 : tie.Need-returns-2
 returns-2 c = let s = c .before .before in
     c .reduce2 .ensures ∙ ap (λ (v : ℕ). v % s .args .n) (let z : s .args .c * s .args .a + (s .args .m * s .args .b + s .args .x) ≡ s .args .x + s .args .c * s .args .a + s .args .m * s .args .b = omega arith in z)
@@ -60,13 +35,13 @@ pub sum-two-spec : {M : Type 1} → statement M
 sum-two-spec =
     tie.close
     (tie.spec
-    mul-k
+    (λ c. search needs)
     mul-p
     mul-q
     add-q
     sub-h
-    reduce-requires
+    (λ c κs. search needs)
     returns
-    add-reduce
-    reduce-requires-2
+    (λ c. search needs)
+    (λ c κs. search needs)
     returns-2)

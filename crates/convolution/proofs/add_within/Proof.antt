@@ -6,25 +6,13 @@ use Rattle.convolution.proofs.Terms.{over}
 use borrow.Author.Needs.{needs}
 use Rattle.convolution.proofs.add_within.Statement.{statement}
 use Rattle.convolution.proofs.add_within.Tie as tie
-use Rattle.convolution.proofs.add_within.Reads as reads
-use Rattle.convolution.proofs.add_within.Lts as lts
 
--- src/lib.rt:17:13
-sub-h : tie.Need-sub-h
-sub-h c = search needs
-
--- src/lib.rt:19:9
 returns : tie.Need-returns
 returns c = let s = c .before in
     over (s .args .m) (s .args .x) (s .args .y) (s .pre .0) (s .pre .1) (c .if1 .taken)
 
--- src/lib.rt:21:5
-add-result : tie.Need-add-result
-add-result c = search needs
-
--- src/lib.rt:13:1
 returns-2 : tie.Need-returns-2
 returns-2 c = sym (mod-eq-of-lt (omega arith))
 
 pub add-within-spec : {M : Type 1} → statement M
-add-within-spec = tie.close (tie.spec sub-h returns add-result returns-2)
+add-within-spec = tie.close (tie.spec (λ c. search needs) returns (λ c. search needs) returns-2)

@@ -6,21 +6,6 @@ use Rattle.frames.proofs.Answering.{room, head-fields, head-other, coun
 use Rattle.frames.proofs.answer.Statement.{statement}
 use Rattle.frames.proofs.answer.Tie as tie
 
-read-head-requires : tie.Need-read-head-requires
-read-head-requires c κs = search needs
-
-enum-known-kind : tie.Need-enum-known-kind
-enum-known-kind c = search needs
-
-enum-told : tie.Need-enum-told
-enum-told c = search needs
-
-write-line-requires : tie.Need-write-line-requires
-write-line-requires c κs = search needs
-
-same-length : tie.Need-same-length
-same-length c = search needs
-
 returns : tie.Need-returns
 returns c =
     let at-enum-told = c .before .before .before .before in
@@ -61,15 +46,6 @@ add-count-3 c =
     (at-read-head .read-head .ensures) in
     omega (arith, count-most h)
 
-sub-read-words : tie.Need-sub-read-words
-sub-read-words c = search needs
-
-part-words-start : tie.Need-part-words-start
-part-words-start c = search needs
-
-part-words-end : tie.Need-part-words-end
-part-words-end c = search needs
-
 read-words-requires : tie.Need-read-words-requires
 read-words-requires c κs =
     let at-read-head = c .before .before .before .before in
@@ -79,12 +55,6 @@ read-words-requires c κs =
     (c .before .before .kind .given .0 .1 .1 .0) (c .before .before .kind .given .0 .1 .1 .1 .0) (c .before .before .kind .given .1)
     (at-read-head .read-head .ensures) in
     (h .fits, count-most h)
-
-write-line-requires-2 : tie.Need-write-line-requires-2
-write-line-requires-2 c κs = search needs
-
-same-length-2 : tie.Need-same-length-2
-same-length-2 c = search needs
 
 returns-2 : tie.Need-returns-2
 returns-2 c =
@@ -98,12 +68,6 @@ returns-2 c =
     (at-kind .kind .given .0 .1 .0) (at-kind .kind .given .0 .1 .1 .0) (at-kind .kind .given .0 .1 .1 .1 .0) (at-kind .kind .given .1)
     (at-read-head .read-head .ensures)) (at-read-words .read-words .ensures) (not-true _ (at-if1 .if1 .taken)))
     (c .before .before .write-line2 .ensures)
-
-sub-serve : tie.Need-sub-serve
-sub-serve c = search needs
-
-part-serve-start : tie.Need-part-serve-start
-part-serve-start c = search needs
 
 part-serve-end : tie.Need-part-serve-end
 part-serve-end c =
@@ -128,15 +92,6 @@ serve-requires c κs =
     in
     (h .known .0, (search needs, search needs))
 
-write-line-requires-3 : tie.Need-write-line-requires-3
-write-line-requires-3 c κs = search needs
-
-same-length-3 : tie.Need-same-length-3
-same-length-3 c = search needs
-
-same-length-4 : tie.Need-same-length-4
-same-length-4 c = search needs
-
 returns-3 : tie.Need-returns-3
 returns-3 c =
     let at-serve = c .before .before .before .before .before .before in
@@ -157,27 +112,27 @@ pub answer-spec : {M : Type 1} → statement M
 answer-spec =
     tie.close
     (tie.spec
-    read-head-requires
-    enum-known-kind
-    enum-told
-    write-line-requires
-    same-length
+    (λ c κs. search needs)
+    (λ c. search needs)
+    (λ c. search needs)
+    (λ c κs. search needs)
+    (λ c. search needs)
     returns
     add-count
     add-count-2
     add-count-3
-    sub-read-words
-    part-words-start
-    part-words-end
+    (λ c. search needs)
+    (λ c. search needs)
+    (λ c. search needs)
     read-words-requires
-    write-line-requires-2
-    same-length-2
+    (λ c κs. search needs)
+    (λ c. search needs)
     returns-2
-    sub-serve
-    part-serve-start
+    (λ c. search needs)
+    (λ c. search needs)
     part-serve-end
     serve-requires
-    write-line-requires-3
-    same-length-3
-    same-length-4
+    (λ c κs. search needs)
+    (λ c. search needs)
+    (λ c. search needs)
     returns-3)

@@ -13,15 +13,6 @@ returns-2 c =
     let start = c .before .before .before in
     too-long (start .args .s .now) (c .if2 .taken)
 
-number-requires : tie.Need-number-requires
-number-requires c κs = search needs
-
-enum-known-kind : tie.Need-enum-known-kind
-enum-known-kind c = search needs
-
-enum-told : tie.Need-enum-told
-enum-told c = search needs
-
 returns-3 : tie.Need-returns-3
 returns-3 c =
     let start = c .before .before .before .before .before .before in
@@ -44,29 +35,11 @@ returns-5 c =
     let k = number-read (take 2 (start .args .s .now)) (at-kind .kind .given .0 .0) (at-kind .kind .given .1) (at-number .number .ensures) in
     other-kind (start .args .s .now) (λ h. omega (arith, k .1)) (λ h. omega (arith, k .1))
 
-number-requires-2 : tie.Need-number-requires-2
-number-requires-2 c κs = search needs
-
-enum-known-n : tie.Need-enum-known-n
-enum-known-n c = search needs
-
-enum-told-2 : tie.Need-enum-told-2
-enum-told-2 c = search needs
-
 returns-6 : tie.Need-returns-6
 returns-6 c =
     let start = c .before .before .before .before .before .before .before .before .before .before .before .before in
     part-not-digits (start .args .s .now) 2 8
     (other-read (take 8 (drop 2 (start .args .s .now))) (c .enum-told2 .given .1) (c .before .before .number2 .ensures))
-
-number-requires-3 : tie.Need-number-requires-3
-number-requires-3 c κs = search needs
-
-enum-known-d : tie.Need-enum-known-d
-enum-known-d c = search needs
-
-enum-told-3 : tie.Need-enum-told-3
-enum-told-3 c = search needs
 
 returns-7 : tie.Need-returns-7
 returns-7 c =
@@ -75,15 +48,6 @@ returns-7 c =
     part-not-digits (start .args .s .now) 10 2
     (other-read (take 2 (drop 10 (start .args .s .now))) (c .enum-told3 .given .1) (c .before .before .number3 .ensures))
 
-number-requires-4 : tie.Need-number-requires-4
-number-requires-4 c κs = search needs
-
-enum-known-e : tie.Need-enum-known-e
-enum-known-e c = search needs
-
-enum-told-4 : tie.Need-enum-told-4
-enum-told-4 c = search needs
-
 returns-8 : tie.Need-returns-8
 returns-8 c =
     let at-half = c .before .before .before .before .before .before .before .before .before .before in
@@ -91,27 +55,6 @@ returns-8 c =
     let start = at-half .before .before .before .before .before in
     part-not-digits (start .args .s .now) 12 2
     (other-read (take 2 (drop 12 (start .args .s .now))) (c .enum-told4 .given .1) (c .before .before .number4 .ensures))
-
-cast-count : tie.Need-cast-count
-cast-count c = search needs
-
-add-count : tie.Need-add-count
-add-count c = search needs
-
-cast-count-2 : tie.Need-cast-count-2
-cast-count-2 c = search needs
-
-add-count-2 : tie.Need-add-count-2
-add-count-2 c = search needs
-
-add-count-3 : tie.Need-add-count-3
-add-count-3 c = search needs
-
-mul-if5 : tie.Need-mul-if5
-mul-if5 c = search needs
-
-add-if5 : tie.Need-add-if5
-add-if5 c = search needs
 
 returns-9 : tie.Need-returns-9
 returns-9 c =
@@ -124,12 +67,6 @@ returns-9 c =
     let y = (number-read (take 2 (drop 12 (start .args .s .now))) (c .before .before .e .given .0 .0) (c .before .before .e .given .1)
     (at-number4 .number4 .ensures)) in
     other-length (start .args .s .now) (λ h. omega (arith, x .1, y .1))
-
-cast-t13 : tie.Need-cast-t13
-cast-t13 c = search needs
-
-cast-t7 : tie.Need-cast-t7
-cast-t7 c = search needs
 
 returns-10 : tie.Need-returns-10
 returns-10 c =
@@ -156,32 +93,32 @@ read-head-spec =
     (tie.spec
     returns
     returns-2
-    number-requires
-    enum-known-kind
-    enum-told
+    (λ c κs. search needs)
+    (λ c. search needs)
+    (λ c. search needs)
     returns-3
     returns-4
     returns-5
-    number-requires-2
-    enum-known-n
-    enum-told-2
+    (λ c κs. search needs)
+    (λ c. search needs)
+    (λ c. search needs)
     returns-6
-    number-requires-3
-    enum-known-d
-    enum-told-3
+    (λ c κs. search needs)
+    (λ c. search needs)
+    (λ c. search needs)
     returns-7
-    number-requires-4
-    enum-known-e
-    enum-told-4
+    (λ c κs. search needs)
+    (λ c. search needs)
+    (λ c. search needs)
     returns-8
-    cast-count
-    add-count
-    cast-count-2
-    add-count-2
-    add-count-3
-    mul-if5
-    add-if5
+    (λ c. search needs)
+    (λ c. search needs)
+    (λ c. search needs)
+    (λ c. search needs)
+    (λ c. search needs)
+    (λ c. search needs)
+    (λ c. search needs)
     returns-9
-    cast-t13
-    cast-t7
+    (λ c. search needs)
+    (λ c. search needs)
     returns-10)

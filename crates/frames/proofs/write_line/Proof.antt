@@ -5,27 +5,6 @@ use Rattle.frames.proofs.Putting.{line-put}
 use Rattle.frames.proofs.write_line.Statement.{statement}
 use Rattle.frames.proofs.write_line.Tie as tie
 
-write-requires : tie.Need-write-requires
-write-requires c κs = search needs
-
-add-write : tie.Need-add-write
-add-write c = search needs
-
-write-requires-2 : tie.Need-write-requires-2
-write-requires-2 c κs = search needs
-
-add-write-2 : tie.Need-add-write-2
-add-write-2 c = search needs
-
-write-requires-3 : tie.Need-write-requires-3
-write-requires-3 c κs = search needs
-
-add-out : tie.Need-add-out
-add-out c = search needs
-
-slice-write-out : tie.Need-slice-write-out
-slice-write-out c = search needs
-
 same-length : tie.Need-same-length
 same-length c =
     let at-write2 = c .before .before .before .before .before .before in
@@ -45,12 +24,12 @@ pub write-line-spec : {M : Type 1} → statement M
 write-line-spec =
     tie.close
     (tie.spec
-    write-requires
-    add-write
-    write-requires-2
-    add-write-2
-    write-requires-3
-    add-out
-    slice-write-out
+    (λ c κs. search needs)
+    (λ c. search needs)
+    (λ c κs. search needs)
+    (λ c. search needs)
+    (λ c κs. search needs)
+    (λ c. search needs)
+    (λ c. search needs)
     same-length
     returns)

@@ -16,12 +16,6 @@ abbrev μ-loop : tie.MeasureT-loop
 loop-holds : tie.Need-loop-holds Inv-loop μ-loop
 loop-holds c = (search needs, spelling-none _)
 
-add-c : tie.Need-add-c Inv-loop μ-loop
-add-c c = search needs
-
-shared-slice-read-c : tie.Need-shared-slice-read-c Inv-loop μ-loop
-shared-slice-read-c c = search needs
-
 returns : tie.Need-returns Inv-loop μ-loop
 returns c =
     let at-loop = c .before .before .before in
@@ -35,12 +29,6 @@ returns-2 c =
     let start = at-loop .before .before in
     part-stop (start .args .s .now) (start .args .at) (start .args .count) (search needs) (at-loop .loop .i) 16 (search needs)
     (digit-high _ (c .if2 .taken)) (omega arith)
-
-cast-place : tie.Need-cast-place Inv-loop μ-loop
-cast-place c = search needs
-
-element-copy-out-v : tie.Need-element-copy-out-v Inv-loop μ-loop
-element-copy-out-v c = search needs
 
 sub-v : tie.Need-sub-v Inv-loop μ-loop
 sub-v c =
@@ -65,9 +53,6 @@ mul-x c =
           (at-loop .loop .inv .1),
     )
 
-cast-x : tie.Need-cast-x Inv-loop μ-loop
-cast-x c = search needs
-
 add-x : tie.Need-add-x Inv-loop μ-loop
 add-x c =
     let at-loop = c .before .before .before .before .before .before in
@@ -78,12 +63,6 @@ add-x c =
           (at-loop .loop .inv .1),
       c .if3 .left,
     )
-
-add-i : tie.Need-add-i Inv-loop μ-loop
-add-i c = search needs
-
-loop-less : tie.Need-loop-less Inv-loop μ-loop
-loop-less c = search needs
 
 loop-again : tie.Need-loop-again Inv-loop μ-loop
 loop-again c =
@@ -107,18 +86,18 @@ number-spec =
     Inv-loop
     μ-loop
     loop-holds
-    add-c
-    shared-slice-read-c
+    (λ c. search needs)
+    (λ c. search needs)
     returns
     returns-2
-    cast-place
-    element-copy-out-v
+    (λ c. search needs)
+    (λ c. search needs)
     sub-v
     returns-3
     mul-x
-    cast-x
+    (λ c. search needs)
     add-x
-    add-i
-    loop-less
+    (λ c. search needs)
+    (λ c. search needs)
     loop-again
     returns-4)

@@ -1,24 +1,22 @@
 use Rattle.reduced.proofs.Joins.{factor-less, second-less, first-length, second-length, first-room, second-room, product-below, factors-split, run-joined}
-use Rattle.reduced.specs.Runs.{Merged, run-room}
-use Rattle.attempts.specs.Attempts.{Attempted}
-use Rattle.cofactors.specs.Cofactors.{Certified}
+use Rattle.reduced.specs.Runs.{Saved, Merged}
+use Rattle.reduced_attempt.specs.Attempts.{Attempted}
 use Rattle.definitions.specs.Polynomials.{L}
 use Rattle.windows.proofs.Lift.{mid-length, window}
 use native.Mathlib.Omega.{arith}
-use mathlib.Core.List.{List}
 use Prim.Native.Nat.{max}
-use lib.ListN.{length, getD}
-use borrow.Rule.Slice.PartMut.{putMid, midOf}
+use lib.ListN.{length}
+use borrow.Rule.Slice.PartMut.{putMid}
 use borrow.Author.Needs.{needs}
-use mathlib.Core.Path.{_≡_, refl, sym, ap, subst, _∙_}
-use Prim.Native.Nat.{_+_, _*_, _-_, _%_, _≤_}
+use mathlib.Core.Path.{_≡_, subst, _∙_}
+use Prim.Native.Nat.{_+_, _*_, _-_, _≤_}
 use Prim.Native.Nat.{ℕ, _<_}
 use borrow.Fn.Kinds.{In}
 use borrow.Fn.PlainCycle.{Measures, is, falls, and}
 use Rattle.reduced.proofs.run.Reads as run
 use Rattle.reduced.proofs.run.Kinds as run-kinds
 use Rattle.reduced.proofs.+run.Lts-run as run-lts
-use Rattle.attempts.proofs.attempt.Reads as attempt-reads
+use Rattle.reduced_attempt.proofs.attempt.Reads as attempt-reads
 use Rattle.reduced.proofs.merge.Reads as merge-reads
 use Rattle.reduced.proofs.save.Reads as save-reads
 use Rattle.reduced.proofs.+run.{statement}
@@ -33,7 +31,6 @@ run-at t = and 5 run-kinds.ps (is 5 run-kinds.ps μ-run t) run.Pre
 abbrev run-below : ℕ → In 5 run-kinds.ps
 run-below t = and 5 run-kinds.ps (falls 5 run-kinds.ps _<_ μ-run t) run.Pre
 
--- src/lib.rt:165:11
 run-attempt-requires : (t : ℕ) → run-lts.Need-attempt-requires (
   attempt-reads.Asked,
   attempt-reads.Learnt,
@@ -44,35 +41,9 @@ run-attempt-requires : (t : ℕ) → run-lts.Need-attempt-requires (
   merge-reads.Asked,
   merge-reads.Learnt,
 ) (run-at t) run.Post
-run-attempt-requires t c κs = search needs
+run-attempt-requires t c κs = let r = c .before .before .before .before .before .before .before .before .pre .1 in
+    record { modulus = r .modulus; some-f = r .some-f; some-g = r .some-g; room = omega (arith, r .room); first = r .first; second = r .second }
 
--- src/lib.rt:166:32
-run-enum-known-d : (t : ℕ) → run-lts.Need-enum-known-d (
-  attempt-reads.Asked,
-  attempt-reads.Learnt,
-  run-below t,
-  run.Post,
-  save-reads.Asked,
-  save-reads.Learnt,
-  merge-reads.Asked,
-  merge-reads.Learnt,
-) (run-at t) run.Post
-run-enum-known-d t c = search needs
-
--- src/lib.rt:167:33
-run-enum-known-p : (t : ℕ) → run-lts.Need-enum-known-p (
-  attempt-reads.Asked,
-  attempt-reads.Learnt,
-  run-below t,
-  run.Post,
-  save-reads.Asked,
-  save-reads.Learnt,
-  merge-reads.Asked,
-  merge-reads.Learnt,
-) (run-at t) run.Post
-run-enum-known-p t c = search needs
-
--- src/lib.rt:168:17
 run-run-requires : (t : ℕ) → run-lts.Need-run-requires (
   attempt-reads.Asked,
   attempt-reads.Learnt,
@@ -93,17 +64,25 @@ run-run-requires t c κs = let s = c .before .before .before .before .before .be
     let p = c .before .before .before .before .p .given .0 .0 in
     let q = c .before .before .before .before .p .given .0 .1 .0 in
     let at = c .before .before .before .before .before .before .before .before .before .before .before .before .attempt in
-    let sp = subst (Attempted n (L n d e) f g (at .last .0) (at .last .1 .0)) (c .before .before .before .before .p .given .1) (at .ensures .0) in
+    let sp = subst (Attempted n f g (s .args .u .now) (s .args .v .now) (at .last .0) (at .last .1 .0)) (c .before .before .before .before .p .given .1) (at .ensures .0) .0 in
     let lp = first-length n p q sp d e in
     let lq = second-length n p q sp d e in
-    let room = second-room n p q sp d e (length (s .args .w .now)) (r .1 .1 .1 .0) in
-    let aw = at .ensures .1 in
+    let room = second-room n p q sp d e (length (s .args .w .now)) (r .room) in
+    let aw = at .ensures .1 .same in
     let au = at .kept .0 in
     let av = at .kept .1 .0 in
-    let less = factor-less n p q sp in
-    (omega (arith, s .pre .0), (sp .above₁, (r .1 .0, (r .1 .1 .0, (first-room n p q sp (max d e) _ (omega (arith, r .1 .1 .1 .0)), (lp _ (omega (arith, r .1 .1 .1 .1 .0)), lp _ (omega (arith, r .1 .1 .1 .1 .1))))))))
+    let less = factor-less n p q sp in (
+      omega (arith, s .pre .0),
+      record {
+        modulus = sp .above₁;
+        some-f = r .some-f;
+        some-g = r .some-g;
+        room = first-room n p q sp (max d e) _ (omega (arith, r .room));
+        first = lp _ (omega (arith, r .first));
+        second = lp _ (omega (arith, r .second));
+      },
+    )
 
--- src/lib.rt:169:17
 run-save-requires : (t : ℕ) → run-lts.Need-save-requires (
   attempt-reads.Asked,
   attempt-reads.Learnt,
@@ -124,22 +103,21 @@ run-save-requires t c κs = let s = c .before .before .before .before .before .b
     let p = c .before .before .before .before .before .before .before .before .before .before .before .before .before .before .p .given .0 .0 in
     let q = c .before .before .before .before .before .before .before .before .before .before .before .before .before .before .p .given .0 .1 .0 in
     let at = c .before .before .before .before .before .before .before .before .before .before .before .before .before .before .before .before .before .before .before .before .before .before .attempt in
-    let sp = subst (Attempted n (L n d e) f g (at .last .0) (at .last .1 .0)) (c .before .before .before .before .before .before .before .before .before .before .before .before .before .before .p .given .1) (at .ensures .0) in
+    let sp = subst (Attempted n f g (s .args .u .now) (s .args .v .now) (at .last .0) (at .last .1 .0)) (c .before .before .before .before .before .before .before .before .before .before .before .before .before .before .p .given .1) (at .ensures .0) .0 in
     let lp = first-length n p q sp d e in
     let lq = second-length n p q sp d e in
-    let room = second-room n p q sp d e (length (s .args .w .now)) (r .1 .1 .1 .0) in
-    let aw = at .ensures .1 in
+    let room = second-room n p q sp d e (length (s .args .w .now)) (r .room) in
+    let aw = at .ensures .1 .same in
     let au = at .kept .0 in
     let av = at .kept .1 .0 in
     let one = c .before .before .before .before .before .before .before .before .before .run in
-    let ow = one .ensures .1 in
+    let ow = one .ensures .1 .same in
     let ou = one .kept .0 in
     let ov = one .kept .1 .0 in
-    let a = lp (length (s .args .u .now)) (r .1 .1 .1 .1 .0) in
-    let b = lp (length (s .args .v .now)) (r .1 .1 .1 .1 .1) in
-    (omega (arith, sp .above₁), (r .1 .0, (r .1 .1 .0, (omega arith, (omega arith, omega arith)))))
+    let a = lp (length (s .args .u .now)) (r .first) in
+    let b = lp (length (s .args .v .now)) (r .second) in
+    record { modulus = omega (arith, sp .above₁); some-a = r .some-f; some-b = r .some-g; room = omega arith; first = omega arith; second = omega arith }
 
--- src/lib.rt:171:38
 run-mul-run : (t : ℕ) → run-lts.Need-mul-run (
   attempt-reads.Asked,
   attempt-reads.Learnt,
@@ -160,15 +138,15 @@ run-mul-run t c = let s = c .before .before .before .before .before .before .bef
     let p = c .before .before .before .before .before .before .before .before .before .before .before .before .before .before .before .before .before .before .before .p .given .0 .0 in
     let q = c .before .before .before .before .before .before .before .before .before .before .before .before .before .before .before .before .before .before .before .p .given .0 .1 .0 in
     let at = c .before .before .before .before .before .before .before .before .before .before .before .before .before .before .before .before .before .before .before .before .before .before .before .before .before .before .before .attempt in
-    let sp = subst (Attempted n (L n d e) f g (at .last .0) (at .last .1 .0)) (c .before .before .before .before .before .before .before .before .before .before .before .before .before .before .before .before .before .before .before .p .given .1) (at .ensures .0) in
+    let sp = subst (Attempted n f g (s .args .u .now) (s .args .v .now) (at .last .0) (at .last .1 .0)) (c .before .before .before .before .before .before .before .before .before .before .before .before .before .before .before .before .before .before .before .p .given .1) (at .ensures .0) .0 in
     let lp = first-length n p q sp d e in
     let lq = second-length n p q sp d e in
-    let room = second-room n p q sp d e (length (s .args .w .now)) (r .1 .1 .1 .0) in
-    let aw = at .ensures .1 in
+    let room = second-room n p q sp d e (length (s .args .w .now)) (r .room) in
+    let aw = at .ensures .1 .same in
     let au = at .kept .0 in
     let av = at .kept .1 .0 in
     let one = c .before .before .before .before .before .before .before .before .before .before .before .before .before .before .run in
-    let ow = one .ensures .1 in
+    let ow = one .ensures .1 .same in
     let ou = one .kept .0 in
     let ov = one .kept .1 .0 in
     let sv = c .before .before .before .before .save in
@@ -178,7 +156,6 @@ run-mul-run t c = let s = c .before .before .before .before .before .before .bef
     let wide : 2 * l ≤ length (sv .last .0) = omega arith in
     omega arith
 
--- src/lib.rt:171:31
 run-mul-run-2 : (t : ℕ) → run-lts.Need-mul-run-2 (
   attempt-reads.Asked,
   attempt-reads.Learnt,
@@ -199,15 +176,15 @@ run-mul-run-2 t c = let s = c .before .before .before .before .before .before .b
     let p = c .before .before .before .before .before .before .before .before .before .before .before .before .before .before .before .before .before .before .before .p .given .0 .0 in
     let q = c .before .before .before .before .before .before .before .before .before .before .before .before .before .before .before .before .before .before .before .p .given .0 .1 .0 in
     let at = c .before .before .before .before .before .before .before .before .before .before .before .before .before .before .before .before .before .before .before .before .before .before .before .before .before .before .before .attempt in
-    let sp = subst (Attempted n (L n d e) f g (at .last .0) (at .last .1 .0)) (c .before .before .before .before .before .before .before .before .before .before .before .before .before .before .before .before .before .before .before .p .given .1) (at .ensures .0) in
+    let sp = subst (Attempted n f g (s .args .u .now) (s .args .v .now) (at .last .0) (at .last .1 .0)) (c .before .before .before .before .before .before .before .before .before .before .before .before .before .before .before .before .before .before .before .p .given .1) (at .ensures .0) .0 in
     let lp = first-length n p q sp d e in
     let lq = second-length n p q sp d e in
-    let room = second-room n p q sp d e (length (s .args .w .now)) (r .1 .1 .1 .0) in
-    let aw = at .ensures .1 in
+    let room = second-room n p q sp d e (length (s .args .w .now)) (r .room) in
+    let aw = at .ensures .1 .same in
     let au = at .kept .0 in
     let av = at .kept .1 .0 in
     let one = c .before .before .before .before .before .before .before .before .before .before .before .before .before .before .run in
-    let ow = one .ensures .1 in
+    let ow = one .ensures .1 .same in
     let ou = one .kept .0 in
     let ov = one .kept .1 .0 in
     let sv = c .before .before .before .before .save in
@@ -217,7 +194,6 @@ run-mul-run-2 t c = let s = c .before .before .before .before .before .before .b
     let wide : 2 * l ≤ length (sv .last .0) = omega arith in
     omega arith
 
--- src/lib.rt:171:31
 run-sub-run : (t : ℕ) → run-lts.Need-sub-run (
   attempt-reads.Asked,
   attempt-reads.Learnt,
@@ -238,15 +214,15 @@ run-sub-run t c = let s = c .before .before .before .before .before .before .bef
     let p = c .before .before .before .before .before .before .before .before .before .before .before .before .before .before .before .before .before .before .before .p .given .0 .0 in
     let q = c .before .before .before .before .before .before .before .before .before .before .before .before .before .before .before .before .before .before .before .p .given .0 .1 .0 in
     let at = c .before .before .before .before .before .before .before .before .before .before .before .before .before .before .before .before .before .before .before .before .before .before .before .before .before .before .before .attempt in
-    let sp = subst (Attempted n (L n d e) f g (at .last .0) (at .last .1 .0)) (c .before .before .before .before .before .before .before .before .before .before .before .before .before .before .before .before .before .before .before .p .given .1) (at .ensures .0) in
+    let sp = subst (Attempted n f g (s .args .u .now) (s .args .v .now) (at .last .0) (at .last .1 .0)) (c .before .before .before .before .before .before .before .before .before .before .before .before .before .before .before .before .before .before .before .p .given .1) (at .ensures .0) .0 in
     let lp = first-length n p q sp d e in
     let lq = second-length n p q sp d e in
-    let room = second-room n p q sp d e (length (s .args .w .now)) (r .1 .1 .1 .0) in
-    let aw = at .ensures .1 in
+    let room = second-room n p q sp d e (length (s .args .w .now)) (r .room) in
+    let aw = at .ensures .1 .same in
     let au = at .kept .0 in
     let av = at .kept .1 .0 in
     let one = c .before .before .before .before .before .before .before .before .before .before .before .before .before .before .run in
-    let ow = one .ensures .1 in
+    let ow = one .ensures .1 .same in
     let ou = one .kept .0 in
     let ov = one .kept .1 .0 in
     let sv = c .before .before .before .before .save in
@@ -256,7 +232,6 @@ run-sub-run t c = let s = c .before .before .before .before .before .before .bef
     let wide : 2 * l ≤ length (sv .last .0) = omega arith in
     omega arith
 
--- src/lib.rt:171:31
 run-part-run-start : (t : ℕ) → run-lts.Need-part-run-start (
   attempt-reads.Asked,
   attempt-reads.Learnt,
@@ -277,15 +252,15 @@ run-part-run-start t c = let s = c .before .before .before .before .before .befo
     let p = c .before .before .before .before .before .before .before .before .before .before .before .before .before .before .before .before .before .before .before .p .given .0 .0 in
     let q = c .before .before .before .before .before .before .before .before .before .before .before .before .before .before .before .before .before .before .before .p .given .0 .1 .0 in
     let at = c .before .before .before .before .before .before .before .before .before .before .before .before .before .before .before .before .before .before .before .before .before .before .before .before .before .before .before .attempt in
-    let sp = subst (Attempted n (L n d e) f g (at .last .0) (at .last .1 .0)) (c .before .before .before .before .before .before .before .before .before .before .before .before .before .before .before .before .before .before .before .p .given .1) (at .ensures .0) in
+    let sp = subst (Attempted n f g (s .args .u .now) (s .args .v .now) (at .last .0) (at .last .1 .0)) (c .before .before .before .before .before .before .before .before .before .before .before .before .before .before .before .before .before .before .before .p .given .1) (at .ensures .0) .0 in
     let lp = first-length n p q sp d e in
     let lq = second-length n p q sp d e in
-    let room = second-room n p q sp d e (length (s .args .w .now)) (r .1 .1 .1 .0) in
-    let aw = at .ensures .1 in
+    let room = second-room n p q sp d e (length (s .args .w .now)) (r .room) in
+    let aw = at .ensures .1 .same in
     let au = at .kept .0 in
     let av = at .kept .1 .0 in
     let one = c .before .before .before .before .before .before .before .before .before .before .before .before .before .before .run in
-    let ow = one .ensures .1 in
+    let ow = one .ensures .1 .same in
     let ou = one .kept .0 in
     let ov = one .kept .1 .0 in
     let sv = c .before .before .before .before .save in
@@ -295,20 +270,6 @@ run-part-run-start t c = let s = c .before .before .before .before .before .befo
     let wide : 2 * l ≤ length (sv .last .0) = omega arith in
     omega arith
 
--- src/lib.rt:171:31
-run-part-run-end : (t : ℕ) → run-lts.Need-part-run-end (
-  attempt-reads.Asked,
-  attempt-reads.Learnt,
-  run-below t,
-  run.Post,
-  save-reads.Asked,
-  save-reads.Learnt,
-  merge-reads.Asked,
-  merge-reads.Learnt,
-) (run-at t) run.Post
-run-part-run-end t c = search needs
-
--- src/lib.rt:171:17
 run-run-requires-2 : (t : ℕ) → run-lts.Need-run-requires-2 (
   attempt-reads.Asked,
   attempt-reads.Learnt,
@@ -329,15 +290,15 @@ run-run-requires-2 t c κs = let s = c .before .before .before .before .before .
     let p = c .before .before .before .before .before .before .before .before .before .before .before .before .before .before .before .before .before .before .before .before .p .given .0 .0 in
     let q = c .before .before .before .before .before .before .before .before .before .before .before .before .before .before .before .before .before .before .before .before .p .given .0 .1 .0 in
     let at = c .before .before .before .before .before .before .before .before .before .before .before .before .before .before .before .before .before .before .before .before .before .before .before .before .before .before .before .before .attempt in
-    let sp = subst (Attempted n (L n d e) f g (at .last .0) (at .last .1 .0)) (c .before .before .before .before .before .before .before .before .before .before .before .before .before .before .before .before .before .before .before .before .p .given .1) (at .ensures .0) in
+    let sp = subst (Attempted n f g (s .args .u .now) (s .args .v .now) (at .last .0) (at .last .1 .0)) (c .before .before .before .before .before .before .before .before .before .before .before .before .before .before .before .before .before .before .before .before .p .given .1) (at .ensures .0) .0 in
     let lp = first-length n p q sp d e in
     let lq = second-length n p q sp d e in
-    let room = second-room n p q sp d e (length (s .args .w .now)) (r .1 .1 .1 .0) in
-    let aw = at .ensures .1 in
+    let room = second-room n p q sp d e (length (s .args .w .now)) (r .room) in
+    let aw = at .ensures .1 .same in
     let au = at .kept .0 in
     let av = at .kept .1 .0 in
     let one = c .before .before .before .before .before .before .before .before .before .before .before .before .before .before .before .run in
-    let ow = one .ensures .1 in
+    let ow = one .ensures .1 .same in
     let ou = one .kept .0 in
     let ov = one .kept .1 .0 in
     let sv = c .before .before .before .before .before .save in
@@ -348,11 +309,10 @@ run-run-requires-2 t c κs = let s = c .before .before .before .before .before .
     let less = second-less n p q sp in
     let m = length (sv .last .0) - 2 * l in
     let mid = mid-length (2 * l) m (sv .last .0) (omega arith) in
-    let a = lq (length (s .args .u .now)) (r .1 .1 .1 .1 .0) in
-    let b = lq (length (s .args .v .now)) (r .1 .1 .1 .1 .1) in
-    (omega (arith, s .pre .0), (sp .above₂, (r .1 .0, (r .1 .1 .0, (omega arith, (omega arith, omega arith))))))
+    let a = lq (length (s .args .u .now)) (r .first) in
+    let b = lq (length (s .args .v .now)) (r .second) in
+    (omega (arith, s .pre .0), record { modulus = sp .above₂; some-f = r .some-f; some-g = r .some-g; room = omega arith; first = omega arith; second = omega arith })
 
--- src/lib.rt:172:13
 run-merge-requires : (t : ℕ) → run-lts.Need-merge-requires (
   attempt-reads.Asked,
   attempt-reads.Learnt,
@@ -373,15 +333,15 @@ run-merge-requires t c κs = let s = c .before .before .before .before .before .
     let p = c .before .before .before .before .before .before .before .before .before .before .before .before .before .before .before .before .before .before .before .before .before .before .before .before .before .before .before .before .before .before .p .given .0 .0 in
     let q = c .before .before .before .before .before .before .before .before .before .before .before .before .before .before .before .before .before .before .before .before .before .before .before .before .before .before .before .before .before .before .p .given .0 .1 .0 in
     let at = c .before .before .before .before .before .before .before .before .before .before .before .before .before .before .before .before .before .before .before .before .before .before .before .before .before .before .before .before .before .before .before .before .before .before .before .before .before .before .attempt in
-    let sp = subst (Attempted n (L n d e) f g (at .last .0) (at .last .1 .0)) (c .before .before .before .before .before .before .before .before .before .before .before .before .before .before .before .before .before .before .before .before .before .before .before .before .before .before .before .before .before .before .p .given .1) (at .ensures .0) in
+    let sp = subst (Attempted n f g (s .args .u .now) (s .args .v .now) (at .last .0) (at .last .1 .0)) (c .before .before .before .before .before .before .before .before .before .before .before .before .before .before .before .before .before .before .before .before .before .before .before .before .before .before .before .before .before .before .p .given .1) (at .ensures .0) .0 in
     let lp = first-length n p q sp d e in
     let lq = second-length n p q sp d e in
-    let room = second-room n p q sp d e (length (s .args .w .now)) (r .1 .1 .1 .0) in
-    let aw = at .ensures .1 in
+    let room = second-room n p q sp d e (length (s .args .w .now)) (r .room) in
+    let aw = at .ensures .1 .same in
     let au = at .kept .0 in
     let av = at .kept .1 .0 in
     let one = c .before .before .before .before .before .before .before .before .before .before .before .before .before .before .before .before .before .before .before .before .before .before .before .before .before .run in
-    let ow = one .ensures .1 in
+    let ow = one .ensures .1 .same in
     let ou = one .kept .0 in
     let ov = one .kept .1 .0 in
     let sv = c .before .before .before .before .before .before .before .before .before .before .before .before .before .before .before .save in
@@ -395,11 +355,10 @@ run-merge-requires t c κs = let s = c .before .before .before .before .before .
     let ww = win .same in
     let tu = two .kept .0 in
     let tv = two .kept .1 .0 in
-    let a = lp (length (s .args .u .now)) (r .1 .1 .1 .1 .0) in
-    let b = lp (length (s .args .v .now)) (r .1 .1 .1 .1 .1) in
-    ((omega arith, (omega arith, (omega arith, omega (arith, sp .product, s .fits .n)))), factors-split n p q sp)
+    let a = lp (length (s .args .u .now)) (r .first) in
+    let b = lp (length (s .args .v .now)) (r .second) in
+    record { saved = omega arith; first = omega arith; second = omega arith; word = omega (arith, sp .product, s .fits .n); factors = factors-split n p q sp }
 
--- src/lib.rt:173:13
 run-mul-result : (t : ℕ) → run-lts.Need-mul-result (
   attempt-reads.Asked,
   attempt-reads.Learnt,
@@ -420,15 +379,15 @@ run-mul-result t c = let s = c .before .before .before .before .before .before .
     let p = c .before .before .before .before .before .before .before .before .before .before .before .before .before .before .before .before .before .before .before .before .before .before .before .before .before .before .before .before .before .before .before .before .before .before .before .p .given .0 .0 in
     let q = c .before .before .before .before .before .before .before .before .before .before .before .before .before .before .before .before .before .before .before .before .before .before .before .before .before .before .before .before .before .before .before .before .before .before .before .p .given .0 .1 .0 in
     let at = c .before .before .before .before .before .before .before .before .before .before .before .before .before .before .before .before .before .before .before .before .before .before .before .before .before .before .before .before .before .before .before .before .before .before .before .before .before .before .before .before .before .before .before .attempt in
-    let sp = subst (Attempted n (L n d e) f g (at .last .0) (at .last .1 .0)) (c .before .before .before .before .before .before .before .before .before .before .before .before .before .before .before .before .before .before .before .before .before .before .before .before .before .before .before .before .before .before .before .before .before .before .before .p .given .1) (at .ensures .0) in
+    let sp = subst (Attempted n f g (s .args .u .now) (s .args .v .now) (at .last .0) (at .last .1 .0)) (c .before .before .before .before .before .before .before .before .before .before .before .before .before .before .before .before .before .before .before .before .before .before .before .before .before .before .before .before .before .before .before .before .before .before .before .p .given .1) (at .ensures .0) .0 in
     let lp = first-length n p q sp d e in
     let lq = second-length n p q sp d e in
-    let room = second-room n p q sp d e (length (s .args .w .now)) (r .1 .1 .1 .0) in
-    let aw = at .ensures .1 in
+    let room = second-room n p q sp d e (length (s .args .w .now)) (r .room) in
+    let aw = at .ensures .1 .same in
     let au = at .kept .0 in
     let av = at .kept .1 .0 in
     let one = c .before .before .before .before .before .before .before .before .before .before .before .before .before .before .before .before .before .before .before .before .before .before .before .before .before .before .before .before .before .before .run in
-    let ow = one .ensures .1 in
+    let ow = one .ensures .1 .same in
     let ou = one .kept .0 in
     let ov = one .kept .1 .0 in
     let sv = c .before .before .before .before .before .before .before .before .before .before .before .before .before .before .before .before .before .before .before .before .save in
@@ -442,48 +401,8 @@ run-mul-result t c = let s = c .before .before .before .before .before .before .
     let ww = win .same in
     let tu = two .kept .0 in
     let tv = two .kept .1 .0 in
-    omega (arith, product-below n p q sp f g _ _ (one .ensures .0 .reduced) (two .ensures .0 .reduced), s .fits .n)
+    omega (arith, product-below n p q sp f g _ _ (one .ensures .0 .reduced) (two .ensures .0 .reduced), one .ensures .0 .reduced .most, factor-less n p q sp, s .fits .n)
 
--- src/lib.rt:160:1
-run-same-length : (t : ℕ) → run-lts.Need-same-length (
-  attempt-reads.Asked,
-  attempt-reads.Learnt,
-  run-below t,
-  run.Post,
-  save-reads.Asked,
-  save-reads.Learnt,
-  merge-reads.Asked,
-  merge-reads.Learnt,
-) (run-at t) run.Post
-run-same-length t c = search needs
-
--- src/lib.rt:160:1
-run-same-length-2 : (t : ℕ) → run-lts.Need-same-length-2 (
-  attempt-reads.Asked,
-  attempt-reads.Learnt,
-  run-below t,
-  run.Post,
-  save-reads.Asked,
-  save-reads.Learnt,
-  merge-reads.Asked,
-  merge-reads.Learnt,
-) (run-at t) run.Post
-run-same-length-2 t c = search needs
-
--- src/lib.rt:160:1
-run-same-length-3 : (t : ℕ) → run-lts.Need-same-length-3 (
-  attempt-reads.Asked,
-  attempt-reads.Learnt,
-  run-below t,
-  run.Post,
-  save-reads.Asked,
-  save-reads.Learnt,
-  merge-reads.Asked,
-  merge-reads.Learnt,
-) (run-at t) run.Post
-run-same-length-3 t c = search needs
-
--- src/lib.rt:160:1
 run-returns : (t : ℕ) → run-lts.Need-returns (
   attempt-reads.Asked,
   attempt-reads.Learnt,
@@ -498,9 +417,8 @@ run-returns t c = let s = c .before .before .before .before .before .before .bef
     let f = s .args .f .now in
     let g = s .args .g .now in
     let at = c .before .before .before .before .before .before .before .before .before .attempt in
-    (subst (Attempted (s .args .n) (L (s .args .n) (length f - 1) (length g - 1)) f g (at .last .0) (at .last .1 .0)) (c .before .d .given .1) (at .ensures .0), at .ensures .1)
+    (subst (Attempted (s .args .n) f g (s .args .u .now) (s .args .v .now) (at .last .0) (at .last .1 .0)) (c .before .d .given .1) (at .ensures .0), at .ensures .1)
 
--- src/lib.rt:160:1
 run-same-length-4 : (t : ℕ) → run-lts.Need-same-length-4 (
   attempt-reads.Asked,
   attempt-reads.Learnt,
@@ -513,7 +431,6 @@ run-same-length-4 : (t : ℕ) → run-lts.Need-same-length-4 (
 ) (run-at t) run.Post
 run-same-length-4 t c = c .before .before .before .before .merge .kept .0 ∙ c .before .before .before .before .before .before .before .before .before .before .before .before .before .before .run2 .kept .0 ∙ c .before .before .before .before .before .before .before .before .before .before .before .before .before .before .before .before .before .before .before .before .before .before .before .before .before .before .before .before .before .before .run .kept .0 ∙ c .before .before .before .before .before .before .before .before .before .before .before .before .before .before .before .before .before .before .before .before .before .before .before .before .before .before .before .before .before .before .before .before .before .before .before .before .before .before .before .before .before .before .before .attempt .kept .0
 
--- src/lib.rt:160:1
 run-same-length-5 : (t : ℕ) → run-lts.Need-same-length-5 (
   attempt-reads.Asked,
   attempt-reads.Learnt,
@@ -526,7 +443,6 @@ run-same-length-5 : (t : ℕ) → run-lts.Need-same-length-5 (
 ) (run-at t) run.Post
 run-same-length-5 t c = c .before .before .before .before .merge .kept .1 .0 ∙ c .before .before .before .before .before .before .before .before .before .before .before .before .before .before .run2 .kept .1 .0 ∙ c .before .before .before .before .before .before .before .before .before .before .before .before .before .before .before .before .before .before .before .before .before .before .before .before .before .before .before .before .before .before .run .kept .1 .0 ∙ c .before .before .before .before .before .before .before .before .before .before .before .before .before .before .before .before .before .before .before .before .before .before .before .before .before .before .before .before .before .before .before .before .before .before .before .before .before .before .before .before .before .before .before .attempt .kept .1 .0
 
--- src/lib.rt:160:1
 run-same-length-6 : (t : ℕ) → run-lts.Need-same-length-6 (
   attempt-reads.Asked,
   attempt-reads.Learnt,
@@ -547,15 +463,15 @@ run-same-length-6 t c = let s = c .before .before .before .before .before .befor
     let p = c .before .before .before .before .before .before .before .before .before .before .before .before .before .before .before .before .before .before .before .before .before .before .before .before .before .before .before .before .before .before .before .before .before .before .before .p .given .0 .0 in
     let q = c .before .before .before .before .before .before .before .before .before .before .before .before .before .before .before .before .before .before .before .before .before .before .before .before .before .before .before .before .before .before .before .before .before .before .before .p .given .0 .1 .0 in
     let at = c .before .before .before .before .before .before .before .before .before .before .before .before .before .before .before .before .before .before .before .before .before .before .before .before .before .before .before .before .before .before .before .before .before .before .before .before .before .before .before .before .before .before .before .attempt in
-    let sp = subst (Attempted n (L n d e) f g (at .last .0) (at .last .1 .0)) (c .before .before .before .before .before .before .before .before .before .before .before .before .before .before .before .before .before .before .before .before .before .before .before .before .before .before .before .before .before .before .before .before .before .before .before .p .given .1) (at .ensures .0) in
+    let sp = subst (Attempted n f g (s .args .u .now) (s .args .v .now) (at .last .0) (at .last .1 .0)) (c .before .before .before .before .before .before .before .before .before .before .before .before .before .before .before .before .before .before .before .before .before .before .before .before .before .before .before .before .before .before .before .before .before .before .before .p .given .1) (at .ensures .0) .0 in
     let lp = first-length n p q sp d e in
     let lq = second-length n p q sp d e in
-    let room = second-room n p q sp d e (length (s .args .w .now)) (r .1 .1 .1 .0) in
-    let aw = at .ensures .1 in
+    let room = second-room n p q sp d e (length (s .args .w .now)) (r .room) in
+    let aw = at .ensures .1 .same in
     let au = at .kept .0 in
     let av = at .kept .1 .0 in
     let one = c .before .before .before .before .before .before .before .before .before .before .before .before .before .before .before .before .before .before .before .before .before .before .before .before .before .before .before .before .before .before .run in
-    let ow = one .ensures .1 in
+    let ow = one .ensures .1 .same in
     let ou = one .kept .0 in
     let ov = one .kept .1 .0 in
     let sv = c .before .before .before .before .before .before .before .before .before .before .before .before .before .before .before .before .before .before .before .before .save in
@@ -571,7 +487,6 @@ run-same-length-6 t c = let s = c .before .before .before .before .before .befor
     let tv = two .kept .1 .0 in
     ww ∙ sw ∙ ow ∙ aw
 
--- src/lib.rt:160:1
 run-returns-2 : (t : ℕ) → run-lts.Need-returns-2 (
   attempt-reads.Asked,
   attempt-reads.Learnt,
@@ -592,15 +507,15 @@ run-returns-2 t c = let s = c .before .before .before .before .before .before .b
     let p = c .before .before .before .before .before .before .before .before .before .before .before .before .before .before .before .before .before .before .before .before .before .before .before .before .before .before .before .before .before .before .before .before .before .before .before .p .given .0 .0 in
     let q = c .before .before .before .before .before .before .before .before .before .before .before .before .before .before .before .before .before .before .before .before .before .before .before .before .before .before .before .before .before .before .before .before .before .before .before .p .given .0 .1 .0 in
     let at = c .before .before .before .before .before .before .before .before .before .before .before .before .before .before .before .before .before .before .before .before .before .before .before .before .before .before .before .before .before .before .before .before .before .before .before .before .before .before .before .before .before .before .before .attempt in
-    let sp = subst (Attempted n (L n d e) f g (at .last .0) (at .last .1 .0)) (c .before .before .before .before .before .before .before .before .before .before .before .before .before .before .before .before .before .before .before .before .before .before .before .before .before .before .before .before .before .before .before .before .before .before .before .p .given .1) (at .ensures .0) in
+    let sp = subst (Attempted n f g (s .args .u .now) (s .args .v .now) (at .last .0) (at .last .1 .0)) (c .before .before .before .before .before .before .before .before .before .before .before .before .before .before .before .before .before .before .before .before .before .before .before .before .before .before .before .before .before .before .before .before .before .before .before .p .given .1) (at .ensures .0) .0 in
     let lp = first-length n p q sp d e in
     let lq = second-length n p q sp d e in
-    let room = second-room n p q sp d e (length (s .args .w .now)) (r .1 .1 .1 .0) in
-    let aw = at .ensures .1 in
+    let room = second-room n p q sp d e (length (s .args .w .now)) (r .room) in
+    let aw = at .ensures .1 .same in
     let au = at .kept .0 in
     let av = at .kept .1 .0 in
     let one = c .before .before .before .before .before .before .before .before .before .before .before .before .before .before .before .before .before .before .before .before .before .before .before .before .before .before .before .before .before .before .run in
-    let ow = one .ensures .1 in
+    let ow = one .ensures .1 .same in
     let ou = one .kept .0 in
     let ov = one .kept .1 .0 in
     let sv = c .before .before .before .before .before .before .before .before .before .before .before .before .before .before .before .before .before .before .before .before .save in
@@ -614,11 +529,12 @@ run-returns-2 t c = let s = c .before .before .before .before .before .before .b
     let ww = win .same in
     let tu = two .kept .0 in
     let tv = two .kept .1 .0 in
-    let mg = c .before .before .before .before .merge in
-    (run-joined n p q d e (one .result) (two .result) f g (one .last .0) (one .last .1 .0) (two .last .0) (two .last .1 .0) (mg .last .0) (mg .last .1 .0) _ (sv .last .0) (putMid (2 * l) m (sv .last .0) (two .last .1 .1 .0)) sp
-      (one .ensures .0) (two .ensures .0) (sv .ensures .1) (λ k h. win .low k (omega arith))
-      (subst (λ (x : ℕ). Merged p q x (one .result) (two .result) (putMid (2 * l) m (sv .last .0) (two .last .1 .1 .0)) (two .last .0) (mg .last .0) (two .last .1 .0) (mg .last .1 .0)) el (mg .ensures)),
-    ww ∙ sw ∙ ow ∙ aw)
+    let mg = c .before .before .before .before .merge in (
+      run-joined n p q d e (one .result) (two .result) f g (one .last .0) (one .last .1 .0) (two .last .0) (two .last .1 .0) (mg .last .0) (mg .last .1 .0) _ (sv .last .0) (putMid (2 * l) m (sv .last .0) (two .last .1 .1 .0)) sp
+          (one .ensures .0) (two .ensures .0) (subst (λ (x : ℕ). Saved p x (one .last .0) (one .last .1 .0) (one .last .1 .1 .0) (sv .last .0)) el (sv .ensures .1)) (λ k h. win .low k (omega arith))
+          (subst (λ (x : ℕ). Merged p q x (one .result) (two .result) (putMid (2 * l) m (sv .last .0) (two .last .1 .1 .0)) (two .last .0) (mg .last .0) (two .last .1 .0) (mg .last .1 .0)) el (mg .ensures)),
+      record { same = ww ∙ sw ∙ ow ∙ aw },
+    )
 
 pub +run-spec : {M : Type 1} → statement M
 +run-spec = close μ-run λ t. run-lts.spec (
@@ -634,21 +550,21 @@ pub +run-spec : {M : Type 1} → statement M
     (run-at t)
     run.Post
     (run-attempt-requires t)
-    (run-enum-known-d t)
-    (run-enum-known-p t)
+    (λ c. search needs)
+    (λ c. search needs)
     (run-run-requires t)
     (run-save-requires t)
     (run-mul-run t)
     (run-mul-run-2 t)
     (run-sub-run t)
     (run-part-run-start t)
-    (run-part-run-end t)
+    (λ c. search needs)
     (run-run-requires-2 t)
     (run-merge-requires t)
     (run-mul-result t)
-    (run-same-length t)
-    (run-same-length-2 t)
-    (run-same-length-3 t)
+    (λ c. search needs)
+    (λ c. search needs)
+    (λ c. search needs)
     (run-returns t)
     (run-same-length-4 t)
     (run-same-length-5 t)

@@ -1,88 +1,42 @@
 use Rattle.reduced.proofs.Mixing.{saved-of}
-use Rattle.reduced.specs.Runs.{Saved}
-use Rattle.windows.specs.Window.{Loaded, piece}
-use Rattle.definitions.specs.Polynomials.{L}
-use Rattle.unit_factors.proofs.Regions.{part-piece}
+use Rattle.windows.specs.Window.{Loaded}
+use Rattle.reduced_units.proofs.Regions.{part-piece}
 use native.Mathlib.Omega.{arith}
-use mathlib.Core.Path.{_≡_, refl, sym, ap, subst, _∙_}
+use mathlib.Core.Path.{_≡_, sym, subst}
 use mathlib.Core.List.{List}
-use Prim.Native.Nat.{ℕ, _+_, _*_, _-_, _%_, _≤_, _<_}
+use Prim.Native.Nat.{ℕ, _*_, _-_, _≤_}
 use lib.ListN.{length}
 use borrow.Author.Needs.{needs}
 use Rattle.reduced.proofs.save.Statement.{statement}
 use Rattle.reduced.proofs.save.Tie as tie
-use Rattle.reduced.proofs.save.Reads as reads
-use Rattle.reduced.proofs.save.Lts as lts
-use Rattle.reduced.proofs.cofactor_length.Reads as cofactor-length-reads
-use Rattle.windows.proofs.load.Reads as load-reads
 
--- src/lib.rt:140:9
-cofactor-length-requires : tie.Need-cofactor-length-requires
-cofactor-length-requires c κs = search needs
-
--- src/lib.rt:141:25
-sub-load : tie.Need-sub-load
-sub-load c = search needs
-
--- src/lib.rt:141:25
-part-load-start : tie.Need-part-load-start
-part-load-start c = search needs
-
--- src/lib.rt:141:25
-part-load-end : tie.Need-part-load-end
-part-load-end c = search needs
-
--- src/lib.rt:141:5
-load-requires : tie.Need-load-requires
-load-requires c κs = search needs
-
--- src/lib.rt:142:25
-sub-load-2 : tie.Need-sub-load-2
-sub-load-2 c = search needs
-
--- src/lib.rt:142:25
-part-load-start-2 : tie.Need-part-load-start-2
-part-load-start-2 c = search needs
-
--- src/lib.rt:142:25
-part-load-end-2 : tie.Need-part-load-end-2
-part-load-end-2 c = search needs
-
--- src/lib.rt:142:5
-load-requires-2 : tie.Need-load-requires-2
-load-requires-2 c κs = search needs
-
--- src/lib.rt:136:1
-same-length : tie.Need-same-length
-same-length c = search needs
-
--- src/lib.rt:136:1
 returns : tie.Need-returns
 returns c = let s = c .before .before .before .before .before .before .before .before .before .before .before .before .before .before in
-    let p = s .pre .1 .1 .1 in
+    let p = s .pre in
     let l = c .before .before .before .before .before .before .before .before .before .before .cofactor-length .result in
     let e = c .before .before .before .before .before .before .before .before .before .before .cofactor-length .ensures in
     let z : l - 0 ≡ l = omega arith in
-    let up = subst (λ (y : ℕ). y ≤ length (s .args .u .now)) (sym e) (p .1 .0) in
-    let vp = subst (λ (y : ℕ). y ≤ length (s .args .v .now)) (sym e) (p .1 .1) in
-    let wp = subst (λ (y : ℕ). 2 * y ≤ length (s .args .w .now)) (sym e) (p .0) in
-    (e, subst (λ (y : ℕ). Saved (s .args .n) y (s .args .u .now) (s .args .v .now) (s .args .w .now) (c .before .before .load2 .last .0)) e
-    (saved-of (s .args .n) l (s .args .u .now) (s .args .v .now) (s .args .w .now) (c .before .before .before .before .before .before .before .load .last .0) (c .before .before .load2 .last .0) wp up vp
-      (subst (λ (f : List ℕ). Loaded (s .args .n) 0 f (s .args .w .now) (c .before .before .before .before .before .before .before .load .last .0)) (part-piece (s .args .u .now) 0 l _ z) (c .before .before .before .before .before .before .before .load .ensures))
-      (subst (λ (f : List ℕ). Loaded (s .args .n) l f (c .before .before .before .before .before .before .before .load .last .0) (c .before .before .load2 .last .0)) (part-piece (s .args .v .now) 0 l _ z) (c .before .before .load2 .ensures))))
+    let up = subst (λ (y : ℕ). y ≤ length (s .args .u .now)) (sym e) (p .first) in
+    let vp = subst (λ (y : ℕ). y ≤ length (s .args .v .now)) (sym e) (p .second) in
+    let wp = subst (λ (y : ℕ). 2 * y ≤ length (s .args .w .now)) (sym e) (p .room) in (
+      e,
+      saved-of (s .args .n) l (s .args .u .now) (s .args .v .now) (s .args .w .now) (c .before .before .before .before .before .before .before .load .last .0) (c .before .before .load2 .last .0) wp up vp
+          (subst (λ (f : List ℕ). Loaded (s .args .n) 0 f (s .args .w .now) (c .before .before .before .before .before .before .before .load .last .0)) (part-piece (s .args .u .now) 0 l _ z) (c .before .before .before .before .before .before .before .load .ensures))
+          (subst (λ (f : List ℕ). Loaded (s .args .n) l f (c .before .before .before .before .before .before .before .load .last .0) (c .before .before .load2 .last .0)) (part-piece (s .args .v .now) 0 l _ z) (c .before .before .load2 .ensures)),
+    )
 
 pub save-spec : {M : Type 1} → statement M
 save-spec =
     tie.close
     (tie.spec
-    cofactor-length-requires
-    sub-load
-    part-load-start
-    part-load-end
-    load-requires
-    sub-load-2
-    part-load-start-2
-    part-load-end-2
-    load-requires-2
-    same-length
+    (λ c κs. search needs)
+    (λ c. search needs)
+    (λ c. search needs)
+    (λ c. search needs)
+    (λ c κs. search needs)
+    (λ c. search needs)
+    (λ c. search needs)
+    (λ c. search needs)
+    (λ c κs. search needs)
+    (λ c. search needs)
     returns)

@@ -3,14 +3,10 @@ use borrow.Author.Tests.{lt-ltb, le-ltb, eq-eqb, ne-eqb, not-true, not-false}
 use mathlib.Core.Path.{_≡_, refl, sym, ap, _∙_}
 use Rattle.refusals.proofs.bad_length.Statement.{statement}
 use Rattle.refusals.proofs.bad_length.Tie as tie
-use Rattle.refusals.proofs.bad_length.Reads as reads
-use Rattle.refusals.proofs.bad_length.Lts as lts
 
--- src/lib.rt:33:9
 returns : tie.Need-returns
 returns c = simp (eq-eqb _ _ (c .if1 .taken)) refl
 
--- src/lib.rt:29:1
 returns-2 : tie.Need-returns-2
 returns-2 c = simp (ne-eqb _ _ (c .if1 .left)) refl
 

@@ -4,8 +4,6 @@ use borrow.Author.Needs.{needs}
 use Rattle.numbers.specs.Logarithm.{Halved, halved-start, halved-step, halved-end}
 use Rattle.residue.proofs.modulus_of.Statement.{statement}
 use Rattle.residue.proofs.modulus_of.Tie as tie
-use Rattle.residue.proofs.modulus_of.Reads as reads
-use Rattle.residue.proofs.modulus_of.Lts as lts
 
 abbrev Inv-loop : tie.InvT-loop
 Inv-loop n m₀ k₀ m k = Halved n m k
@@ -13,26 +11,18 @@ Inv-loop n m₀ k₀ m k = Halved n m k
 abbrev μ-loop : tie.MeasureT-loop
 μ-loop n m₀ k₀ m k = m
 
--- src/lib.rt:106:5
 loop-holds : tie.Need-loop-holds Inv-loop μ-loop
 loop-holds c = halved-start _
 
--- src/lib.rt:108:9
 add-k : tie.Need-add-k Inv-loop μ-loop
 add-k c = let h = c .before .loop .inv .few in record { fits = omega arith }
 
--- src/lib.rt:106:5
-loop-less : tie.Need-loop-less Inv-loop μ-loop
-loop-less c = search needs
-
--- src/lib.rt:106:5
 loop-again : tie.Need-loop-again Inv-loop μ-loop
 loop-again c = halved-step (c .loop-test .taken) (c .before .loop .inv)
 
--- src/lib.rt:101:1
 returns : tie.Need-returns Inv-loop μ-loop
 returns c = (refl, halved-end (c .loop-test .left) (c .before .loop .inv))
 
 pub modulus-of-spec : {M : Type 1} → statement M
 modulus-of-spec =
-    tie.close (tie.spec Inv-loop μ-loop loop-holds add-k loop-less loop-again returns)
+    tie.close (tie.spec Inv-loop μ-loop loop-holds add-k (λ c. search needs) loop-again returns)

@@ -1,29 +1,21 @@
 use mathlib.Core.Path.{sym, _∙_}
-use native.Mathlib.Nat.{le-of-lt}
-use Rattle.residue_services.proofs.Accepted.{accepted-two, refused-value, taken-value}
+use native.Mathlib.Omega.{arith}
+use Rattle.refusals.specs.Refusals.{narrow}
+use Rattle.residue_services.proofs.Promises.{residues-accepted, refused-residue, residue-answered}
 use borrow.Author.Needs.{needs}
 use Rattle.residue_services.proofs.difference.Statement.{statement}
 use Rattle.residue_services.proofs.difference.Tie as tie
-use Rattle.residue_services.proofs.difference.Reads as reads
-use Rattle.residue_services.proofs.difference.Lts as lts
-use Rattle.arithmetic.proofs.sub_mod.Reads as sub-mod-reads
-use Rattle.residue_services.proofs.refusal_residues.Reads as refusal-residues-reads
 
--- src/lib.rt:74:9
-refusal-residues-requires : tie.Need-refusal-residues-requires
-refusal-residues-requires c κs = search needs
-
--- src/lib.rt:76:9
 returns : tie.Need-returns
-returns c = refused-value _ (c .before .refusal-residues .ensures) (c .if1 .taken)
+returns c = refused-residue _ _ _ (c .before .refusal-residues .ensures) (c .if1 .taken)
 
--- src/lib.rt:78:21
 sub-mod-requires : tie.Need-sub-mod-requires
-sub-mod-requires c κs = let e = sym (c .before .refusal-residues .ensures) ∙ c .if1 .left in (le-of-lt (accepted-two _ _ _ e .0), le-of-lt (accepted-two _ _ _ e .1 .1))
+sub-mod-requires c κs = let a = c .before .before .args in
+    let l = residues-accepted narrow (a .n) (a .a) (a .b) (sym (c .before .refusal-residues .ensures) ∙ c .if1 .left) in
+    (omega (arith, l .0), omega (arith, l .1 .0, l .1 .1))
 
--- src/lib.rt:71:1
 returns-2 : tie.Need-returns-2
-returns-2 c = taken-value (c .before .before .refusal-residues .ensures) (c .before .if1 .left) (c .sub-mod .ensures)
+returns-2 c = residue-answered _ _ _ _ (c .before .before .refusal-residues .ensures) (c .before .if1 .left) (c .sub-mod .ensures)
 
 pub difference-spec : {M : Type 1} → statement M
-difference-spec = tie.close (tie.spec refusal-residues-requires returns sub-mod-requires returns-2)
+difference-spec = tie.close (tie.spec (λ c κs. search needs) returns sub-mod-requires returns-2)

@@ -1,25 +1,17 @@
-use mathlib.Core.Path.{refl}
-use borrow.Author.Tests.{lt-ltb, le-ltb}
+use borrow.Author.Needs.{needs}
+use Rattle.refusals.specs.Refusals.{narrow}
+use Rattle.residue_services.proofs.Promises.{first-status, second-status}
 use Rattle.residue_services.proofs.refusal_residues.Statement.{statement}
 use Rattle.residue_services.proofs.refusal_residues.Tie as tie
-use Rattle.residue_services.proofs.refusal_residues.Reads as reads
-use Rattle.residue_services.proofs.refusal_residues.Lts as lts
 
--- src/lib.rt:48:9
 returns : tie.Need-returns
-returns c = simp (lt-ltb _ _ (c .if1 .taken)) refl
+returns c = let a = c .before .before .args in
+    first-status narrow (a .n) (a .a) (a .b) _ (c .before .refusal-residue .ensures) (c .if1 .taken)
 
--- src/lib.rt:51:9
 returns-2 : tie.Need-returns-2
-returns-2 c = simp (le-ltb _ _ (c .before .if1 .left), le-ltb _ _ (c .if2 .taken)) refl
-
--- src/lib.rt:54:9
-returns-3 : tie.Need-returns-3
-returns-3 c = simp (le-ltb _ _ (c .before .before .if1 .left), lt-ltb _ _ (c .before .if2 .left), lt-ltb _ _ (c .if3 .taken)) refl
-
--- src/lib.rt:44:1
-returns-4 : tie.Need-returns-4
-returns-4 c = simp (le-ltb _ _ (c .before .before .if1 .left), lt-ltb _ _ (c .before .if2 .left), le-ltb _ _ (c .if3 .left)) refl
+returns-2 c = let a = c .before .before .before .args in
+    second-status narrow (a .n) (a .a) (a .b) _ _ (c .before .before .refusal-residue .ensures) (c .before .if1 .left)
+    (c .refusal-residue2 .ensures)
 
 pub refusal-residues-spec : {M : Type 1} → statement M
-refusal-residues-spec = tie.close (tie.spec returns returns-2 returns-3 returns-4)
+refusal-residues-spec = tie.close (tie.spec (λ c κs. search needs) returns (λ c κs. search needs) returns-2)

@@ -6,8 +6,6 @@ use Rattle.windows.specs.Window.{Moved, zeroed}
 use Rattle.windows.proofs.Leaf.{moved-none, moved-own}
 use Rattle.windows.proofs.clear.Statement.{statement}
 use Rattle.windows.proofs.clear.Tie as tie
-use Rattle.windows.proofs.clear.Reads as reads
-use Rattle.windows.proofs.clear.Lts as lts
 
 abbrev Inv-loop : tie.InvT-loop
 Inv-loop w₀ at len j₀ w j = (j ≤ len) × Moved (zeroed) at at j w₀ w
@@ -15,39 +13,12 @@ Inv-loop w₀ at len j₀ w j = (j ≤ len) × Moved (zeroed) at at j w₀ w
 abbrev μ-loop : tie.MeasureT-loop
 μ-loop w₀ at len j₀ w j = len - j
 
--- src/lib.rt:136:5
 loop-holds : tie.Need-loop-holds Inv-loop μ-loop
 loop-holds c = (omega arith, moved-none _ _ _ _)
 
--- src/lib.rt:137:11
-add-w : tie.Need-add-w Inv-loop μ-loop
-add-w c = search needs
-
--- src/lib.rt:137:9
-mul-w : tie.Need-mul-w Inv-loop μ-loop
-mul-w c = search needs
-
--- src/lib.rt:137:9
-slice-write-w : tie.Need-slice-write-w Inv-loop μ-loop
-slice-write-w c = search needs
-
--- src/lib.rt:138:9
-add-j : tie.Need-add-j Inv-loop μ-loop
-add-j c = search needs
-
--- src/lib.rt:136:5
-loop-less : tie.Need-loop-less Inv-loop μ-loop
-loop-less c = search needs
-
--- src/lib.rt:136:5
 loop-again : tie.Need-loop-again Inv-loop μ-loop
 loop-again c = (search needs, moved-own (c .before .loop .inv .1) (omega arith) refl)
 
--- src/lib.rt:131:1
-same-length : tie.Need-same-length Inv-loop μ-loop
-same-length c = search needs
-
--- src/lib.rt:131:1
 returns : tie.Need-returns Inv-loop μ-loop
 returns c = let e : c .before .loop .j ≡ c .before .before .args .len = omega arith in
     rw e at (c .before .loop .inv .1)
@@ -59,11 +30,11 @@ clear-spec =
     Inv-loop
     μ-loop
     loop-holds
-    add-w
-    mul-w
-    slice-write-w
-    add-j
-    loop-less
+    (λ c. search needs)
+    (λ c. search needs)
+    (λ c. search needs)
+    (λ c. search needs)
+    (λ c. search needs)
     loop-again
-    same-length
+    (λ c. search needs)
     returns)

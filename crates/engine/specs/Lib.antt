@@ -1,2 +1,0 @@
-pub mod Services
-pub mod Answers

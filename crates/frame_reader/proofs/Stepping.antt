@@ -1,0 +1,142 @@
+-- A step over a piece, line by line.
+--
+--   Sizes p b₀ o₀ i w b o m   the lengths that a turn relies on
+--   Going s p i h w b o₀ o    of the piece p the first i characters are worked, s being the line held before it
+use mathlib.Core.Path.{_≡_, refl, sym, ap, ap₂, _∙_, subst}
+use mathlib.Core.Bool.{false}
+use mathlib.Core.List.{List, [], _∷_, _++_, append-assoc, append-nil}
+use Prim.Native.Nat.{ℕ, _+_, _-_, _*_, _<_, _≤_}
+use native.Mathlib.Omega.{arith}
+use native.Mathlib.Nat.{pos-of-ne-zero}
+use native.Mathlib.Numerals.{add-one}
+use lib.ListN.{length, getD, take, drop, length-append, length-drop, take-append-drop, drop-of-length-le}
+use lib.Seq.{take-all, drop-cons, drop-drop}
+use Rattle.hexadecimal.specs.Hexadecimal.{digits-of}
+use Rattle.hexadecimal.specs.DigitLaws.{digits-length}
+use Rattle.frames.specs.Frames.{answer-line, AnswerOf, refused, answered, Wrote}
+use Rattle.frames.proofs.Putting.{put-front, put-rest}
+use Rattle.frame_reader.specs.Lines.{has-newline, finished, unfinished, last-line, Answers, none}
+use Rattle.frame_reader.specs.LineLaws.{none-in-either, finished-none, unfinished-all, finished-line, unfinished-line, answers-append}
+use Rattle.frame_reader.specs.LineLaws.{answers-one}
+use Rattle.frame_reader.specs.Pieces.{NewlineAt, Held, Stepped, Ended}
+use Rattle.frame_reader.specs.Whole.{held-none}
+
+-- ---- what was written
+
+line-length : (k r v : ℕ) → length (answer-line k r v) ≡ 13
+unfolding answer-line
+line-length k r v =
+    length-append (digits-of 2 k) (digits-of 2 r ++ (digits-of 8 v ++ 10 ∷ []))
+    ∙ ap₂ _+_ (digits-length 2 k) (length-append (digits-of 2 r) (digits-of 8 v ++ 10 ∷ [])
+    ∙ ap₂ _+_ (digits-length 2 r) (length-append (digits-of 8 v) (10 ∷ []) ∙ ap (λ (x : ℕ). x + 1) (digits-length 8 v)))
+
+answer-length : {s a : List ℕ} → AnswerOf s a → length a ≡ 13
+answer-length (refused h) = line-length 255 8 0
+answer-length {s} (answered r v h q) = line-length _ r v
+
+-- one more line
+wrote-more : {ls : List (List ℕ)} {s : List ℕ} {at : ℕ} {o o' w w' : List ℕ} → at + 13 ≤ length o → Answers ls (take at o)
+    → Wrote s at o o' w w' → Answers (ls ++ s ∷ []) (take (at + 13) o')
+wrote-more {ls} {s} {at} {o} {o'} l q r =
+    subst (λ (x : List ℕ). Answers (ls ++ s ∷ []) x) (sym (put-front o o' (r .line) at 13 l (answer-length (r .is)) (r .put)))
+    (answers-append q (answers-one (r .is)))
+
+wrote-rest : {s : List ℕ} {at : ℕ} {o o' w w' : List ℕ} → at + 13 ≤ length o → Wrote s at o o' w w' → drop (at + 13) o' ≡ drop (at + 13) o
+wrote-rest {s} {at} {o} {o'} l r = put-rest o o' (r .line) at 13 l (answer-length (r .is)) (r .put)
+
+-- ---- the piece
+
+-- what is left of the piece: up to the newline, and after it
+cut-at : (p : List ℕ) (i j : ℕ) → i ≤ j → j < length p → getD p j 0 ≡ 10 → drop i p ≡ take (j - i) (drop i p) ++ 10 ∷ drop (j + 1) p
+cut-at p i j l h e =
+    let e₁ : i + (j - i) ≡ j = omega arith in
+    sym (take-append-drop (j - i) (drop i p))
+    ∙ ap (λ (x : List ℕ). take (j - i) (drop i p) ++ x)
+    (drop-drop (j - i) i p
+    ∙ ap (λ (x : ℕ). drop x p) e₁
+    ∙ drop-cons p j 0 h
+    ∙ ap₂ (λ (x : ℕ) (y : List ℕ). x ∷ y) e (ap (λ (x : ℕ). drop x p) (sym (add-one j))))
+
+-- what stays in reach: the place in the piece, the room for answers, and the buffers' lengths
+pub record Sizes (p b₀ o₀ : List ℕ) (i w : ℕ) (b o m : List ℕ) : Type 0 where
+  pub place : i ≤ length p
+  pub room : w ≤ 13 * i
+  pub line : length b ≡ length b₀
+  pub out : length o ≡ length o₀
+  pub work : length m ≡ 8192
+
+pub record Going (s p : List ℕ) (i h w : ℕ) (b o₀ o : List ℕ) : Type 0 where
+  pub done : List (List ℕ)
+  pub rest : List ℕ
+  pub ended : finished (s ++ p) ≡ done ++ finished (rest ++ drop i p)
+  pub left : unfinished (s ++ p) ≡ unfinished (rest ++ drop i p)
+  pub held : Held rest h b
+  pub answers : Answers done (take w o)
+  pub after : drop w o ≡ drop w o₀
+
+pub going-none : (s p : List ℕ) {h : ℕ} {b : List ℕ} (o : List ℕ) → Held s h b → Going s p 0 h 0 b o o
+going-none s p o k = record { done = []; rest = s; ended = refl; left = refl; held = k; answers = none; after = refl }
+
+module _ {s p : List ℕ} {i h w : ℕ} {b o₀ o : List ℕ} (g : Going s p i h w b o₀ o) where
+  pub going-step : {j : ℕ} (b' : List ℕ) {o' v v' : List ℕ} → NewlineAt p i j → j < length p → w + 13 ≤ length o
+      → Wrote (g .rest ++ take (j - i) (drop i p)) w o o' v v' → Going s p (j + 1) 0 (w + 13) b' o₀ o'
+  going-step {j} b' {o'} n l m r =
+      let part = take (j - i) (drop i p) in
+      let line = g .rest ++ part in
+      let more = drop (j + 1) p in
+      let cut = cut-at p i j (n .least) l (n .at l) in
+      let c : g .rest ++ drop i p ≡ line ++ 10 ∷ more = ap (λ (x : List ℕ). g .rest ++ x) cut ∙ sym (append-assoc (g .rest) part (10 ∷ more)) in
+      let single : has-newline line ≡ false = none-in-either (g .rest) part (g .held .single) (n .before) in
+      record {
+        done = g .done ++ line ∷ [];
+        rest = [];
+        ended = g .ended
+            ∙ ap (λ (x : List ℕ). g .done ++ finished x) c
+            ∙ ap (λ (x : List (List ℕ)). g .done ++ x) (finished-line line more single)
+            ∙ sym (append-assoc (g .done) (line ∷ []) (finished more));
+        left = g .left ∙ ap unfinished c ∙ unfinished-line line more;
+        held = held-none b';
+        answers = wrote-more m (g .answers) r;
+        after = wrote-rest m r ∙ sym (drop-drop 13 w o) ∙ ap (drop 13) (g .after) ∙ drop-drop 13 w o₀;
+      }
+
+  -- what is left of the piece has no newline
+  going-last : {h' : ℕ} {b' : List ℕ} → Held (g .rest ++ drop i p) h' b' → Stepped s p h' b' w o₀ o
+  going-last {h'} {b'} k =
+      let more = g .rest ++ drop i p in
+      let all : finished (s ++ p) ≡ g .done =
+      g .ended ∙ ap (λ (x : List (List ℕ)). g .done ++ x) (finished-none more (k .single)) ∙ append-nil (g .done) in
+      record {
+        held = subst (λ (x : List ℕ). Held x h' b') (sym (g .left ∙ unfinished-all more (k .single))) k;
+        answers = subst (λ (x : List (List ℕ)). Answers x (take w o)) (sym all) (g .answers);
+        rest = g .after;
+      }
+
+  pub going-hold : {j h' : ℕ} {b' : List ℕ} → length p ≤ j → Held (g .rest ++ take (j - i) (drop i p)) h' b' → Stepped s p h' b' w o₀ o
+  going-hold {j} {h'} {b'} l k =
+      going-last (subst (λ (x : List ℕ). Held (g .rest ++ x) h' b') (take-all (j - i) (drop i p) (omega (arith, length-drop i p))) k)
+
+  pub going-end : length p ≤ i → Stepped s p h b w o₀ o
+  going-end l =
+      going-last (subst (λ (x : List ℕ). Held x h b)
+      (sym (ap (λ (x : List ℕ). g .rest ++ x) (drop-of-length-le p l) ∙ append-nil (g .rest))) (g .held))
+
+-- ---- the end of the input
+
+last-some : (s : List ℕ) → 0 < length s → last-line s ≡ s ∷ []
+last-some [] h = absurd (omega arith)
+last-some (c ∷ s) h = refl
+
+pub ended-none : {h : ℕ} {b : List ℕ} (o : List ℕ) → h ≡ 0 → (s : List ℕ) → Held s h b → Ended s 0 o o
+ended-none {h} {b} o e s k =
+    let z : [] ≡ s = ap (λ (x : ℕ). take x b) (sym e) ∙ k .kept (omega arith) in
+    record { answers = subst (λ (x : List ℕ). Answers (last-line x) []) z none; rest = refl }
+
+pub ended-line : {h : ℕ} {b o o' v v' : List ℕ} (s : List ℕ) → (h ≡ 0 → ⊥) → 13 ≤ length o → Held s h b → Wrote s 0 o o' v v'
+    → Ended s 13 o o'
+ended-line {h} {b} {o} {o'} s n l k r =
+    let z : 0 < length s = pos-of-ne-zero (λ e. n (omega (arith, k .count))) in
+    record {
+      answers = subst (λ (x : List (List ℕ)). Answers x (take 13 o')) (sym (last-some s z)) (wrote-more {ls = []} l none r);
+      rest = wrote-rest l r;
+    }

@@ -1,0 +1,30 @@
+use borrow.Author.Needs.{needs}
+use Rattle.frame_reader.proofs.Holding.{long-refused, held-answered}
+use Rattle.frame_reader.proofs.answer_held.Statement.{statement}
+use Rattle.frame_reader.proofs.answer_held.Tie as tie
+
+returns : tie.Need-returns
+returns c =
+    let start = c .before .before .before .before .before .before .before .before in
+    λ s k. long-refused s (start .args .at) k (search needs) (c .before .before .write-line .ensures)
+
+returns-2 : tie.Need-returns-2
+returns-2 c =
+    let at-answer = c .before .before .before .before in
+    let start = at-answer .before .before .before .before .before .before .before .before in
+    λ s k. held-answered s (start .args .held) (start .args .line .now) k (search needs) (at-answer .answer .ensures)
+
+pub answer-held-spec : {M : Type 1} → statement M
+answer-held-spec =
+    tie.close
+    (tie.spec
+    (λ c κs. search needs)
+    (λ c. search needs)
+    returns
+    (λ c. search needs)
+    (λ c. search needs)
+    (λ c. search needs)
+    (λ c κs. search needs)
+    (λ c. search needs)
+    (λ c. search needs)
+    returns-2)

@@ -1,0 +1,145 @@
+// An input that comes in pieces of any size: the lines that end in a piece are answered, and the unfinished line is held until
+// the next. Of a line that is too long for a frame nothing but that is held.
+ghost use mathlib.Core.Path.{_≡_};
+ghost use mathlib.Core.Bool.{false};
+ghost use mathlib.Core.List.{List, _++_};
+ghost use Prim.Native.Nat.{ℕ, min, _+_, _*_, _≤_};
+ghost use lib.ListN.{length, drop};
+ghost use Rattle.frames.specs.Frames.{Wrote};
+ghost use Rattle.frame_reader.specs.Lines.{has-newline};
+ghost use Rattle.frame_reader.specs.Pieces.{NewlineAt, Held, Steps, Ends, LineAfter};
+
+// What a step leaves: the count of the line held, and of the characters written.
+pub struct Progress {
+    pub held: usize,
+    pub written: usize,
+}
+
+// Working words for the services. Of zeros only the count is told: whoever has them need not look at 8192 of them.
+fn working_words() -> [u32; 8192]
+    ensures { λ r. ⌜ 8192 ≡ length r ⌝ }
+{
+    [0; 8192]
+}
+
+// The place of the first newline from place `from` on, and the length of the piece where there is none.
+fn find_newline(piece: &[u8], from: usize) -> usize
+    requires { ⌜ from ≤ length (now piece) ⌝ }
+    ensures { λ r. ⌜ NewlineAt (now (piece .entry)) from r ⌝ }
+{
+    let mut j = from;
+    while j < piece.len() {
+        if piece[j] == 10 {
+            return j;
+        }
+        j += 1;
+    }
+    j
+}
+
+// A line of 799 characters or more is held as one of 799: it is no frame, whatever comes.
+fn counted(held: usize) -> usize
+    ensures { λ r. ⌜ r ≡ min held 799 ⌝ }
+{
+    if held > 799 {
+        return 799;
+    }
+    held
+}
+
+// Holds part after what is held of an unfinished line. No more than the first 798 words of the buffer are used.
+fn hold(held: usize, line: &mut [u8], part: &[u8]) -> usize
+    requires { ⌜ 798 ≤ length (now line) ⌝ }
+    ensures { λ r. ⌜ ((s : List ℕ) → Held s held (now (line .entry)) → has-newline (now (part .entry)) ≡ false
+        → Held (s ++ now (part .entry)) r (now (line .exit))) ⌝ }
+    ensures { λ r. ⌜ LineAfter r (now (line .entry)) (now (line .exit)) ⌝ }
+{
+    if held > 798 {
+        return 799;
+    }
+    if part.len() > 798 - held {
+        return 799;
+    }
+    let mut i: usize = 0;
+    while i < part.len() {
+        line[held + i] = part[i];
+        i += 1;
+    }
+    held + part.len()
+}
+
+// Writes the answer to the line held.
+fn answer_held(held: usize, line: &[u8], work: &mut [u32], out: &mut [u8], at: usize)
+    requires { ⌜ (798 ≤ length (now line)) × ((8192 ≤ length (now work)) × (at + 13 ≤ length (now out))) ⌝ }
+    ensures { λ _. ⌜ ((s : List ℕ) → Held s held (now (line .entry))
+        → Wrote s at (now (out .entry)) (now (out .exit)) (now (work .entry)) (now (work .exit))) ⌝ }
+{
+    if held > 798 {
+        frames::write_line(out, at, 255, 8, 0);
+        return;
+    }
+    frames::answer(&line[0..held], work, out, at);
+}
+
+// Writes the answer to the line that part ends.
+fn close(held: usize, line: &mut [u8], part: &[u8], work: &mut [u32], out: &mut [u8], at: usize)
+    requires { ⌜ (798 ≤ length (now line)) × ((8192 ≤ length (now work)) × (at + 13 ≤ length (now out))) ⌝ }
+    ensures { λ _. ⌜ ((s : List ℕ) → Held s held (now (line .entry)) → has-newline (now (part .entry)) ≡ false
+        → Wrote (s ++ now (part .entry)) at (now (out .entry)) (now (out .exit)) (now (work .entry)) (now (work .exit))) ⌝ }
+    ensures { λ _. ⌜ LineAfter 0 (now (line .entry)) (now (line .exit)) ⌝ }
+{
+    if held == 0 {
+        frames::answer(part, work, out, at);
+        return;
+    }
+    let h = hold(held, line, part);
+    answer_held(h, line, work, out, at);
+}
+
+// Answers the lines that end in the piece and holds the unfinished one. held and line are what the step before left; before the
+// first, held is 0. Any held is taken: 799 and more stand for a line that is too long for a frame.
+pub fn step(held: usize, line: &mut [u8], piece: &[u8], out: &mut [u8]) -> Progress
+    requires { ⌜ (798 ≤ length (now line)) × (13 * length (now piece) ≤ length (now out)) ⌝ }
+    ensures { λ r. ⌜ r .written ≤ length (now (out .entry)) ⌝ }
+    ensures { λ r. ⌜ Steps (min held 799) (now (line .entry)) (now (piece .entry)) (r .held) (now (line .exit)) (r .written)
+        (now (out .entry)) (now (out .exit)) ⌝ }
+    ensures { λ r. ⌜ LineAfter (r .held) (now (line .entry)) (now (line .exit)) ⌝ }
+{
+    let mut work = working_words();
+    let mut h = counted(held);
+    let mut i: usize = 0;
+    let mut w: usize = 0;
+    while i < piece.len() {
+        let j = find_newline(piece, i);
+        if j == piece.len() {
+            let rest = hold(h, line, &piece[i..j]);
+            return Progress {
+                held: rest,
+                written: w,
+            };
+        }
+        close(h, line, &piece[i..j], &mut work[0..8192], out, w);
+        h = 0;
+        w += 13;
+        i = j + 1;
+    }
+    Progress {
+        held: h,
+        written: w,
+    }
+}
+
+// The end of the input: answers the line held, if there is one, and says how many characters it wrote.
+pub fn finish(held: usize, line: &[u8], out: &mut [u8]) -> usize
+    requires { ⌜ (798 ≤ length (now line)) × (13 ≤ length (now out)) ⌝ }
+    ensures { λ r. ⌜ r ≤ length (now (out .entry)) ⌝ }
+    ensures { λ r. ⌜ Ends (min held 799) (now (line .entry)) r (now (out .entry)) (now (out .exit)) ⌝ }
+{
+    let h = counted(held);
+    if h == 0 {
+        return 0;
+    }
+    let mut work = working_words();
+    answer_held(h, line, &mut work[0..8192], out, 0);
+    13
+}

@@ -1,0 +1,79 @@
+-- What the function that tries the law of products answers, over any width W: f, g and h are the polynomials sent.
+--
+--   law-sent, law-room, law-refusals    the refusals of the seven calls in their order
+--   ThreeResultants, ThreeReduced       what three calls of one service promise
+--   LawAnswer                           all that is promised: the seven numbers, and the law of products of them
+use mathlib.Core.Path.{_≡_}
+use mathlib.Core.Bool.{Bool, not}
+use mathlib.Core.List.{List, [], _∷_, _++_}
+use Prim.Native.Nat.{ℕ, zero, suc, _+_}
+use lib.Dec.{ltb}
+use lib.ListN.{length}
+use Rattle.definitions.specs.Polynomials.{deg, product, L}
+use Rattle.theory.specs.PointThree.{SevenAnswers, LawOfProducts}
+use Rattle.refusals.specs.Refusals.{Width, narrow, Tested, bad-modulus, bad-length, all-below, short, first-refusal, left, replaced}
+use Rattle.resultant_service.specs.ResultantService.{ResultantAnswer}
+use Rattle.reduced_service.specs.ReducedService.{HoldsReduced, ReducedAnswer}
+
+-- 1, 2 and 3: of the product, and of h
+abbrev pub law-sent : Width → ℕ → List ℕ → List ℕ → List ℕ → List Tested
+law-sent W n f g h =
+    (1, bad-modulus W n) ∷ (2, bad-length f) ∷ (2, bad-length g) ∷ (2, ltb 48 (deg f + deg g)) ∷ (2, bad-length h)
+    ∷ (3, not (all-below n f)) ∷ (3, not (all-below n g)) ∷ (3, not (all-below n h)) ∷ []
+
+-- 6 and 7: the buffers have lp, lu, lv and lw words; the product needs m, and a cofactor l
+abbrev pub law-room : Width → ℕ → ℕ → ℕ → ℕ → ℕ → ℕ → List Tested
+law-room W lp m lu lv l lw = (6, short lp m) ∷ (6, short lu l) ∷ (6, short lv l) ∷ (7, short lw (W .working)) ∷ []
+
+-- the cofactors of the product's D are the longest
+abbrev pub law-refusals : Width → ℕ → List ℕ → List ℕ → List ℕ → ℕ → ℕ → ℕ → ℕ → List Tested
+law-refusals W n f g h lp lu lv lw =
+    law-sent W n f g h ++ law-room W lp (suc (deg f + deg g)) lu lv (L n (deg f + deg g) (deg h)) lw
+
+-- three calls of the resultant, with p, f and g as first polynomial: what each promises, on the working words that the one before left
+pub record ThreeResultants (n : ℕ) (p f g h work work' : List ℕ) (r rf rg : ℕ) : Type 0 where
+  pub w₁ : List ℕ
+  pub w₂ : List ℕ
+  pub t₁ : ℕ
+  pub t₂ : ℕ
+  pub t₃ : ℕ
+  pub product : ResultantAnswer narrow n p h work w₁ r t₁
+  pub first : ResultantAnswer narrow n f h w₁ w₂ rf t₂
+  pub second : ResultantAnswer narrow n g h w₂ work' rg t₃
+
+-- and three of the reduced resultant, that of p last
+pub record ThreeReduced (n : ℕ) (p f g h u u' v v' work work' : List ℕ) (D Df Dg : ℕ) : Type 0 where
+  pub u₁ : List ℕ
+  pub u₂ : List ℕ
+  pub v₁ : List ℕ
+  pub v₂ : List ℕ
+  pub w₁ : List ℕ
+  pub w₂ : List ℕ
+  pub t₁ : ℕ
+  pub t₂ : ℕ
+  pub t₃ : ℕ
+  pub first : ReducedAnswer narrow n f h u u₁ v v₁ work w₁ Df t₁
+  pub second : ReducedAnswer narrow n g h u₁ u₂ v₁ v₂ w₁ w₂ Dg t₂
+  pub product : ReducedAnswer narrow n p h u₂ u' v₂ v' w₂ work' D t₃
+
+-- the seven answers, and what then holds between them
+pub record LawHolds (n : ℕ) (f g h u u' v v' : List ℕ) (r rf rg D Df Dg : ℕ) : Type 0 where
+  pub numbers : SevenAnswers n f g h (product n f g) r rf rg D Df Dg
+  pub law : LawOfProducts n r rf rg D Df Dg
+  pub cofactors : HoldsReduced n (product n f g) h u u' v v' D
+
+pub record NothingDone (u u' v v' : List ℕ) (r rf rg D Df Dg : ℕ) : Type 0 where
+  pub resultants : (r ≡ 0) × ((rf ≡ 0) × (rg ≡ 0))
+  pub reduced : (D ≡ 0) × ((Df ≡ 0) × (Dg ≡ 0))
+  pub first : u' ≡ u
+  pub second : v' ≡ v
+
+abbrev pub LawLeft : ℕ → ℕ → List ℕ → List ℕ → List ℕ → List ℕ → List ℕ → List ℕ → List ℕ → ℕ → ℕ → ℕ → ℕ → ℕ → ℕ → Type 0
+LawLeft zero n f g h u u' v v' r rf rg D Df Dg = LawHolds n f g h u u' v v' r rf rg D Df Dg
+LawLeft (suc s) n f g h u u' v v' r rf rg D Df Dg = NothingDone u u' v v' r rf rg D Df Dg
+
+pub record LawAnswer (W : Width) (n : ℕ) (f g h p p' u u' v v' work work' : List ℕ) (r rf rg D Df Dg status : ℕ) : Type 0 where
+  pub status-is : status ≡ first-refusal (law-refusals W n f g h (length p) (length u) (length v) (length work))
+  pub result : LawLeft status n f g h u u' v v' r rf rg D Df Dg
+  pub product-is : p' ≡ replaced status (product n f g) p
+  pub work-is : work' ≡ left status work

@@ -1,0 +1,171 @@
+// The law of products, tried on the engine itself: the product of f and g, the three resultants and the three reduced resultants with h
+// are asked of the services, and what is promised is the law of the numbers that they answered. Only their contracts can prove it.
+//
+//   law_of_products    the numbers of seven calls
+//   sent_refusal       the refusals 1, 2 and 3 of n, f, g and h
+//   room_refusal       the refusals 6 and 7 of the lent buffers
+//   resultants, divisors    three calls each
+ghost use mathlib.Core.Path.{_≡_};
+ghost use Rattle.refusals.specs.Refusals.{narrow, first-refusal};
+ghost use Rattle.law.specs.LawService.{law-sent, law-room, ThreeResultants, ThreeReduced, LawAnswer};
+
+// The resultants r, rf, rg of the product, of f and of g with h, their reduced resultants d, df, dg, and 0 or the number of the refusal.
+pub struct Numbers {
+    pub r: u32,
+    pub rf: u32,
+    pub rg: u32,
+    pub d: u32,
+    pub df: u32,
+    pub dg: u32,
+    pub status: u32,
+}
+
+fn sent_refusal(n: u32, f: &[u32], g: &[u32], h: &[u32]) -> u32
+    ensures { λ s. ⌜ s ≡ first-refusal (law-sent narrow n (now (f .entry)) (now (g .entry)) (now (h .entry))) ⌝ }
+{
+    if refusals::bad_modulus(n) {
+        return 1;
+    }
+    if refusals::bad_length(f) {
+        return 2;
+    }
+    if refusals::bad_length(g) {
+        return 2;
+    }
+    if 48 < (f.len() - 1) + (g.len() - 1) {
+        return 2;
+    }
+    if refusals::bad_length(h) {
+        return 2;
+    }
+    if !refusals::all_below(n, f) {
+        return 3;
+    }
+    if !refusals::all_below(n, g) {
+        return 3;
+    }
+    if !refusals::all_below(n, h) {
+        return 3;
+    }
+    0
+}
+
+// The buffers have lp, lu, lv and lw words; the product needs m, and a cofactor l.
+fn room_refusal(lp: usize, m: usize, lu: usize, lv: usize, l: usize, lw: usize) -> u32
+    ensures { λ s. ⌜ s ≡ first-refusal (law-room narrow lp m lu lv l lw) ⌝ }
+{
+    if lp < m {
+        return 6;
+    }
+    if lu < l {
+        return 6;
+    }
+    if lv < l {
+        return 6;
+    }
+    if lw < 8192 {
+        return 7;
+    }
+    0
+}
+
+// Three numbers: of the product, of f and of g, each with h.
+struct Three {
+    product: u32,
+    first: u32,
+    second: u32,
+}
+
+// The resultants of p, f and g with h, one after the other.
+fn resultants(n: u32, p: &[u32], f: &[u32], g: &[u32], h: &[u32], work: &mut [u32]) -> Three
+    ensures { λ r. ⌜ ThreeResultants n (now (p .entry)) (now (f .entry)) (now (g .entry)) (now (h .entry)) (now (work .entry))
+        (now (work .exit)) (r .product) (r .first) (r .second) ⌝ }
+{
+    let a = resultant_service::resultant(n, p, h, work);
+    let b = resultant_service::resultant(n, f, h, work);
+    let c = resultant_service::resultant(n, g, h, work);
+    Three {
+        product: a.value,
+        first: b.value,
+        second: c.value,
+    }
+}
+
+// The reduced resultants of f, g and p with h, one after the other.
+fn divisors(
+    n: u32,
+    p: &[u32],
+    f: &[u32],
+    g: &[u32],
+    h: &[u32],
+    u: &mut [u32],
+    v: &mut [u32],
+    work: &mut [u32],
+) -> Three
+    ensures { λ r. ⌜ ThreeReduced n (now (p .entry)) (now (f .entry)) (now (g .entry)) (now (h .entry)) (now (u .entry)) (now (u .exit))
+        (now (v .entry)) (now (v .exit)) (now (work .entry)) (now (work .exit)) (r .product) (r .first) (r .second) ⌝ }
+{
+    let a = reduced_service::reduced_resultant(n, f, h, u, v, work);
+    let b = reduced_service::reduced_resultant(n, g, h, u, v, work);
+    let c = reduced_service::reduced_resultant(n, p, h, u, v, work);
+    Three {
+        product: c.value,
+        first: a.value,
+        second: b.value,
+    }
+}
+
+// p takes the product of f and g, u and v the cofactors of its D with h.
+pub fn law_of_products(
+    n: u32,
+    f: &[u32],
+    g: &[u32],
+    h: &[u32],
+    p: &mut [u32],
+    u: &mut [u32],
+    v: &mut [u32],
+    work: &mut [u32],
+) -> Numbers
+    ensures { λ a. ⌜ LawAnswer narrow n (now (f .entry)) (now (g .entry)) (now (h .entry)) (now (p .entry)) (now (p .exit))
+        (now (u .entry)) (now (u .exit)) (now (v .entry)) (now (v .exit)) (now (work .entry)) (now (work .exit))
+        (a .r) (a .rf) (a .rg) (a .d) (a .df) (a .dg) (a .status) ⌝ }
+{
+    let sent = sent_refusal(n, f, g, h);
+    if sent != 0 {
+        return Numbers {
+            r: 0,
+            rf: 0,
+            rg: 0,
+            d: 0,
+            df: 0,
+            dg: 0,
+            status: sent,
+        };
+    }
+    let m = (f.len() - 1) + (g.len() - 1) + 1;
+    let l = reduced::cofactor_length(n, m, h.len());
+    let room = room_refusal(p.len(), m, u.len(), v.len(), l, work.len());
+    if room != 0 {
+        return Numbers {
+            r: 0,
+            rf: 0,
+            rg: 0,
+            d: 0,
+            df: 0,
+            dg: 0,
+            status: room,
+        };
+    }
+    polynomial_product::product(n, f, g, p);
+    let r = resultants(n, &p[0..m], f, g, h, work);
+    let d = divisors(n, &p[0..m], f, g, h, u, v, work);
+    Numbers {
+        r: r.product,
+        rf: r.first,
+        rg: r.second,
+        d: d.product,
+        df: d.first,
+        dg: d.second,
+        status: 0,
+    }
+}

@@ -1,4 +1,0 @@
-pub mod Answers
-pub mod Buffers
-pub mod Outcomes
-pub mod Quotients

@@ -1,4 +1,0 @@
-pub mod Counts
-pub mod Services
-pub mod Stages
-pub mod UnitTests

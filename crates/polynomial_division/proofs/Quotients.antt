@@ -1,0 +1,188 @@
+-- Quotient and remainder by words: what a turn of `quotient_words` keeps, and that both together are the division.
+use mathlib.Core.Path.{_≡_, refl, sym, ap, ap₂, subst, _∙_}
+use mathlib.Core.List.{List}
+use mathlib.Core.Logic.{⊎-elim}
+use Prim.Native.Nat.{ℕ, zero, suc, _+_, _-_, _*_, _%_, _≤_, _<_}
+use native.Mathlib.Nat.{mod-lt, add-zero, add-comm, mul-one, eq-or-lt-of-le, zero-mul}
+use native.Mathlib.Omega.{arith}
+use lib.ListN.{length, getD, take, drop, set, replicate, length-set, length-drop, List·getD-eq-default}
+use lib.Seq.{getD-set-same, getD-set-other, getD-drop, take-all}
+use Rattle.numbers.specs.Congruence.{Cong, c-refl, c-trans, c-eq, c-add, c-mul, c-mod, c-sub, ring}
+use Rattle.definitions.specs.Polynomials.{coef, deg, convolve, tabulate, quotient-length, Division}
+use Rattle.theory.specs.Words.{total-cong, coef-out, coef-tabulate, length-tabulate}
+use Rattle.convolution.specs.Sums.{total-none, convolve-shift, convolve-first}
+use Rattle.windows.proofs.Leaf.{lt-or-le}
+use Rattle.polynomial_division.specs.Stages.{QuotientWords, difference}
+use Rattle.polynomial_tests.specs.Buffers.{deg-is}
+
+-- the words from s on are made; those below are 0
+pub record Quotienting (n s : ℕ) (f g q₀ q : List ℕ) : Type 0 where
+  pub same : length q ≡ length q₀
+  pub low : (j : ℕ) → j < s → coef q j ≡ 0
+  pub below : (j : ℕ) → coef q j < n
+  pub high : (j : ℕ) → length f ≤ deg g + j → coef q j ≡ 0
+  pub at : (j : ℕ) → s ≤ j → Cong n (convolve (coef (drop j q)) (coef g) (deg g)) (coef f (deg g + j))
+
+zeros-at : (m k : ℕ) → coef (replicate m 0) k ≡ 0
+zeros-at zero k = refl
+zeros-at (suc m) zero = refl
+zeros-at (suc m) (suc k) = zeros-at m k
+
+-- beyond the words sent
+beyond : (f : List ℕ) (k : ℕ) → length f ≤ k → coef f k ≡ 0
+beyond f k l = List·getD-eq-default f 0 l
+
+pub quotienting-start : (n s m : ℕ) (f g q : List ℕ) → 1 ≤ n → q ≡ replicate m 0 → s ≡ length f - (length g - 1) → Quotienting n s f g q q
+quotienting-start n s m f g q pos e es =
+    let z : (k : ℕ) → coef q k ≡ 0 = λ k. ap (λ (w : List ℕ). coef w k) e ∙ zeros-at m k in
+    record {
+      same = refl;
+      low = λ j l. z j;
+      below = λ j. subst (λ (x : ℕ). x < n) (sym (z j)) pos;
+      high = λ j l. z j;
+      at = λ j l. c-eq
+          (total-none (suc (deg g)) _ (λ i b. ap (λ (x : ℕ). x * coef g (deg g - i)) (getD-drop j q i 0 ∙ z (j + i))
+          ∙ zero-mul (coef g (deg g - i)))
+          ∙ sym (beyond f (deg g + j) (omega (arith, deg-is g))));
+    }
+
+-- the loop begins within the quotient
+pub starts-within : (f g : List ℕ) (l s : ℕ) → 1 ≤ length f → l ≡ quotient-length (deg f) (deg g) → s ≡ length f - (length g - 1) → s ≤ l
+starts-within f g l s one el es =
+    let e : l ≡ suc (length f - 1 - (length g - 1)) = el ∙ ap₂ (λ (x y : ℕ). suc (x - y)) (deg-is f) (deg-is g) in
+    omega arith
+
+-- the slice that is read is all that stands from s on
+pub read-is : (q : List ℕ) (s m k : ℕ) → m ≡ length q → k ≡ m - s → take k (drop s q) ≡ drop s q
+read-is q s m k em ek = take-all k (drop s q) (omega (arith, length-drop s q))
+
+module _ (n i s x v : ℕ) (f g q₀ q : List ℕ) (pos : 0 < n) (inside : s < length q₀) (reach : deg g + s < length f)
+    (unit : (i * coef g (deg g)) % n ≡ 1 % n)
+    (qs : Quotienting n (s + 1) f g q₀ q) (ex : x ≡ convolve (coef (drop s q)) (coef g) (deg g) % n)
+    (ev : v ≡ (i * ((coef f (deg g + s) + (n - x)) % n)) % n) where
+  q' : List ℕ
+  q' = set q s v
+
+  -- the word that is made, and the others
+  first : coef (drop s q') 0 ≡ v
+  unfolding q'
+  first = getD-drop s q' 0 0 ∙ ap (λ (k : ℕ). getD q' k 0) (add-zero s) ∙ getD-set-same q s v 0 (omega (arith, qs .same))
+
+  rest : (k : ℕ) → coef (drop s q') (suc k) ≡ coef (drop s q) (suc k)
+  unfolding q'
+  rest k = getD-drop s q' (suc k) 0 ∙ getD-set-other q s (s + suc k) v 0 (omega arith) ∙ sym (getD-drop s q (suc k) 0)
+
+  none : coef (drop s q) 0 ≡ 0
+  none = getD-drop s q 0 0 ∙ ap (λ (k : ℕ). getD q k 0) (add-zero s) ∙ qs .low s (omega arith)
+
+  made : Cong n (convolve (coef (drop s q')) (coef g) (deg g)) (coef f (deg g + s))
+  made =
+      let X : ℕ = convolve (coef (drop s q)) (coef g) (deg g) in
+      let a : ℕ = coef f (deg g + s) in
+      let y : ℕ = (a + (n - X % n)) % n in
+      let top : ℕ = coef g (deg g) in
+      let w : v ≡ (i * y) % n = ev ∙ ap (λ (z : ℕ). (i * ((a + (n - z)) % n)) % n) ex in
+      c-trans (c-eq (convolve-first (coef (drop s q')) (coef (drop s q)) (coef g) (deg g) none rest
+      ∙ ap (λ (z : ℕ). z * top + X) (first ∙ w)))
+      (c-trans (c-add (c-trans (c-mul (c-mod (i * y)) (c-refl {a = top}))
+      (c-trans (c-eq {b = y * (i * top)} (simp ring)) (c-trans (c-mul (c-refl {a = y}) (record { same = unit })) (c-eq (mul-one y)))))
+      (c-refl {a = X}))
+      (c-sub X pos))
+
+  kept : (j : ℕ) → s < j → convolve (coef (drop j q')) (coef g) (deg g) ≡ convolve (coef (drop j q)) (coef g) (deg g)
+  unfolding q'
+  kept j l = total-cong (suc (deg g)) _ _ (λ k b. ap (λ (z : ℕ). z * coef g (deg g - k))
+      (getD-drop j q' k 0 ∙ getD-set-other q s (j + k) v 0 (omega arith) ∙ sym (getD-drop j q k 0)))
+
+  pub quotienting-step : Quotienting n s f g q₀ (set q s v)
+  unfolding q'
+  quotienting-step = record {
+    same = length-set q s v ∙ qs .same;
+    low = λ j l. getD-set-other q s j v 0 (omega arith) ∙ qs .low j (omega arith);
+    below = λ j. ⊎-elim
+        (λ l. subst (λ (z : ℕ). z < n) (sym (getD-set-other q s j v 0 (omega arith))) (qs .below j))
+        (λ l. ⊎-elim
+        (λ e. subst (λ (z : ℕ). z < n) (sym (ap (λ (k : ℕ). getD q' k 0) (sym e) ∙ getD-set-same q s v 0 (omega (arith, qs .same)) ∙ ev))
+        (mod-lt _ pos))
+        (λ b. subst (λ (z : ℕ). z < n) (sym (getD-set-other q s j v 0 (omega arith))) (qs .below j))
+        (eq-or-lt-of-le l))
+        (lt-or-le j s);
+    high = λ j l. getD-set-other q s j v 0 (omega arith) ∙ qs .high j l;
+    at = λ j l. ⊎-elim
+        (λ e. subst (λ (k : ℕ). Cong n (convolve (coef (drop k q')) (coef g) (deg g)) (coef f (deg g + k))) e made)
+        (λ b. c-trans (c-eq (kept j b)) (qs .at j (omega arith)))
+        (eq-or-lt-of-le l);
+  }
+
+-- the turn, as the code has it
+pub quotienting-turn : (n i s k x y v : ℕ) (f g q₀ q : List ℕ) → 0 < n → s < length q₀ → s < length f - (length g - 1)
+    → (i * coef g (deg g)) % n ≡ 1 % n
+    → Quotienting n (s + 1) f g q₀ q → k ≡ length q - s → x ≡ convolve (coef (take k (drop s q))) (coef g) (length g - 1) % n
+    → y ≡ (coef f (length g - 1 + s) + (n - x)) % n → v ≡ (i * y) % n → Quotienting n s f g q₀ (set q s v)
+quotienting-turn n i s k x y v f g q₀ q pos inside reach unit qs ek ex ey ev =
+    quotienting-step n i s x v f g q₀ q pos inside (omega (arith, deg-is g)) unit qs
+    (ex ∙ ap₂ (λ (w : List ℕ) (e : ℕ). convolve (coef w) (coef g) e % n) (read-is q s (length q) k refl ek) (sym (deg-is g)))
+    (ev ∙ ap (λ (z : ℕ). (i * z) % n) (ey ∙ ap (λ (e : ℕ). (coef f (e + s) + (n - x)) % n) (sym (deg-is g))))
+
+pub quotienting-end : (n s : ℕ) (f g q₀ q : List ℕ) → s ≡ 0 → 1 ≤ length f → length q₀ ≡ quotient-length (deg f) (deg g)
+    → Quotienting n s f g q₀ q → QuotientWords n f g q
+quotienting-end n s f g q₀ q e one l qs = record {
+  length-q = qs .same ∙ l;
+  residues = record { at = λ k b. qs .below k };
+  short = λ b. qs .high 0 (omega (arith, deg-is f));
+  equation = λ j. qs .at j (omega arith) .same;
+}
+
+-- ---- the division
+
+module _ (n : ℕ) (f g q r : List ℕ) (pos : 0 < n) (one : 1 ≤ length g) (qw : QuotientWords n f g q)
+    (is : r ≡ tabulate (deg g) (λ (k : ℕ). difference n (coef f k) (convolve (coef q) (coef g) k))) where
+  above : (k : ℕ) → deg g < k → coef g k ≡ 0
+  above k l = coef-out g k l
+
+  equation : (k : ℕ) → (convolve (coef q) (coef g) k + coef r k) % n ≡ coef f k % n
+  equation k = ⊎-elim low (λ l. high (k - deg g) (omega arith)) (lt-or-le k (deg g))
+    where
+      low : k < deg g → (convolve (coef q) (coef g) k + coef r k) % n ≡ coef f k % n
+      low l =
+          ap (λ (x : ℕ). (convolve (coef q) (coef g) k + x) % n)
+          (ap (λ (w : List ℕ). coef w k) is ∙ coef-tabulate (deg g)
+          (λ (k : ℕ). difference n (coef f k) (convolve (coef q) (coef g) k)) k l)
+          ∙ ap (λ (x : ℕ). x % n) (add-comm (convolve (coef q) (coef g) k) (difference n (coef f k) (convolve (coef q) (coef g) k)))
+          ∙ c-sub {a = coef f k} (convolve (coef q) (coef g) k) pos .same
+
+      high : (j : ℕ) → k ≡ j + deg g → (convolve (coef q) (coef g) k + coef r k) % n ≡ coef f k % n
+      high j e =
+          ap₂ (λ (x y : ℕ). (x + y) % n)
+          (ap (convolve (coef q) (coef g)) e ∙ convolve-shift j (deg g) (coef q) (coef g) above
+          ∙ total-cong (suc (deg g)) _ _ (λ i b. ap (λ (x : ℕ). x * coef g (deg g - i)) (sym (getD-drop j q i 0))))
+          (List·getD-eq-default r 0 (omega (
+            arith,
+            ap length is,
+            length-tabulate (deg g)
+                (λ (k : ℕ). difference n (coef f k) (convolve (coef q) (coef g) k)),
+          )))
+          ∙ ap (λ (x : ℕ). x % n) (add-zero _)
+          ∙ qw .equation j
+          ∙ ap (λ (x : ℕ). coef f x % n) (add-comm (deg g) j ∙ sym e)
+
+  pub divided : Division n f g q r
+  divided = record {
+    length-q = qw .length-q;
+    length-r = ap length is ∙ length-tabulate (deg g) (λ (k : ℕ). difference n (coef f k) (convolve (coef q) (coef g) k));
+    residues-q = qw .residues;
+    residues-r = record {
+      at = λ k l. subst (λ (x : ℕ). x < n)
+          (sym (ap (λ (w : List ℕ). coef w k) is ∙ coef-tabulate (deg g)
+          (λ (k : ℕ). difference n (coef f k) (convolve (coef q) (coef g) k)) k
+          (subst (λ (x : ℕ). k < x) (ap length is ∙ length-tabulate (deg g)
+          (λ (k : ℕ). difference n (coef f k) (convolve (coef q) (coef g) k))) l))) (mod-lt _ pos);
+    };
+    short = qw .short;
+    equation = record { at = equation };
+  }
+
+-- a word of the remainder, as the code makes it
+pub remainder-made : (n x a r : ℕ) (f g q : List ℕ) (k : ℕ) → x ≡ convolve (coef q) (coef g) k % n → a ≡ coef f k → r ≡ (a + (n - x)) % n
+    → r ≡ difference n (coef f k) (convolve (coef q) (coef g) k)
+remainder-made n x a r f g q k ex ea er = er ∙ ap₂ (λ (u v : ℕ). (u + (n - v)) % n) ea ex

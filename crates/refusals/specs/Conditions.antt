@@ -1,0 +1,204 @@
+-- "A refusal comes under its listed condition and no other": what the tests mean, in the words of the definitions, over any width.
+--
+--   ServedModulus, ServedLength     what passes the refusals 1 and 2
+--   Fails b P                       the test b says that P does not hold
+--   modulus-fails, length-fails, words-fail, short-fails     the tests of the refusals 1, 2, 3, and 6 and 7
+--   Listed t c                      t tests the conditions c, one after the other
+--   Passed c, FirstFailing t c s    all of c hold; s is the number of the first that does not
+--   status-zero, status-is          the status is 0 exactly where all hold, and k exactly where the first that does not has number k
+--   Accepted, accepted-one, accepted-two     what is known once none of the refusals 1, 2 and 3 applies
+--   narrow-bound                    at 32 bits a word is never at the bound
+use mathlib.Core.Path.{_≡_, refl, sym, ap, subst, _∙_}
+use mathlib.Core.Bool.{Bool, true, false, not, cond}
+use mathlib.Core.Logic.{_⊎_, inl, inr}
+use mathlib.Core.List.{List, [], _∷_}
+use Prim.Native.Nat.{ℕ, zero, suc, _^_, _≤_, _<_}
+use native.Mathlib.Omega.{arith}
+use lib.Dec.{T, ltb, eqb, ltb→lt, nltb→le}
+use lib.ListN.{length}
+use borrow.Author.Tests.{lt-ltb, eqb-true}
+use Rattle.definitions.specs.Polynomials.{coef, Residues}
+use Rattle.refusals.specs.Refusals.{Width, narrow, bad-modulus, bad-length, all-below, short}
+use Rattle.refusals.specs.Refusals.{Tested, first-of, first-refusal, refusals-one, refusals-two}
+
+-- "Modulus n: 2 to" the width's bound
+pub record ServedModulus (W : Width) (n : ℕ) : Type 0 where
+  pub least : 2 ≤ n
+  pub most : n < W .bound
+
+-- "A polynomial of sent degree d is d + 1 words … with d from 0 to 48."
+pub record ServedLength (f : List ℕ) : Type 0 where
+  pub some : 1 ≤ length f
+  pub few : length f ≤ 49
+
+pub record Fails (b : Bool) (P : Type 0) : Type 0 where
+  pub passed : b ≡ false → P
+  pub failed : b ≡ true → P → ⊥
+
+yes-no : {b : Bool} {A : Type 0} → b ≡ true → b ≡ false → A
+yes-no {b} p q = absurd (subst T (sym p ∙ q) tt)
+
+below : (a b : ℕ) → ltb a b ≡ true → a < b
+below a b e = ltb→lt a b (subst T (sym e) tt)
+
+not-below : (a b : ℕ) → ltb a b ≡ false → b ≤ a
+not-below a b e = nltb→le a b (subst (λ (t : Bool). T (not t)) (sym e) tt)
+
+pub short-fails : (l m : ℕ) → Fails (short l m) (m ≤ l)
+short-fails l m = record { passed = not-below l m; failed = λ e h. let z = below l m e in omega arith }
+
+pub modulus-fails : (W : Width) (n : ℕ) → Fails (bad-modulus W n) (ServedModulus W n)
+modulus-fails W n = go (ltb n 2) (ltb n (W .bound)) refl refl
+  where
+    go : (s t : Bool) → ltb n 2 ≡ s → ltb n (W .bound) ≡ t → Fails (cond s true (not t)) (ServedModulus W n)
+    go true t e h = record { passed = λ z. yes-no refl z; failed = λ z m. let a = below n 2 e in let b = m .least in omega arith }
+    go false true e h = record {
+      passed = λ z. record { least = not-below n 2 e; most = below n (W .bound) h };
+      failed = λ z. yes-no z refl;
+    }
+    go false false e h = record {
+      passed = λ z. yes-no refl z;
+      failed = λ z m. let a = not-below n (W .bound) h in let b = m .most in omega arith;
+    }
+
+pub length-fails : (f : List ℕ) → Fails (bad-length f) (ServedLength f)
+length-fails f = go (length f) (eqb (length f) 0) refl refl
+  where
+    go : (l : ℕ) (t : Bool) → length f ≡ l → eqb l 0 ≡ t → Fails (cond t true (ltb 49 l)) (ServedLength f)
+    go l true e h = record { passed = λ z. yes-no refl z; failed = λ z m. let a = m .some in let b = eqb-true l 0 h in omega arith }
+    go zero false e h = yes-no refl h
+    go (suc l) false e h = record {
+      passed = λ z. record { some = omega arith; few = let a = not-below 49 (suc l) z in omega arith };
+      failed = λ z m. let a = below 49 (suc l) z in let b = m .few in omega arith;
+    }
+
+below-at : (n : ℕ) (f : List ℕ) → all-below n f ≡ true → (k : ℕ) → k < length f → coef f k < n
+unfolding all-below
+below-at n [] h k l = absurd (omega arith)
+below-at n (x ∷ f) h k l = go (ltb x n) refl h (below-at n f) k l
+  where
+    go : (t : Bool) → ltb x n ≡ t → cond t (all-below n f) false ≡ true → (all-below n f ≡ true → (k : ℕ) → k < length f → coef f k < n)
+        → (k : ℕ) → k < length (x ∷ f) → coef (x ∷ f) k < n
+    go true e r ih zero l = below x n e
+    go true e r ih (suc k) l = ih r k (omega arith)
+    go false e r ih k l = yes-no r refl
+
+all-at : (n : ℕ) (f : List ℕ) → ((k : ℕ) → k < length f → coef f k < n) → all-below n f ≡ true
+unfolding all-below
+all-at n [] h = refl
+all-at n (x ∷ f) h =
+    ap (λ (t : Bool). cond t (all-below n f) false) (lt-ltb x n (h 0 (omega arith))) ∙ all-at n f (λ k l. h (suc k) (omega arith))
+
+pub residues-of : (n : ℕ) (f : List ℕ) → all-below n f ≡ true → Residues n f
+residues-of n f h = record { at = below-at n f h }
+
+pub words-fail : (n : ℕ) (f : List ℕ) → Fails (not (all-below n f)) (Residues n f)
+words-fail n f = go (all-below n f) refl
+  where
+    go : (t : Bool) → all-below n f ≡ t → Fails (not t) (Residues n f)
+    go true e = record { passed = λ _. residues-of n f e; failed = λ z. yes-no z refl }
+    go false e = record { passed = λ z. yes-no refl z; failed = λ _ r. yes-no (all-at n f (r .at)) e }
+
+-- ---- the order
+
+-- each test is that of its condition
+abbrev pub Listed : List Tested → List (Type 0) → Type 0
+Listed [] [] = Unit
+Listed [] (P ∷ c) = ⊥
+Listed (t ∷ r) [] = ⊥
+Listed (t ∷ r) (P ∷ c) = ((1 ≤ t .0) × Fails (t .1) P) × Listed r c
+
+abbrev pub Passed : List (Type 0) → Type 0
+Passed [] = Unit
+Passed (P ∷ c) = P × Passed c
+
+-- the condition with number s does not hold, and those before it do
+abbrev pub FirstFailing : List Tested → List (Type 0) → ℕ → Type 0
+FirstFailing [] c s = ⊥
+FirstFailing (t ∷ r) [] s = ⊥
+FirstFailing (t ∷ r) (P ∷ c) s = ((P → ⊥) × (s ≡ t .0)) ⊎ (P × FirstFailing r c s)
+
+-- "A refusal comes under its listed condition and no other": 0 exactly where all conditions hold
+pub status-zero : (t : List Tested) (c : List (Type 0)) → Listed t c → (first-refusal t ≡ 0 → Passed c) × (Passed c → first-refusal t ≡ 0)
+status-zero [] [] h = (λ _. tt, λ _. refl)
+status-zero [] (P ∷ c) h = absurd h
+status-zero (t ∷ r) [] h = absurd h
+status-zero (t ∷ r) (P ∷ c) h = go (t .0) (t .1) (h .0 .0) (h .0 .1) (status-zero r c (h .1))
+  where
+    go : (k : ℕ) (b : Bool) → 1 ≤ k → Fails b P → (first-refusal r ≡ 0 → Passed c) × (Passed c → first-refusal r ≡ 0)
+        → (first-of (cond b k 0) (first-refusal r) ≡ 0 → P × Passed c) × (P × Passed c → first-of (cond b k 0) (first-refusal r) ≡ 0)
+    go zero b l x ih = absurd (omega arith)
+    go (suc k) true l x ih = (λ z. absurd (omega arith), λ p. absurd (x .failed refl (p .0)))
+    go (suc k) false l x ih = (λ z. (x .passed refl, ih .0 z), λ p. ih .1 (p .1))
+
+-- and k exactly where condition k does not hold and no earlier one fails
+pub status-is : (t : List Tested) (c : List (Type 0)) → Listed t c → (k : ℕ) → 1 ≤ k
+    → (first-refusal t ≡ k → FirstFailing t c k) × (FirstFailing t c k → first-refusal t ≡ k)
+status-is [] [] h k l = (λ z. absurd (omega arith), λ x. absurd x)
+status-is [] (P ∷ c) h k l = absurd h
+status-is (t ∷ r) [] h k l = absurd h
+status-is (t ∷ r) (P ∷ c) h k l = go (t .0) (t .1) (h .0 .0) (h .0 .1) (status-is r c (h .1) k l)
+  where
+    go : (j : ℕ) (b : Bool) → 1 ≤ j → Fails b P → (first-refusal r ≡ k → FirstFailing r c k) × (FirstFailing r c k → first-refusal r ≡ k)
+        → (first-of (cond b j 0) (first-refusal r) ≡ k → ((P → ⊥) × (k ≡ j)) ⊎ (P × FirstFailing r c k))
+        × (((P → ⊥) × (k ≡ j)) ⊎ (P × FirstFailing r c k) → first-of (cond b j 0) (first-refusal r) ≡ k)
+    go zero b m x ih = absurd (omega arith)
+    go (suc j) true m x ih = (λ z. inl (x .failed refl, sym z), elim [ inl p ↦ sym (p .1) | inr p ↦ absurd (x .failed refl (p .0)) ])
+    go (suc j) false m x ih = (λ z. inr (x .passed refl, ih .0 z), elim [ inl p ↦ absurd (p .0 (x .passed refl)) | inr p ↦ ih .1 (p .1) ])
+
+-- ---- one polynomial and two
+
+-- what is sent: n, f and g are served where all of these hold
+abbrev pub conditions-one : Width → ℕ → List ℕ → List (Type 0)
+conditions-one W n f = ServedModulus W n ∷ ServedLength f ∷ Residues n f ∷ []
+
+abbrev pub conditions-two : Width → ℕ → List ℕ → List ℕ → List (Type 0)
+conditions-two W n f g = ServedModulus W n ∷ ServedLength f ∷ ServedLength g ∷ Residues n f ∷ Residues n g ∷ []
+
+pub listed-one : (W : Width) (n : ℕ) (f : List ℕ) → Listed (refusals-one W n f) (conditions-one W n f)
+listed-one W n f = ((omega arith, modulus-fails W n), ((omega arith, length-fails f), ((omega arith, words-fail n f), tt)))
+
+pub listed-two : (W : Width) (n : ℕ) (f g : List ℕ) → Listed (refusals-two W n f g) (conditions-two W n f g)
+listed-two W n f g = (
+  (omega arith, modulus-fails W n),
+  ((omega arith, length-fails f), ((omega arith, length-fails g), ((omega arith, words-fail n f), ((omega arith, words-fail n g), tt)))),
+)
+
+pub record Accepted (W : Width) (n : ℕ) (f : List ℕ) : Type 0 where
+  pub modulus : 2 ≤ n
+  pub bounded : n < W .bound
+  pub some : 1 ≤ length f
+  pub few : length f ≤ 49
+  pub residues : Residues n f
+
+pub accepted-one : (W : Width) (n : ℕ) (f : List ℕ) → first-refusal (refusals-one W n f) ≡ 0 → Accepted W n f
+accepted-one W n f h =
+    let p = status-zero (refusals-one W n f) (conditions-one W n f) (listed-one W n f) .0 h in
+    record { modulus = p .0 .least; bounded = p .0 .most; some = p .1 .0 .some; few = p .1 .0 .few; residues = p .1 .1 .0 }
+
+pub accepted-two : (W : Width) (n : ℕ) (f g : List ℕ) → first-refusal (refusals-two W n f g) ≡ 0 → Accepted W n f × Accepted W n g
+accepted-two W n f g h =
+    let p = status-zero (refusals-two W n f g) (conditions-two W n f g) (listed-two W n f g) .0 h in (
+      record {
+        modulus = p .0 .least;
+        bounded = p .0 .most;
+        some = p .1 .0 .some;
+        few = p .1 .0 .few;
+        residues = p .1 .1 .1 .0;
+      },
+      record {
+        modulus = p .0 .least;
+        bounded = p .0 .most;
+        some = p .1 .1 .0 .some;
+        few = p .1 .1 .0 .few;
+        residues = p .1 .1 .1 .1 .0;
+      },
+    )
+
+-- a word of 32 bits is below the bound: refusal 1 is "n is 0 or 1" there
+pub narrow-bound : (n : ℕ) → n < 2 ^ 32 → bad-modulus narrow n ≡ ltb n 2
+narrow-bound n l = go (ltb n 2)
+  where
+    go : (t : Bool) → cond t true (not (ltb n 4294967296)) ≡ t
+    go true = refl
+    go false = ap not (lt-ltb n 4294967296 (omega arith))

@@ -1,0 +1,84 @@
+-- What is known once no refusal applies, and what a service promises in its two cases. The status r is that of the refusals t.
+--
+--   residue-accepted, residues-accepted    what is known where none applies
+--   first-status, second-status            the status of two residues from that of each
+--   refused-residue, residue-answered      the services with one value
+--   refused-gcd, gcd-answered              the gcd with cofactors
+--   refused-kind, kind-answered            the kind
+use mathlib.Core.Path.{_≡_, refl, sym, _∙_}
+use mathlib.Core.Bool.{Bool, true, false, not}
+use mathlib.Core.List.{List, [], _∷_}
+use Prim.Native.Nat.{ℕ, zero, suc, _≤_, _<_}
+use native.Mathlib.Omega.{arith}
+use lib.Dec.{ltb}
+use Rattle.definitions.specs.Residues.{GcdWithCofactors}
+use Rattle.refusals.specs.Refusals.{Width, Tested, bad-modulus, first-refusal}
+use Rattle.refusals.specs.Conditions.{ServedModulus, status-zero}
+use Rattle.refusals.proofs.Statuses.{refused-early, refused-value, answered-value}
+use Rattle.residue.specs.declared.Kind.{Kind}
+use Rattle.residue.specs.declared.Kind.the-variants.{Unit as Unit', Nilpotent, Splits}
+use Rattle.residue.specs.Kinds.{KindOf}
+use Rattle.residue_services.specs.declared.KindAnswer.the-variants.{Known, Refused}
+use Rattle.residue_services.specs.Services.{
+  refusals-residue,
+  refusals-residues,
+  ResidueAnswer,
+  GcdPromised,
+  kind-values,
+  TrueValues,
+  KindPromised,
+  residue-listed,
+  residues-listed,
+}
+
+pub residue-accepted : (W : Width) (n a : ℕ) → first-refusal (refusals-residue W n a) ≡ 0 → (2 ≤ n) × (a < n)
+residue-accepted W n a h =
+    let p = status-zero (refusals-residue W n a) (ServedModulus W n ∷ (a < n) ∷ []) (residue-listed W n a) .0 h in (p .0 .least, p .1 .0)
+
+pub residues-accepted : (W : Width) (n a b : ℕ) → first-refusal (refusals-residues W n a b) ≡ 0 → (2 ≤ n) × ((a < n) × (b < n))
+residues-accepted W n a b h =
+    let p = status-zero (refusals-residues W n a b) (ServedModulus W n ∷ (a < n) ∷ (b < n) ∷ []) (residues-listed W n a b) .0 h in
+    (p .0 .least, (p .1 .0, p .1 .1 .0))
+
+-- the first residue's refusal stands for both; where it passes, the second's status does
+pub first-status : (W : Width) (n a b r : ℕ) → r ≡ first-refusal (refusals-residue W n a) → (r ≡ 0 → ⊥)
+    → r ≡ first-refusal (refusals-residues W n a b)
+first-status W n a b r e f = refused-early (refusals-residue W n a) ((3, not (ltb b n)) ∷ []) r e f
+
+pub second-status : (W : Width) (n a b r s : ℕ) → r ≡ first-refusal (refusals-residue W n a) → r ≡ 0
+    → s ≡ first-refusal (refusals-residue W n b) → s ≡ first-refusal (refusals-residues W n a b)
+second-status W n a b r s e z h = go (bad-modulus W n) (ltb a n) (sym e ∙ z) h
+  where
+    go : (m p : Bool) → first-refusal ((1, m) ∷ (3, not p) ∷ []) ≡ 0 → s ≡ first-refusal ((1, m) ∷ (3, not (ltb b n)) ∷ [])
+        → s ≡ first-refusal ((1, m) ∷ (3, not p) ∷ (3, not (ltb b n)) ∷ [])
+    go true p z h = absurd (omega arith)
+    go false true z h = h
+    go false false z h = absurd (omega arith)
+
+pub refused-residue : (t : List Tested) (x r : ℕ) → r ≡ first-refusal t → (r ≡ 0 → ⊥) → ResidueAnswer t x 0 r
+refused-residue t x r e f = record { status-is = e; value-is = refused-value r x f }
+
+pub residue-answered : (t : List Tested) (x r v : ℕ) → r ≡ first-refusal t → r ≡ 0 → v ≡ x → ResidueAnswer t x v r
+residue-answered t x r v e z h = record { status-is = e; value-is = answered-value r x v z h }
+
+pub refused-gcd : (W : Width) (n a b r : ℕ) → r ≡ first-refusal (refusals-residues W n a b) → (r ≡ 0 → ⊥) → GcdPromised W n a b 0 0 0 r
+refused-gcd W n a b zero e f = absurd (f refl)
+refused-gcd W n a b (suc r) e f = record { status-is = e; values-are = (refl, (refl, refl)) }
+
+pub gcd-answered : (W : Width) (n a b r g s t : ℕ) → r ≡ first-refusal (refusals-residues W n a b) → r ≡ 0
+    → GcdWithCofactors n a b g s t → GcdPromised W n a b g s t r
+gcd-answered W n a b zero g s t e z h = record { status-is = e; values-are = h }
+gcd-answered W n a b (suc r) g s t e z h = absurd (omega arith)
+
+true-values : (n a : ℕ) (k : Kind) → KindOf n a k → TrueValues n a (kind-values k)
+true-values n a (Unit' i) h = h
+true-values n a Nilpotent h = h
+true-values n a (Splits n₁ n₂) h = h
+
+pub refused-kind : (W : Width) (n a r : ℕ) → r ≡ first-refusal (refusals-residue W n a) → (r ≡ 0 → ⊥) → KindPromised W n a (Refused r)
+refused-kind W n a zero e f = absurd (f refl)
+refused-kind W n a (suc r) e f = record { status-is = e; values-are = refl }
+
+pub kind-answered : (W : Width) (n a r : ℕ) (k : Kind) → r ≡ first-refusal (refusals-residue W n a) → r ≡ 0 → KindOf n a k
+    → KindPromised W n a (Known k)
+kind-answered W n a r k e z h = record { status-is = sym z ∙ e; values-are = true-values n a k h }

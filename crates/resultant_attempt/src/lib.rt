@@ -1,0 +1,132 @@
+// One attempt at a resultant modulo n: it ends in the value, or in a split of n. The degree d of f, at most that of g, falls.
+//
+//   w, n   the buffer and the modulus
+//   a, d   the place and the degree of f; b, e those of g; i the inverse of a leading word
+//   s, x   from these places on the buffer is free
+//   h, v   the places of the monic factor of f, of degree t, and of the room after it; u the place of the unit factor
+//
+//   euclid                  the attempt; it divides while each leading word is a unit, with no copies
+//   step                    one division
+//   by_content, primitive   a leading word that is no unit: the content, and the highest coefficient that is not nilpotent
+//   factors                 f as a unit polynomial times a monic one; monic_part and unit_part are the attempts at the two
+ghost use mathlib.Core.Path.{_≡_};
+ghost use Prim.Native.Nat.{_+_, _<_, _≤_};
+ghost use lib.ListN.{getD};
+ghost use Rattle.definitions.specs.Residues.{IsUnit};
+ghost use Rattle.definitions.specs.Resultants.{resultant};
+ghost use Rattle.windows.specs.Window.{piece, Kept, Scratch};
+ghost use Rattle.resultant_steps.specs.AttemptAnswers.{ValueOrSplit};
+ghost use Rattle.resultant_steps.specs.Layouts.{Primitive};
+ghost use Rattle.window_factor.specs.Factors.{LeadingUnit};
+ghost use Rattle.resultant_attempt.specs.Stages.{Placed, Divisor, Stacked, Part};
+use residue::Attempt;
+
+// The resultant of f of degree d at a and g of degree e at b. Both are lost, and so are the words from s on.
+pub fn euclid(w: &mut [u32], n: u32, a: usize, d: usize, b: usize, e: usize, s: usize) -> Attempt
+    requires { ⌜ Placed n a d b e s (now w) ⌝ }
+    ensures { λ r. ⌜ ValueOrSplit n (resultant n (piece (now (w .entry)) a (d + 1)) (piece (now (w .entry)) b (e + 1))) r ⌝ }
+    ensures { λ _. ⌜ Scratch (now (w .entry)) (now (w .exit)) ⌝ }
+{
+    let lead = w[a + d];
+    if d == 0 {
+        return Attempt::Value(arithmetic::power(n, lead, e));
+    }
+    let x = bezout::cofactor(n, lead);
+    if x.g == 1 {
+        return step(w, n, a, d, b, e, s, x.s);
+    }
+    resultant_steps::copy_pair(w, b, e + 1, a, d + 1, s);
+    by_content(&mut w[s..], n, d, e)
+}
+
+// The same, where the leading word of f has the inverse i: a division, and the remainder and f after it.
+fn step(w: &mut [u32], n: u32, a: usize, d: usize, b: usize, e: usize, s: usize, i: u32) -> Attempt
+    requires { ⌜ Divisor n a d b e s i (now w) ⌝ }
+    ensures { λ r. ⌜ ValueOrSplit n (resultant n (piece (now (w .entry)) a (d + 1)) (piece (now (w .entry)) b (e + 1))) r ⌝ }
+{
+    let lead = w[a + d];
+    window_division::divide(w, n, a, d, b, e, i);
+    let r = euclid(w, n, b, d - 1, a, d, s);
+    resultant_steps::times(n, arithmetic::power(n, lead, e + 1 - d), r)
+}
+
+// The same for g at 0 and f above it, whose leading word is no unit: the content of f is taken out first.
+fn by_content(w: &mut [u32], n: u32, d: usize, e: usize) -> Attempt
+    requires { ⌜ Stacked n d e (now w) ⌝ }
+    ensures { λ r. ⌜ ValueOrSplit n (resultant n (piece (now (w .entry)) (e + 1) (d + 1)) (piece (now (w .entry)) 0 (e + 1))) r ⌝ }
+{
+    let c = resultant_steps::clear_content(w, n, d, e);
+    if c == n {
+        return Attempt::Value(0);
+    }
+    let r = resultant_steps::lifted(n, primitive(w, n / c, d, e));
+    resultant_steps::times(n, arithmetic::power(n, c, e), r)
+}
+
+// The same where f is primitive: some coefficient is not nilpotent.
+fn primitive(w: &mut [u32], n: u32, d: usize, e: usize) -> Attempt
+    requires { ⌜ Stacked n d e (now w) ⌝ }
+    requires { ⌜ Primitive n (piece (now w) (e + 1) (d + 1)) ⌝ }
+    ensures { λ r. ⌜ ValueOrSplit n (resultant n (piece (now (w .entry)) (e + 1) (d + 1)) (piece (now (w .entry)) 0 (e + 1))) r ⌝ }
+{
+    let a = e + 1;
+    let s = a + (d + 1);
+    match window_factor::highest_of(&w[a..s], n) {
+        window_factor::Highest::UnitAt(t, i) => {
+            if t == d {
+                return step(w, n, a, d, 0, e, s, i);
+            }
+            factors(w, n, d, e, t, i)
+        }
+        window_factor::Highest::Splits(p, q) => Attempt::Splits(p, q),
+        window_factor::Highest::AllNilpotent => Attempt::Value(0),
+    }
+}
+
+// The same where coefficient t of f, below the leading one, has the inverse i and those above it are nilpotent: f is a unit
+// polynomial times a monic one of degree t, and the resultant is the product of theirs.
+fn factors(w: &mut [u32], n: u32, d: usize, e: usize, t: usize, i: u32) -> Attempt
+    requires { ⌜ (Stacked n d e (now w)) × (t < d) ⌝ }
+    requires { ⌜ LeadingUnit n t i (piece (now w) (e + 1) (d + 1)) ⌝ }
+    ensures { λ r. ⌜ ValueOrSplit n (resultant n (piece (now (w .entry)) (e + 1) (d + 1)) (piece (now (w .entry)) 0 (e + 1))) r ⌝ }
+{
+    let a = e + 1;
+    let l = d + 1;
+    let h = a + l;
+    let v = h + (t + 1);
+    let u = v + t;
+    let x = v + l;
+    window_factor::unit_times_monic(&mut w[a..], n, d, t, i);
+    match monic_part(w, n, h, t, e, x) {
+        Attempt::Value(y) => resultant_steps::times(n, y, unit_part(w, n, u, d - t, e, x)),
+        Attempt::Splits(p, q) => Attempt::Splits(p, q),
+    }
+}
+
+// The resultant of the monic polynomial of degree t at a and of g at 0, worked from x on.
+fn monic_part(w: &mut [u32], n: u32, a: usize, t: usize, e: usize, x: usize) -> Attempt
+    requires { ⌜ (Part n a t e x (now w)) × (getD (now w) (a + t) 0 ≡ 1) ⌝ }
+    ensures { λ r. ⌜ ValueOrSplit n (resultant n (piece (now (w .entry)) a (t + 1)) (piece (now (w .entry)) 0 (e + 1))) r ⌝ }
+    ensures { λ _. ⌜ Kept x (now (w .entry)) (now (w .exit)) ⌝ }
+{
+    if t == 0 {
+        return Attempt::Value(1);
+    }
+    let l = t + 1;
+    let m = e + 1;
+    resultant_steps::copy_pair(w, a, l, 0, m, x);
+    step(&mut w[x..], n, 0, t, l, e, l + m, 1)
+}
+
+// The same for a polynomial of degree k whose constant is a unit: both are reversed, which brings the unit to the lead.
+fn unit_part(w: &mut [u32], n: u32, a: usize, k: usize, e: usize, x: usize) -> Attempt
+    requires { ⌜ (Part n a k e x (now w)) × ((1 ≤ k) × (IsUnit n (getD (now w) a 0))) ⌝ }
+    ensures { λ r. ⌜ ValueOrSplit n (resultant n (piece (now (w .entry)) a (k + 1)) (piece (now (w .entry)) 0 (e + 1))) r ⌝ }
+{
+    let i = bezout::cofactor(n, w[a]);
+    let l = k + 1;
+    let m = e + 1;
+    resultant_steps::copy_pair_reversed(w, a, l, 0, m, x);
+    let r = step(&mut w[x..], n, 0, k, l, e, l + m, i.s);
+    resultant_steps::times_sign(n, k, e, r)
+}

@@ -1,0 +1,34 @@
+// The resultant as a service: from any words and lengths an answer, or a numbered refusal.
+ghost use mathlib.Core.Path.{_≡_};
+ghost use lib.ListN.{length, replicate};
+ghost use Rattle.refusals.specs.Refusals.{narrow};
+ghost use Rattle.resultant_service.specs.ResultantService.{ResultantAnswer};
+use refusals::Answer;
+
+// "After an answered call the whole working buffer is zero."
+fn answered(value: u32, work: &mut [u32]) -> Answer
+    ensures { λ r. ⌜ (r .value ≡ value) × (r .status ≡ 0) ⌝ }
+    ensures { λ _. ⌜ now (work .exit) ≡ replicate (length (now (work .entry))) 0 ⌝ }
+{
+    windows::wipe(work);
+    Answer { value, status: 0 }
+}
+
+// The resultant of f and g modulo n, in the sent degrees.
+pub fn resultant(n: u32, f: &[u32], g: &[u32], work: &mut [u32]) -> Answer
+    ensures { λ r. ⌜ ResultantAnswer narrow n (now (f .entry)) (now (g .entry)) (now (work .entry)) (now (work .exit))
+        (r .value) (r .status) ⌝ }
+{
+    let status = refusals::refusal_two(n, f, g);
+    if status != 0 {
+        return Answer { value: 0, status };
+    }
+    if work.len() < 8192 {
+        return Answer {
+            value: 0,
+            status: 7,
+        };
+    }
+    let value = resultant::run(work, n, f, g);
+    answered(value, work)
+}

@@ -1,0 +1,2 @@
+pub mod AttemptAnswers
+pub mod Layouts

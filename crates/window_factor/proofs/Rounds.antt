@@ -1,0 +1,287 @@
+-- The rounds of `unit_times_monic`, on the words of its buffer: f at 0, H at d + 1, the room at d + 1 + (t + 1).
+--
+--   ready, round, round-one what `divide_copy` asks of the division, and what comes of it
+--   Held                    what the loop keeps of the buffer
+--   enter, again, leave     the loop's first turn, a turn, and its end
+use mathlib.Core.Path.{_≡_, sym, ap, ap₂, subst, fun-ext, _∙_}
+use mathlib.Core.List.{List}
+use mathlib.Core.Logic.{_⊎_, inl, inr, ⊎-elim}
+use Prim.Native.Nat.{ℕ, zero, suc, _+_, _-_, _*_, _%_, _≤_, _<_}
+use native.Mathlib.Omega.{arith}
+use native.Mathlib.Nat.{mod-lt, mod-eq-of-lt, add-zero, one-mul, mul-zero, le-of-dvd, eq-or-lt-of-le}
+use lib.ListN.{length, getD, drop, length-drop}
+use lib.Seq.{length-take-le}
+use borrow.Rule.Slice.PartMut.{midOf}
+use Rattle.numbers.specs.Congruence.{Cong, c-trans, c-eq, c-mod}
+use Rattle.numbers.specs.Nilpotents.{InRadical, nilpotent-radical, radical-nilpotent}
+use Rattle.definitions.specs.Polynomials.{coef, convolve, constant, Multiplied, UnitPolynomial}
+use Rattle.convolution.specs.Sums.{convolve-comm, convolve-constant}
+use Rattle.windows.specs.Window.{piece, Moved, addMul, mulBy, second, Below, Around, Zeros}
+use Rattle.windows.proofs.Leaf.{lt-or-le, piece-at, piece-over}
+use Rattle.windows.proofs.Lift.{piece-low, piece-equal, around-none, around-trans, around-wide, moved-around, moved-copy, below-is}
+use Rattle.windows.proofs.Parts.{mid-at}
+use Rattle.window_division.specs.Remainders.{Pair, Quotient}
+use Rattle.window_factor.specs.Factors.{Given, Round, Factored}
+use Rattle.window_factor.proofs.Uniqueness.{MonicAt, DividedBy}
+use Rattle.window_factor.proofs.Approaches.{Near, near-start, near-next, done, quotient-nilpotent, quotient-unit}
+
+-- ---- a round: f copied, and divided by H
+
+module _ (n d t : ℕ) (w w2 : List ℕ) (td : t ≤ d) (fits : d + 1 + (t + 1 + (d + 1)) ≤ length w)
+    (mv : Moved second 0 (d + 1 + (t + 1)) (d + 1) w w2) where
+  same-h : piece w2 (d + 1) (t + 1) ≡ piece w (d + 1) (t + 1)
+  same-h = piece-low (moved-around mv) (d + 1) (t + 1) (omega arith) (omega arith)
+
+  copied : piece w2 (d + 1 + (t + 1)) (d + 1) ≡ piece w 0 (d + 1)
+  copied = moved-copy (omega arith) (omega arith) mv
+
+  -- what the division asks
+  pub ready : Below n 0 (d + 1) w → Below n (d + 1) (t + 1) w → getD w (d + 1 + t) 0 ≡ 1
+      → Pair n (d + 1) t (d + 1 + (t + 1)) d w2 × ((1 * getD w2 (d + 1 + t) 0) % n ≡ 1 % n)
+  ready b h lead = (
+    record {
+      first = below-is n (d + 1) (d + 1) (t + 1) w w2 (λ k l. mv .low (d + 1 + k) (omega arith)) h;
+      second = below-is n 0 (d + 1 + (t + 1)) (d + 1) w w2 (λ k l. mv .mid k l) b;
+      apart = record { ok = λ i j p q e. omega arith };
+    },
+    ap (λ (x : ℕ). x % n) (one-mul (getD w2 (d + 1 + t) 0) ∙ mv .low (d + 1 + t) (omega arith) ∙ lead),
+  )
+
+  pub round : (w3 : List ℕ) → Quotient n (d + 1) t (d + 1 + (t + 1)) d w2 w3 → Round n d t w w3
+  round w3 dv = record {
+    around = around-trans (moved-around mv) (dv .around);
+    below = dv .below;
+    equation = record {
+      at = λ k.
+          ap (λ (h : List ℕ). (convolve (coef (piece w3 (d + 1 + (t + 1) + t) (d + 1 - t)))
+          (coef h) k + coef (piece w3 (d + 1 + (t + 1)) t) k) % n) (sym same-h)
+          ∙ dv .divided .at k ∙ ap (λ (f : List ℕ). coef f k % n) copied;
+    };
+  }
+
+  -- H = 1: the copy is the quotient
+  pub round-one : t ≡ 0 → Below n 0 (d + 1) w → getD w (d + 1 + t) 0 ≡ 1 → Round n d t w w2
+  round-one z b lead = record {
+    around = moved-around mv;
+    below = below-is n 0 (d + 1 + (t + 1)) (d + 1) w w2 (λ k l. mv .mid k l) b;
+    equation = record {
+      at = λ k.
+          ap (λ (x : ℕ). x % n) (ap₂ _+_ (convolve-comm (coef (piece w2 (d + 1 + (t + 1) + t) (d + 1 - t)))
+          (coef (piece w (d + 1) (t + 1))) k
+          ∙ ap (λ (h : ℕ → ℕ). convolve h (coef (piece w2 (d + 1 + (t + 1) + t) (d + 1 - t))) k) (fun-ext one)
+          ∙ convolve-constant 1 (coef (piece w2 (d + 1 + (t + 1) + t) (d + 1 - t))) k ∙ one-mul _)
+          (piece-over w2 (d + 1 + (t + 1)) t k (omega arith))
+          ∙ add-zero _ ∙ ap (λ (f : List ℕ). coef f k) whole);
+    };
+  }
+    where
+      one : (j : ℕ) → coef (piece w (d + 1) (t + 1)) j ≡ constant 1 j
+      one zero = piece-at w (d + 1) (t + 1) 0 (omega arith) ∙ ap (λ (x : ℕ). getD w (d + 1 + x) 0) (sym z) ∙ lead
+      one (suc j) = piece-over w (d + 1) (t + 1) (suc j) (omega arith)
+
+      whole : piece w2 (d + 1 + (t + 1) + t) (d + 1 - t) ≡ piece w 0 (d + 1)
+      whole = ap₂ (piece w2) (let e : d + 1 + (t + 1) + t ≡ d + 1 + (t + 1) = omega arith in e)
+          (let e : d + 1 - t ≡ d + 1 = omega arith in e) ∙ copied
+
+-- ---- what the loop keeps of the buffer: f is F, H is monic and near
+
+pub record Held (n d t k i : ℕ) (F w : List ℕ) : Type 0 where
+  pub poly : piece w 0 (d + 1) ≡ F
+  pub small : Below n 0 (d + 1) w
+  pub lead : getD w (d + 1 + t) 0 ≡ 1
+  pub below : Below n (d + 1) (t + 1) w
+  pub near : Near n d t k i (coef F) (coef (piece w (d + 1) (t + 1)))
+
+pub held-less : {n d t k i : ℕ} {F w : List ℕ} → 0 < n → Held n d t k i F w → k < n
+held-less pos x = let a = x .near .more in let b = le-of-dvd pos (x .near .divides) in omega arith
+
+monic-piece : (n a t : ℕ) (w : List ℕ) → getD w (a + t) 0 ≡ 1 → MonicAt n t (coef (piece w a (t + 1)))
+monic-piece n a t w e = record {
+  lead = c-eq (piece-at w a (t + 1) t (omega arith) ∙ e);
+  over = λ j l. piece-over w a (t + 1) j
+      (omega arith);
+}
+
+pub held-start : (n d t i : ℕ) (w w' : List ℕ) → 2 ≤ n → t ≤ d → d + 1 + (t + 1 + (d + 1)) ≤ length w → Given n d t i w
+    → Moved (mulBy n i) 0 (d + 1) (t + 1) w w'
+    → Held n d t 0 i (piece w 0 (d + 1)) w'
+held-start n d t i w w' two td fits g mv =
+    let low : (k : ℕ) → k < d + 1 → getD w' (0 + k) 0 ≡ getD w (0 + k) 0 = λ k l. mv .low (0 + k) (omega arith) in
+    let word : (j : ℕ) → j < t + 1 → getD w' (d + 1 + j) 0 ≡ (i * coef (piece w 0 (d + 1)) j) % n =
+    λ j l. mv .mid j l ∙ ap (λ (x : ℕ). (i * x) % n) (sym (piece-at w 0 (d + 1) j (omega arith))) in
+    let lead : getD w' (d + 1 + t) 0 ≡ 1 = word t (omega arith) ∙ g .unit ∙ mod-eq-of-lt (omega arith) in
+    record {
+      poly = piece-low (moved-around mv) 0 (d + 1) (omega arith) (omega arith);
+      small = below-is n 0 0 (d + 1) w w' low (g .below);
+      lead = lead;
+      below = record { at = λ k l. subst (λ (x : ℕ). x < n) (sym (word k l)) (mod-lt _ (omega arith)) };
+      near = near-start n d t i (coef (piece w 0 (d + 1))) (coef (piece w' (d + 1) (t + 1))) (monic-piece n (d + 1) t w' lead)
+          (λ j l. c-trans (c-eq (piece-at w' (d + 1) (t + 1) j (omega arith) ∙ word j (omega arith))) (c-mod _));
+    }
+
+-- ---- after a round
+
+module _ (n d t k i : ℕ) (F w w' : List ℕ) (two : 2 ≤ n) (td : t ≤ d) (fits : d + 1 + (t + 1 + (d + 1)) ≤ length w)
+    (unit : (i * coef F t) % n ≡ 1 % n)
+    (radical : (j : ℕ) → t < j → InRadical n (coef F j)) (x : Held n d t k i F w) (r : Round n d t w w') where
+  H : List ℕ
+  H = piece w (d + 1) (t + 1)
+
+  Q : List ℕ
+  Q = piece w' (d + 1 + (t + 1) + t) (d + 1 - t)
+
+  R : List ℕ
+  R = piece w' (d + 1 + (t + 1)) t
+
+  kept-h : piece w' (d + 1) (t + 1) ≡ H
+  unfolding H
+  kept-h = piece-low (r .around) (d + 1) (t + 1) (omega arith) (omega arith)
+
+  one : Cong n (i * coef F t) 1
+  one = record { same = unit }
+
+  div : DividedBy n (coef F) (coef H) (coef Q) (coef R)
+  unfolding H Q R
+  div = record { at = λ j. record { same = r .equation .at j ∙ ap (λ (f : List ℕ). coef f j % n) (x .poly) } }
+
+  short : (j : ℕ) → t ≤ j → coef R j ≡ 0
+  unfolding R
+  short j l = piece-over w' (d + 1 + (t + 1)) t j l
+
+  top : (j : ℕ) → d < j → coef Q j ≡ 0
+  unfolding Q
+  top j l = piece-over w' (d + 1 + (t + 1) + t) (d + 1 - t) j (omega arith)
+
+  near : Near n d t k i (coef F) (coef H)
+  unfolding H
+  near = x .near
+
+  -- the remainder is 0
+  product : ((j : ℕ) → j < t → getD w' (d + 1 + (t + 1) + j) 0 ≡ 0) → Multiplied n F Q (piece w' (d + 1) (t + 1))
+  unfolding H R
+  product zeros =
+      let none : (j : ℕ) → coef R j ≡ 0 =
+      λ j. ⊎-elim (λ l. piece-at w' (d + 1 + (t + 1)) t j l ∙ zeros j l) (λ l. short j l) (lt-or-le j t) in
+      subst (λ (h : List ℕ). Multiplied n F Q h) (sym kept-h)
+      (record {
+        at = λ j. sym (ap (λ (y : ℕ). y % n) (sym (add-zero (convolve (coef Q) (coef H) j))
+            ∙ ap (λ (y : ℕ). convolve (coef Q) (coef H) j + y) (sym (none j))) ∙ div .at j .same);
+      })
+
+  unit-quotient : UnitPolynomial n Q
+  unit-quotient = record {
+    unit = quotient-unit (omega arith) one near div short top radical;
+    nilpotent = elim [
+      | zero ↦ λ l. absurd (omega arith)
+      | suc j ↦ λ l. radical-nilpotent (omega arith)
+          (quotient-nilpotent (omega arith) one near div short top radical j)
+    ];
+  }
+
+  pub held-end : (w₀ : List ℕ) → piece w₀ 0 (d + 1) ≡ F → Around (d + 1) (t + 1 + (d + 1)) w₀ w'
+      → ((j : ℕ) → j < t → getD w' (d + 1 + (t + 1) + j) 0 ≡ 0) → Factored n d t w₀ w'
+  unfolding H Q
+  held-end w₀ e around zeros = record {
+    around = around;
+    equation = subst (λ (f : List ℕ). Multiplied n f Q (piece w' (d + 1) (t + 1))) (sym e) (product zeros);
+    monic = ap (λ (h : List ℕ). coef h t) kept-h ∙ piece-at w (d + 1) (t + 1) t (omega arith) ∙ x .lead;
+    unit = unit-quotient;
+    below-h = below-is n (d + 1) (d + 1) (t + 1) w w' (λ j l. r .around .low (d + 1 + j) (omega arith)) (x .below);
+    below-u = record {
+      at = λ j l. let z : d + 1 + (t + 1) + (t + j) ≡ d + 1 + (t + 1) + t + j = omega arith in
+          subst (λ (y : ℕ). y < n) (ap (λ (y : ℕ). getD w' y 0) z) (r .below .at (t + j) (omega arith));
+    };
+  }
+
+  pub held-next : (z : ℕ) (w4 : List ℕ) → z < t → (getD w' (d + 1 + (t + 1) + z) 0 ≡ 0 → ⊥)
+      → Moved (addMul n i) (d + 1 + (t + 1)) (d + 1) t w' w4 → Held n d t (k + 1) i F w4
+  unfolding H R
+  held-next z w4 zt nz mv =
+      let lead : getD w4 (d + 1 + t) 0 ≡ 1 = mv .high (d + 1 + t) (omega arith) ∙ r .around .low (d + 1 + t) (omega arith) ∙ x .lead in
+      let low : (j : ℕ) → j < d + 1 → getD w4 (0 + j) 0 ≡ getD w (0 + j) 0 = λ j l. mv .low (0 + j) (omega arith)
+      ∙ r .around .low (0 + j) (omega arith) in
+      record {
+        poly = piece-equal w w4 0 0 (d + 1) (omega arith) (omega (arith, mv .same, r .around .same)) low ∙ x .poly;
+        small = below-is n 0 0 (d + 1) w w4 low (x .small);
+        lead = lead;
+        below = record {
+          at = λ j l. ⊎-elim
+              (λ b. subst (λ (y : ℕ). y < n) (sym (mv .mid j b)) (mod-lt _ (omega arith)))
+              (λ b. let e : d + 1 + j ≡ d + 1 + t = omega arith in subst (λ (y : ℕ). y < n) (sym (ap (λ (y : ℕ). getD w4 y 0) e ∙ lead))
+              (omega arith))
+              (lt-or-le j t);
+        };
+        near = near-next (omega arith) one near div short top (monic-piece n (d + 1) t w4 lead) (λ j. update j lead (lt-or-le j t)) radical
+            (λ e. nz (sym (piece-at w' (d + 1 + (t + 1)) t z zt)
+            ∙ done (omega arith) one near div short top e z
+            (subst (λ (y : ℕ). y < n) (sym (piece-at w' (d + 1 + (t + 1)) t z zt)) (r .below .at z (omega arith)))));
+      }
+    where
+      kept : (j : ℕ) → getD w4 (d + 1 + t) 0 ≡ 1 → t ≤ j → coef (piece w4 (d + 1) (t + 1)) j ≡ coef H j
+      kept j lead l = ⊎-elim
+          (λ e. ap (coef (piece w4 (d + 1) (t + 1))) (sym e) ∙ piece-at w4 (d + 1) (t + 1) t (omega arith) ∙ lead
+          ∙ sym (piece-at w (d + 1) (t + 1) t (omega arith) ∙ x .lead) ∙ ap (coef (piece w (d + 1) (t + 1))) e)
+          (λ b. piece-over w4 (d + 1) (t + 1) j (omega arith) ∙ sym (piece-over w (d + 1) (t + 1) j (omega arith)))
+          (eq-or-lt-of-le l)
+
+      update : (j : ℕ) → getD w4 (d + 1 + t) 0 ≡ 1 → (j < t) ⊎ (t ≤ j)
+          → Cong n (coef (piece w4 (d + 1) (t + 1)) j) (coef H j + i * coef R j)
+      update j lead (inl l) =
+          c-trans (c-eq (piece-at w4 (d + 1) (t + 1) j (omega arith) ∙ mv .mid j l))
+          (c-trans (c-mod _)
+          (c-eq (ap₂ (λ (a b : ℕ). a + i * b)
+          (r .around .low (d + 1 + j) (omega arith) ∙ sym (piece-at w (d + 1) (t + 1) j (omega arith)))
+          (sym (piece-at w' (d + 1 + (t + 1)) t j l)))))
+      update j lead (inr l) = c-eq (kept j lead l ∙ sym (ap (λ (y : ℕ). coef H j + i * y) (short j l)
+          ∙ ap (λ (y : ℕ). coef H j + y) (mul-zero i) ∙ add-zero _))
+
+-- ---- the loop, between the lists that its calls leave
+
+-- what `zeros` says of t words from v on
+module _ (v m t r : ℕ) (w : List ℕ) (em : m ≡ t) (fits : v + t ≤ length w) (z : Zeros (midOf v m w) r) where
+  pub all-zero : r ≡ t → (j : ℕ) → j < t → getD w (v + j) 0 ≡ 0
+  all-zero e j l = sym (mid-at v m w j (omega arith)) ∙ z .zero j (omega arith)
+
+  count : length (midOf v m w) ≡ m
+  count = length-take-le m (drop v w) (simp length-drop (omega arith))
+
+  pub not-zero : (r ≡ t → ⊥) → (r < t) × (getD w (v + r) 0 ≡ 0 → ⊥)
+  not-zero ne =
+      let most = z .most in
+      let c = count in
+      (omega arith, λ e. z .next (omega arith) (mid-at v m w r (omega arith) ∙ e))
+
+module _ (n d t i : ℕ) (w w0 : List ℕ) (two : 2 ≤ n) (td : t ≤ d) (fits : d + 1 + (t + 1 + (d + 1)) ≤ length w) (g : Given n d t i w)
+    (sc : Moved (mulBy n i) 0 (d + 1) (t + 1) w w0) where
+  begun : Held n d t 0 i (piece w 0 (d + 1)) w0
+  begun = held-start n d t i w w0 two td fits g sc
+
+  same-given : piece w0 0 (d + 1) ≡ piece w 0 (d + 1)
+  same-given = begun .poly
+
+  abbrev pub Loop : ℕ → List ℕ → Type 0
+  Loop k w1 = Around (d + 1) (t + 1 + (d + 1)) w0 w1 × Held n d t k i (piece w0 0 (d + 1)) w1
+
+  pub enter : Loop 0 w0
+  enter = (around-none _ _ w0, subst (λ (F : List ℕ). Held n d t 0 i F w0) (sym same-given) begun)
+
+  unit : (i * coef (piece w0 0 (d + 1)) t) % n ≡ 1 % n
+  unit = ap (λ (F : List ℕ). (i * coef F t) % n) same-given ∙ g .unit
+
+  radical : (j : ℕ) → t < j → InRadical n (coef (piece w0 0 (d + 1)) j)
+  radical j l = subst (λ (F : List ℕ). InRadical n (coef F j)) (sym same-given) (nilpotent-radical (g .nilpotent j l))
+
+  pub again : (k z : ℕ) (w1 w3 w4 : List ℕ) → Loop k w1 → Round n d t w1 w3 → (z < t) × (getD w3 (d + 1 + (t + 1) + z) 0 ≡ 0 → ⊥)
+      → Moved (addMul n i) (d + 1 + (t + 1)) (d + 1) t w3 w4 → Loop (k + 1) w4
+  again k z w1 w3 w4 x r nz mv = (
+    around-trans (x .0) (around-trans (around-wide (d + 1) (t + 1 + (d + 1)) (omega arith) (omega arith) (r .around))
+        (around-wide (d + 1) (t + 1 + (d + 1)) (omega arith) (omega arith) (moved-around mv))),
+    held-next n d t k i _ w1 w3 two td (omega (arith, x .0 .same, sc .same)) unit radical (x .1) r z w4 (nz .0) (nz .1) mv,
+  )
+
+  pub leave : (k : ℕ) (w1 w3 : List ℕ) → Loop k w1 → Round n d t w1 w3 → ((j : ℕ) → j < t → getD w3 (d + 1 + (t + 1) + j) 0 ≡ 0)
+      → Factored n d t w w3
+  leave k w1 w3 x r zs =
+      held-end n d t k i _ w1 w3 two td (omega (arith, x .0 .same, sc .same)) unit radical (x .1) r w (sym same-given)
+      (around-trans (around-wide (d + 1) (t + 1 + (d + 1)) (omega arith) (omega arith) (moved-around sc))
+      (around-trans (x .0) (around-wide (d + 1) (t + 1 + (d + 1)) (omega arith) (omega arith) (r .around)))) zs

@@ -1,0 +1,35 @@
+#!/usr/bin/env bash
+# What the host must find out: each wrong version of tests/wrong.c, and files of pairs that are not whole. make -C tests wrong
+set -u
+cd "$(dirname "$0")"
+pairs=../crates/vectors
+folder=$(mktemp -d)
+trap 'rm -rf "$folder"' EXIT
+wrong=0
+say() { echo "NOT FOUND OUT: $1"; wrong=1; }
+
+WRONG=0 ../target/host_wrong $pairs > "$folder/output" || { echo "the library itself does not pass"; exit 1; }
+diff -u expected "$folder/output" || exit 1
+version=1
+while true; do
+    WRONG=$version ../target/host_wrong $pairs > "$folder/output"
+    status=$?
+    [ $status = 99 ] && break
+    if [ $status != 1 ] || ! grep -q '^FAILED' "$folder/output"; then say "version $version (status $status)"; fi
+    version=$((version + 1))
+done
+echo "$((version - 1)) wrong versions tried"
+
+# try NAME: the pairs in $folder/stdin and $folder/stdout
+try() { ./host "$folder" > "$folder/output"; if [ $? != 1 ] || ! grep -q '^FAILED' "$folder/output"; then say "$1"; fi; }
+fresh() { cp $pairs/stdin $pairs/stdout "$folder"; }
+rm -f "$folder/stdin" "$folder/stdout"; try "no files"
+fresh; : > "$folder/stdin"; : > "$folder/stdout"; try "empty files"
+fresh; head -n 100 $pairs/stdin > "$folder/stdin"; head -n 100 $pairs/stdout > "$folder/stdout"; try "only 100 pairs"
+fresh; head -n 100 $pairs/stdout > "$folder/stdout"; try "fewer numbers than pairs"
+fresh; head -n 100 $pairs/stdin > "$folder/stdin"; try "fewer pairs than numbers"
+fresh; sed '200s/ .*/ --------/' $pairs/stdout > "$folder/stdout"; try "a D left out"
+fresh; sed '300s/.$//' $pairs/stdin > "$folder/stdin"; try "a frame cut short"
+fresh; sed '12s/^......../01234567/' $pairs/stdout > "$folder/stdout"; try "another resultant"
+echo "8 wrong files tried"
+exit $wrong
