@@ -1,7 +1,8 @@
 -- The giving out, turn by turn: what stays true of whose turn it is, of what waits and of what was given.
 --
 --   Fair p w g                  p turns came, and w waits and g was given
---   Found j w g, found          the search for the next group passes over turns until that of group j, which waits
+--   Found j w g, found          the search for the next group passes over turns until that of group j
+--   found-waits                 which waits
 --   none-at                     where the search finds none, nothing waits
 --   GivenTo j w g w' g'         a frame goes to group j
 --   After n W s, after          what is known after n frames, where W waited
@@ -37,11 +38,10 @@ fair-pass {p} {w} {g} e f = record {
     other i l h (yes z) = absurd (omega (arith, ap (λ (j : ℕ). getD w j 0) z))
     other i l h (no z) = omega (arith, f .lower i l h)
 
--- turns pass until that of group j, which waits
+-- turns pass until that of group j
 record Found (j : ℕ) (w g : List ℕ) : Type 0 where
   pub at : ℕ
   pub turn : j ≡ at % 4
-  pub some : 0 < getD w j 0
   pub fair : Fair at w g
 
 found : (k p i : ℕ) (w g : List ℕ) → i ≡ p % 4 → Fair p w g → first-waiting w k i < 4 → Found (first-waiting w k i) w g
@@ -52,9 +52,19 @@ found (suc k) p i w g e f l = go (eqb (getD w i 0) 0) refl (found k (p + 1) (nex
     go : (t : Bool) → eqb (getD w i 0) 0 ≡ t → (Fair (p + 1) w g → first-waiting w k (next-group i) < 4 → Found (first-waiting w k (next-group i)) w g)
         → cond t (first-waiting w k (next-group i)) i < 4 → Found (cond t (first-waiting w k (next-group i)) i) w g
     go true h ih l = ih (fair-pass (ap (λ (j : ℕ). getD w j 0) (sym e) ∙ eqb-true _ _ h) f) l
-    go false h ih l = record { at = p; turn = e; some = pos-of-ne-zero (eqb-false _ _ h); fair = f }
+    go false h ih l = record { at = p; turn = e; fair = f }
 
--- where none-from of k groups from i on waits
+pub found-waits : (k i : ℕ) (w : List ℕ) → first-waiting w k i < 4 → 0 < getD w (first-waiting w k i) 0
+unfolding first-waiting
+found-waits zero i w l = absurd (omega arith)
+found-waits (suc k) i w l = go (eqb (getD w i 0) 0) refl (found-waits k (next-group i) w) l
+  where
+    go : (t : Bool) → eqb (getD w i 0) 0 ≡ t → (first-waiting w k (next-group i) < 4 → 0 < getD w (first-waiting w k (next-group i)) 0)
+        → cond t (first-waiting w k (next-group i)) i < 4 → 0 < getD w (cond t (first-waiting w k (next-group i)) i) 0
+    go true h ih l = ih l
+    go false h ih l = pos-of-ne-zero (eqb-false _ _ h)
+
+-- where none of k groups from i on waits
 none-from : (k i : ℕ) (w : List ℕ) → i < 4 → 4 ≤ first-waiting w k i → (m : ℕ) → m < k → getD w ((i + m) % 4) 0 ≡ 0
 unfolding first-waiting
 none-from zero i w b l m h = absurd (omega arith)
@@ -163,25 +173,27 @@ after-one : (n : ℕ) (W : List ℕ) (s : Giving) → After n W s → After (suc
 unfolding give-frame
 after-one n W s a = go (first-waiting (s .waiting) 4 (s .turn)) (ltb (first-waiting (s .waiting) 4 (s .turn)) 4) refl
     (found 4 (a .turns) (s .turn) (s .waiting) (s .given) (a .turn) (a .fair))
+    (found-waits 4 (s .turn) (s .waiting))
     (none-at (s .turn) (s .waiting) (omega arith))
   where
-    given-to : (i : ℕ) → i < 4 → Found i (s .waiting) (s .given) → After (suc n) W (give-to i s)
-    given-to i l f =
+    given-to : (i : ℕ) → i < 4 → Found i (s .waiting) (s .given) → 0 < getD (s .waiting) i 0 → After (suc n) W (give-to i s)
+    given-to i l f h =
         let v = given-set i (s .waiting) (s .given) (omega arith) (omega arith) in
-        let m = total-less (s .waiting) (s .given) W (a .kept) i l (f .some) in
+        let m = total-less (s .waiting) (s .given) W (a .kept) i l h in
         record {
           turns = f .at + 1;
           turn = omega arith;
           size-w = length-set (s .waiting) i (getD (s .waiting) i 0 - 1) ∙ a .size-w;
           size-g = length-set (s .given) i (getD (s .given) i 0 + 1) ∙ a .size-g;
-          kept = kept-give W (f .some) v (a .kept);
+          kept = kept-give W h v (a .kept);
           all = omega (arith, total-give l v, a .all);
-          fair = fair-give (f .turn) (f .some) v (f .fair);
+          fair = fair-give (f .turn) h v (f .fair);
         }
-    go : (i : ℕ) (t : Bool) → ltb i 4 ≡ t → (i < 4 → Found i (s .waiting) (s .given)) → (4 ≤ i → (j : ℕ) → j < 4 → getD (s .waiting) j 0 ≡ 0)
+    go : (i : ℕ) (t : Bool) → ltb i 4 ≡ t → (i < 4 → Found i (s .waiting) (s .given)) → (i < 4 → 0 < getD (s .waiting) i 0)
+        → (4 ≤ i → (j : ℕ) → j < 4 → getD (s .waiting) j 0 ≡ 0)
         → After (suc n) W (cond t (give-to i s) s)
-    go i true e f z = given-to i (ltb-true i 4 e) (f (ltb-true i 4 e))
-    go i false e f z = let y = z (ltb-false i 4 e) in record {
+    go i true e f h z = let l = ltb-true i 4 e in given-to i l (f l) (h l)
+    go i false e f h z = let y = z (ltb-false i 4 e) in record {
       turns = a .turns;
       turn = a .turn;
       size-w = a .size-w;

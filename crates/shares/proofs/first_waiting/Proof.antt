@@ -1,49 +1,30 @@
+-- Group i is asked next, and k groups, i among them, are left to ask.
+use borrow.Author.Needs.{needs}
+use mathlib.Core.Path.{_≡_, refl, sym, _∙_}
+use Prim.Native.Nat.{_<_}
+use native.Mathlib.Omega.{arith}
+use Rattle.shares.specs.GivingOut.{first-waiting}
+use Rattle.shares.proofs.Asking.{found-here, passed-over, all-asked}
 use Rattle.shares.proofs.first_waiting.Statement.{statement}
 use Rattle.shares.proofs.first_waiting.Tie as tie
-use Rattle.shares.proofs.first_waiting.Reads as reads
-use Rattle.shares.proofs.first_waiting.Lts as lts
 
 abbrev Inv-loop : tie.InvT-loop
-Inv-loop turn waiting i₀ k₀ i k = ?
+Inv-loop turn waiting i₀ k₀ i k = (i < 4) × (first-waiting waiting 4 turn ≡ first-waiting waiting k i)
 
 abbrev μ-loop : tie.MeasureT-loop
-μ-loop turn waiting i₀ k₀ i k = ?
+μ-loop turn waiting i₀ k₀ i k = k
 
--- src/lib.rt:34:5
 loop-holds : tie.Need-loop-holds Inv-loop μ-loop
-loop-holds c = ?
+loop-holds c = (search needs, refl)
 
--- src/lib.rt:35:12
-mul-if1 : tie.Need-mul-if1 Inv-loop μ-loop
-mul-if1 c = ?
-
--- src/lib.rt:35:12
-array-read-if1 : tie.Need-array-read-if1 Inv-loop μ-loop
-array-read-if1 c = ?
-
--- src/lib.rt:36:13
 returns : tie.Need-returns Inv-loop μ-loop
-returns c = ?
+returns c = found-here _ _ _ (omega arith) (c .if1 .taken) ∙ sym (c .before .before .loop .inv .1)
 
--- src/lib.rt:38:14
-add-i : tie.Need-add-i Inv-loop μ-loop
-add-i c = ?
-
--- src/lib.rt:39:9
-sub-k : tie.Need-sub-k Inv-loop μ-loop
-sub-k c = ?
-
--- src/lib.rt:34:5
-loop-less : tie.Need-loop-less Inv-loop μ-loop
-loop-less c = ?
-
--- src/lib.rt:34:5
 loop-again : tie.Need-loop-again Inv-loop μ-loop
-loop-again c = ?
+loop-again c = (omega arith, c .before .before .loop .inv .1 ∙ passed-over _ _ _ (omega arith) (c .if1 .left))
 
--- src/lib.rt:28:1
 returns-2 : tie.Need-returns-2 Inv-loop μ-loop
-returns-2 c = ?
+returns-2 c = all-asked _ (c .before .loop .k) (c .before .loop .i) (omega arith) ∙ sym (c .before .loop .inv .1)
 
 pub first-waiting-spec : {M : Type 1} → statement M
 first-waiting-spec =
@@ -52,11 +33,11 @@ first-waiting-spec =
     Inv-loop
     μ-loop
     loop-holds
-    mul-if1
-    array-read-if1
+    (λ c. search needs)
+    (λ c. search needs)
     returns
-    add-i
-    sub-k
-    loop-less
+    (λ c. search needs)
+    (λ c. search needs)
+    (λ c. search needs)
     loop-again
     returns-2)
