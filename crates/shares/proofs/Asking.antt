@@ -10,17 +10,17 @@ use lib.ListN.{getD}
 use borrow.Author.Tests.{lt-ltb, le-ltb, eq-eqb, ne-eqb}
 use Rattle.shares.specs.GivingOut.{next-group, first-waiting, giving, give-to, give-frame}
 
-pub found-here : (w : List ℕ) (k i : ℕ) → 0 < k → (getD w i 0 ≡ 0 → ⊥) → i ≡ first-waiting w k i
+pub found-here : (w : List ℕ) (k i : ℕ) → 0 < k → 0 < getD w i 0 → i ≡ first-waiting w k i
 unfolding first-waiting
 found-here w zero i l n = absurd (omega arith)
-found-here w (suc k) i l n = rw (ne-eqb _ _ n)
+found-here w (suc k) i l n = rw (ne-eqb (getD w i 0) 0 (λ z. omega arith))
 
-pub passed-over : (w : List ℕ) (k i : ℕ) → 0 < k → getD w i 0 ≡ 0 → first-waiting w k i ≡ first-waiting w (k - 1) (next-group i)
+pub passed-over : (w : List ℕ) (k i : ℕ) → 0 < k → getD w i 0 ≤ 0 → first-waiting w k i ≡ first-waiting w (k - 1) (next-group i)
 unfolding first-waiting
 passed-over w zero i l e = absurd (omega arith)
 passed-over w (suc k) i l e =
     let z : suc k - 1 ≡ k = omega arith in
-    rw (eq-eqb _ _ e, z)
+    rw (eq-eqb (getD w i 0) 0 (omega arith), z)
 
 pub all-asked : (w : List ℕ) (k i : ℕ) → k ≤ 0 → 4 ≡ first-waiting w k i
 unfolding first-waiting

@@ -32,7 +32,7 @@ fn first_waiting(waiting: [u32; 4], turn: usize) -> usize
     let mut i = turn;
     let mut k: usize = 4;
     while 0 < k {
-        if waiting[i] != 0 {
+        if 0 < waiting[i] {
             return i;
         }
         i = (i + 1) % 4;

@@ -18,10 +18,10 @@ loop-holds : tie.Need-loop-holds Inv-loop μ-loop
 loop-holds c = (search needs, refl)
 
 returns : tie.Need-returns Inv-loop μ-loop
-returns c = found-here _ _ _ (omega arith) (c .if1 .taken) ∙ sym (c .before .before .loop .inv .1)
+returns c = found-here _ _ _ (omega arith) (omega arith) ∙ sym (c .before .before .loop .inv .1)
 
 loop-again : tie.Need-loop-again Inv-loop μ-loop
-loop-again c = (omega arith, c .before .before .loop .inv .1 ∙ passed-over _ _ _ (omega arith) (c .if1 .left))
+loop-again c = (omega arith, c .before .before .loop .inv .1 ∙ passed-over _ _ _ (omega arith) (omega arith))
 
 returns-2 : tie.Need-returns-2 Inv-loop μ-loop
 returns-2 c = all-asked _ (c .before .loop .k) (c .before .loop .i) (omega arith) ∙ sym (c .before .loop .inv .1)
