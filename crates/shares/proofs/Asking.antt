@@ -2,7 +2,7 @@
 --
 --   found-here, passed-over, all-asked     the group asked waits; it does not; none is left to ask
 --   given-one, given-none                  a frame goes to the group found, or none is found
-use mathlib.Core.Path.{_≡_, refl, sym}
+use mathlib.Core.Path.{_≡_, refl}
 use mathlib.Core.List.{List}
 use Prim.Native.Nat.{ℕ, zero, suc, _-_, _<_, _≤_}
 use native.Mathlib.Omega.{arith}

@@ -1,17 +1,17 @@
 -- The frames of a run, one after the other, and the planner's answer.
 --
 --   given-before, given-after     before the first frame, and after one more
---   Ready, ready                  a word holds what a group may be given next
+--   ready                         what the next frame requires
 --   answered-shares               n frames in the range
 --   too-few, too-many, refused-shares     n out of the range
-use mathlib.Core.Path.{_≡_, refl, sym, ap, _∙_}
-use mathlib.Core.Bool.{Bool, true, false}
+use mathlib.Core.Path.{_≡_, refl, ap, _∙_}
+use mathlib.Core.Bool.{true, false}
 use mathlib.Core.List.{List, [], _∷_}
 use Prim.Native.Nat.{ℕ, zero, suc, _+_, _≤_, _<_}
 use native.Mathlib.Numerals.{add-one}
 use native.Mathlib.Omega.{arith}
 use lib.Dec.{ltb}
-use lib.ListN.{length, getD}
+use lib.ListN.{getD}
 use borrow.Author.Tests.{lt-ltb, le-ltb}
 use Rattle.refusals.proofs.Statuses.{row-applies, row-passes}
 use Rattle.shares.specs.GivingOut.{Giving, giving, give-frame, give-frames}
@@ -26,7 +26,8 @@ pub given-after : (i : ℕ) (s r x : Giving) → s ≡ give-frames i x → r ≡
 unfolding give-frames
 given-after i s r x e h = h ∙ ap give-frame e ∙ rw (add-one i)
 
-words-at : (a b c d : ℕ) → a < 4294967296 → b < 4294967296 → c < 4294967296 → d < 4294967296 → (i : ℕ) → getD (a ∷ b ∷ c ∷ d ∷ []) i 0 < 4294967296
+words-at : (a b c d : ℕ) → a < 4294967296 → b < 4294967296 → c < 4294967296 → d < 4294967296
+    → (i : ℕ) → getD (a ∷ b ∷ c ∷ d ∷ []) i 0 < 4294967296
 words-at a b c d p q r s zero = p
 words-at a b c d p q r s (suc zero) = q
 words-at a b c d p q r s (suc (suc zero)) = r
@@ -38,7 +39,7 @@ pub ready : (n a b c d : ℕ) (s : Giving) → s ≡ give-frames n (giving 0 (a 
     → (s .turn < 4) × ((i : ℕ) → getD (s .waiting) i 0 + getD (s .given) i 0 < 4294967296)
 ready n a b c d s e p q r z =
     let h = after n (a ∷ b ∷ c ∷ d ∷ []) refl in
-    rw e ((omega arith), λ i. omega (arith, h .kept i, words-at a b c d p q r z i))
+    rw e (omega arith, λ i. omega (arith, h .kept i, words-at a b c d p q r z i))
 
 pub answered-shares : (n : ℕ) (w : List ℕ) (s : Giving) → 1 ≤ n → ltb 1024 n ≡ false
     → s ≡ give-frames n (giving 0 w (0 ∷ 0 ∷ 0 ∷ 0 ∷ [])) → SharesAnswer n w (s .given) 0

@@ -1,11 +1,10 @@
 -- The giving out, turn by turn: what stays true of whose turn it is, of what waits and of what was given.
 --
---   Fair p w g                  p turns came, and w waits and g was given
---   Found j w g, found          the search for the next group passes over turns until that of group j
---   found-waits                 which waits
---   none-at                     where the search finds none, nothing waits
---   GivenTo j w g w' g'         a frame goes to group j
---   After n W s, after          what is known after n frames, where W waited
+--   Fair p w g               where w waits and g was given: what each group took of p turns
+--   Found j w g, found       the search for a group passes over turns until that of group j
+--   found-waits, none-at     the group found waits; where none is found, nothing waits
+--   GivenTo j w g w' g'      a frame goes to group j
+--   After n W s, after       what is known after n frames, where W waited at first
 use mathlib.Core.Path.{_≡_, refl, sym, ap, subst, _∙_}
 use mathlib.Core.Bool.{Bool, true, false, cond}
 use mathlib.Core.List.{List, [], _∷_}
@@ -27,7 +26,7 @@ pub record Fair (p : ℕ) (w g : List ℕ) : Type 0 where
   pub upper : (i : ℕ) → i < 4 → getD g i 0 ≤ (p + 3 - i) / 4
   pub lower : (i : ℕ) → i < 4 → 0 < getD w i 0 → (p + 3 - i) / 4 ≤ getD g i 0
 
--- the turn of a group with none-from waiting
+-- the turn of a group with none left waiting is passed over
 fair-pass : {p : ℕ} {w g : List ℕ} → getD w (p % 4) 0 ≡ 0 → Fair p w g → Fair (p + 1) w g
 fair-pass {p} {w} {g} e f = record {
   upper = λ i l. omega (arith, f .upper i l);
@@ -49,7 +48,8 @@ unfolding first-waiting
 found zero p i w g e f l = absurd (omega arith)
 found (suc k) p i w g e f l = go (eqb (getD w i 0) 0) refl (found k (p + 1) (next-group i) w g (omega arith)) l
   where
-    go : (t : Bool) → eqb (getD w i 0) 0 ≡ t → (Fair (p + 1) w g → first-waiting w k (next-group i) < 4 → Found (first-waiting w k (next-group i)) w g)
+    go : (t : Bool) → eqb (getD w i 0) 0 ≡ t
+        → (Fair (p + 1) w g → first-waiting w k (next-group i) < 4 → Found (first-waiting w k (next-group i)) w g)
         → cond t (first-waiting w k (next-group i)) i < 4 → Found (cond t (first-waiting w k (next-group i)) i) w g
     go true h ih l = ih (fair-pass (ap (λ (j : ℕ). getD w j 0) (sym e) ∙ eqb-true _ _ h) f) l
     go false h ih l = record { at = p; turn = e; fair = f }
@@ -70,7 +70,8 @@ unfolding first-waiting
 none-from zero i w b l m h = absurd (omega arith)
 none-from (suc k) i w b l m h = go (eqb (getD w i 0) 0) refl (none-from k (next-group i) w (omega arith)) l m h
   where
-    go : (t : Bool) → eqb (getD w i 0) 0 ≡ t → (4 ≤ first-waiting w k (next-group i) → (m : ℕ) → m < k → getD w ((next-group i + m) % 4) 0 ≡ 0)
+    go : (t : Bool) → eqb (getD w i 0) 0 ≡ t
+        → (4 ≤ first-waiting w k (next-group i) → (m : ℕ) → m < k → getD w ((next-group i + m) % 4) 0 ≡ 0)
         → 4 ≤ cond t (first-waiting w k (next-group i)) i → (m : ℕ) → m < suc k → getD w ((i + m) % 4) 0 ≡ 0
     go true e ih l zero h = let z : (i + 0) % 4 ≡ i = omega arith in rw z (eqb-true _ _ e)
     go true e ih l (suc m) h = let z : (i + suc m) % 4 ≡ (next-group i + m) % 4 = omega arith in rw z (ih l m (omega arith))
@@ -107,11 +108,13 @@ fair-give {p} {j} {w} {g} {w'} {g'} e s v f = record {
     most : (i : ℕ) → i < 4 → Dec (i ≡ j) → getD g' i 0 ≤ (p + 1 + 3 - i) / 4
     most i l (yes z) = rw z (omega (arith, f .upper j (omega arith), v .here-g))
     most i l (no z) = omega (arith, f .upper i l, v .there-g i z)
+
     least : (i : ℕ) → i < 4 → 0 < getD w' i 0 → Dec (i ≡ j) → (p + 1 + 3 - i) / 4 ≤ getD g' i 0
     least i l h (yes z) = rw z (omega (arith, f .lower j (omega arith) s, v .here-g))
     least i l h (no z) = omega (arith, f .lower i l (subst (λ (x : ℕ). 0 < x) (v .there-w i z) h), v .there-g i z)
 
-kept-give : {j : ℕ} {w g w' g' : List ℕ} (W : List ℕ) → 0 < getD w j 0 → GivenTo j w g w' g' → ((i : ℕ) → getD w i 0 + getD g i 0 ≡ getD W i 0)
+kept-give : {j : ℕ} {w g w' g' : List ℕ} (W : List ℕ) → 0 < getD w j 0 → GivenTo j w g w' g'
+    → ((i : ℕ) → getD w i 0 + getD g i 0 ≡ getD W i 0)
     → (i : ℕ) → getD w' i 0 + getD g' i 0 ≡ getD W i 0
 kept-give {j} {w} {g} {w'} {g'} W s v k i = go (ℕ-discrete i j)
   where
@@ -138,6 +141,16 @@ total-less w g W k (suc zero) l s = omega (arith, k 0, k 1, k 2, k 3)
 total-less w g W k (suc (suc zero)) l s = omega (arith, k 0, k 1, k 2, k 3)
 total-less w g W k (suc (suc (suc zero))) l s = omega (arith, k 0, k 1, k 2, k 3)
 total-less w g W k (suc (suc (suc (suc j)))) l s = absurd (omega arith)
+
+-- where none waits, all were given
+total-none : (w g W : List ℕ) → ((i : ℕ) → getD w i 0 + getD g i 0 ≡ getD W i 0) → ((j : ℕ) → j < 4 → getD w j 0 ≡ 0)
+    → total 4 (λ i. getD g i 0) ≡ total 4 (λ i. getD W i 0)
+total-none w g W k z =
+    let a = z 0 (omega arith) in
+    let b = z 1 (omega arith) in
+    let c = z 2 (omega arith) in
+    let d = z 3 (omega arith) in
+    omega (arith, k 0, k 1, k 2, k 3)
 
 -- ---- n frames
 
@@ -189,6 +202,7 @@ after-one n W s a = go (first-waiting (s .waiting) 4 (s .turn)) (ltb (first-wait
           all = omega (arith, total-give l v, a .all);
           fair = fair-give (f .turn) h v (f .fair);
         }
+
     go : (i : ℕ) (t : Bool) → ltb i 4 ≡ t → (i < 4 → Found i (s .waiting) (s .given)) → (i < 4 → 0 < getD (s .waiting) i 0)
         → (4 ≤ i → (j : ℕ) → j < 4 → getD (s .waiting) j 0 ≡ 0)
         → After (suc n) W (cond t (give-to i s) s)
@@ -199,7 +213,7 @@ after-one n W s a = go (first-waiting (s .waiting) 4 (s .turn)) (ltb (first-wait
       size-w = a .size-w;
       size-g = a .size-g;
       kept = a .kept;
-      all = omega (arith, a .all, a .kept 0, a .kept 1, a .kept 2, a .kept 3, y 0 (omega arith), y 1 (omega arith), y 2 (omega arith), y 3 (omega arith));
+      all = let t = total-none (s .waiting) (s .given) W (a .kept) y in omega (arith, a .all);
       fair = a .fair;
     }
 

@@ -1,9 +1,5 @@
 use borrow.Author.Needs.{needs}
-use mathlib.Core.Path.{sym, subst}
-use Prim.Native.Nat.{ℕ, _≤_, _<_}
 use native.Mathlib.Omega.{arith}
-use lib.ListN.{getD}
-use Rattle.shares.specs.GivingOut.{first-waiting}
 use Rattle.shares.specs.GivingLaws.{found-waits}
 use Rattle.shares.proofs.Asking.{given-one, given-none}
 use Rattle.shares.proofs.give_frame.Statement.{statement}

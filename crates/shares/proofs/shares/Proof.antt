@@ -13,7 +13,8 @@ use Rattle.shares.proofs.shares.Tie as tie
 abbrev Inv-loop : tie.InvT-loop
 Inv-loop frames waiting1 waiting2 waiting3 waiting4 s₀ i₀ s i =
     (i ≤ frames)
-    × (giving (s .turn) (s .waiting) (s .given) ≡ give-frames i (giving 0 (waiting1 ∷ waiting2 ∷ waiting3 ∷ waiting4 ∷ []) (0 ∷ 0 ∷ 0 ∷ 0 ∷ [])))
+    × (giving (s .turn) (s .waiting) (s .given)
+    ≡ give-frames i (giving 0 (waiting1 ∷ waiting2 ∷ waiting3 ∷ waiting4 ∷ []) (0 ∷ 0 ∷ 0 ∷ 0 ∷ [])))
 
 abbrev μ-loop : tie.MeasureT-loop
 μ-loop frames waiting1 waiting2 waiting3 waiting4 s₀ i₀ s i = frames - i
