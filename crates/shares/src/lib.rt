@@ -24,7 +24,7 @@ struct Giving {
     given: [u32; 4],
 }
 
-// The first group from `turn` on that has one waiting, or 4.
+// The first group from `turn` on, round the order, that has one waiting, or 4 where none has. The groups 1 to 4 have the places 0 to 3.
 fn first_waiting(waiting: [u32; 4], turn: usize) -> usize
     requires { ⌜ turn < 4 ⌝ }
     ensures { λ r. ⌜ r ≡ first-waiting waiting 4 turn ⌝ }
@@ -41,6 +41,7 @@ fn first_waiting(waiting: [u32; 4], turn: usize) -> usize
     4
 }
 
+// One frame goes to that group, and the turn is that of the next. Where nothing waits, nothing changes.
 fn give_frame(s: Giving) -> Giving
     requires { ⌜ s .turn < 4 ⌝ }
     requires { ⌜ ((i : ℕ) → getD (s .waiting) i 0 + getD (s .given) i 0 < 4294967296) ⌝ }
@@ -61,6 +62,7 @@ fn give_frame(s: Giving) -> Giving
     s
 }
 
+// The shares of four groups in a run of so many frames.
 pub fn shares(frames: u32, waiting1: u32, waiting2: u32, waiting3: u32, waiting4: u32) -> Plan
     ensures { λ r. ⌜ SharesAnswer frames (waiting1 ∷ waiting2 ∷ waiting3 ∷ waiting4 ∷ []) (r .share) (r .status) ⌝ }
 {
