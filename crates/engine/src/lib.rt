@@ -4,12 +4,16 @@
 //   jingcobu_resultant            resultant_service::resultant
 //   jingcobu_reduced_resultant    reduced_service::reduced_resultant
 //   jingcobu_product              polynomial_product::product
+//   jingcobu_shares               shares::shares
 ghost use mathlib.Core.Path.{_≡_};
 ghost use Rattle.refusals.specs.Refusals.{narrow};
 ghost use Rattle.resultant_service.specs.ResultantService.{ResultantAnswer};
 ghost use Rattle.reduced_service.specs.ReducedService.{ReducedAnswer};
 ghost use Rattle.polynomial_product.specs.ProductService.{ProductAnswer};
+ghost use mathlib.Core.List.{[], _∷_};
+ghost use Rattle.shares.specs.SharesService.{SharesAnswer};
 use refusals::Answer;
+use shares::Plan;
 
 // The resultant of f and g modulo n, in the sent degrees.
 #[no_mangle]
@@ -43,4 +47,18 @@ pub extern "C" fn jingcobu_product(n: u32, f: &[u32], g: &[u32], out: &mut [u32]
         (r .value) (r .status) ⌝ }
 {
     polynomial_product::product(n, f, g, out)
+}
+
+// How many jobs of each of four groups go into a run of frames.
+#[no_mangle]
+pub extern "C" fn jingcobu_shares(
+    frames: u32,
+    waiting1: u32,
+    waiting2: u32,
+    waiting3: u32,
+    waiting4: u32,
+) -> Plan
+    ensures { λ r. ⌜ SharesAnswer frames (waiting1 ∷ waiting2 ∷ waiting3 ∷ waiting4 ∷ []) (r .share) (r .status) ⌝ }
+{
+    shares::shares(frames, waiting1, waiting2, waiting3, waiting4)
 }

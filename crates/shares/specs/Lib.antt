@@ -1,0 +1,4 @@
+pub mod GivingOut
+pub mod SharesService
+pub mod GivingLaws
+pub mod ShareLaws
