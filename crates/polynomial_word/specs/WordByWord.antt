@@ -124,7 +124,7 @@ words-whole ks x w r all =
 calls-replace : {W : Width} {n : ℕ} {f g ks out out' : List ℕ} → WordCalls W n f g ks out out' → (s : ℕ)
     → s ≡ product-status W n f g (length out) → out' ≡ words-replaced s ks (product n f g) out
 calls-replace none s e = refl
-calls-replace {W} {n} {f} {g} (call {k} {value} {t} {ks} {out} {mid} {out'} a rest) s e =
+calls-replace {W} {n} {f} {g} (call {k = k} {status = t} {ks = ks} {out = out} {mid = mid} a rest) s e =
     let same : t ≡ s = a .status-is ∙ sym e in
     let now : mid ≡ word-replaced s k (product n f g) out = a .out-is ∙ ap (λ (u : ℕ). word-replaced u k (product n f g) out) same in
     let long : length mid ≡ length out = ap length now ∙ word-length s k (product n f g) out in
