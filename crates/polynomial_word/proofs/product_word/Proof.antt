@@ -28,7 +28,10 @@ returns-2 : tie.Need-returns-2
 returns-2 c = let if1 = c .before in
     let rp = if1 .before in
     let s = rp .before .before .before .before .args in
-    word-above (s .n) _ (s .f .now) (s .g .now) (s .k) (s .out .now) (rp .refusal-product .ensures) (if1 .if1 .left) _ refl (omega arith)
+    let a = product-accepted narrow (s .n) _ (s .f .now) (s .g .now) (length (s .out .now)) (rp .refusal-product .ensures)
+        (if1 .if1 .left) in
+    word-above (s .n) _ (s .f .now) (s .g .now) (s .k) (s .out .now) (rp .refusal-product .ensures) (if1 .if1 .left) _ refl
+    (omega (arith, a .room))
 
 product-word-requires : tie.Need-product-word-requires
 product-word-requires c κs = let if1 = c .before in
