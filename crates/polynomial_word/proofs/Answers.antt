@@ -3,7 +3,7 @@
 --   word-refused     a refusal of the product
 --   word-above       k above d + e
 --   word-done        word k is made
-use mathlib.Core.Path.{_≡_, refl, sym, ap, ap₂, subst, _∙_}
+use mathlib.Core.Path.{_≡_, refl, sym, ap, subst, _∙_}
 use mathlib.Core.Bool.{Bool, cond}
 use mathlib.Core.List.{List}
 use Prim.Native.Nat.{ℕ, zero, suc, _+_, _-_, _%_, _≤_, _<_}
@@ -39,8 +39,8 @@ module _ (n s : ℕ) (f g : List ℕ) (k : ℕ) (out : List ℕ) (is : s ≡ pro
       → ProductWordAnswer narrow n f g k out (set out k v) 0 0
   word-done z m e h v is-v =
       let word : v ≡ coef (product n f g) k = is-v
-          ∙ sym (coef-tabulate (suc (deg f + deg g)) (λ (i : ℕ). convolve (coef f) (coef g) i % n) k
-          (subst (λ (x : ℕ). k < x) (e ∙ product-length f g) h)) in
+      ∙ sym (coef-tabulate (suc (deg f + deg g)) (λ (i : ℕ). convolve (coef f) (coef g) i % n) k
+      (subst (λ (x : ℕ). k < x) (e ∙ product-length f g) h)) in
       record {
         status-is = sym z ∙ is;
         value-is = refl;

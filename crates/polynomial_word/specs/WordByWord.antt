@@ -52,7 +52,8 @@ made : (k : ℕ) (x w : List ℕ) → k < length x → length x ≤ length w →
 made k x w l r =
     ap (λ (t : Bool). coef (cond t (set w k (coef x k)) w) k) (lt-ltb k (length x) l) ∙ getD-set-same w k (coef x k) 0 (omega arith)
 
-kept : (k : ℕ) (x w : List ℕ) (i : ℕ) → length x ≤ length w → i < length x → coef w i ≡ coef x i → coef (word-replaced 0 k x w) i ≡ coef x i
+kept : (k : ℕ) (x w : List ℕ) (i : ℕ) → length x ≤ length w → i < length x → coef w i ≡ coef x i
+    → coef (word-replaced 0 k x w) i ≡ coef x i
 kept k x w i r l h = pick (ℕ-discrete i k)
   where
     go : (i ≡ k → ⊥) → (t : Bool) → coef (cond t (set w k (coef x k)) w) i ≡ coef x i
@@ -77,7 +78,8 @@ words-length : (s : ℕ) (ks x w : List ℕ) → length (words-replaced s ks x w
 words-length s [] x w = refl
 words-length s (k ∷ ks) x w = words-length s ks x (word-replaced s k x w) ∙ word-length s k x w
 
-words-kept : (ks x w : List ℕ) (i : ℕ) → length x ≤ length w → i < length x → coef w i ≡ coef x i → coef (words-replaced 0 ks x w) i ≡ coef x i
+words-kept : (ks x w : List ℕ) (i : ℕ) → length x ≤ length w → i < length x → coef w i ≡ coef x i
+    → coef (words-replaced 0 ks x w) i ≡ coef x i
 words-kept [] x w i r l h = h
 words-kept (k ∷ ks) x w i r l h =
     words-kept ks x (word-replaced 0 k x w) i (subst (λ (m : ℕ). length x ≤ m) (sym (word-length 0 k x w)) r) l (kept k x w i r l h)
@@ -145,7 +147,7 @@ words-make-product {W} {n} {value} {status} {f} {g} {ks} {out} {out'} {out''} al
     go : (s : ℕ) → s ≡ product-status W n f g (length out) → words-replaced s ks (product n f g) out ≡ replaced s (product n f g) out
     go zero e =
         let c = status-zero (product-refusals W n f g (length out)) (product-conditions W n f g (length out))
-                (product-listed W n f g (length out)) .0 (sym e) in
+        (product-listed W n f g (length out)) .0 (sym e) in
         words-whole ks (product n f g) out (subst (λ (m : ℕ). m ≤ length out) (sym long) (c .1 .1 .1 .1 .1 .1 .0))
         (λ i l. all i (at-most i (deg f + deg g) (subst (λ (m : ℕ). i < m) long l)))
       where

@@ -29,7 +29,7 @@ returns-2 c = let if1 = c .before in
     let rp = if1 .before in
     let s = rp .before .before .before .before .args in
     let a = product-accepted narrow (s .n) _ (s .f .now) (s .g .now) (length (s .out .now)) (rp .refusal-product .ensures)
-        (if1 .if1 .left) in
+    (if1 .if1 .left) in
     word-above (s .n) _ (s .f .now) (s .g .now) (s .k) (s .out .now) (rp .refusal-product .ensures) (if1 .if1 .left) _ refl
     (omega (arith, a .room))
 
@@ -38,7 +38,7 @@ product-word-requires c κs = let if1 = c .before in
     let rp = if1 .before in
     let s = rp .before .before .before .before .args in
     let a = product-accepted narrow (s .n) _ (s .f .now) (s .g .now) (length (s .out .now)) (rp .refusal-product .ensures)
-        (if1 .if1 .left) in
+    (if1 .if1 .left) in
     (omega (arith, a .modulus), a .residues)
 
 slice-write-out : tie.Need-slice-write-out
@@ -46,7 +46,7 @@ slice-write-out c = let if1 = c .before .before in
     let rp = if1 .before in
     let s = rp .before .before .before .before .args in
     let a = product-accepted narrow (s .n) _ (s .f .now) (s .g .now) (length (s .out .now)) (rp .refusal-product .ensures)
-        (if1 .if1 .left) in
+    (if1 .if1 .left) in
     omega (arith, a .room)
 
 returns-3 : tie.Need-returns-3
