@@ -133,6 +133,15 @@ def product(n, f, g, a):
     return 0, 0
 
 
+def words_apart(n, f, g, a):
+    """The product word by word, for k from 0 to d + e + 2."""
+    for k in range(len(f) + len(g) + 1):
+        s = refusal(n, [f, g], True) or (6 if len(a) < len(f) + len(g) - 1 else 0)
+        if s == 0 and k < len(f) + len(g) - 1:
+            a[k] = sum(f[i] * g[k - i] for i in range(len(f)) if 0 <= k - i < len(g)) % n
+    return 0, s
+
+
 def division(n, f, g, a, b):
     s = refusal(n, [f, g])
     if s:
@@ -206,7 +215,9 @@ def apply(service, n, f, g, a, b, work):
         return unit_times_monic(n, f, a, b, work)
     if service == 3:
         return inverse_service(n, f, a, work)
-    return true_degree(n, f)
+    if service == 4:
+        return true_degree(n, f)
+    return words_apart(n, f, g, a)
 
 
 # ---- the trial
@@ -251,7 +262,7 @@ def length_of(x):
 
 
 def needed(service, n, l, m):
-    if service == 0:
+    if service % 5 == 0:
         return l + m - 1
     if service == 1:
         return max(l - m, 0) + 1
@@ -279,10 +290,10 @@ def trial(service, n, x, h):
 SEEN = {}
 
 
-def line(n):
+def line(n, services):
     out = [n]
-    for service in range(5):
-        x, h = mix(service + 1, n), 0
+    for service in services:
+        x, h = mix(service % 5 + 1, n), 0
         for _ in range(40):
             x, h, s = trial(service, n, x, h)
             SEEN[(service, s)] = SEEN.get((service, s), 0) + 1
@@ -309,8 +320,9 @@ def main():
     example(4, 5, [0, 0, 0], [1], 0, 0, 0)
     for l in (49, 50):
         example(0, 4294967295, [4294967294] * l, [2], 64, 0, 0)
-    for n in (4, 8, 12, 36, 2 ** 31, 3 ** 20, 2 ** 32 - 1):
-        line(n)
+    for services in (range(5), [5]):
+        for n in (4, 8, 12, 36, 2 ** 31, 3 ** 20, 2 ** 32 - 1):
+            line(n, services)
 
 
 if __name__ == '__main__':

@@ -4,12 +4,14 @@
 //   jingcobu_resultant            resultant_service::resultant
 //   jingcobu_reduced_resultant    reduced_service::reduced_resultant
 //   jingcobu_product              polynomial_product::product
+//   jingcobu_product_word         polynomial_word::product_word
 //   jingcobu_shares               shares::shares
 ghost use mathlib.Core.Path.{_≡_};
 ghost use Rattle.refusals.specs.Refusals.{narrow};
 ghost use Rattle.resultant_service.specs.ResultantService.{ResultantAnswer};
 ghost use Rattle.reduced_service.specs.ReducedService.{ReducedAnswer};
 ghost use Rattle.polynomial_product.specs.ProductService.{ProductAnswer};
+ghost use Rattle.polynomial_word.specs.ProductWord.{ProductWordAnswer};
 ghost use mathlib.Core.List.{[], _∷_};
 ghost use Rattle.shares.specs.SharesService.{SharesAnswer};
 use refusals::Answer;
@@ -47,6 +49,21 @@ pub extern "C" fn jingcobu_product(n: u32, f: &[u32], g: &[u32], out: &mut [u32]
         (r .value) (r .status) ⌝ }
 {
     polynomial_product::product(n, f, g, out)
+}
+
+// Word k of the product of f and g modulo n, alone, in its place in out.
+#[no_mangle]
+pub extern "C" fn jingcobu_product_word(
+    n: u32,
+    f: &[u32],
+    g: &[u32],
+    out: &mut [u32],
+    k: usize,
+) -> Answer
+    ensures { λ r. ⌜ ProductWordAnswer narrow n (now (f .entry)) (now (g .entry)) k (now (out .entry)) (now (out .exit))
+        (r .value) (r .status) ⌝ }
+{
+    polynomial_word::product_word(n, f, g, out, k)
 }
 
 // How many jobs of each of four groups go into a run of frames.

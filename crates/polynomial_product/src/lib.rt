@@ -1,18 +1,19 @@
 // The product of two polynomials as a service: from any words and lengths an answer, or a numbered refusal. Polynomials are lent words,
 // the constant first.
 //
-//   product         the product, coefficient by coefficient, the constant first
+//   product             the product, coefficient by coefficient, the constant first
+//   refusal_product     the number of the first refusal of a product, which the service of one word has too
 ghost use mathlib.Core.Path.{_≡_};
 ghost use Prim.Native.Nat.{ℕ, _%_, _≤_};
 ghost use lib.ListN.{length};
 ghost use Rattle.definitions.specs.Polynomials.{coef, convolve, tabulate, Residues};
-ghost use Rattle.refusals.specs.Refusals.{narrow, first-refusal};
-ghost use Rattle.polynomial_product.specs.ProductService.{product-sent, ProductAnswer};
+ghost use Rattle.refusals.specs.Refusals.{narrow};
+ghost use Rattle.polynomial_product.specs.ProductService.{product-status, ProductAnswer};
 use refusals::Answer;
 
-// Refusals 1, 2 and 3 of a product; 0 where none applies.
-fn refusal_product(n: u32, f: &[u32], g: &[u32]) -> u32
-    ensures { λ r. ⌜ r ≡ first-refusal (product-sent narrow n (now (f .entry)) (now (g .entry))) ⌝ }
+// Refusals 1, 2, 3 and 6 of a product, l the length of the result buffer; 0 where none applies.
+pub fn refusal_product(n: u32, f: &[u32], g: &[u32], l: usize) -> u32
+    ensures { λ r. ⌜ r ≡ product-status narrow n (now (f .entry)) (now (g .entry)) l ⌝ }
 {
     if refusals::bad_modulus(n) {
         return 1;
@@ -23,19 +24,23 @@ fn refusal_product(n: u32, f: &[u32], g: &[u32]) -> u32
     if refusals::bad_length(g) {
         return 2;
     }
-    if 48 < (f.len() - 1) + (g.len() - 1) {
+    let sum = (f.len() - 1) + (g.len() - 1);
+    if 48 < sum {
         return 2;
     }
     if !refusals::all_below(n, f) {
         return 3;
     }
-    if refusals::all_below(n, g) {
-        return 0;
+    if !refusals::all_below(n, g) {
+        return 3;
     }
-    3
+    if l < sum + 1 {
+        return 6;
+    }
+    0
 }
 
-// The words of the product of f and g, into as many words of out as there are.
+// The words of the product of f and g, into as many words of out as there are: each is finished before the next is begun.
 fn product_words(n: u32, f: &[u32], g: &[u32], out: &mut [u32])
     requires { ⌜ (1 ≤ n) × Residues n (now g) ⌝ }
     ensures { λ _. ⌜ now (out .exit) ≡ tabulate (length (now (out .entry)))
@@ -53,7 +58,8 @@ pub fn product(n: u32, f: &[u32], g: &[u32], out: &mut [u32]) -> Answer
     ensures { λ r. ⌜ ProductAnswer narrow n (now (f .entry)) (now (g .entry)) (now (out .entry)) (now (out .exit))
         (r .value) (r .status) ⌝ }
 {
-    let s = refusal_product(n, f, g);
+    let l = out.len();
+    let s = refusal_product(n, f, g, l);
     if s != 0 {
         return Answer {
             value: 0,
@@ -61,13 +67,6 @@ pub fn product(n: u32, f: &[u32], g: &[u32], out: &mut [u32]) -> Answer
         };
     }
     let m = (f.len() - 1) + (g.len() - 1) + 1;
-    let l = out.len();
-    if l < m {
-        return Answer {
-            value: 0,
-            status: 6,
-        };
-    }
     product_words(n, f, g, &mut out[0..m]);
     Answer {
         value: 0,

@@ -4,7 +4,8 @@
 // First the worked examples of document 01 and the ends of the range, in full: the answer, then the words. Then a line for each of
 // seven moduli full of zero divisors: n, and for each service a checksum of its answers to 40 drawn pairs and of every lent word.
 // Results are lent one word too few, as many as needed, or more; some polynomials are too long or hold a word that is no residue;
-// some working buffers are one word too short.
+// some working buffers are one word too short. Last a line for each modulus in which the product of the same pairs is made word by word:
+// its checksum is the product's.
 ghost use mathlib.Core.Path.{_≡_};
 ghost use Prim.Native.Nat.{_≤_};
 ghost use lib.ListN.{length};
@@ -140,7 +141,7 @@ fn needed(service: u32, n: u32, l: usize, m: usize) -> usize
     requires { ⌜ Lengths l m ⌝ }
     ensures { λ r. ⌜ (1 ≤ r) × (r ≤ 2000) ⌝ }
 {
-    if service == 0 {
+    if service % 5 == 0 {
         return l + m - 1;
     }
     if service == 1 {
@@ -159,7 +160,17 @@ fn needed(service: u32, n: u32, l: usize, m: usize) -> usize
     (k as usize) * (l - 1) + 1
 }
 
-// The services by their place in the line. After the true degree comes the leading part.
+// The product word by word, for k from 0 to d + e + 2: the answer to the last.
+fn words_apart(n: u32, f: &[u32], g: &[u32], a: &mut [u32]) -> Answer {
+    let mut k: usize = 0;
+    while k < f.len() + g.len() {
+        polynomial_word::product_word(n, f, g, a, k);
+        k += 1;
+    }
+    polynomial_word::product_word(n, f, g, a, k)
+}
+
+// The services by their place in the line. After the true degree comes the leading part. 5 is the product word by word.
 fn apply(
     service: u32,
     n: u32,
@@ -181,7 +192,10 @@ fn apply(
     if service == 3 {
         return polynomial_inverse::inverse(n, f, a, work);
     }
-    polynomial_degree::true_degree(n, f)
+    if service == 4 {
+        return polynomial_degree::true_degree(n, f);
+    }
+    words_apart(n, f, g, a)
 }
 
 // The answer and every lent word join the checksum; cut words are lent for the first result, and end working words.
@@ -294,7 +308,7 @@ fn working_words() -> [u32; 8192]
     [0; 8192]
 }
 
-// 40 cases of one service.
+// 40 cases of one service. The product word by word has the product's pairs.
 fn cases(
     service: u32,
     n: u32,
@@ -304,9 +318,9 @@ fn cases(
     b: &mut [u32],
     work: &mut [u32],
 ) -> u32
-    requires { ⌜ (1 ≤ n) × ((service ≤ 4) × Rooms (length (now f)) (length (now g)) (length (now a)) (length (now work))) ⌝ }
+    requires { ⌜ (1 ≤ n) × ((service ≤ 5) × Rooms (length (now f)) (length (now g)) (length (now a)) (length (now work))) ⌝ }
 {
-    let mut x = mix(service + 1, n);
+    let mut x = mix(service % 5 + 1, n);
     let mut h: u32 = 0;
     let mut i: u32 = 0;
     while i < 40 {
@@ -319,7 +333,7 @@ fn cases(
 }
 
 fn next_service(service: u32, n: u32)
-    requires { ⌜ (1 ≤ n) × (service ≤ 4) ⌝ }
+    requires { ⌜ (1 ≤ n) × (service ≤ 5) ⌝ }
 {
     let mut f = few();
     let mut g = few();
@@ -346,6 +360,14 @@ fn modulus_line(n: u32)
     next_service(2, n);
     next_service(3, n);
     next_service(4, n);
+    end_line();
+}
+
+fn words_line(n: u32)
+    requires { ⌜ 1 ≤ n ⌝ }
+{
+    number(n);
+    next_service(5, n);
     end_line();
 }
 
@@ -424,4 +446,11 @@ fn main() {
     modulus_line(2147483648);
     modulus_line(3486784401);
     modulus_line(4294967295);
+    words_line(4);
+    words_line(8);
+    words_line(12);
+    words_line(36);
+    words_line(2147483648);
+    words_line(3486784401);
+    words_line(4294967295);
 }

@@ -1,7 +1,7 @@
 use native.Mathlib.Omega.{arith}
 use borrow.Author.Tests.{not-true, not-false}
 use mathlib.Core.Path.{refl, sym, _∙_}
-use Rattle.polynomial_product.proofs.Answers.{some-word, degrees-over, degrees-within}
+use Rattle.polynomial_product.proofs.Answers.{some-word, degrees-over, degrees-within, lacks-room, has-room}
 use borrow.Author.Needs.{needs}
 use Rattle.polynomial_product.proofs.refusal_product.Statement.{statement}
 use Rattle.polynomial_product.proofs.refusal_product.Tie as tie
@@ -31,8 +31,8 @@ returns-3 c = let if3 = c in
       sym (bl2 .bad-length2 .ensures) ∙ if3 .if3 .taken,
     ) refl
 
-sub-if4 : tie.Need-sub-if4
-sub-if4 c = let if3 = c in
+sub-sum : tie.Need-sub-sum
+sub-sum c = let if3 = c in
     let bl2 = if3 .before in
     let if2 = bl2 .before in
     let bl = if2 .before in
@@ -41,8 +41,8 @@ sub-if4 c = let if3 = c in
     let s = bm .before .before .before .args in
     some-word (s .f .now) (sym (bl .bad-length .ensures) ∙ if2 .if2 .left)
 
-sub-if4-2 : tie.Need-sub-if4-2
-sub-if4-2 c = let if3 = c in
+sub-sum-2 : tie.Need-sub-sum-2
+sub-sum-2 c = let if3 = c in
     let bl2 = if3 .before in
     let if2 = bl2 .before in
     let bl = if2 .before in
@@ -105,11 +105,12 @@ returns-6 c = let if6 = c in
       sym (bl2 .bad-length2 .ensures) ∙ if3 .if3 .left,
       degrees-within (s .f .now) (s .g .now) (omega arith),
       sym (ab .all-below .ensures) ∙ not-false _ (if5 .if5 .left),
-      sym (ab2 .all-below2 .ensures) ∙ if6 .if6 .taken,
+      sym (ab2 .all-below2 .ensures) ∙ not-true _ (if6 .if6 .taken),
     ) refl
 
 returns-7 : tie.Need-returns-7
-returns-7 c = let if6 = c in
+returns-7 c = let if7 = c in
+    let if6 = if7 .before in
     let ab2 = if6 .before in
     let if5 = ab2 .before in
     let ab = if5 .before in
@@ -127,7 +128,32 @@ returns-7 c = let if6 = c in
       sym (bl2 .bad-length2 .ensures) ∙ if3 .if3 .left,
       degrees-within (s .f .now) (s .g .now) (omega arith),
       sym (ab .all-below .ensures) ∙ not-false _ (if5 .if5 .left),
-      sym (ab2 .all-below2 .ensures) ∙ if6 .if6 .left,
+      sym (ab2 .all-below2 .ensures) ∙ not-false _ (if6 .if6 .left),
+      lacks-room (s .l) (s .f .now) (s .g .now) (omega arith),
+    ) refl
+
+returns-8 : tie.Need-returns-8
+returns-8 c = let if7 = c in
+    let if6 = if7 .before in
+    let ab2 = if6 .before in
+    let if5 = ab2 .before in
+    let ab = if5 .before in
+    let if4 = ab .before in
+    let if3 = if4 .before in
+    let bl2 = if3 .before in
+    let if2 = bl2 .before in
+    let bl = if2 .before in
+    let if1 = bl .before in
+    let bm = if1 .before in
+    let s = bm .before .before .before .args in
+    simp (
+      sym (bm .bad-modulus .ensures) ∙ if1 .if1 .left,
+      sym (bl .bad-length .ensures) ∙ if2 .if2 .left,
+      sym (bl2 .bad-length2 .ensures) ∙ if3 .if3 .left,
+      degrees-within (s .f .now) (s .g .now) (omega arith),
+      sym (ab .all-below .ensures) ∙ not-false _ (if5 .if5 .left),
+      sym (ab2 .all-below2 .ensures) ∙ not-false _ (if6 .if6 .left),
+      has-room (s .l) (s .f .now) (s .g .now) (omega arith),
     ) refl
 
 pub refusal-product-spec : {M : Type 1} → statement M
@@ -140,12 +166,14 @@ refusal-product-spec =
     returns-2
     (λ c κs. search needs)
     returns-3
-    sub-if4
-    sub-if4-2
+    sub-sum
+    sub-sum-2
     (λ c. search needs)
     returns-4
     (λ c κs. search needs)
     returns-5
     (λ c κs. search needs)
     returns-6
-    returns-7)
+    (λ c. search needs)
+    returns-7
+    returns-8)

@@ -1,0 +1,2 @@
+pub mod ProductWord
+pub mod WordByWord
