@@ -1,7 +1,7 @@
 #!/usr/bin/env python3
 """The trial of the frame program: writes crates/desk/stdin and crates/desk/stdout.
 
-The answers are worked out here from document 01 alone: a resultant is an integer determinant by Bareiss's elimination, reduced
+The answers are worked out here from document 01 and, for refusal 10, document 02, W5: a resultant is an integer determinant by Bareiss's elimination, reduced
 modulo n; D is the generator of the constants in the span of the shifts of f and g over Z/n, by elimination with row operations
 (small degrees), or 1 where the resultant is a unit. Needs nothing beyond Python's own library; the gate does not run it.
 """
@@ -84,6 +84,8 @@ def status(n, f, g):
         return 2
     if any(x >= n for p in (f, g) for x in p):
         return 3
+    if any(p[-1] == 0 for p in (f, g)):
+        return 10
     return 0
 
 
@@ -108,6 +110,13 @@ def frame(kind, n, f, g):
 
 def both(n, f, g):
     return [frame(1, n, f, g), frame(2, n, f, g)]
+
+
+def cut(p):
+    """p in its true degree."""
+    while len(p) > 1 and p[-1] == 0:
+        p = p[:-1]
+    return p
 
 
 def lines():
@@ -180,6 +189,7 @@ def lines():
     out.append(frame(1, 12, [1] * 98, [1]))
     out.append(frame(1, 12, [1] * 256, [1]))
     # drawn pairs: zero divisors, zero tops, zero polynomials
+    meant = []
     for n in (2, 3, 4, 6, 8, 9, 12, 16, 30, 36, 60, 64, 72, 97, 180, 210, 1024, 2310, 65536):
         for _ in range(3):
             f, g = [[draw.randrange(n) for _ in range(draw.randrange(1, 6))] for _ in range(2)]
@@ -190,6 +200,48 @@ def lines():
                 if draw.randrange(3) == 0:
                     p[-1] = 0
             out += both(n, f, g)
+            if any(p[-1] == 0 for p in (f, g)):
+                meant += both(n, cut(f), cut(g))
+    # refusal 10: a zero top in f, in g, in both; refusals 1, 2 and 3 come before it
+    for n, f, g in (
+        (7, [1, 1, 0], [2, 1]),
+        (7, [1, 1], [2, 1, 0]),
+        (7, [1, 0], [2, 0]),
+        (7, [1, 1, 0, 0, 0], [2, 1, 0, 0]),
+        (4294967295, [4294967294, 0], [1]),
+        # beside a word that is n or more
+        (7, [1, 7, 0], [2, 1]),
+        (7, [1, 0], [9, 1]),
+        (7, [7, 1], [2, 0]),
+        (7, [1, 0], [2, 7]),
+        (7, [1, 7], [2, 0]),
+        # beside n = 0 and n = 1
+        (1, [0, 0], [0, 0]),
+        (1, [1, 0], [1]),
+        (0, [1], [1, 0]),
+        # beside 50 words, and in the last of 49
+        (5, [1] * 49 + [0], [1, 1]),
+        (5, [1, 0], [1] * 50),
+        (5, [1] * 49 + [0], [7, 0]),
+        (5, [1] * 48 + [0], [1, 1]),
+        (5, [1, 1], [1] * 48 + [0]),
+        (5, [0] * 49, [0] * 49),
+        # the single word 0
+        (6, [0], [1]),
+        (6, [5], [0]),
+        (6, [0], [0]),
+        (6, [0], [1, 1]),
+        (6, [1, 1], [0]),
+        # zeros below the top are answered
+        (6, [0, 1], [0, 1]),
+        (6, [0, 0, 0, 5], [1, 0, 5]),
+        (6, [1, 0, 0, 2], [3]),
+        (5, [0] * 48 + [1], [2] + [0] * 47 + [1]),
+        (2, [1, 0] * 24 + [1], [1, 1, 0] * 16 + [1]),
+    ):
+        out += both(n, f, g)
+    # the drawn pairs with a zero top in their true degrees
+    out += meant
     # the last line has no newline
     out.append(frame(2, 6, [5, 0, 1], [3, 1]))
     return out

@@ -2,4 +2,5 @@ pub mod Heads
 pub mod Putting
 pub mod WordsRead
 pub mod Answering
+pub mod Refusing
 pub mod Serving

@@ -1,5 +1,5 @@
--- What the services answer to a frame's job: the buffers are long enough, so that refusals 6 and 7 cannot come.
-use mathlib.Core.Path.{_≡_, refl, sym, ap, ap₂, _∙_, subst}
+-- The outcome of a frame's job: refused, or answered by a service. The buffers are long enough, so that refusals 6 and 7 cannot come.
+use mathlib.Core.Path.{_≡_, refl, sym, ap₂, _∙_, subst}
 use mathlib.Core.Bool.{Bool}
 use mathlib.Core.List.{List, [], _∷_, _++_}
 use Prim.Native.Nat.{ℕ, zero, suc, max, pred, _+_, _-_, _^_, _<_, _≤_}
@@ -12,19 +12,27 @@ use Rattle.definitions.specs.Resultants.{resultant, Reduced}
 use Rattle.numbers.specs.Logarithm.{K-below}
 use Rattle.refusals.specs.Refusals.{narrow, Tested, short, first-of, first-refusal, refusals-two, answered}
 use Rattle.refusals.specs.Conditions.{Accepted, accepted-two}
-use Rattle.refusals.proofs.Statuses.{first-append, long-enough}
+use Rattle.refusals.proofs.Statuses.{first-append, passed-on, long-enough, left-refused}
 use Rattle.resultant_service.specs.ResultantService.{ResultantAnswer}
 use Rattle.reduced_service.specs.ReducedService.{reduced-status, ReducedAnswer, ReducedLeft}
-use Rattle.frames.specs.Frames.{Value, Served}
+use Rattle.frames.specs.Frames.{top-refusals, job-refusals, Value, Served}
 use Rattle.frames.proofs.Answering.{first-handed, second-handed}
 
--- refusals that cannot come where those before them do not
-first-all : (a b : List Tested) → (first-refusal a ≡ 0 → first-refusal b ≡ 0) → first-refusal (a ++ b) ≡ first-refusal a
-first-all a b h = first-append a b ∙ go (first-refusal a) (first-refusal b) h
+-- a list of refusals of which none applies: none of its first part does
+front-passes : (a b : List Tested) → first-refusal (a ++ b) ≡ 0 → first-refusal a ≡ 0
+front-passes a b z = go (first-refusal a) (first-refusal b) (sym (first-append a b) ∙ z)
   where
-    go : (x y : ℕ) → (x ≡ 0 → y ≡ 0) → first-of x y ≡ x
-    go zero y h = h refl
-    go (suc x) y h = refl
+    go : (x y : ℕ) → first-of x y ≡ 0 → x ≡ 0
+    go zero y h = refl
+    go (suc x) y h = h
+
+-- where a job is not refused, a service that tests 1, 2 and 3 and then only what cannot come answers
+same-status : (n : ℕ) (f g : List ℕ) (later : List Tested) (r : ℕ) → first-refusal (job-refusals n f g) ≡ 0
+    → (first-refusal (refusals-two narrow n f g) ≡ 0 → first-refusal later ≡ 0) → r ≡ first-refusal (refusals-two narrow n f g ++ later)
+    → r ≡ first-refusal (job-refusals n f g)
+same-status n f g later r z h e =
+    let p = front-passes (refusals-two narrow n f g) (top-refusals f g) z in
+    e ∙ sym (passed-on (refusals-two narrow n f g) later 0 0 (sym p) refl (sym (h p))) ∙ sym z
 
 -- a working buffer that is long enough
 enough-work : (l : ℕ) → 8192 ≤ l → first-refusal ((7, short l 8192) ∷ []) ≡ 0
@@ -34,12 +42,13 @@ value-known : (s x v : ℕ) → v ≡ answered s x → (s ≡ 0 → v ≡ x) × 
 value-known zero x v e = ((λ _. e), λ n. absurd (n refl))
 value-known (suc s) x v e = ((λ h. absurd (omega arith)), λ _. e)
 
-resultant-served : {n v r : ℕ} {f g w w' : List ℕ} → 8192 ≤ length w → ResultantAnswer narrow n f g w w' v r → Served 1 n f g r v w w'
-resultant-served {n} {v} {r} {f} {g} {w} l a =
+resultant-served : {n v r : ℕ} {f g w w' : List ℕ} → first-refusal (job-refusals n f g) ≡ 0 → 8192 ≤ length w
+    → ResultantAnswer narrow n f g w w' v r → Served 1 n f g r v w w'
+resultant-served {n} {v} {r} {f} {g} {w} z l a =
     let k = value-known r (resultant n f g) v (a .value-is) in
     record {
       outcome = record {
-        status = a .status-is ∙ first-all (refusals-two narrow n f g) ((7, short (length w) 8192) ∷ []) (λ _. enough-work (length w) l);
+        status = same-status n f g ((7, short (length w) 8192) ∷ []) r z (λ _. enough-work (length w) l) (a .status-is);
         value = k .0;
         refused = k .1;
       };
@@ -79,38 +88,52 @@ value-reduced zero n f g v h l r = absurd (omega arith)
 value-reduced (suc zero) n f g v h l r = absurd (h refl)
 value-reduced (suc (suc k)) n f g v h l r = r
 
-reduced-served : {k n x r : ℕ} {f g u u' v v' w w' : List ℕ} → (k ≡ 1 → ⊥) → 1 ≤ k → n < 2 ^ 32 → length u ≡ 1489 → length v ≡ 1489
+reduced-served : {k n x r : ℕ} {f g u u' v v' w w' : List ℕ} → first-refusal (job-refusals n f g) ≡ 0 → (k ≡ 1 → ⊥) → 1 ≤ k → n < 2 ^ 32 → length u ≡ 1489 → length v ≡ 1489
     → 8192 ≤ length w → ReducedAnswer narrow n f g u u' v v' w w' x r → Served k n f g r x w w'
-reduced-served {k} {n} {x} {r} {f} {g} {u} {u'} {v} {v'} {w} one some small lu lv l a =
+reduced-served {k} {n} {x} {r} {f} {g} {u} {u'} {v} {v'} {w} z one some small lu lv l a =
     let q = result-known r n f g u u' v v' x (a .result) in
     record {
       outcome = record {
-        status =
-            a .status-is
-            ∙ ap₂ (λ (y z : ℕ). reduced-status narrow n f g y z (length w)) lu lv
-            ∙ first-all (refusals-two narrow n f g) (later n f g (length w)) (nothing-short n f g (length w) small l);
-        value = λ z. value-reduced k n f g x one some (q .0 z);
+        status = same-status n f g (later n f g (length w)) r z (nothing-short n f g (length w) small l)
+            (a .status-is ∙ ap₂ (λ (y y' : ℕ). reduced-status narrow n f g y y' (length w)) lu lv);
+        value = λ h. value-reduced k n f g x one some (q .0 h);
         refused = q .1;
       };
       work = a .work-is;
     }
 
+-- ---- a refused job
+
+refused-served : {k n r : ℕ} {f g w : List ℕ} → r ≡ first-refusal (job-refusals n f g) → (r ≡ 0 → ⊥) → Served k n f g r 0 w w
+refused-served {r = r} {w = w} e h = record {
+  outcome = record { status = e; value = λ z. absurd (h z); refused = λ _. refl };
+  work = left-refused r w h;
+}
+
 -- ---- the two polynomials as they are handed on: the first d + 1 words, and the part from place d + 1 onward
 
+abbrev first-sent : ℕ → List ℕ → List ℕ
+first-sent d m = take (d + 1 - 0) m
+
+abbrev second-sent : ℕ → List ℕ → List ℕ
+second-sent d m = take (length m - (d + 1)) (drop (d + 1) m)
+
 module _ (k d : ℕ) (m : List ℕ) {n v r : ℕ} {w w' : List ℕ} where
-  handed-on : Served k n (take (d + 1 - 0) m) (take (length m - (d + 1)) (drop (d + 1) m)) r v w w'
-      → Served k n (take (d + 1) m) (drop (d + 1) m) r v w w'
+  handed-on : Served k n (first-sent d m) (second-sent d m) r v w w' → Served k n (take (d + 1) m) (drop (d + 1) m) r v w w'
   handed-on p =
       subst (λ (x : List ℕ × List ℕ). Served k n (x .0) (x .1) r v w w') (λ i. (first-handed (d + 1) m i, second-handed (d + 1) m i)) p
 
-  pub served-resultant : k ≡ 1 → 8192 ≤ length w
-      → ResultantAnswer narrow n (take (d + 1 - 0) m) (take (length m - (d + 1)) (drop (d + 1) m)) w w' v r
-      → Served k n (take (d + 1) m) (drop (d + 1) m) r v w w'
-  served-resultant one l a =
-      handed-on (subst (λ (x : ℕ). Served x n (take (d + 1 - 0) m) (take (length m - (d + 1)) (drop (d + 1) m)) r v w w') (sym one)
-      (resultant-served l a))
+  pub served-resultant : first-refusal (job-refusals n (first-sent d m) (second-sent d m)) ≡ 0 → k ≡ 1 → 8192 ≤ length w
+      → ResultantAnswer narrow n (first-sent d m) (second-sent d m) w w' v r → Served k n (take (d + 1) m) (drop (d + 1) m) r v w w'
+  served-resultant z one l a =
+      handed-on (subst (λ (x : ℕ). Served x n (first-sent d m) (second-sent d m) r v w w') (sym one) (resultant-served z l a))
 
-  pub served-reduced : {u u' x x' : List ℕ} → (k ≡ 1 → ⊥) → 1 ≤ k → n < 2 ^ 32 → length u ≡ 1489 → length x ≡ 1489 → 8192 ≤ length w
-      → ReducedAnswer narrow n (take (d + 1 - 0) m) (take (length m - (d + 1)) (drop (d + 1) m)) u u' x x' w w' v r
-      → Served k n (take (d + 1) m) (drop (d + 1) m) r v w w'
-  served-reduced one some small lu lx l a = handed-on (reduced-served one some small lu lx l a)
+  pub served-reduced : {u u' x x' : List ℕ} → first-refusal (job-refusals n (first-sent d m) (second-sent d m)) ≡ 0 → (k ≡ 1 → ⊥) → 1 ≤ k
+      → n < 2 ^ 32 → length u ≡ 1489 → length x ≡ 1489 → 8192 ≤ length w
+      → ReducedAnswer narrow n (first-sent d m) (second-sent d m) u u' x x' w w' v r → Served k n (take (d + 1) m) (drop (d + 1) m) r v w w'
+  served-reduced z one some small lu lx l a = handed-on (reduced-served z one some small lu lx l a)
+
+pub served-refused : (k d : ℕ) (m : List ℕ) {n r : ℕ} {w : List ℕ}
+    → r ≡ first-refusal (job-refusals n (first-sent d m) (second-sent d m)) → (r ≡ 0 → ⊥)
+    → Served k n (take (d + 1) m) (drop (d + 1) m) r 0 w w
+served-refused k d m e h = handed-on k d m (refused-served e h)

@@ -5,7 +5,8 @@
 --   words-of k t                                                  k words of eight digits each
 --   first-polynomial s, second-polynomial s                       the polynomials of a frame s
 --   is-frame s                                                    whether s is a frame
---   job-refusals n f g                                            the refusals of a job, in their order
+--   zero-top f                                                    whether the top word of f is 0
+--   top-refusals f g, job-refusals n f g                          refusal 10; the refusals of a job, in their order
 --   Outcome k n f g r v                                           r and v are the status and the value of a job
 --   answer-line k r v                                             the line that says so
 --   AnswerOf s a                                                  a is the answer line of the line s
@@ -15,6 +16,7 @@ use mathlib.Core.List.{List, [], _∷_, _++_}
 use Prim.Native.Nat.{ℕ, zero, suc, _+_, _*_}
 use lib.ListN.{length, take, drop}
 use lib.Dec.{leb, eqb}
+use Rattle.definitions.specs.Polynomials.{coef, deg}
 use Rattle.definitions.specs.Resultants.{resultant, Reduced}
 use Rattle.refusals.specs.Refusals.{narrow, Tested, first-refusal, refusals-two, left}
 use Rattle.hexadecimal.specs.Hexadecimal.{all-digits, number-of, digits-of}
@@ -60,9 +62,18 @@ Value zero n f g v = ⊥
 Value (suc zero) n f g v = v ≡ resultant n f g
 Value (suc (suc k)) n f g v = Reduced n f g v
 
--- The refusals 1, 2 and 3, as of the services. A frame's line and the program's buffers leave none of the others.
+-- the top word is that of the sent degree
+abbrev pub zero-top : List ℕ → Bool
+zero-top f = eqb (coef f (deg f)) 0
+
+-- "It refuses with 10 a frame of kind 01 or 02 in which the top word of f or g is zero (the single word 0 included)" (document 02, W5)
+abbrev pub top-refusals : List ℕ → List ℕ → List Tested
+top-refusals f g = (10, zero-top f) ∷ (10, zero-top g) ∷ []
+
+-- The refusals 1, 2 and 3, as of the services, and 10, "tested after 3 and printed as 0a" (document 02, W5). A frame's line and the
+-- program's buffers leave none of the others.
 abbrev pub job-refusals : ℕ → List ℕ → List ℕ → List Tested
-job-refusals n f g = refusals-two narrow n f g
+job-refusals n f g = refusals-two narrow n f g ++ top-refusals f g
 
 -- "Each returns its number and value 0".
 pub record Outcome (k n : ℕ) (f g : List ℕ) (r v : ℕ) : Type 0 where

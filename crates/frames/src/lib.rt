@@ -1,9 +1,10 @@
-// From a line's characters to its answer line (document 01, "Job frames").
+// From a line's characters to its answer line (document 01, "Job frames"; refusal 10 is of document 02, W5).
 ghost use mathlib.Core.Path.{_≡_};
 ghost use mathlib.Core.List.{_++_};
 ghost use Prim.Native.Nat.{_+_, _*_, _≤_};
 ghost use lib.ListN.{length, take, drop};
-ghost use Rattle.frames.specs.Frames.{answer-line, Served, Wrote};
+ghost use Rattle.refusals.specs.Refusals.{first-refusal};
+ghost use Rattle.frames.specs.Frames.{zero-top, top-refusals, job-refusals, answer-line, Served, Wrote};
 ghost use Rattle.frames.specs.Heads.{HeadOf, WordsRead};
 use hexadecimal::Reading;
 use refusals::Answer;
@@ -93,6 +94,41 @@ fn cofactor_words() -> [u32; 1489]
     [0; 1489]
 }
 
+// Whether the top word of f is 0. Where there is none, refusal 2 has come before.
+fn zero_top(f: &[u32]) -> bool
+    ensures { λ r. ⌜ r ≡ zero-top (now (f .entry)) ⌝ }
+{
+    if f.len() == 0 {
+        return true;
+    }
+    let top = f.len() - 1;
+    f[top] == 0
+}
+
+// Refusal 10 of two polynomials; 0 where it does not apply.
+fn top_refusal(f: &[u32], g: &[u32]) -> u32
+    ensures { λ r. ⌜ r ≡ first-refusal (top-refusals (now (f .entry)) (now (g .entry))) ⌝ }
+{
+    if !zero_top(f) {
+        if !zero_top(g) {
+            return 0;
+        }
+    }
+    10
+}
+
+// Refusals 1, 2, 3 and 10 of a job, in this order; 0 where none applies.
+fn job_refusal(n: u32, f: &[u32], g: &[u32]) -> u32
+    ensures { λ r. ⌜ r ≡ first-refusal (job-refusals n (now (f .entry)) (now (g .entry))) ⌝ }
+{
+    let early = refusals::refusal_two(n, f, g);
+    let late = top_refusal(f, g);
+    if early != 0 {
+        return early;
+    }
+    late
+}
+
 // Serves the job of a frame's words: the first polynomial is the first d + 1 of them, the second is the part from place d + 1
 // onward. The cofactors of D are not asked for.
 fn serve(kind: u32, n: u32, words: &[u32], d: usize, work: &mut [u32]) -> Answer
@@ -102,6 +138,10 @@ fn serve(kind: u32, n: u32, words: &[u32], d: usize, work: &mut [u32]) -> Answer
 {
     let f = &words[0..d + 1];
     let g = &words[d + 1..];
+    let status = job_refusal(n, f, g);
+    if status != 0 {
+        return Answer { value: 0, status };
+    }
     if kind == 1 {
         return resultant_service::resultant(n, f, g, work);
     }
