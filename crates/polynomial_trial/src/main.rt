@@ -10,6 +10,7 @@ ghost use Prim.Native.Nat.{_≤_};
 ghost use lib.ListN.{length};
 ghost use Rattle.polynomial_trial.specs.Sizes.{Lengths, Rooms};
 use refusals::Answer;
+use polynomial_degree::Degree;
 
 // ---- writing
 
@@ -159,6 +160,24 @@ fn needed(service: u32, n: u32, l: usize, m: usize) -> usize
     (k as usize) * (l - 1) + 1
 }
 
+// The true degree as a number; 4294967295, which no degree is, stands for none.
+fn degree(n: u32, f: &[u32]) -> Answer {
+    match polynomial_degree::true_degree(n, f) {
+        Degree::None => Answer {
+            value: 4294967295,
+            status: 0,
+        },
+        Degree::At(k) => Answer {
+            value: k,
+            status: 0,
+        },
+        Degree::Refused(s) => Answer {
+            value: 0,
+            status: s,
+        },
+    }
+}
+
 // The services by their place in the line. After the true degree comes the leading part.
 fn apply(
     service: u32,
@@ -181,7 +200,7 @@ fn apply(
     if service == 3 {
         return polynomial_inverse::inverse(n, f, a, work);
     }
-    polynomial_degree::true_degree(n, f)
+    degree(n, f)
 }
 
 // The answer and every lent word join the checksum; cut words are lent for the first result, and end working words.
