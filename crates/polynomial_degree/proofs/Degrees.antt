@@ -44,16 +44,15 @@ module _ (n s : ℕ) (f : List ℕ) (is : s ≡ degree-status narrow n f) where
 -- ---- the words of an answer, and the leading part
 
 module _ (n : ℕ) (f : List ℕ) (r : Degree) (a : TrueDegreeAnswer narrow n f r) where
-  pub words-answered : (some degree status : ℕ) → some ≡ degree-some r → degree ≡ degree-value r → status ≡ degree-number r
-      → DegreeWordsAnswer narrow n f some degree status
-  words-answered some degree status p q z = record {
-    status-is = z ∙ a .status-is;
-    some-is = p ∙ ap degree-some (a .case-is ∙ same);
-    degree-is = q ∙ ap degree-value (a .case-is ∙ same);
+  pub words-answered : (d : Degree) → r ≡ d → DegreeWordsAnswer narrow n f (degree-some d) (degree-value d) (degree-number d)
+  words-answered d e = record {
+    status-is = ap degree-number (sym e) ∙ a .status-is;
+    some-is = ap degree-some same;
+    degree-is = ap degree-value same;
   }
     where
-      same : told (degree-number r) (true-degree f) ≡ told status (true-degree f)
-      same = ap (λ (x : ℕ). told x (true-degree f)) (sym z)
+      same : d ≡ told (degree-number d) (true-degree f)
+      same = sym e ∙ a .case-is ∙ ap (λ (x : Degree). told (degree-number x) (true-degree f)) e
 
   pub part-inside : words-told r ≤ length f
   part-inside = subst (λ (d : Degree). words-told d ≤ length f) (sym (a .case-is)) (go (degree-number r) (extent f) (extent-length f))

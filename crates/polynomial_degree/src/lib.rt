@@ -7,8 +7,7 @@
 ghost use mathlib.Core.Path.{_≡_};
 ghost use Rattle.definitions.specs.Polynomials.{extent};
 ghost use Rattle.refusals.specs.Refusals.{narrow};
-ghost use Rattle.polynomial_degree.specs.DegreeService.{degree-some, degree-value, degree-number, words-told};
-ghost use Rattle.polynomial_degree.specs.DegreeService.{TrueDegreeAnswer, DegreeWordsAnswer, LeadingAnswer};
+ghost use Rattle.polynomial_degree.specs.DegreeService.{words-told, TrueDegreeAnswer, DegreeWordsAnswer, LeadingAnswer};
 
 // None for the zero polynomial, the degree, or the number of the refusal.
 pub enum Degree {
@@ -54,11 +53,11 @@ pub fn true_degree(n: u32, f: &[u32]) -> Degree
     Degree::At((k - 1) as u32)
 }
 
-// Each case in words.
-fn words_of(d: Degree) -> DegreeAnswer
-    ensures { λ r. ⌜ (r .some ≡ degree-some d) × ((r .degree ≡ degree-value d) × (r .status ≡ degree-number d)) ⌝ }
+// The true degree in words: an enum cannot be handed to a host.
+pub fn true_degree_words(n: u32, f: &[u32]) -> DegreeAnswer
+    ensures { λ r. ⌜ DegreeWordsAnswer narrow n (now (f .entry)) (r .some) (r .degree) (r .status) ⌝ }
 {
-    match d {
+    match true_degree(n, f) {
         Degree::None => DegreeAnswer {
             some: 0,
             degree: 0,
@@ -75,13 +74,6 @@ fn words_of(d: Degree) -> DegreeAnswer
             status: s,
         },
     }
-}
-
-// The true degree in words: an enum cannot be handed to a host.
-pub fn true_degree_words(n: u32, f: &[u32]) -> DegreeAnswer
-    ensures { λ r. ⌜ DegreeWordsAnswer narrow n (now (f .entry)) (r .some) (r .degree) (r .status) ⌝ }
-{
-    words_of(true_degree(n, f))
 }
 
 // The number of words up to the degree: none for the zero polynomial and after a refusal.

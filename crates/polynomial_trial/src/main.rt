@@ -9,8 +9,8 @@ ghost use mathlib.Core.Path.{_≡_};
 ghost use Prim.Native.Nat.{_≤_};
 ghost use lib.ListN.{length};
 ghost use Rattle.polynomial_trial.specs.Sizes.{Lengths, Rooms};
-use refusals::Answer;
 use polynomial_degree::Degree;
+use refusals::Answer;
 
 // ---- writing
 
