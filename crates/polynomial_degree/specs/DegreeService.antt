@@ -1,10 +1,11 @@
 -- What the true degree and the leading part answer, over any width W. f is the polynomial sent.
 --
---   degree-refusals, degree-status       the refusals in their order, and the number of the first that applies: of both services
---   degree-number, degree-some, degree-value    the number and the values of each case of the answer
---   told s t                             the case that tells the status s and the true degree t
---   TrueDegreeAnswer, DegreeWordsAnswer, LeadingAnswer    all that is promised of a call
---   degree-listed                        each refusal under its condition and no other
+--   degree-refusals, degree-status               the refusals in their order, and the number of the first that applies: of both services
+--   degree-number, degree-some, degree-value     01's number and values of each case of the answer
+--   told s t                                     the case for the status s and the true degree t
+--   words-told, leading-part                     how many words the leading part has, and the part
+--   TrueDegreeAnswer, DegreeWordsAnswer, LeadingAnswer     all that is promised of a call
+--   degree-listed                                each refusal under its condition and no other
 use mathlib.Core.Path.{_≡_}
 use mathlib.Core.List.{List, []}
 use Prim.Native.Nat.{ℕ, zero, suc, _+_}
@@ -28,7 +29,7 @@ degree-number None = 0
 degree-number (At k) = 0
 degree-number (Refused s) = s
 
--- the values of each case: 1 where there is a degree, and the degree; "Each returns its number and value 0"
+-- the values of each case: 1 where there is a degree, else 0, and the degree; of a refusal, "Each returns its number and value 0"
 abbrev pub degree-some : Degree → ℕ
 degree-some None = 0
 degree-some (At k) = 1
@@ -39,7 +40,7 @@ degree-value None = 0
 degree-value (At k) = k
 degree-value (Refused s) = 0
 
--- the case for each status and true degree
+-- the case for each status and true degree: so a refusal has a number that is not 0, and "none" and "0" are two answers
 abbrev pub told : ℕ → TrueDegree → Degree
 told zero none = None
 told zero (place k) = At k
