@@ -193,17 +193,21 @@ def inverse_service(n, f, a, work):
     return 0, 0
 
 
-def degree(f):
-    return max([k for k, x in enumerate(f) if x] + [0])
+def extent(f):
+    """The number of words up to the highest nonzero one."""
+    return max([k + 1 for k, x in enumerate(f) if x] + [0])
+
+
+NONE = 4294967295
 
 
 def true_degree(n, f):
     s = refusal(n, [f])
-    return (0, s) if s else (degree(f), 0)
+    return (0, s) if s else (extent(f) - 1, 0) if extent(f) else (NONE, 0)
 
 
 def leading(n, f):
-    return [] if refusal(n, [f]) else f[:degree(f) + 1]
+    return [] if refusal(n, [f]) else f[:extent(f)]
 
 
 def apply(service, n, f, g, a, b, work):

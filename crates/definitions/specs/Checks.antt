@@ -2,6 +2,7 @@
 -- document warns of.
 --
 --   convolve-beyond    a product has no words beyond its length
+--   degree-of-zero, degree-of-constant     the zero polynomial has no degree, the constant 5 has degree 0
 --   zero-top           zero top words count in Sylvester's matrix
 --   long-multipliers   multipliers may be longer than e and d words
 --   not-the-gcd        D is not the gcd of the resultant and n
@@ -12,7 +13,7 @@ use native.Mathlib.Decide.{decLt}
 use native.Mathlib.Nat.{mul-zero, zero-mul, eq-one-of-dvd-one}
 use native.Mathlib.Omega.{arith}
 use lib.ListN.{length, List·getD-eq-default}
-use Rattle.definitions.specs.Polynomials.{coef, total, convolve, extent}
+use Rattle.definitions.specs.Polynomials.{coef, total, convolve, extent, none, place, true-degree}
 use Rattle.definitions.specs.Resultants.{determinant, resultant, Reached, Reduced}
 
 total-zero : (n : ℕ) (F : ℕ → ℕ) → ((i : ℕ) → F i ≡ 0) → total n F ≡ 0
@@ -25,6 +26,15 @@ convolve-beyond p q k l = total-zero (suc k) _ (λ i. go i (decLt i (length p)))
     go : (i : ℕ) → Dec (i < length p) → coef p i * coef q (k - i) ≡ 0
     go i (yes h) = ap (λ x. coef p i * x) (List·getD-eq-default q 0 {n = k - i} (omega arith)) ∙ mul-zero (coef p i)
     go i (no h) = ap (λ x. x * coef q (k - i)) (List·getD-eq-default p 0 {n = i} (omega arith)) ∙ zero-mul (coef q (k - i))
+
+-- "a zero polynomial and the constant 5 may no longer both show degree 0" (02, W2)
+degree-of-zero : true-degree (0 ∷ 0 ∷ []) ≡ none
+unfolding extent
+degree-of-zero = refl
+
+degree-of-constant : true-degree (5 ∷ 0 ∷ []) ≡ place 0
+unfolding extent
+degree-of-constant = refl
 
 -- "Zero top words dropped: the row modulo 5 with f = 2,1,0 becomes 4 instead of 1."
 zero-top : resultant 5 (2 ∷ 1 ∷ 0 ∷ []) (1 ∷ 1 ∷ []) ≡ 1

@@ -4,7 +4,8 @@
 --   convolve p q k        the sum of p i · q j over i + j = k
 --   product n f g         the product, of sent degree d + e
 --   Monic, UnitPolynomial, Division, UnitTimesMonic, InverseOf
---   true-degree f         the place of the highest nonzero word
+--   extent f              the number of words up to the highest nonzero one
+--   true-degree f         none, or the place of the highest nonzero word
 --   L n d e               the length of a cofactor
 use mathlib.Core.Path.{_≡_}
 use mathlib.Core.List.{List, [], _∷_}
@@ -17,6 +18,11 @@ use Rattle.definitions.specs.Residues.{K, IsUnit, IsNilpotent}
 -- coefficient k, 0 beyond the words sent
 abbrev pub coef : List ℕ → ℕ → ℕ
 coef f k = getD f k 0
+
+-- the number of words up to the highest nonzero one
+unfoldable pub extent : List ℕ → ℕ
+extent [] = 0
+extent (x ∷ f) = elim (extent f) [ zero ↦ elim (eqb x 0) [ true ↦ 0 | false ↦ 1 ] | suc k ↦ suc (suc k) ]
 
 -- "A polynomial of sent degree d is d + 1 words, constant first." The top word may be zero.
 abbrev pub deg : List ℕ → ℕ
@@ -101,14 +107,13 @@ pub record InverseOf (n : ℕ) (u w : List ℕ) : Type 0 where
   pub residues-w : Residues n w
   pub equation : (k : ℕ) → convolve (coef w) (coef u) k % n ≡ constant 1 k % n
 
--- the number of words up to the highest nonzero one
-unfoldable pub extent : List ℕ → ℕ
-extent [] = 0
-extent (x ∷ f) = elim (extent f) [ zero ↦ elim (eqb x 0) [ true ↦ 0 | false ↦ 1 ] | suc k ↦ suc (suc k) ]
+-- "True degree: the place of the highest nonzero coefficient"; "The true degree of a zero polynomial is now "none"" (02, W2)
+pub data TrueDegree : Type 0 where
+  none : TrueDegree
+  place : ℕ → TrueDegree
 
--- "True degree: the place of the highest nonzero coefficient, and 0 for the zero polynomial."
-abbrev pub true-degree : List ℕ → ℕ
-true-degree f = pred (extent f)
+abbrev pub true-degree : List ℕ → TrueDegree
+true-degree f = elim (extent f) [ zero ↦ none | suc k ↦ place k ]
 
 -- "Cofactor length L = K times the larger sent degree, plus 1."
 abbrev pub L : ℕ → ℕ → ℕ → ℕ

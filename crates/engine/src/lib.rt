@@ -5,15 +5,18 @@
 //   jingcobu_reduced_resultant    reduced_service::reduced_resultant
 //   jingcobu_product              polynomial_product::product
 //   jingcobu_product_word         polynomial_word::product_word
+//   jingcobu_true_degree          polynomial_degree::true_degree_words
 //   jingcobu_shares               shares::shares
 ghost use mathlib.Core.Path.{_≡_};
 ghost use Rattle.refusals.specs.Refusals.{narrow};
 ghost use Rattle.resultant_service.specs.ResultantService.{ResultantAnswer};
 ghost use Rattle.reduced_service.specs.ReducedService.{ReducedAnswer};
 ghost use Rattle.polynomial_product.specs.ProductService.{ProductAnswer};
+ghost use Rattle.polynomial_degree.specs.DegreeService.{DegreeWordsAnswer};
 ghost use Rattle.polynomial_word.specs.ProductWord.{ProductWordAnswer};
 ghost use mathlib.Core.List.{[], _∷_};
 ghost use Rattle.shares.specs.SharesService.{SharesAnswer};
+use polynomial_degree::DegreeAnswer;
 use refusals::Answer;
 use shares::Plan;
 
@@ -64,6 +67,14 @@ pub extern "C" fn jingcobu_product_word(
         (r .value) (r .status) ⌝ }
 {
     polynomial_word::product_word(n, f, g, out, k)
+}
+
+// The true degree of f: none for the zero polynomial.
+#[no_mangle]
+pub extern "C" fn jingcobu_true_degree(n: u32, f: &[u32]) -> DegreeAnswer
+    ensures { λ r. ⌜ DegreeWordsAnswer narrow n (now (f .entry)) (r .some) (r .degree) (r .status) ⌝ }
+{
+    polynomial_degree::true_degree_words(n, f)
 }
 
 // How many jobs of each of four groups go into a run of frames.

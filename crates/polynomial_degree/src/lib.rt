@@ -1,13 +1,28 @@
 // The true degree of a polynomial, and its words up to there, as services: from any words an answer, or a numbered refusal. The
 // polynomial is lent words, the constant first.
 //
-//   true_degree     the place of the highest nonzero word
-//   leading         the words up to that place, the caller's own
+//   true_degree          the place of the highest nonzero word, or none
+//   true_degree_words    the same in three words
+//   leading              the words up to that place, the caller's own
 ghost use mathlib.Core.Path.{_≡_};
 ghost use Rattle.definitions.specs.Polynomials.{extent};
 ghost use Rattle.refusals.specs.Refusals.{narrow};
-ghost use Rattle.polynomial_degree.specs.DegreeService.{TrueDegreeAnswer, LeadingAnswer};
-use refusals::Answer;
+ghost use Rattle.polynomial_degree.specs.DegreeService.{words-told, TrueDegreeAnswer, DegreeWordsAnswer, LeadingAnswer};
+
+// None for the zero polynomial, the degree, or the number of the refusal.
+pub enum Degree {
+    None,
+    At(u32),
+    Refused(u32),
+}
+
+// The same for a host: some is 1 where there is a degree, else 0; status is 0 or the number of the refusal.
+#[repr(C)]
+pub struct DegreeAnswer {
+    pub some: u32,
+    pub degree: u32,
+    pub status: u32,
+}
 
 // The number of words up to the highest nonzero one.
 fn extent_of(f: &[u32]) -> usize
@@ -23,27 +38,52 @@ fn extent_of(f: &[u32]) -> usize
     0
 }
 
-// "True degree: the place of the highest nonzero coefficient, and 0 for the zero polynomial."
-pub fn true_degree(n: u32, f: &[u32]) -> Answer
-    ensures { λ r. ⌜ TrueDegreeAnswer narrow n (now (f .entry)) (r .value) (r .status) ⌝ }
+// "True degree: the place of the highest nonzero coefficient"; of a zero polynomial it "is now "none"" (02, W2).
+pub fn true_degree(n: u32, f: &[u32]) -> Degree
+    ensures { λ r. ⌜ TrueDegreeAnswer narrow n (now (f .entry)) r ⌝ }
 {
     let s = refusals::refusal_one(n, f);
     if s != 0 {
-        return Answer {
-            value: 0,
-            status: s,
-        };
+        return Degree::Refused(s);
     }
     let k = extent_of(f);
     if k == 0 {
-        return Answer {
-            value: 0,
-            status: 0,
-        };
+        return Degree::None;
     }
-    Answer {
-        value: (k - 1) as u32,
-        status: 0,
+    Degree::At((k - 1) as u32)
+}
+
+// The true degree in words: an enum cannot be handed to a host.
+pub fn true_degree_words(n: u32, f: &[u32]) -> DegreeAnswer
+    ensures { λ r. ⌜ DegreeWordsAnswer narrow n (now (f .entry)) (r .some) (r .degree) (r .status) ⌝ }
+{
+    match true_degree(n, f) {
+        Degree::None => DegreeAnswer {
+            some: 0,
+            degree: 0,
+            status: 0,
+        },
+        Degree::At(k) => DegreeAnswer {
+            some: 1,
+            degree: k,
+            status: 0,
+        },
+        Degree::Refused(s) => DegreeAnswer {
+            some: 0,
+            degree: 0,
+            status: s,
+        },
+    }
+}
+
+// The number of words up to the degree: none for the zero polynomial and after a refusal.
+fn words_up_to(d: Degree) -> usize
+    ensures { λ r. ⌜ r ≡ words-told d ⌝ }
+{
+    match d {
+        Degree::None => 0,
+        Degree::At(k) => k as usize + 1,
+        Degree::Refused(_) => 0,
     }
 }
 
@@ -51,9 +91,6 @@ pub fn true_degree(n: u32, f: &[u32]) -> Answer
 pub fn leading<'a>(n: u32, f: &'a [u32]) -> &'a [u32]
     ensures { λ r. ⌜ LeadingAnswer narrow n (now (f .entry)) (now r) ⌝ }
 {
-    let a = true_degree(n, f);
-    if a.status != 0 {
-        return &f[0..0];
-    }
-    &f[0..(a.value as usize) + 1]
+    let k = words_up_to(true_degree(n, f));
+    &f[0..k]
 }

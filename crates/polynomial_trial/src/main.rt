@@ -10,6 +10,7 @@ ghost use mathlib.Core.Path.{_≡_};
 ghost use Prim.Native.Nat.{_≤_};
 ghost use lib.ListN.{length};
 ghost use Rattle.polynomial_trial.specs.Sizes.{Lengths, Rooms};
+use polynomial_degree::Degree;
 use refusals::Answer;
 
 // ---- writing
@@ -160,6 +161,24 @@ fn needed(service: u32, n: u32, l: usize, m: usize) -> usize
     (k as usize) * (l - 1) + 1
 }
 
+// The true degree as a number; 4294967295, which no degree is, stands for none.
+fn degree(n: u32, f: &[u32]) -> Answer {
+    match polynomial_degree::true_degree(n, f) {
+        Degree::None => Answer {
+            value: 4294967295,
+            status: 0,
+        },
+        Degree::At(k) => Answer {
+            value: k,
+            status: 0,
+        },
+        Degree::Refused(s) => Answer {
+            value: 0,
+            status: s,
+        },
+    }
+}
+
 // The product word by word, for k from 0 to d + e + 2: the answer to the last.
 fn words_apart(n: u32, f: &[u32], g: &[u32], a: &mut [u32]) -> Answer {
     let mut k: usize = 0;
@@ -193,7 +212,7 @@ fn apply(
         return polynomial_inverse::inverse(n, f, a, work);
     }
     if service == 4 {
-        return polynomial_degree::true_degree(n, f);
+        return degree(n, f);
     }
     words_apart(n, f, g, a)
 }

@@ -4,7 +4,7 @@
 --   k-of-12, k-of-largest, length-of-cofactors, longest-cofactor    K and L
 --   unit-5, nilpotent-6, splits-2    the three kinds modulo 12
 --   division-12, factors-4, inverse-8    division, unit times monic, inverse
---   degree-below-zeros, degree-over-zeros, degree-of-zero    the true degree
+--   degree-below-zeros, degree-over-zeros    the true degree
 --   largest-modulus, content-stays    the row that is not starred; a content that is no factor of D
 --   resultant-of-product, resultant-of-first, resultant-of-second, seven-rows    values of another program
 use mathlib.Core.Path.{_≡_, refl}
@@ -12,7 +12,7 @@ use mathlib.Core.List.{[], _∷_}
 use Prim.Native.Nat.{zero, suc}
 use native.Mathlib.Nat.{dvd-sub, eq-one-of-dvd-one}
 use native.Mathlib.Omega.{arith}
-use Rattle.definitions.specs.Polynomials.{product, L, extent, true-degree, Division, UnitTimesMonic, InverseOf}
+use Rattle.definitions.specs.Polynomials.{product, L, extent, place, true-degree, Division, UnitTimesMonic, InverseOf}
 use Rattle.definitions.specs.Residues.{K, halvings, Inverse, IsNilpotent, Splitting}
 use Rattle.definitions.specs.Resultants.{determinant, resultant}
 use Rattle.theory.specs.Computed.{below-by, multiplied-by, divided-by, inverse-by}
@@ -101,18 +101,14 @@ inverse-8 = record {
   equation = inverse-by 8 (1 ∷ 2 ∷ []) (1 ∷ 6 ∷ 4 ∷ 0 ∷ []) tt;
 }
 
--- "the place of the highest nonzero coefficient, and 0 for the zero polynomial"
-degree-below-zeros : true-degree (2 ∷ 1 ∷ 0 ∷ []) ≡ 1
+-- "the place of the highest nonzero coefficient"
+degree-below-zeros : true-degree (2 ∷ 1 ∷ 0 ∷ []) ≡ place 1
 unfolding extent
 degree-below-zeros = refl
 
-degree-over-zeros : true-degree (1 ∷ 0 ∷ 3 ∷ 0 ∷ 0 ∷ []) ≡ 2
+degree-over-zeros : true-degree (1 ∷ 0 ∷ 3 ∷ 0 ∷ 0 ∷ []) ≡ place 2
 unfolding extent
 degree-over-zeros = refl
-
-degree-of-zero : true-degree (0 ∷ 0 ∷ []) ≡ 0
-unfolding extent
-degree-of-zero = refl
 
 -- the row that is not starred
 largest-modulus : Holds (record { n = 4294967295; f = 4294967294 ∷ []; g = 0 ∷ 1 ∷ []; value = 4294967294; D = 1 })

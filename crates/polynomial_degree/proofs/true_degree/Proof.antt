@@ -1,10 +1,9 @@
 use mathlib.Core.Path.{sym, _∙_}
-use Prim.Native.Nat.{_-_}
 use native.Mathlib.Omega.{arith}
 use Rattle.refusals.specs.Refusals.{narrow}
 use Rattle.refusals.specs.Conditions.{accepted-one}
 use Rattle.polynomial_tests.specs.Counts.{extent-length}
-use Rattle.polynomial_degree.proofs.Degrees.{degree-refused, degree-none, degree-some}
+use Rattle.polynomial_degree.proofs.Degrees.{degree-refused, degree-none, degree-some-at}
 use borrow.Author.Needs.{needs}
 use Rattle.polynomial_degree.proofs.true_degree.Statement.{statement}
 use Rattle.polynomial_degree.proofs.true_degree.Tie as tie
@@ -19,7 +18,7 @@ returns-2 c = let eo = c .before in
     let if1 = eo .before in
     let ro = if1 .before in
     let s = ro .before .before .args in
-    degree-none (s .n) _ (s .f .now) (ro .refusal-one .ensures) (if1 .if1 .left) _ (eo .extent-of .ensures) (c .if2 .taken)
+    degree-none (s .n) _ (s .f .now) (ro .refusal-one .ensures) (if1 .if1 .left) _ (eo .extent-of .ensures) (omega arith)
 
 cast-t7 : tie.Need-cast-t7
 cast-t7 c = let eo = c .before in
@@ -34,7 +33,7 @@ returns-3 c = let eo = c .before in
     let if1 = eo .before in
     let ro = if1 .before in
     let s = ro .before .before .args in
-    degree-some (s .n) _ (s .f .now) (ro .refusal-one .ensures) (if1 .if1 .left) _ (eo .extent-of .ensures)
+    degree-some-at (s .n) _ (s .f .now) (ro .refusal-one .ensures) (if1 .if1 .left) _ (eo .extent-of .ensures) (λ e. omega arith)
 
 pub true-degree-spec : {M : Type 1} → statement M
 true-degree-spec =
