@@ -5,3 +5,5 @@ pub mod Tops
 pub mod Candidates
 pub mod CandidateLaws
 pub mod NotationLaws
+pub mod Examples
+pub mod Quoted
