@@ -51,7 +51,7 @@ stored-length : (c x : ℕ) (w : List ℕ) → length (stored c x w) ≡ length 
 stored-length zero x w = length-set w 0 x
 stored-length (suc c) x w = length-set w x (suc c)
 
-after-length : (b c x : ℕ) (w : List ℕ) → length (cond (eqb b 43) (stored c x w) w) ≡ length w
+pub after-length : (b c x : ℕ) (w : List ℕ) → length (cond (eqb b 43) (stored c x w) w) ≡ length w
 after-length b c x w = go (eqb b 43)
   where
     go : (t : Bool) → length (cond t (stored c x w) w) ≡ length w
@@ -103,8 +103,8 @@ found n s g l h =
       is = same-true s (text g) (b .1) ∙ sym (text-dropped g (omega arith));
     }
 
-below : (n : ℕ) (g : List ℕ) → Residues n g → all-below n g ≡ true
-below n g r = go (all-below n g) (words-fail n g)
+pub residues-below : (n : ℕ) (g : List ℕ) → Residues n g → all-below n g ≡ true
+residues-below n g r = go (all-below n g) (words-fail n g)
   where
     go : (t : Bool) → Fails (not t) (Residues n g) → t ≡ true
     go true x = refl
@@ -113,7 +113,7 @@ below n g r = go (all-below n g) (words-fail n g)
 pub passes : {n : ℕ} {s f : List ℕ} → TextOf n s f → is-text-of n s (padded 49 f) ≡ true
 passes {n} {s} {f} h =
     let n' : 1 ≤ n = omega (arith, h .residues .at 0 (h .some)) in
-    ap₂ _&&_ (below n (padded 49 f) (residues-padded n 49 f n' (h .residues)))
+    ap₂ _&&_ (residues-below n (padded 49 f) (residues-padded n 49 f n' (h .residues)))
     (ap₂ same (h .is) (text-padded 49 f) ∙ same-self (text f))
 
 -- however numbers that do not fit a word are taken, B being above n and every power

@@ -1,0 +1,48 @@
+use borrow.Author.Needs.{needs}
+use mathlib.Core.Path.{_≡_, refl}
+use Prim.Native.Nat.{_-_, _≤_}
+use native.Mathlib.Omega.{arith}
+use lib.ListN.{length, drop}
+use Rattle.text_notation.specs.Candidates.{same}
+use Rattle.text_reader.proofs.Comparing.{one-same, one-other, all-same, other-length}
+use Rattle.text_reader.proofs.same.Statement.{statement}
+use Rattle.text_reader.proofs.same.Tie as tie
+
+abbrev Inv-loop : tie.InvT-loop
+Inv-loop s t i₀ i = (i ≤ length s) × (same s t ≡ same (drop i s) (drop i t))
+
+abbrev μ-loop : tie.MeasureT-loop
+μ-loop s t i₀ i = length s - i
+
+returns : tie.Need-returns Inv-loop μ-loop
+returns c = other-length _ _ (c .if1 .taken)
+
+loop-holds : tie.Need-loop-holds Inv-loop μ-loop
+loop-holds c = (search needs, refl)
+
+returns-2 : tie.Need-returns-2 Inv-loop μ-loop
+returns-2 c = one-other _ _ _ (omega arith) (omega arith) (c .if2 .taken) (c .before .before .before .before .loop .inv .1)
+
+loop-again : tie.Need-loop-again Inv-loop μ-loop
+loop-again c = (search needs, one-same _ _ _ (omega arith) (omega arith) (c .if2 .left) (c .before .before .before .before .loop .inv .1))
+
+returns-3 : tie.Need-returns-3 Inv-loop μ-loop
+returns-3 c =
+    let start = c .before .before .before in
+    all-same (start .args .s .now) (start .args .t .now) (c .before .loop .i) (omega arith) (omega arith) (c .before .loop .inv .1)
+
+pub same-spec : {M : Type 1} → statement M
+same-spec =
+    tie.close
+    (tie.spec
+    Inv-loop
+    μ-loop
+    returns
+    loop-holds
+    (λ c. search needs)
+    (λ c. search needs)
+    returns-2
+    (λ c. search needs)
+    (λ c. search needs)
+    loop-again
+    returns-3)
