@@ -4,6 +4,7 @@
 --   dropped-padded         nor what is left when they are dropped
 --   padded-dropped         putting them back gives the polynomial again
 --   dropped-dropped, text-dropped     what is left has no zero top word, and the same text
+--   dropped-zeros          a zero polynomial
 use mathlib.Core.Path.{_≡_, refl, sym, ap, ap₂, _∙_, subst}
 use mathlib.Core.Bool.{Bool, true, false}
 use mathlib.Core.List.{List, [], _∷_, _++_}
@@ -114,3 +115,7 @@ padded-dropped f h =
 
 pub text-dropped : (f : List ℕ) → 1 ≤ length f → text (dropped f) ≡ text f
 text-dropped f h = sym (text-padded (length f) (dropped f)) ∙ ap text (padded-dropped f h)
+
+-- "a zero polynomial comes back as the single word 0"
+pub dropped-zeros : (m : ℕ) → dropped (replicate (suc m) 0) ≡ 0 ∷ []
+dropped-zeros m = ap (λ (e : ℕ). take (suc (pred e)) (replicate (suc m) 0)) (extent-zeros (suc m))

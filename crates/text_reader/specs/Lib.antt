@@ -1,1 +1,2 @@
 pub mod TextReader
+pub mod RoundTrips
