@@ -110,8 +110,9 @@ def damaged(x):
     return character
 
 
-def short_line(n, f, size, words):
-    print('%d%s%s' % (n, shown(answer_write(n, f, size)), shown(answer_read(n, b'1*x', words))))
+def short_line(n, f, size, count):
+    a, b = answer_write(n, f, size), answer_read(n, b'1*x', count)
+    print('%d%s%s' % (n, shown((a[0], a[1], a[2][:size])), shown((b[0], b[1], b[2][:count]))))
 
 
 for n in (2, 3, 4):

@@ -4,7 +4,8 @@
 // bytes lent, then of the reader, given the text, the status, the number of words and a checksum of the 50 words lent. All
 // polynomials of degree up to 2 over n = 2, 3, 4 and drawn ones of degree 48 at the largest n. A line for each damaged text: n, the
 // text and what the reader answers. At the end the refusals, in their order.
-ghost use Prim.Native.Nat.{_≤_};
+ghost use Prim.Native.Nat.{_≤_, _<_};
+ghost use lib.ListN.{length};
 use refusals::Answer;
 
 // x joins the checksum h.
@@ -27,11 +28,15 @@ fn mix_words(words: &[u32]) -> u32 {
     h
 }
 
+fn wide(x: u8) -> u32 {
+    x as u32
+}
+
 fn mix_bytes(bytes: &[u8]) -> u32 {
     let mut h: u32 = 0;
     let mut i: usize = 0;
     while i < bytes.len() {
-        h = mix(h, bytes[i] as u32);
+        h = mix(h, wide(bytes[i]));
         i += 1;
     }
     h
@@ -87,11 +92,14 @@ fn words_line(n: u32, f: &[u32]) {
     show_read(n, &text[0..count]);
 }
 
-// Every polynomial of one, two and three words.
-fn all_words(n: u32) {
-    for a in 0..n {
-        words_line(n, &[a]);
+// Every polynomial of one word, of two and of three, over an n up to 4.
+fn one_word(n: u32) {
+    for i in 0..n {
+        words_line(n, &[i]);
     }
+}
+
+fn two_words(n: u32) {
     for i in 0..16 {
         if i / 4 < n {
             if i % 4 < n {
@@ -99,6 +107,9 @@ fn all_words(n: u32) {
             }
         }
     }
+}
+
+fn three_words(n: u32) {
     for i in 0..64 {
         if i / 16 < n {
             if i / 4 % 4 < n {
@@ -108,6 +119,12 @@ fn all_words(n: u32) {
             }
         }
     }
+}
+
+fn all_words(n: u32) {
+    one_word(n);
+    two_words(n);
+    three_words(n);
 }
 
 // Words below n, drawn from x on; the last number drawn.
@@ -133,7 +150,7 @@ fn largest(x: u32) -> u32 {
 
 // The character at place `at` is left out.
 fn leave_out(text: &mut [u8], at: usize)
-    requires { ⌜ at ≤ 1000 ⌝ }
+    requires { ⌜ at < length (now text) ⌝ }
 {
     let mut i = at;
     while i + 1 < text.len() {
@@ -151,6 +168,14 @@ fn exchange(text: &mut [u8], at: usize, x: u32) {
     }
 }
 
+// One of count places.
+fn place_of(x: u32, count: usize) -> usize
+    requires { ⌜ 1 ≤ count ⌝ }
+    ensures { λ r. ⌜ r < count ⌝ }
+{
+    (x as usize) % count
+}
+
 // A text of four words below 12 with one character left out or exchanged; the last number drawn.
 fn damaged(x: u32) -> u32 {
     let mut words = [0u32; 4];
@@ -166,7 +191,7 @@ fn damaged(x: u32) -> u32 {
         return character;
     }
     let count = a.value as usize;
-    let at = (place % a.value) as usize;
+    let at = place_of(place, count);
     if character / 16 % 3 == 0 {
         leave_out(&mut text, at);
         text_line(12, &text[0..count - 1]);
@@ -177,13 +202,22 @@ fn damaged(x: u32) -> u32 {
     character
 }
 
-fn drawn_lines() {
-    let mut x: u32 = 1;
-    for i in 0..12 {
-        x = largest(x);
+fn largest_lines(x: u32) -> u32 {
+    let mut y = x;
+    let mut i: usize = 0;
+    while i < 12 {
+        y = largest(y);
+        i += 1;
     }
-    for i in 0..100 {
-        x = damaged(x);
+    y
+}
+
+fn damaged_lines(x: u32) {
+    let mut y = x;
+    let mut i: usize = 0;
+    while i < 100 {
+        y = damaged(y);
+        i += 1;
     }
 }
 
@@ -220,22 +254,26 @@ fn chosen_lines() {
     text_line(0, b"1 +");
 }
 
-// A line of the two statuses: f is written into `bytes` bytes, and `1*x` is read into `words` words.
-fn short_line(n: u32, f: &[u32], bytes: usize, words: usize) {
+// A line of what the writer does with f and the reader with `1*x`, in the bytes and words lent.
+fn lent_line(n: u32, f: &[u32], text: &mut [u8], words: &mut [u32]) {
+    number(n);
+    let a = text_writer::write_text(n, f, text);
+    next_answer(a, mix_bytes(text));
+    let b = text_reader::read_text(n, b"1*x", words);
+    next_answer(b, mix_words(words));
+    end_line();
+}
+
+fn short_line(n: u32, f: &[u32], bytes: usize, count: usize) {
     let mut text = [9u8; 801];
-    let mut lent = [7u32; 50];
+    let mut words = [7u32; 50];
     if bytes > 801 {
         return;
     }
-    if words > 50 {
+    if count > 50 {
         return;
     }
-    let a = text_writer::write_text(n, f, &mut text[0..bytes]);
-    let b = text_reader::read_text(n, b"1*x", &mut lent[0..words]);
-    number(n);
-    next_answer(a, mix_bytes(&text));
-    next_answer(b, mix_words(&lent));
-    end_line();
+    lent_line(n, f, &mut text[0..bytes], &mut words[0..count]);
 }
 
 fn refusal_lines() {
@@ -252,7 +290,7 @@ fn main() {
     all_words(2);
     all_words(3);
     all_words(4);
-    drawn_lines();
+    damaged_lines(largest_lines(1));
     chosen_lines();
     refusal_lines();
 }
