@@ -131,20 +131,35 @@ pub fn read_text(n: u32, text: &[u8], words: &mut [u32]) -> Answer
     ensures { λ r. ⌜ ReadAnswer narrow n (now (text .entry)) (now (words .entry)) (now (words .exit)) (r .value) (r .status) ⌝ }
 {
     if refusals::bad_modulus(n) {
-        return Answer { value: 0, status: 1 };
+        return Answer {
+            value: 0,
+            status: 1,
+        };
     }
     let mut f = [0u32; 49];
     gather(text, &mut f);
     let degree = polynomial_degree::true_degree(n, &f);
     if degree.status != 0 {
-        return Answer { value: 0, status: 17 };
+        return Answer {
+            value: 0,
+            status: 17,
+        };
     }
     if !is_text_of(text, &f) {
-        return Answer { value: 0, status: 17 };
+        return Answer {
+            value: 0,
+            status: 17,
+        };
     }
     if words.len() < 49 {
-        return Answer { value: 0, status: 6 };
+        return Answer {
+            value: 0,
+            status: 6,
+        };
     }
     copy(&f, words);
-    Answer { value: degree.value + 1, status: 0 }
+    Answer {
+        value: degree.value + 1,
+        status: 0,
+    }
 }

@@ -109,9 +109,15 @@ pub fn write_text(n: u32, f: &[u32], text: &mut [u8]) -> Answer
         return Answer { value: 0, status };
     }
     if text.len() < 800 {
-        return Answer { value: 0, status: 6 };
+        return Answer {
+            value: 0,
+            status: 6,
+        };
     }
     let count = write(f, text);
     put_zeros(text, count, 800);
-    Answer { value: count as u32, status: 0 }
+    Answer {
+        value: count as u32,
+        status: 0,
+    }
 }

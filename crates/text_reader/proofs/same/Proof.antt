@@ -15,16 +15,26 @@ abbrev μ-loop : tie.MeasureT-loop
 μ-loop s t i₀ i = length s - i
 
 returns : tie.Need-returns Inv-loop μ-loop
-returns c = other-length _ _ (c .if1 .taken)
+returns c = other-length (c .before .args .s .now) (c .before .args .t .now) (λ e. omega arith)
 
 loop-holds : tie.Need-loop-holds Inv-loop μ-loop
 loop-holds c = (search needs, refl)
 
 returns-2 : tie.Need-returns-2 Inv-loop μ-loop
-returns-2 c = one-other _ _ _ (omega arith) (omega arith) (c .if2 .taken) (c .before .before .before .before .loop .inv .1)
+returns-2 c =
+    let at-loop = c .before .before .before .before in
+    let start = at-loop .before .before in
+    one-other (start .args .s .now) (start .args .t .now) (at-loop .loop .i) (omega arith) (omega arith) (λ e. omega (arith, c .if2 .taken))
+    (at-loop .loop .inv .1)
 
 loop-again : tie.Need-loop-again Inv-loop μ-loop
-loop-again c = (search needs, one-same _ _ _ (omega arith) (omega arith) (c .if2 .left) (c .before .before .before .before .loop .inv .1))
+loop-again c =
+    let at-loop = c .before .before .before .before in
+    let start = at-loop .before .before in (
+      search needs,
+      one-same (start .args .s .now) (start .args .t .now) (at-loop .loop .i) (omega arith) (omega arith) (omega (arith, c .if2 .left))
+          (at-loop .loop .inv .1),
+    )
 
 returns-3 : tie.Need-returns-3 Inv-loop μ-loop
 returns-3 c =

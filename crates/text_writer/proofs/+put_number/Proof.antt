@@ -26,12 +26,14 @@ module _ (t : ℕ) where
   write-first c = omega (arith, decimal-some (c .before .before .args .x), c .before .before .pre .1)
 
   returns : lts.Need-returns (below t, put-number.Post) (at-measure t) put-number.Post
-  returns c = number-small _ _ _ (c .if1 .taken) (c .before .before .pre .1)
+  returns c =
+      let start = c .before .before in
+      number-small (start .args .x) (start .args .at) (start .args .out .now) (omega arith) (start .pre .1)
 
   requires : lts.Need-put-number-requires (below t, put-number.Post) (at-measure t) put-number.Post
   requires c κs =
       let start = c .before .before .before in
-      let e = digits-before (start .args .x) (c .before .if1 .left) in
+      let e = digits-before (start .args .x) (omega arith) in
       (omega (arith, start .pre .0, c .before .if1 .left), omega (arith, start .pre .1))
 
   write-last : lts.Need-slice-write-out-2 (below t, put-number.Post) (at-measure t) put-number.Post
@@ -40,7 +42,7 @@ module _ (t : ℕ) where
       let start = called .before .before .before .before in
       omega (
         arith,
-        digit-room (start .args .x) (called .before .before .if1 .left) (start .pre .1) (called .put-number .ensures),
+        digit-room (start .args .x) (omega arith) (start .pre .1) (called .put-number .ensures),
         called .put-number .kept .0,
       )
 
@@ -50,7 +52,7 @@ module _ (t : ℕ) where
       let start = called .before .before .before .before in
       omega (
         arith,
-        digit-room (start .args .x) (called .before .before .if1 .left) (start .pre .1) (called .put-number .ensures),
+        digit-room (start .args .x) (omega arith) (start .pre .1) (called .put-number .ensures),
         start .good .0 .0,
       )
 
@@ -58,7 +60,7 @@ module _ (t : ℕ) where
   returns-2 c =
       let called = c .before .before in
       let start = called .before .before .before .before in
-      number-large (start .args .x) (called .before .before .if1 .left) (start .pre .1) (called .put-number .ensures)
+      number-large (start .args .x) (omega arith) (start .pre .1) (called .put-number .ensures)
 
 pub +put-number-spec : {M : Type 1} → statement M
 +put-number-spec =

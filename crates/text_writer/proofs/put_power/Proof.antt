@@ -17,7 +17,9 @@ slice-write-out-2 : tie.Need-slice-write-out-2
 slice-write-out-2 c = simp length-set (omega (arith, power-some (c .before .before .args .k) (c .if1 .left)))
 
 returns-2 : tie.Need-returns-2
-returns-2 c = power-one _ _ _ (c .if2 .taken) (c .before .before .before .pre .0)
+returns-2 c =
+    let start = c .before .before .before in
+    power-one (start .args .k) _ _ (omega arith) (start .pre .0)
 
 slice-write-out-3 : tie.Need-slice-write-out-3
 slice-write-out-3 c =

@@ -5,7 +5,9 @@ use Rattle.text_writer.proofs.put_term.Statement.{statement}
 use Rattle.text_writer.proofs.put_term.Tie as tie
 
 returns : tie.Need-returns
-returns c = added-none _ _ _ _ (c .if1 .taken)
+returns c =
+    let start = c .before .before in
+    added-none (start .args .at) (start .args .c) (start .args .k) _ (omega arith)
 
 put-number-requires : tie.Need-put-number-requires
 put-number-requires c κs =
