@@ -13,18 +13,18 @@ use lib.ListN.{length, set, replicate, length-append, length-replicate, replicat
 use lib.Seq.{set-at}
 use borrow.Author.Tests.{ne-eqb}
 use Rattle.definitions.specs.Polynomials.{coef}
-use Rattle.text_notation.specs.Notation.{digits-within, decimal, power, term, joined, terms, or-zero, text, padded}
-use Rattle.text_notation.specs.Decimals.{small, large, decimal-some}
-use Rattle.text_notation.specs.Candidates.{next-number, next-coefficient, stored, gathered}
+use Rattle.text_notation.specs.Notation.{digits-within, decimal, power-text, term, plus-joined, terms, or-zero, text, padded}
+use Rattle.text_notation.specs.Decimals.{within-small, within-large, decimal-some}
+use Rattle.text_notation.specs.Candidates.{number-after, coefficient-after, stored, gathered}
 
 -- the coefficient c of power k, put to its place
-abbrev pub put : ℕ → ℕ → List ℕ → List ℕ
-put k zero w = w
-put k (suc c) w = set w k (suc c)
+abbrev pub set-term : ℕ → ℕ → List ℕ → List ℕ
+set-term k zero w = w
+set-term k (suc c) w = set w k (suc c)
 
 abbrev pub filled : ℕ → List ℕ → List ℕ → List ℕ
 filled k [] w = w
-filled k (c ∷ f) w = put k c (filled (suc k) f w)
+filled k (c ∷ f) w = set-term k c (filled (suc k) f w)
 
 pub record Takes (G : ℕ → ℕ) (t w v : List ℕ) : Type 0 where
   pub none : t ≡ [] → v ≡ w
@@ -34,7 +34,7 @@ pub record Takes (G : ℕ → ℕ) (t w v : List ℕ) : Type 0 where
 some : (a : ℕ) (t : List ℕ) → a ∷ t ≡ [] → ⊥
 some a t e = omega (arith, ap length e)
 
-takes-joined : (G : ℕ → ℕ) (t u w v y : List ℕ) → Takes G t w v → Takes G u v y → Takes G (joined t u) w y
+takes-joined : (G : ℕ → ℕ) (t u w v y : List ℕ) → Takes G t w v → Takes G u v y → Takes G (plus-joined t u) w y
 takes-joined G [] u w v y p q = subst (λ (x : List ℕ). Takes G u x y) (p .none refl) q
 takes-joined G (a ∷ t) [] w v y p q = subst (λ (x : List ℕ). Takes G (a ∷ t) w x) (sym (q .none refl)) p
 takes-joined G (a ∷ t) (b ∷ u) w v y p q = record {
@@ -49,7 +49,7 @@ one-more : (k : ℕ) (r : List ℕ) → replicate (suc k) 0 ++ r ≡ replicate k
 one-more zero r = refl
 one-more (suc k) r = ap (λ (x : List ℕ). 0 ∷ x) (one-more k r)
 
-put-is : (k c : ℕ) (r : List ℕ) → put k c (replicate k 0 ++ 0 ∷ r) ≡ replicate k 0 ++ c ∷ r
+put-is : (k c : ℕ) (r : List ℕ) → set-term k c (replicate k 0 ++ 0 ∷ r) ≡ replicate k 0 ++ c ∷ r
 put-is k zero r = refl
 put-is k (suc c) r = set-at (replicate k 0) 0 r (suc c) k (length-replicate k 0)
 
@@ -59,8 +59,8 @@ filled-is k [] m =
     ap (λ (l : ℕ). replicate l 0) e ∙ sym (replicate-append-replicate k m 0)
 filled-is k (c ∷ f) m =
     let e : k + suc (length f) + m ≡ suc k + length f + m = omega arith in
-    ap (λ (l : ℕ). put k c (filled (suc k) f (replicate l 0))) e
-    ∙ ap (put k c) (filled-is (suc k) f m ∙ one-more k (f ++ replicate m 0))
+    ap (λ (l : ℕ). set-term k c (filled (suc k) f (replicate l 0))) e
+    ∙ ap (set-term k c) (filled-is (suc k) f m ∙ one-more k (f ++ replicate m 0))
     ∙ put-is k c (f ++ replicate m 0)
 
 none-stored : (G : ℕ → ℕ) → gathered G [] 0 0 (replicate 49 0) ≡ replicate 49 0
@@ -78,10 +78,10 @@ module _ (G : ℕ → ℕ) (B : ℕ) (fits : (y : ℕ) → y < B → G y ≡ y) 
       let hat = ne-eqb (48 + d) 94 (λ e. omega arith) in
       let letter = ne-eqb (48 + d) 120 (λ e. omega arith) in
       let value : (48 + d) % 16 ≡ d = omega arith in
-      let number : next-number G (48 + d) x ≡ x * 10 + d = simp (plus, star, hat, letter, value) (fits (x * 10 + d) l) in
-      let coefficient : next-coefficient (48 + d) c x ≡ c = simp (plus, star) in
+      let number : number-after G (48 + d) x ≡ x * 10 + d = simp (plus, star, hat, letter, value) (fits (x * 10 + d) l) in
+      let coefficient : coefficient-after (48 + d) c x ≡ c = simp (plus, star) in
       let words : cond (eqb (48 + d) 43) (stored c x w) w ≡ w = simp plus in
-      ap (λ (i : ℕ). gathered G s i (next-number G (48 + d) x) (cond (eqb (48 + d) 43) (stored c x w) w)) coefficient
+      ap (λ (i : ℕ). gathered G s i (number-after G (48 + d) x) (cond (eqb (48 + d) 43) (stored c x w) w)) coefficient
       ∙ ap₂ (λ (i : ℕ) (v : List ℕ). gathered G s c i v) number words
 
   take-digits : (k y : ℕ) (s : List ℕ) (c : ℕ) (w : List ℕ) → y < k → y < B
@@ -93,11 +93,11 @@ module _ (G : ℕ → ℕ) (B : ℕ) (fits : (y : ℕ) → y < B → G y ≡ y) 
           → gathered G (digits-within k (y / 10) ++ s) c 0 w ≡ gathered G s c (y / 10) w)
           → gathered G (digits-within (suc k) y ++ s) c 0 w ≡ gathered G s c y w
       go (yes p) ih =
-          ap (λ (t : List ℕ). gathered G (t ++ s) c 0 w) (small k y p)
+          ap (λ (t : List ℕ). gathered G (t ++ s) c 0 w) (within-small k y p)
           ∙ take-digit y s c 0 w p (omega arith)
           ∙ ap (λ (x : ℕ). gathered G s c x w) (omega arith)
       go (no p) ih =
-          ap (λ (t : List ℕ). gathered G (t ++ s) c 0 w) (large k y (omega arith))
+          ap (λ (t : List ℕ). gathered G (t ++ s) c 0 w) (within-large k y (omega arith))
           ∙ ap (λ (t : List ℕ). gathered G t c 0 w) (append-assoc (digits-within k (y / 10)) ((48 + y % 10) ∷ []) s)
           ∙ ih ((48 + y % 10) ∷ s) c w (omega arith) (omega arith)
           ∙ take-digit (y % 10) s c (y / 10) w (omega arith) (omega arith)
@@ -107,7 +107,7 @@ module _ (G : ℕ → ℕ) (B : ℕ) (fits : (y : ℕ) → y < B → G y ≡ y) 
   take-decimal y s c w l = take-digits (suc y) y s c w (omega arith) l
 
   -- after a term the text ends, or a plus sign follows
-  take-last : (c k : ℕ) (w : List ℕ) → suc c < B → k < B → gathered G (term (suc c) k) 0 0 w ≡ put k (suc c) w
+  take-last : (c k : ℕ) (w : List ℕ) → suc c < B → k < B → gathered G (term (suc c) k) 0 0 w ≡ set-term k (suc c) w
   unfolding gathered
   take-last c zero w h l = take-decimal (suc c) [] 0 w h
   take-last c (suc zero) w h l = take-decimal (suc c) (42 ∷ 120 ∷ []) 0 w h
@@ -117,7 +117,7 @@ module _ (G : ℕ → ℕ) (B : ℕ) (fits : (y : ℕ) → y < B → G y ≡ y) 
       ∙ take-decimal (suc (suc k)) [] (suc c) w l
 
   take-more : (c k : ℕ) (w s : List ℕ) → suc c < B → k < B
-      → gathered G (term (suc c) k ++ 43 ∷ s) 0 0 w ≡ gathered G s 0 0 (put k (suc c) w)
+      → gathered G (term (suc c) k ++ 43 ∷ s) 0 0 w ≡ gathered G s 0 0 (set-term k (suc c) w)
   unfolding gathered
   take-more c zero w s h l =
       ap (λ (t : List ℕ). gathered G t 0 0 w) (append-assoc (decimal (suc c)) [] (43 ∷ s)) ∙ take-decimal (suc c) (43 ∷ s) 0 w h
@@ -129,10 +129,10 @@ module _ (G : ℕ → ℕ) (B : ℕ) (fits : (y : ℕ) → y < B → G y ≡ y) 
       ∙ take-decimal (suc c) (42 ∷ 120 ∷ 94 ∷ (decimal (suc (suc k)) ++ 43 ∷ s)) 0 w h
       ∙ take-decimal (suc (suc k)) (43 ∷ s) (suc c) w l
 
-  takes-term : (c k : ℕ) (w : List ℕ) → c < B → k < B → Takes G (term c k) w (put k c w)
+  takes-term : (c k : ℕ) (w : List ℕ) → c < B → k < B → Takes G (term c k) w (set-term k c w)
   takes-term zero k w h l = record { none = λ _. refl; last = λ e. absurd (e refl); more = λ e. absurd (e refl) }
   takes-term (suc c) k w h l = record {
-    none = λ e. absurd (omega (arith, ap length e, length-append (decimal (suc c)) (power k), decimal-some (suc c)));
+    none = λ e. absurd (omega (arith, ap length e, length-append (decimal (suc c)) (power-text k), decimal-some (suc c)));
     last = λ _. take-last c k w h l;
     more = λ _ s. take-more c k w s h l;
   }
@@ -141,7 +141,7 @@ module _ (G : ℕ → ℕ) (B : ℕ) (fits : (y : ℕ) → y < B → G y ≡ y) 
   unfolding terms
   takes-terms k [] w l h = record { none = λ _. refl; last = λ e. absurd (e refl); more = λ e. absurd (e refl) }
   takes-terms k (c ∷ f) w l h =
-      takes-joined G (terms (suc k) f) (term c k) w (filled (suc k) f w) (put k c (filled (suc k) f w))
+      takes-joined G (terms (suc k) f) (term c k) w (filled (suc k) f w) (set-term k c (filled (suc k) f w))
       (takes-terms (suc k) f w (omega arith) (λ i m. h (suc i) (omega arith)))
       (takes-term c k (filled (suc k) f w) (h 0 (omega arith)) (omega arith))
 

@@ -14,34 +14,34 @@ use lib.ListN.{length, length-append}
 use borrow.Author.Tests.{lt-ltb, le-ltb}
 use Rattle.text_notation.specs.Notation.{digits-within, decimal}
 
-pub small : (k x : ℕ) → x < 10 → digits-within (suc k) x ≡ (48 + x) ∷ []
+pub within-small : (k x : ℕ) → x < 10 → digits-within (suc k) x ≡ (48 + x) ∷ []
 unfolding digits-within
-small k x h = ap (λ (t : Bool). elim t [ true ↦ (48 + x) ∷ [] | false ↦ digits-within k (x / 10) ++ ((48 + x % 10) ∷ []) ]) (lt-ltb x 10 h)
+within-small k x h = ap (λ (t : Bool). elim t [ true ↦ (48 + x) ∷ [] | false ↦ digits-within k (x / 10) ++ ((48 + x % 10) ∷ []) ]) (lt-ltb x 10 h)
 
-pub large : (k x : ℕ) → 10 ≤ x → digits-within (suc k) x ≡ digits-within k (x / 10) ++ ((48 + x % 10) ∷ [])
+pub within-large : (k x : ℕ) → 10 ≤ x → digits-within (suc k) x ≡ digits-within k (x / 10) ++ ((48 + x % 10) ∷ [])
 unfolding digits-within
-large k x h = ap (λ (t : Bool). elim t [ true ↦ (48 + x) ∷ [] | false ↦ digits-within k (x / 10) ++ ((48 + x % 10) ∷ []) ]) (le-ltb x 10 h)
+within-large k x h = ap (λ (t : Bool). elim t [ true ↦ (48 + x) ∷ [] | false ↦ digits-within k (x / 10) ++ ((48 + x % 10) ∷ []) ]) (le-ltb x 10 h)
 
 -- any bound above the number gives its digits
-pub enough : (j k x : ℕ) → x < j → x < k → digits-within j x ≡ digits-within k x
-enough zero k x h l = absurd (omega arith)
-enough (suc j) zero x h l = absurd (omega arith)
-enough (suc j) (suc k) x h l = go (decLt x 10) (enough j k (x / 10))
+pub within-enough : (j k x : ℕ) → x < j → x < k → digits-within j x ≡ digits-within k x
+within-enough zero k x h l = absurd (omega arith)
+within-enough (suc j) zero x h l = absurd (omega arith)
+within-enough (suc j) (suc k) x h l = go (decLt x 10) (within-enough j k (x / 10))
   where
     go : Dec (x < 10) → (x / 10 < j → x / 10 < k → digits-within j (x / 10) ≡ digits-within k (x / 10))
         → digits-within (suc j) x ≡ digits-within (suc k) x
-    go (yes p) ih = small j x p ∙ sym (small k x p)
+    go (yes p) ih = within-small j x p ∙ sym (within-small k x p)
     go (no p) ih =
-        large j x (omega arith)
+        within-large j x (omega arith)
         ∙ ap (λ (d : List ℕ). d ++ ((48 + x % 10) ∷ [])) (ih (omega arith) (omega arith))
-        ∙ sym (large k x (omega arith))
+        ∙ sym (within-large k x (omega arith))
 
 pub decimal-small : (x : ℕ) → x < 10 → decimal x ≡ (48 + x) ∷ []
-decimal-small x h = small x x h
+decimal-small x h = within-small x x h
 
 pub decimal-large : (x : ℕ) → 10 ≤ x → decimal x ≡ decimal (x / 10) ++ ((48 + x % 10) ∷ [])
 decimal-large x h =
-    large x x h ∙ ap (λ (d : List ℕ). d ++ ((48 + x % 10) ∷ [])) (enough x (suc (x / 10)) (x / 10) (omega arith) (omega arith))
+    within-large x x h ∙ ap (λ (d : List ℕ). d ++ ((48 + x % 10) ∷ [])) (within-enough x (suc (x / 10)) (x / 10) (omega arith) (omega arith))
 
 pub within-short : (j k x : ℕ) → x < 10 ^ suc k → length (digits-within j x) ≤ suc k
 unfolding digits-within
@@ -50,12 +50,12 @@ within-short (suc j) k x h = go k (decLt x 10) h (λ m. within-short j m (x / 10
   where
     go : (k : ℕ) → Dec (x < 10) → x < 10 ^ suc k → ((m : ℕ) → x / 10 < 10 ^ suc m → length (digits-within j (x / 10)) ≤ suc m)
         → length (digits-within (suc j) x) ≤ suc k
-    go k (yes p) h ih = omega (arith, ap length (small j x p))
+    go k (yes p) h ih = omega (arith, ap length (within-small j x p))
     go zero (no p) h ih = absurd (omega arith)
     go (suc k) (no p) h ih =
         omega (
           arith,
-          ap length (large j x (omega arith)),
+          ap length (within-large j x (omega arith)),
           length-append (digits-within j (x / 10)) ((48 + x % 10) ∷ []),
           ih k (omega (arith, pow-suc 10 (suc k))),
         )

@@ -1,38 +1,38 @@
 -- How long a text is: what the writer's 800 bytes rest on.
 --
---   most k m        no more characters than the terms of m words from power k on have, a plus sign after each
---   text-short      767 characters are enough for 49 words of 32 bits
+--   most-characters k m     what m words from power k on may have at most, a plus sign after each term
+--   text-short              767 characters are enough for 49 words of 32 bits, and so the 775 of the request
 use mathlib.Core.Path.{_≡_, refl, sym, ap, _∙_}
 use mathlib.Core.List.{List, [], _∷_, _++_}
 use Prim.Native.Nat.{ℕ, zero, suc, _+_, _-_, _<_, _≤_}
 use native.Mathlib.Omega.{arith}
 use lib.ListN.{length, length-append}
 use Rattle.definitions.specs.Polynomials.{coef}
-use Rattle.text_notation.specs.Notation.{digits-within, decimal, power, term, joined, terms, or-zero, text}
+use Rattle.text_notation.specs.Notation.{digits-within, decimal, power-text, term, plus-joined, terms, or-zero, text}
 use Rattle.text_notation.specs.Decimals.{decimal-short}
 
-pub joined-length : (s t : List ℕ) → length (joined s t) ≤ length s + 1 + length t
+pub joined-length : (s t : List ℕ) → length (plus-joined s t) ≤ length s + 1 + length t
 joined-length [] t = omega arith
 joined-length (a ∷ s) [] = omega arith
 joined-length (a ∷ s) (b ∷ t) = omega (arith, length-append (a ∷ s) (43 ∷ b ∷ t))
 
 -- "`*x^` and then k in decimal": at most 5 characters, as k has at most two digits
-pub power-short : (k : ℕ) → k < 100 → length (power k) ≤ 5
+pub power-short : (k : ℕ) → k < 100 → length (power-text k) ≤ 5
 power-short zero h = omega arith
 power-short (suc zero) h = omega arith
 power-short (suc (suc k)) h = omega (arith, decimal-short 1 (suc (suc k)) h)
 
-pub term-short : (c k : ℕ) → c < 10000000000 → length (term c k) ≤ 10 + length (power k)
+pub term-short : (c k : ℕ) → c < 10000000000 → length (term c k) ≤ 10 + length (power-text k)
 term-short zero k h = omega arith
-term-short (suc c) k h = omega (arith, length-append (decimal (suc c)) (power k), decimal-short 9 (suc c) h)
+term-short (suc c) k h = omega (arith, length-append (decimal (suc c)) (power-text k), decimal-short 9 (suc c) h)
 
-unfoldable pub most : ℕ → ℕ → ℕ
-most k zero = 0
-most k (suc m) = 11 + length (power k) + most (suc k) m
+unfoldable pub most-characters : ℕ → ℕ → ℕ
+most-characters k zero = 0
+most-characters k (suc m) = 11 + length (power-text k) + most-characters (suc k) m
 
 -- the plus sign after the last term is not written
-pub terms-short : (k : ℕ) (f : List ℕ) → ((i : ℕ) → i < length f → coef f i < 4294967296) → length (terms k f) ≤ most k (length f) - 1
-unfolding terms most
+pub terms-short : (k : ℕ) (f : List ℕ) → ((i : ℕ) → i < length f → coef f i < 4294967296) → length (terms k f) ≤ most-characters k (length f) - 1
+unfolding terms most-characters
 terms-short k [] h = omega arith
 terms-short k (c ∷ []) h = omega (arith, term-short c k (omega (arith, h 0 (omega arith))))
 terms-short k (c ∷ x ∷ f) h =
@@ -43,14 +43,14 @@ terms-short k (c ∷ x ∷ f) h =
       terms-short (suc k) (x ∷ f) (λ i l. h (suc i) (omega arith)),
     )
 
-more : (k m l : ℕ) → m ≤ l → most k m ≤ most k l
-unfolding most
+more : (k m l : ℕ) → m ≤ l → most-characters k m ≤ most-characters k l
+unfolding most-characters
 more k zero l h = omega arith
 more k (suc m) zero h = absurd (omega arith)
 more k (suc m) (suc l) h = omega (arith, more (suc k) m l (omega arith))
 
-all-words : most 0 49 ≡ 768
-unfolding most digits-within
+all-words : most-characters 0 49 ≡ 768
+unfolding most-characters digits-within
 all-words = refl
 
 or-zero-short : (s : List ℕ) (m : ℕ) → length s ≤ suc m → length (or-zero s) ≤ suc m

@@ -20,26 +20,26 @@ use Rattle.refusals.specs.Refusals.{all-below}
 use Rattle.refusals.specs.Conditions.{Fails, residues-of, words-fail}
 use Rattle.text_notation.specs.Notation.{text, dropped, padded, TextOf}
 use Rattle.text_notation.specs.Tops.{text-padded, text-dropped, dropped-within, dropped-length, dropped-above, dropped-dropped}
-use Rattle.text_notation.specs.Candidates.{next-number, next-coefficient, stored, gathered, candidate, same, is-text-of, is-text}
+use Rattle.text_notation.specs.Candidates.{number-after, coefficient-after, stored, gathered, candidate, same-text, is-text-of, is-text}
 use Rattle.text_notation.specs.CandidateLaws.{gathered-text}
 
 -- ---- equal texts
 
-pub same-true : (s t : List ℕ) → same s t ≡ true → s ≡ t
-unfolding same
+pub same-true : (s t : List ℕ) → same-text s t ≡ true → s ≡ t
+unfolding same-text
 same-true [] [] h = refl
 same-true [] (b ∷ t) h = absurd (false≢true h)
 same-true (a ∷ s) [] h = absurd (false≢true h)
 same-true (a ∷ s) (b ∷ t) h = go (eqb a b) refl h (same-true s t)
   where
-    go : (q : Bool) → eqb a b ≡ q → cond q (same s t) false ≡ true → (same s t ≡ true → s ≡ t) → a ∷ s ≡ b ∷ t
+    go : (q : Bool) → eqb a b ≡ q → cond q (same-text s t) false ≡ true → (same-text s t ≡ true → s ≡ t) → a ∷ s ≡ b ∷ t
     go true e r ih = ap₂ (λ (x : ℕ) (y : List ℕ). x ∷ y) (eqb-true a b e) (ih r)
     go false e r ih = absurd (false≢true r)
 
-pub same-self : (s : List ℕ) → same s s ≡ true
-unfolding same
+pub same-self : (s : List ℕ) → same-text s s ≡ true
+unfolding same-text
 same-self [] = refl
-same-self (a ∷ s) = ap (λ (q : Bool). cond q (same s s) false) (eq-eqb a a refl) ∙ same-self s
+same-self (a ∷ s) = ap (λ (q : Bool). cond q (same-text s s) false) (eq-eqb a a refl) ∙ same-self s
 
 both : (a b : Bool) → (a && b) ≡ true → (a ≡ true) × (b ≡ true)
 both true b h = (refl, h)
@@ -62,7 +62,7 @@ pub gathered-length : (G : ℕ → ℕ) (s : List ℕ) (c x : ℕ) (w : List ℕ
 unfolding gathered
 gathered-length G [] c x w = stored-length c x w
 gathered-length G (b ∷ s) c x w =
-    gathered-length G s (next-coefficient b c x) (next-number G b x) (cond (eqb b 43) (stored c x w) w) ∙ after-length b c x w
+    gathered-length G s (coefficient-after b c x) (number-after G b x) (cond (eqb b 43) (stored c x w) w) ∙ after-length b c x w
 
 residues-take : (n m : ℕ) (g : List ℕ) → m ≤ length g → Residues n g → Residues n (take m g)
 residues-take n m g h r = record {
@@ -90,9 +90,9 @@ residues-padded n m f h r = record {
 
 -- ---- the test
 
-pub found : (n : ℕ) (s g : List ℕ) → length g ≡ 49 → is-text-of n s g ≡ true → TextOf n s (dropped g)
-found n s g l h =
-    let b = both (all-below n g) (same s (text g)) h in
+pub text-found : (n : ℕ) (s g : List ℕ) → length g ≡ 49 → is-text-of n s g ≡ true → TextOf n s (dropped g)
+text-found n s g l h =
+    let b = both (all-below n g) (same-text s (text g)) h in
     let m = dropped-length g (omega arith) in
     let w = dropped-within g (omega arith) in
     record {
@@ -110,11 +110,11 @@ residues-below n g r = go (all-below n g) (words-fail n g)
     go true x = refl
     go false x = absurd (x .failed refl r)
 
-pub passes : {n : ℕ} {s f : List ℕ} → TextOf n s f → is-text-of n s (padded 49 f) ≡ true
-passes {n} {s} {f} h =
+pub text-passes : {n : ℕ} {s f : List ℕ} → TextOf n s f → is-text-of n s (padded 49 f) ≡ true
+text-passes {n} {s} {f} h =
     let n' : 1 ≤ n = omega (arith, h .residues .at 0 (h .some)) in
     ap₂ _&&_ (residues-below n (padded 49 f) (residues-padded n 49 f n' (h .residues)))
-    (ap₂ same (h .is) (text-padded 49 f) ∙ same-self (text f))
+    (ap₂ same-text (h .is) (text-padded 49 f) ∙ same-self (text f))
 
 -- however numbers that do not fit a word are taken, B being above n and every power
 pub gathered-is : (G : ℕ → ℕ) (B : ℕ) → ((y : ℕ) → y < B → G y ≡ y) → 49 ≤ B → {n : ℕ} {s f : List ℕ} → n ≤ B → TextOf n s f
@@ -140,11 +140,11 @@ test-same G B fits b n s l = go (is-text-of n s g) (is-text n s) refl refl
     go true true p q = refl
     go false false p q = refl
     go true false p q =
-        let f = found n s g (gathered-length G s 0 0 (replicate 49 0) ∙ zeros-length) p in
-        sym (passes f) ∙ ap (is-text-of n s) (sym (candidate-is f)) ∙ q
+        let f = text-found n s g (gathered-length G s 0 0 (replicate 49 0) ∙ zeros-length) p in
+        sym (text-passes f) ∙ ap (is-text-of n s) (sym (candidate-is f)) ∙ q
     go false true p q =
-        let f = found n s (candidate s) (gathered-length (λ (y : ℕ). y) s 0 0 (replicate 49 0) ∙ zeros-length) q in
-        sym (sym (passes f) ∙ ap (is-text-of n s) (sym (gathered-is G B fits b l f)) ∙ p)
+        let f = text-found n s (candidate s) (gathered-length (λ (y : ℕ). y) s 0 0 (replicate 49 0) ∙ zeros-length) q in
+        sym (sym (text-passes f) ∙ ap (is-text-of n s) (sym (gathered-is G B fits b l f)) ∙ p)
 
 pub candidate-length : (s : List ℕ) → length (candidate s) ≡ 49
 candidate-length s = gathered-length (λ (y : ℕ). y) s 0 0 (replicate 49 0) ∙ zeros-length
@@ -153,10 +153,10 @@ pub text-fails : (n : ℕ) (s : List ℕ) → Fails (not (is-text n s)) ((f : Li
 text-fails n s = go (is-text n s) refl
   where
     go : (t : Bool) → is-text n s ≡ t → Fails (not t) ((f : List ℕ) × TextOf n s f)
-    go true e = record { passed = λ _. (dropped (candidate s), found n s (candidate s) (candidate-length s) e); failed = λ z. absurd (false≢true z) }
+    go true e = record { passed = λ _. (dropped (candidate s), text-found n s (candidate s) (candidate-length s) e); failed = λ z. absurd (false≢true z) }
     go false e = record {
       passed = λ z. absurd (false≢true (sym z));
-      failed = λ _ p. false≢true (sym e ∙ ap (is-text-of n s) (candidate-is (p .1)) ∙ passes (p .1));
+      failed = λ _ p. false≢true (sym e ∙ ap (is-text-of n s) (candidate-is (p .1)) ∙ text-passes (p .1));
     }
 
 -- ---- one polynomial, one text

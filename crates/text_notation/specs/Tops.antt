@@ -15,17 +15,17 @@ use lib.ListN.{length, take, replicate, length-append, length-replicate}
 use lib.Seq.{take-append-le, length-take-le}
 use borrow.Author.Tests.{eqb-true}
 use Rattle.definitions.specs.Polynomials.{extent, true-degree}
-use Rattle.text_notation.specs.Notation.{term, joined, terms, or-zero, text, dropped, padded}
+use Rattle.text_notation.specs.Notation.{term, plus-joined, terms, or-zero, text, dropped, padded}
 
 terms-zeros : (k m : ℕ) → terms k (replicate m 0) ≡ []
 unfolding terms
 terms-zeros k zero = refl
-terms-zeros k (suc m) = ap (λ (s : List ℕ). joined s []) (terms-zeros (suc k) m)
+terms-zeros k (suc m) = ap (λ (s : List ℕ). plus-joined s []) (terms-zeros (suc k) m)
 
 pub terms-above : (k : ℕ) (f : List ℕ) (m : ℕ) → terms k (f ++ replicate m 0) ≡ terms k f
 unfolding terms
 terms-above k [] m = terms-zeros k m
-terms-above k (c ∷ f) m = ap (λ (s : List ℕ). joined s (term c k)) (terms-above (suc k) f m)
+terms-above k (c ∷ f) m = ap (λ (s : List ℕ). plus-joined s (term c k)) (terms-above (suc k) f m)
 
 pub text-padded : (m : ℕ) (f : List ℕ) → text (padded m f) ≡ text f
 text-padded m f = ap or-zero (terms-above 0 f (m - length f))

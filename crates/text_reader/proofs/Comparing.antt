@@ -12,34 +12,34 @@ use borrow.Author.Tests.{eq-eqb, ne-eqb}
 use Rattle.definitions.specs.Polynomials.{coef}
 use Rattle.text_notation.specs.Notation.{text}
 use Rattle.text_notation.specs.Lengths.{text-short}
-use Rattle.text_notation.specs.Candidates.{same}
+use Rattle.text_notation.specs.Candidates.{same-text}
 use Rattle.text_notation.specs.NotationLaws.{same-true}
 use Rattle.text_writer.specs.Parts.{Put}
 use Rattle.text_writer.proofs.Putting.{put-length}
 
 step : (s t : List ℕ) (i : ℕ) → i < length s → i < length t
-    → same (drop i s) (drop i t) ≡ cond (eqb (getD s i 0) (getD t i 0)) (same (drop (i + 1) s) (drop (i + 1) t)) false
-unfolding same
-step s t i h l = ap₂ same (drop-cons s i 0 h) (drop-cons t i 0 l) ∙ rw (add-one i)
+    → same-text (drop i s) (drop i t) ≡ cond (eqb (getD s i 0) (getD t i 0)) (same-text (drop (i + 1) s) (drop (i + 1) t)) false
+unfolding same-text
+step s t i h l = ap₂ same-text (drop-cons s i 0 h) (drop-cons t i 0 l) ∙ rw (add-one i)
 
 pub one-same : (s t : List ℕ) (i : ℕ) → i < length s → i < length t → getD s i 0 ≡ getD t i 0
-    → same s t ≡ same (drop i s) (drop i t)
-    → same s t ≡ same (drop (i + 1) s) (drop (i + 1) t)
+    → same-text s t ≡ same-text (drop i s) (drop i t)
+    → same-text s t ≡ same-text (drop (i + 1) s) (drop (i + 1) t)
 one-same s t i h l e p = p ∙ step s t i h l ∙ rw (eq-eqb _ _ e)
 
 pub one-other : (s t : List ℕ) (i : ℕ) → i < length s → i < length t → (getD s i 0 ≡ getD t i 0 → ⊥)
-    → same s t ≡ same (drop i s) (drop i t)
-    → false ≡ same s t
+    → same-text s t ≡ same-text (drop i s) (drop i t)
+    → false ≡ same-text s t
 one-other s t i h l e p = sym (p ∙ step s t i h l ∙ rw (ne-eqb _ _ e))
 
-pub all-same : (s t : List ℕ) (i : ℕ) → length s ≤ i → length t ≤ i → same s t ≡ same (drop i s) (drop i t) → true ≡ same s t
-unfolding same
-all-same s t i h l p = sym (p ∙ ap₂ same (drop-of-length-le s {i = i} h) (drop-of-length-le t {i = i} l))
+pub all-same : (s t : List ℕ) (i : ℕ) → length s ≤ i → length t ≤ i → same-text s t ≡ same-text (drop i s) (drop i t) → true ≡ same-text s t
+unfolding same-text
+all-same s t i h l p = sym (p ∙ ap₂ same-text (drop-of-length-le s {i = i} h) (drop-of-length-le t {i = i} l))
 
-pub other-length : (s t : List ℕ) → (length s ≡ length t → ⊥) → false ≡ same s t
-other-length s t n = go (same s t) refl
+pub length-differs : (s t : List ℕ) → (length s ≡ length t → ⊥) → false ≡ same-text s t
+length-differs s t n = go (same-text s t) refl
   where
-    go : (b : Bool) → same s t ≡ b → false ≡ b
+    go : (b : Bool) → same-text s t ≡ b → false ≡ b
     go false e = refl
     go true e = absurd (n (ap length (same-true s t e)))
 

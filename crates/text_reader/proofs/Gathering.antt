@@ -7,9 +7,9 @@ use native.Mathlib.Numerals.{add-one}
 use native.Mathlib.Omega.{arith}
 use lib.Dec.{eqb}
 use lib.ListN.{length, getD, take, drop, set, drop-of-length-le}
-use lib.Seq.{drop-cons, take-suc, take-all, set-out}
+use lib.Seq.{drop-cons, take-suc, set-out}
 use borrow.Author.Tests.{eq-eqb, ne-eqb, lt-ltb, le-ltb}
-use Rattle.text_notation.specs.Candidates.{next-number, next-coefficient, stored, gathered}
+use Rattle.text_notation.specs.Candidates.{number-after, coefficient-after, stored, gathered}
 use Rattle.text_writer.specs.Parts.{Put}
 use Rattle.text_writer.proofs.Putting.{put-none, put-as, put-set}
 use Rattle.text_reader.specs.TextReader.{in-word}
@@ -41,17 +41,17 @@ at-other b c x w v n h = rw (ne-eqb b 43 n) h
 module _ (s : List ℕ) (i c x : ℕ) (w₀ w : List ℕ) (so : gathered in-word s 0 0 w₀ ≡ gathered in-word (drop i s) c x w) where
   pub one-more : (c' x' : ℕ) (v : List ℕ) → i < length s
       → v ≡ cond (eqb (getD s i 0) 43) (stored c x w) w
-      → c' ≡ next-coefficient (getD s i 0) c x
-      → x' ≡ next-number in-word (getD s i 0) x
+      → c' ≡ coefficient-after (getD s i 0) c x
+      → x' ≡ number-after in-word (getD s i 0) x
       → gathered in-word s 0 0 w₀ ≡ gathered in-word (drop (i + 1) s) c' x' v
   unfolding gathered
   one-more c' x' v h e e₁ e₂ =
       let b = getD s i 0 in
       so
       ∙ ap (λ (t : List ℕ). gathered in-word t c x w) (drop-cons s i 0 h)
-      ∙ ap (λ (k : ℕ). gathered in-word (drop k s) (next-coefficient b c x) (next-number in-word b x) (cond (eqb b 43) (stored c x w) w))
+      ∙ ap (λ (k : ℕ). gathered in-word (drop k s) (coefficient-after b c x) (number-after in-word b x) (cond (eqb b 43) (stored c x w) w))
       (sym (add-one i))
-      ∙ ap (λ (t : List ℕ). gathered in-word (drop (i + 1) s) (next-coefficient b c x) (next-number in-word b x) t) (sym e)
+      ∙ ap (λ (t : List ℕ). gathered in-word (drop (i + 1) s) (coefficient-after b c x) (number-after in-word b x) t) (sym e)
       ∙ ap₂ (λ (k l : ℕ). gathered in-word (drop (i + 1) s) k l v) (sym e₁) (sym e₂)
 
   pub all-gathered : (v : List ℕ) → length s ≤ i → v ≡ stored c x w → v ≡ gathered in-word s 0 0 w₀
@@ -63,10 +63,10 @@ module _ (s : List ℕ) (i c x : ℕ) (w₀ w : List ℕ) (so : gathered in-word
 pub copied-none : (f w : List ℕ) → Put (take 0 f) 0 0 w w
 copied-none f w = put-none 0 w
 
-pub copied-step : (f : List ℕ) {i : ℕ} {w₀ w : List ℕ} → Put (take i f) 0 i w₀ w → i < length f → length f ≤ length w₀
+pub copied-step : (f : List ℕ) {i : ℕ} {w₀ w : List ℕ} → Put (take i f) 0 i w₀ w → i < length f → i < length w₀
     → Put (take (i + 1) f) 0 (i + 1) w₀ (set w i (getD f i 0))
 copied-step f {i} p h l =
-    put-as (sym (take-suc f i 0 h) ∙ ap (λ (k : ℕ). take k f) (sym (add-one i))) (put-set p (omega arith) (getD f i 0) (omega arith))
+    put-as (sym (take-suc f i 0 h) ∙ ap (λ (k : ℕ). take k f) (sym (add-one i))) (put-set p (omega arith) (getD f i 0) l)
 
-pub copied-all : (f : List ℕ) {i : ℕ} {w₀ w : List ℕ} → Put (take i f) 0 i w₀ w → i ≡ length f → w ≡ f ++ drop (length f) w₀
-copied-all f {i} {w₀} p e = p .is ∙ ap₂ (λ (x : List ℕ) (k : ℕ). x ++ drop k w₀) (take-all i f (omega arith)) e
+pub copied-all : (f : List ℕ) (count : ℕ) {i : ℕ} {w₀ w : List ℕ} → Put (take i f) 0 i w₀ w → i ≡ count → w ≡ take count f ++ drop count w₀
+copied-all f count {w₀ = w₀} p e = p .is ∙ ap (λ (k : ℕ). take k f ++ drop k w₀) e

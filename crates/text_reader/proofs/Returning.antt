@@ -5,7 +5,8 @@ use mathlib.Core.List.{List, [], _∷_, _++_}
 use Prim.Native.Nat.{ℕ, zero, suc, _+_, _≤_, _<_}
 use native.Mathlib.Omega.{arith}
 use lib.Dec.{ltb, eqb}
-use lib.ListN.{length, drop, replicate}
+use lib.ListN.{length, take, drop, replicate}
+use lib.Seq.{take-all}
 use Rattle.definitions.specs.Polynomials.{true-degree}
 use Rattle.refusals.specs.Refusals.{narrow, bad-modulus, bad-length, all-below, short, first-refusal, refusals-one, answered}
 use Rattle.refusals.specs.Conditions.{accepted-one}
@@ -13,8 +14,8 @@ use Rattle.refusals.proofs.Statuses.{row-applies, row-passes, too-short, long-e
 use Rattle.polynomial_degree.specs.DegreeService.{TrueDegreeAnswer}
 use Rattle.text_notation.specs.Notation.{text, dropped, padded}
 use Rattle.text_notation.specs.Tops.{dropped-within, dropped-length, padded-dropped}
-use Rattle.text_notation.specs.Candidates.{gathered, same, is-text-of, is-text}
-use Rattle.text_notation.specs.NotationLaws.{gathered-length, found, residues-below, test-same}
+use Rattle.text_notation.specs.Candidates.{gathered, same-text, is-text-of, is-text}
+use Rattle.text_notation.specs.NotationLaws.{gathered-length, text-found, residues-below, test-same}
 use Rattle.text_reader.specs.TextReader.{in-word, ReadAnswer}
 use Rattle.text_reader.proofs.Gathering.{fits-in-word}
 
@@ -62,17 +63,17 @@ module _ (n : ℕ) (s w : List ℕ) where
         where
           go : (t : Bool) → all-below n g ≡ t → ReadAnswer narrow n s w w 0 17
           go true e = absurd (z (a .status-is ∙ sym (below-passes e)))
-          go false e = other (ap (λ (t : Bool). t && same s (text g)) e)
+          go false e = other (ap (λ (t : Bool). t && same-text s (text g)) e)
 
-      pub text-refused : same s (text g) ≡ false → ReadAnswer narrow n s w w 0 17
+      pub text-refused : same-text s (text g) ≡ false → ReadAnswer narrow n s w w 0 17
       text-refused e = other (ap (λ (t : Bool). all-below n g && t) e ∙ and-false (all-below n g))
 
-      module _ (z : st ≡ 0) (t : same s (text g) ≡ true) where
+      module _ (z : st ≡ 0) (t : same-text s (text g) ≡ true) where
         is-true : is-text-of n s g ≡ true
         is-true = ap₂ _&&_ (residues-below n g (accepted-one narrow n g (sym (a .status-is) ∙ z) .residues)) t
 
-        pub words-short : length w < 49 → ReadAnswer narrow n s w w 0 6
-        words-short h = record {
+        pub lent-short : length w < 49 → ReadAnswer narrow n s w w 0 6
+        lent-short h = record {
           polynomial = [];
           status-is = row-passes 1 (bad-modulus narrow n) ((17, not (is-text n s)) ∷ (6, short (length w) 49) ∷ []) 6 b
               (row-passes 17 (not (is-text n s)) ((6, short (length w) 49) ∷ []) 6 (ap not (sym tested ∙ is-true))
@@ -88,16 +89,18 @@ module _ (n : ℕ) (s w : List ℕ) where
         pub degree-small : v < 49
         degree-small = omega (arith, degree-is, dropped-within g (omega (arith, words-length)), words-length)
 
-        pub done : 49 ≤ length w → (w' : List ℕ) → w' ≡ g ++ drop (length g) w → ReadAnswer narrow n s w w' (v + 1) 0
+        pub done : 49 ≤ length w → (w' : List ℕ) → w' ≡ take 49 g ++ drop 49 w → ReadAnswer narrow n s w w' (v + 1) 0
         done h w' e =
             let m : padded 49 (dropped g) ≡ g =
             ap (λ (k : ℕ). padded k (dropped g)) (sym words-length) ∙ padded-dropped g (omega (arith, words-length)) in
+            let all : take 49 g ++ drop 49 w ≡ g ++ drop (length g) w =
+            ap₂ (λ (x : List ℕ) (k : ℕ). x ++ drop k w) (take-all 49 g (omega (arith, words-length))) (sym words-length) in
             record {
               polynomial = dropped g;
               status-is = row-passes 1 (bad-modulus narrow n) ((17, not (is-text n s)) ∷ (6, short (length w) 49) ∷ []) 0 b
                   (row-passes 17 (not (is-text n s)) ((6, short (length w) 49) ∷ []) 0 (ap not (sym tested ∙ is-true))
                   (long-enough 6 (length w) 49 [] 0 h refl));
-              text-is = λ _. found n s g words-length is-true;
+              text-is = λ _. text-found n s g words-length is-true;
               value-is = omega (arith, degree-is, dropped-length g (omega (arith, words-length)));
-              words-are = e ∙ ap (λ (x : List ℕ). x ++ drop (length x) w) (sym m);
+              words-are = e ∙ all ∙ ap (λ (x : List ℕ). x ++ drop (length x) w) (sym m);
             }

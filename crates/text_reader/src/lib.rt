@@ -2,25 +2,25 @@
 // text_notation/specs/Notation.antt. "A text that is read is the text that would be written": the characters are gathered into
 // words with no eye to their order, those words are written, and any other text than that is refused.
 //
-//   next_number, next_coefficient     the number and the coefficient being read, after one more character
-//   store, gather                     the words that a text comes to
-//   same, is_text_of                  whether a text is that of lent words
-//   copy                              words into the lent buffer
-//   read_text                         the service
+//   number_after, coefficient_after    the number and the coefficient being read, after one more character
+//   store, gather                      the words that a text comes to
+//   same_text, is_text_of              whether a text is that of lent words
+//   put_words                          words into the lent buffer
+//   read_text                          the service
 ghost use mathlib.Core.Path.{_≡_};
 ghost use mathlib.Core.List.{_++_};
 ghost use Prim.Native.Nat.{_≤_};
-ghost use lib.ListN.{length, drop};
+ghost use lib.ListN.{length, take, drop};
 ghost use Rattle.refusals.specs.Refusals.{narrow};
 ghost use Rattle.text_notation.specs.Notation.{text};
-ghost use Rattle.text_notation.specs.Candidates.{next-number, next-coefficient, stored, gathered, same};
+ghost use Rattle.text_notation.specs.Candidates.{number-after, coefficient-after, stored, gathered, same-text};
 ghost use Rattle.text_reader.specs.TextReader.{in-word, ReadAnswer};
 use refusals::Answer;
 
 // A plus sign, a star and a circumflex begin a number, and `x` alone is power 1. Any other character counts as a digit. A number
 // that does not fit in a word counts as the largest word, which is no residue and no power.
-fn next_number(b: u8, x: u32) -> u32
-    ensures { λ r. ⌜ r ≡ next-number in-word b x ⌝ }
+fn number_after(b: u8, x: u32) -> u32
+    ensures { λ r. ⌜ r ≡ number-after in-word b x ⌝ }
 {
     if b == 43 {
         return 0;
@@ -42,8 +42,8 @@ fn next_number(b: u8, x: u32) -> u32
 }
 
 // The number before a star is a coefficient, up to the next plus sign.
-fn next_coefficient(b: u8, c: u32, x: u32) -> u32
-    ensures { λ r. ⌜ r ≡ next-coefficient b c x ⌝ }
+fn coefficient_after(b: u8, c: u32, x: u32) -> u32
+    ensures { λ r. ⌜ r ≡ coefficient-after b c x ⌝ }
 {
     if b == 43 {
         return 0;
@@ -82,15 +82,15 @@ fn gather(s: &[u8], words: &mut [u32])
         if b == 43 {
             store(words, c, x);
         }
-        c = next_coefficient(b, c, x);
-        x = next_number(b, x);
+        c = coefficient_after(b, c, x);
+        x = number_after(b, x);
         i += 1;
     }
     store(words, c, x);
 }
 
-fn same(s: &[u8], t: &[u8]) -> bool
-    ensures { λ r. ⌜ r ≡ same (now (s .entry)) (now (t .entry)) ⌝ }
+fn same_text(s: &[u8], t: &[u8]) -> bool
+    ensures { λ r. ⌜ r ≡ same-text (now (s .entry)) (now (t .entry)) ⌝ }
 {
     if s.len() != t.len() {
         return false;
@@ -108,19 +108,20 @@ fn same(s: &[u8], t: &[u8]) -> bool
 // Whether s is the text of the words f.
 fn is_text_of(s: &[u8], f: &[u32]) -> bool
     requires { ⌜ length (now f) ≤ 49 ⌝ }
-    ensures { λ r. ⌜ r ≡ same (now (s .entry)) (text (now (f .entry))) ⌝ }
+    ensures { λ r. ⌜ r ≡ same-text (now (s .entry)) (text (now (f .entry))) ⌝ }
 {
     let mut t = [0u8; 800];
-    let count = text_writer::write(f, &mut t);
-    same(s, &t[0..count])
+    let count = text_writer::put_text(f, &mut t);
+    same_text(s, &t[0..count])
 }
 
-fn copy(f: &[u32], words: &mut [u32])
-    requires { ⌜ length (now f) ≤ length (now words) ⌝ }
-    ensures { λ _. ⌜ now (words .exit) ≡ now (f .entry) ++ drop (length (now (f .entry))) (now (words .entry)) ⌝ }
+// The first count words of f, at the front of the words lent.
+fn put_words(words: &mut [u32], f: &[u32], count: usize)
+    requires { ⌜ (count ≤ length (now f)) × (count ≤ length (now words)) ⌝ }
+    ensures { λ _. ⌜ now (words .exit) ≡ take count (now (f .entry)) ++ drop count (now (words .entry)) ⌝ }
 {
     let mut i: usize = 0;
-    while i < f.len() {
+    while i < count {
         words[i] = f[i];
         i += 1;
     }
@@ -157,7 +158,7 @@ pub fn read_text(n: u32, text: &[u8], words: &mut [u32]) -> Answer
             status: 6,
         };
     }
-    copy(&f, words);
+    put_words(words, &f, 49);
     Answer {
         value: degree.value + 1,
         status: 0,

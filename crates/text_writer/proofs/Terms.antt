@@ -7,7 +7,7 @@ use native.Mathlib.Omega.{arith}
 use native.Mathlib.Numerals.{add-one}
 use lib.ListN.{length, drop, getD, set, length-append}
 use lib.Seq.{drop-length, drop-cons}
-use Rattle.text_notation.specs.Notation.{decimal, power, term, joined, terms, or-zero, text}
+use Rattle.text_notation.specs.Notation.{decimal, power-text, term, plus-joined, terms, or-zero, text}
 use Rattle.text_notation.specs.Decimals.{decimal-small, decimal-large, decimal-some}
 use Rattle.text_notation.specs.Lengths.{power-short, term-short}
 use Rattle.text_writer.specs.Parts.{Put, plus, added}
@@ -31,32 +31,32 @@ module _ (x : ℕ) {at r : ℕ} {o w : List ℕ} (h : 10 ≤ x) (l : at + length
 
 -- ---- a power
 
-power-large : (k : ℕ) → 2 ≤ k → (42 ∷ 120 ∷ []) ++ (94 ∷ []) ++ decimal k ≡ power k
+power-large : (k : ℕ) → 2 ≤ k → (42 ∷ 120 ∷ []) ++ (94 ∷ []) ++ decimal k ≡ power-text k
 power-large zero h = absurd (omega arith)
 power-large (suc zero) h = absurd (omega arith)
 power-large (suc (suc k)) h = refl
 
-pub power-none : (k at : ℕ) (o : List ℕ) → k ≡ 0 → Put (power k) at at o o
-power-none k at o e = put-as (ap power (sym e)) (put-none at o)
+pub power-none : (k at : ℕ) (o : List ℕ) → k ≡ 0 → Put (power-text k) at at o o
+power-none k at o e = put-as (ap power-text (sym e)) (put-none at o)
 
-pub power-some : (k : ℕ) → (k ≡ 0 → ⊥) → 2 ≤ length (power k)
+pub power-some : (k : ℕ) → (k ≡ 0 → ⊥) → 2 ≤ length (power-text k)
 power-some zero n = absurd (n refl)
 power-some (suc zero) n = omega arith
 power-some (suc (suc k)) n = omega arith
 
-pub power-length : (k : ℕ) → 2 ≤ k → length (power k) ≡ 3 + length (decimal k)
+pub power-length : (k : ℕ) → 2 ≤ k → length (power-text k) ≡ 3 + length (decimal k)
 power-length k h = ap length (sym (power-large k h)) ∙ omega arith
 
 star : (at : ℕ) (o : List ℕ) → at + 2 ≤ length o → Put (42 ∷ 120 ∷ []) at (at + 2) o (set (set o at 42) (at + 1) 120)
 star at o l = put-end (omega arith) (put-set (put-one 42 at o (omega arith)) (omega arith) 120 (omega arith))
 
-pub power-one : (k at : ℕ) (o : List ℕ) → k ≡ 1 → at + length (power k) ≤ length o
-    → Put (power k) at (at + 2) o (set (set o at 42) (at + 1) 120)
-power-one k at o e l = put-as (ap power (sym e)) (star at o (omega (arith, ap (λ (i : ℕ). length (power i)) e)))
+pub power-one : (k at : ℕ) (o : List ℕ) → k ≡ 1 → at + length (power-text k) ≤ length o
+    → Put (power-text k) at (at + 2) o (set (set o at 42) (at + 1) 120)
+power-one k at o e l = put-as (ap power-text (sym e)) (star at o (omega (arith, ap (λ (i : ℕ). length (power-text i)) e)))
 
-pub power-more : (k at : ℕ) {r : ℕ} {o w : List ℕ} → 2 ≤ k → at + length (power k) ≤ length o
+pub power-more : (k at : ℕ) {r : ℕ} {o w : List ℕ} → 2 ≤ k → at + length (power-text k) ≤ length o
     → Put (decimal k) (at + 3) r (set (set (set o at 42) (at + 1) 120) (at + 2) 94) w
-    → Put (power k) at r o w
+    → Put (power-text k) at r o w
 power-more k at {o = o} h l p =
     let e = power-length k h in
     put-as (power-large k h)
@@ -72,7 +72,7 @@ pub plus-later : (at : ℕ) (o : List ℕ) → (at ≡ 0 → ⊥) → at < lengt
 plus-later zero o n h = absurd (n refl)
 plus-later (suc at) o n h = put-one 43 (suc at) o h
 
-pub added-some : (at c k : ℕ) → 1 ≤ c → plus at ++ (decimal c ++ power k) ≡ added at c k
+pub added-some : (at c k : ℕ) → 1 ≤ c → plus at ++ (decimal c ++ power-text k) ≡ added at c k
 added-some at zero k h = absurd (omega arith)
 added-some at (suc c) k h = refl
 
@@ -84,10 +84,10 @@ pub plus-short : (at : ℕ) → length (plus at) ≤ 1
 plus-short zero = omega arith
 plus-short (suc at) = omega arith
 
-pub number-and-power : (c k : ℕ) → 1 ≤ c → c < 4294967296 → k ≤ 48 → length (decimal c) + length (power k) ≤ 15
+pub number-and-power : (c k : ℕ) → 1 ≤ c → c < 4294967296 → k ≤ 48 → length (decimal c) + length (power-text k) ≤ 15
 number-and-power zero k h l m = absurd (omega arith)
 number-and-power (suc c) k h l m =
-    omega (arith, term-short (suc c) k (omega arith), length-append (decimal (suc c)) (power k), power-short k (omega arith))
+    omega (arith, term-short (suc c) k (omega arith), length-append (decimal (suc c)) (power-text k), power-short k (omega arith))
 
 added-short : (at c k : ℕ) → c < 4294967296 → k ≤ 48 → length (added at c k) ≤ 16
 added-short at zero k l m = omega arith
@@ -97,12 +97,12 @@ added-short at (suc c) k l m =
       number-and-power (suc c) k (omega arith) l m,
       plus-short at,
       length-append (plus at) (term (suc c) k),
-      length-append (decimal (suc c)) (power k),
+      length-append (decimal (suc c)) (power-text k),
     )
 
 -- the sign, the number and the power, one after the other
 module _ (at c k : ℕ) (o : List ℕ) (l : at + 16 ≤ length o) (m : k ≤ 48) (some : c ≡ 0 → ⊥) (b : c < 4294967296) where
-  both : length (decimal c) + length (power k) ≤ 15
+  both : length (decimal c) + length (power-text k) ≤ 15
   both = number-and-power c k (pos-of-ne-zero some) b m
 
   module _ {r : ℕ} {w : List ℕ} (p : Put (plus at) at r o w) where
@@ -110,7 +110,7 @@ module _ (at c k : ℕ) (o : List ℕ) (l : at + 16 ≤ length o) (m : k ≤ 48)
     number-room = omega (arith, p .end, plus-short at, both, put-length p (omega (arith, p .end, plus-short at)))
 
     module _ {q : ℕ} {v : List ℕ} (d : Put (decimal c) r q w v) where
-      pub power-room : q + length (power k) ≤ length v
+      pub power-room : q + length (power-text k) ≤ length v
       power-room =
           omega (
             arith,
@@ -122,7 +122,7 @@ module _ (at c k : ℕ) (o : List ℕ) (l : at + 16 ≤ length o) (m : k ≤ 48)
             put-length d (omega (arith, d .end, number-room)),
           )
 
-      pub term-put : {i : ℕ} {u : List ℕ} → Put (power k) q i v u → Put (added at c k) at i o u
+      pub term-put : {i : ℕ} {u : List ℕ} → Put (power-text k) q i v u → Put (added at c k) at i o u
       term-put e =
           put-as (added-some at c k (pos-of-ne-zero some))
           (put-then p (omega (arith, p .end, plus-short at)) (put-then d (omega (arith, d .end, number-room)) e))
@@ -130,15 +130,15 @@ module _ (at c k : ℕ) (o : List ℕ) (l : at + 16 ≤ length o) (m : k ≤ 48)
 -- ---- one term after the others
 
 term-some : (c k : ℕ) → 1 ≤ length (term (suc c) k)
-term-some c k = omega (arith, length-append (decimal (suc c)) (power k), decimal-some (suc c))
+term-some c k = omega (arith, length-append (decimal (suc c)) (power-text k), decimal-some (suc c))
 
-joined-added : (s : List ℕ) (c k : ℕ) → s ++ added (length s) c k ≡ joined s (term c k)
+joined-added : (s : List ℕ) (c k : ℕ) → s ++ added (length s) c k ≡ plus-joined s (term c k)
 joined-added [] zero k = refl
 joined-added [] (suc c) k = refl
 joined-added (a ∷ s) zero k = append-nil (a ∷ s)
 joined-added (a ∷ s) (suc c) k = go (term (suc c) k) (term-some c k)
   where
-    go : (t : List ℕ) → 1 ≤ length t → (a ∷ s) ++ (43 ∷ t) ≡ joined (a ∷ s) t
+    go : (t : List ℕ) → 1 ≤ length t → (a ∷ s) ++ (43 ∷ t) ≡ plus-joined (a ∷ s) t
     go [] h = absurd (omega arith)
     go (b ∷ t) h = refl
 
@@ -164,7 +164,7 @@ done-step {f} {k} {at} {r} {o} {w} {v} p h l few bytes b q =
     let n : at ≡ length s = omega (arith, p .put .end) in
     let cut : drop j f ≡ c ∷ drop k f = drop-cons f j 0 (omega arith) ∙ ap (λ (i : ℕ). c ∷ drop i f) (sym e) in
     let t : s ++ added at c j ≡ terms j (drop j f) =
-    ap (λ (i : ℕ). s ++ added i c j) n ∙ joined-added s c j ∙ ap (λ (i : ℕ). joined (terms i (drop k f)) (term c j)) e
+    ap (λ (i : ℕ). s ++ added i c j) n ∙ joined-added s c j ∙ ap (λ (i : ℕ). plus-joined (terms i (drop k f)) (term c j)) e
     ∙ ap (terms j) (sym cut) in
     record {
       put = put-as t (put-then (p .put) (omega (arith, p .room)) q);

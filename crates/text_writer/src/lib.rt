@@ -3,13 +3,13 @@
 // 94 the circumflex and 120 the x.
 //
 //   put_number, put_power, put_plus, put_term    write one part from place `at` on, and answer the place after it
-//   write                                        the text of lent words
+//   put_text                                     the text of lent words
 //   write_text                                   the service
 ghost use mathlib.Core.Path.{_≡_};
 ghost use Prim.Native.Nat.{_+_, _-_, _≤_};
 ghost use lib.ListN.{length, replicate};
 ghost use Rattle.refusals.specs.Refusals.{narrow};
-ghost use Rattle.text_notation.specs.Notation.{decimal, power, text};
+ghost use Rattle.text_notation.specs.Notation.{decimal, power-text, text};
 ghost use Rattle.text_writer.specs.Parts.{Put, Room, plus, added};
 ghost use Rattle.text_writer.specs.TextWriter.{WriteAnswer};
 use refusals::Answer;
@@ -30,8 +30,8 @@ fn put_number(out: &mut [u8], at: usize, x: u32) -> usize
 
 // "for power 1 the two characters `*x`, for a higher power k the characters `*x^` and then k in decimal"
 fn put_power(out: &mut [u8], at: usize, k: usize) -> usize
-    requires { ⌜ (at + length (power k) ≤ length (now out)) × (k ≤ 48) ⌝ }
-    ensures { λ r. ⌜ Put (power k) at r (now (out .entry)) (now (out .exit)) ⌝ }
+    requires { ⌜ (at + length (power-text k) ≤ length (now out)) × (k ≤ 48) ⌝ }
+    ensures { λ r. ⌜ Put (power-text k) at r (now (out .entry)) (now (out .exit)) ⌝ }
 {
     if k == 0 {
         return at;
@@ -71,7 +71,7 @@ fn put_term(out: &mut [u8], at: usize, c: u32, k: usize) -> usize
 }
 
 // "Terms run from high power to low": the text of f, and its length.
-pub fn write(f: &[u32], out: &mut [u8]) -> usize
+pub fn put_text(f: &[u32], out: &mut [u8]) -> usize
     requires { ⌜ Room (now f) (now out) ⌝ }
     ensures { λ r. ⌜ Put (text (now (f .entry))) 0 r (now (out .entry)) (now (out .exit)) ⌝ }
 {
@@ -114,7 +114,7 @@ pub fn write_text(n: u32, f: &[u32], text: &mut [u8]) -> Answer
             status: 6,
         };
     }
-    let count = write(f, text);
+    let count = put_text(f, text);
     put_zeros(text, count, 800);
     Answer {
         value: count as u32,

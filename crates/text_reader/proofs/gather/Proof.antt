@@ -38,8 +38,8 @@ loop-again c =
       (
         ap length e ∙ after-length b (l .c) (l .x) (l .words) ∙ l .inv .1 .0,
         one-more (start .args .s .now) (l .i) (l .c) (l .x) (start .args .words .now) (l .words) (l .inv .1 .1)
-            (c .before .next-coefficient .result) (c .next-number .result) (joined .if1 .words) (omega arith) e
-            (c .before .next-coefficient .ensures) (c .next-number .ensures),
+            (c .before .coefficient-after .result) (c .number-after .result) (joined .if1 .words) (omega arith) e
+            (c .before .coefficient-after .ensures) (c .number-after .ensures),
       ),
     )
 

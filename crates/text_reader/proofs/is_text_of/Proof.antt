@@ -1,26 +1,26 @@
 use borrow.Author.Needs.{needs}
 use mathlib.Core.Path.{_≡_, refl, ap, _∙_}
 use native.Mathlib.Omega.{arith}
-use Rattle.text_notation.specs.Candidates.{same}
+use Rattle.text_notation.specs.Candidates.{same-text}
 use Rattle.text_reader.proofs.Comparing.{text-room, text-part}
 use Rattle.text_reader.proofs.is_text_of.Statement.{statement}
 use Rattle.text_reader.proofs.is_text_of.Tie as tie
 
-part-same-end : tie.Need-part-same-end
-part-same-end c =
+part-same-text-end : tie.Need-part-same-text-end
+part-same-text-end c =
     let wrote = c .before .before in
     let known = wrote .before .before in
     let start = known .before .before in
-    text-room (start .args .f .now) (start .pre) (λ i l. omega (arith, known .shared-slice-known2 .given i)) refl (wrote .write .ensures)
+    text-room (start .args .f .now) (start .pre) (λ i l. omega (arith, known .shared-slice-known2 .given i)) refl (wrote .put-text .ensures)
 
 returns : tie.Need-returns
 returns c =
     let wrote = c .before .before .before .before in
     let known = wrote .before .before in
     let start = known .before .before in
-    c .same .ensures
-    ∙ ap (same (start .args .s .now))
-    (text-part (start .args .f .now) (start .pre) (λ i l. omega (arith, known .shared-slice-known2 .given i)) refl (wrote .write .ensures))
+    c .same-text .ensures
+    ∙ ap (same-text (start .args .s .now))
+    (text-part (start .args .f .now) (start .pre) (λ i l. omega (arith, known .shared-slice-known2 .given i)) refl (wrote .put-text .ensures))
 
 pub is-text-of-spec : {M : Type 1} → statement M
 is-text-of-spec =
@@ -30,6 +30,6 @@ is-text-of-spec =
     (λ c κs. search needs)
     (λ c. search needs)
     (λ c. search needs)
-    part-same-end
+    part-same-text-end
     (λ c κs. search needs)
     returns)

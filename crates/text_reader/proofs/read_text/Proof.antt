@@ -2,7 +2,7 @@ use borrow.Author.Needs.{needs}
 use mathlib.Core.Path.{_≡_, sym, _∙_}
 use native.Mathlib.Omega.{arith}
 use borrow.Author.Tests.{not-true, not-false}
-use Rattle.text_reader.proofs.Returning.{modulus-refused, word-refused, text-refused, words-short, degree-small, done}
+use Rattle.text_reader.proofs.Returning.{modulus-refused, word-refused, text-refused, lent-short, degree-small, done}
 use Rattle.text_reader.proofs.read_text.Statement.{statement}
 use Rattle.text_reader.proofs.read_text.Tie as tie
 
@@ -37,7 +37,7 @@ returns-4 c =
     let gathered = degree .before .before .before in
     let else1 = gathered .before .before in
     let start = else1 .before .before .before .before in
-    words-short (start .args .n) (start .args .text .now) (start .args .words .now)
+    lent-short (start .args .n) (start .args .text .now) (start .args .words .now)
     (sym (else1 .before .bad-modulus .ensures) ∙ else1 .if1 .left) (omega (arith, start .fits .n)) _ (gathered .gather .ensures) _ _
     (degree .true-degree .ensures) (written .before .before .if2 .left)
     (sym (written .is-text-of .ensures) ∙ not-false _ (c .before .if3 .left)) (c .if4 .taken)
@@ -68,7 +68,7 @@ returns-5 c =
     done (start .args .n) (start .args .text .now) (start .args .words .now)
     (sym (else1 .before .bad-modulus .ensures) ∙ else1 .if1 .left) (omega (arith, start .fits .n)) _ (gathered .gather .ensures) _ _
     (degree .true-degree .ensures) (written .before .before .if2 .left)
-    (sym (written .is-text-of .ensures) ∙ not-false _ (else4 .before .if3 .left)) (else4 .if4 .left) _ (copied .copy .ensures)
+    (sym (written .is-text-of .ensures) ∙ not-false _ (else4 .before .if3 .left)) (else4 .if4 .left) _ (copied .put-words .ensures)
 
 pub read-text-spec : {M : Type 1} → statement M
 read-text-spec =

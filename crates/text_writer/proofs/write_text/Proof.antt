@@ -15,8 +15,8 @@ returns-2 c =
     let tested = c .before .before in
     bytes-short _ _ _ (tested .refusal-one .result) (tested .refusal-one .ensures) (c .before .if1 .left) (c .if2 .taken)
 
-write-requires : tie.Need-write-requires
-write-requires c κs =
+put-text-requires : tie.Need-put-text-requires
+put-text-requires c κs =
     let tested = c .before .before .before in
     let start = tested .before .before .before in
     let a = accepted-one narrow (start .args .n) (start .args .f .now) (sym (tested .refusal-one .ensures) ∙ c .before .before .if1 .left) in
@@ -29,7 +29,7 @@ put-zeros-requires c κs =
     let tested = else2 .before .before in
     let start = tested .before .before .before in
     let z = text-within (start .args .n) (start .args .f .now) (start .args .text .now) (tested .refusal-one .result) (tested .refusal-one .ensures) (else2 .before .if1 .left) in
-    (omega (arith, wrote .write .ensures .end), omega (arith, wrote .write .kept .1 .0, else2 .if2 .left))
+    (omega (arith, wrote .put-text .ensures .end), omega (arith, wrote .put-text .kept .1 .0, else2 .if2 .left))
 
 cast-t13 : tie.Need-cast-t13
 cast-t13 c =
@@ -38,7 +38,7 @@ cast-t13 c =
     let tested = else2 .before .before in
     let start = tested .before .before .before in
     let z = text-within (start .args .n) (start .args .f .now) (start .args .text .now) (tested .refusal-one .result) (tested .refusal-one .ensures) (else2 .before .if1 .left) in
-    omega (arith, wrote .write .ensures .end)
+    omega (arith, wrote .put-text .ensures .end)
 
 returns-3 : tie.Need-returns-3
 returns-3 c =
@@ -47,7 +47,7 @@ returns-3 c =
     let else2 = wrote .before .before in
     let tested = else2 .before .before in
     done _ _ _ (tested .refusal-one .result) (tested .refusal-one .ensures) (else2 .before .if1 .left) (else2 .if2 .left) _ _ _
-    (wrote .write .ensures) (zeroed .put-zeros .ensures)
+    (wrote .put-text .ensures) (zeroed .put-zeros .ensures)
 
 pub write-text-spec : {M : Type 1} → statement M
 write-text-spec =
@@ -56,7 +56,7 @@ write-text-spec =
     (λ c κs. search needs)
     returns
     returns-2
-    write-requires
+    put-text-requires
     put-zeros-requires
     cast-t13
     (λ c. search needs)

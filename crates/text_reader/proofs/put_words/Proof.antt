@@ -5,14 +5,14 @@ use native.Mathlib.Omega.{arith}
 use lib.ListN.{length, take}
 use Rattle.text_writer.specs.Parts.{Put}
 use Rattle.text_reader.proofs.Gathering.{copied-none, copied-step, copied-all}
-use Rattle.text_reader.proofs.copy.Statement.{statement}
-use Rattle.text_reader.proofs.copy.Tie as tie
+use Rattle.text_reader.proofs.put_words.Statement.{statement}
+use Rattle.text_reader.proofs.put_words.Tie as tie
 
 abbrev Inv-loop : tie.InvT-loop
-Inv-loop f words₀ i₀ words i = (i ≤ length f) × ((length words ≡ length words₀) × Put (take i f) 0 i words₀ words)
+Inv-loop words₀ f count i₀ words i = (i ≤ count) × ((length words ≡ length words₀) × Put (take i f) 0 i words₀ words)
 
 abbrev μ-loop : tie.MeasureT-loop
-μ-loop f words₀ i₀ words i = length f - i
+μ-loop words₀ f count i₀ words i = count - i
 
 loop-holds : tie.Need-loop-holds Inv-loop μ-loop
 loop-holds c = (search needs, (search needs, copied-none (c .args .f .now) _))
@@ -21,10 +21,10 @@ loop-again : tie.Need-loop-again Inv-loop μ-loop
 loop-again c = (search needs, (search needs, copied-step (c .before .before .before .args .f .now) (c .before .before .loop .inv .1 .1) (omega arith) (omega arith)))
 
 returns : tie.Need-returns Inv-loop μ-loop
-returns c = copied-all (c .before .before .args .f .now) (c .before .loop .inv .1 .1) (omega arith)
+returns c = copied-all (c .before .before .args .f .now) (c .before .before .args .count) (c .before .loop .inv .1 .1) (omega arith)
 
-pub copy-spec : {M : Type 1} → statement M
-copy-spec =
+pub put-words-spec : {M : Type 1} → statement M
+put-words-spec =
     tie.close
     (tie.spec
     Inv-loop

@@ -1,7 +1,7 @@
 use borrow.Author.Needs.{needs}
 use borrow.Author.Tests.{eq-eqb, ne-eqb, lt-ltb, le-ltb}
-use Rattle.text_reader.proofs.next_number.Statement.{statement}
-use Rattle.text_reader.proofs.next_number.Tie as tie
+use Rattle.text_reader.proofs.number_after.Statement.{statement}
+use Rattle.text_reader.proofs.number_after.Tie as tie
 
 returns : tie.Need-returns
 returns c = simp (eq-eqb _ _ (c .if1 .taken))
@@ -43,8 +43,8 @@ returns-6 c =
       le-ltb _ _ (c .if5 .left),
     )
 
-pub next-number-spec : {M : Type 1} → statement M
-next-number-spec =
+pub number-after-spec : {M : Type 1} → statement M
+number-after-spec =
     tie.close
     (tie.spec
     returns

@@ -5,8 +5,8 @@ use Prim.Native.Nat.{_-_, _≤_}
 use native.Mathlib.Omega.{arith}
 use lib.ListN.{length}
 use Rattle.text_writer.proofs.Terms.{Done, done-none, done-step, done-all, done-zero}
-use Rattle.text_writer.proofs.write.Statement.{statement}
-use Rattle.text_writer.proofs.write.Tie as tie
+use Rattle.text_writer.proofs.put_text.Statement.{statement}
+use Rattle.text_writer.proofs.put_text.Tie as tie
 
 abbrev Inv-loop : tie.InvT-loop
 Inv-loop f out₀ at₀ k₀ out at k = (k ≤ length f) × ((length out ≡ length out₀) × Done f k at out₀ out)
@@ -45,8 +45,8 @@ returns c =
 returns-2 : tie.Need-returns-2 Inv-loop μ-loop
 returns-2 c = done-all (c .before .before .loop .inv .1 .1) (omega arith) (c .if1 .left)
 
-pub write-spec : {M : Type 1} → statement M
-write-spec =
+pub put-text-spec : {M : Type 1} → statement M
+put-text-spec =
     tie.close
     (tie.spec
     Inv-loop

@@ -3,19 +3,19 @@ use mathlib.Core.Path.{_≡_, refl}
 use Prim.Native.Nat.{_-_, _≤_}
 use native.Mathlib.Omega.{arith}
 use lib.ListN.{length, drop}
-use Rattle.text_notation.specs.Candidates.{same}
-use Rattle.text_reader.proofs.Comparing.{one-same, one-other, all-same, other-length}
-use Rattle.text_reader.proofs.same.Statement.{statement}
-use Rattle.text_reader.proofs.same.Tie as tie
+use Rattle.text_notation.specs.Candidates.{same-text}
+use Rattle.text_reader.proofs.Comparing.{one-same, one-other, all-same, length-differs}
+use Rattle.text_reader.proofs.same_text.Statement.{statement}
+use Rattle.text_reader.proofs.same_text.Tie as tie
 
 abbrev Inv-loop : tie.InvT-loop
-Inv-loop s t i₀ i = (i ≤ length s) × (same s t ≡ same (drop i s) (drop i t))
+Inv-loop s t i₀ i = (i ≤ length s) × (same-text s t ≡ same-text (drop i s) (drop i t))
 
 abbrev μ-loop : tie.MeasureT-loop
 μ-loop s t i₀ i = length s - i
 
 returns : tie.Need-returns Inv-loop μ-loop
-returns c = other-length (c .before .args .s .now) (c .before .args .t .now) (λ e. omega arith)
+returns c = length-differs (c .before .args .s .now) (c .before .args .t .now) (λ e. omega arith)
 
 loop-holds : tie.Need-loop-holds Inv-loop μ-loop
 loop-holds c = (search needs, refl)
@@ -41,8 +41,8 @@ returns-3 c =
     let start = c .before .before .before in
     all-same (start .args .s .now) (start .args .t .now) (c .before .loop .i) (omega arith) (omega arith) (c .before .loop .inv .1)
 
-pub same-spec : {M : Type 1} → statement M
-same-spec =
+pub same-text-spec : {M : Type 1} → statement M
+same-text-spec =
     tie.close
     (tie.spec
     Inv-loop
