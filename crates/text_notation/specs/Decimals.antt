@@ -14,13 +14,17 @@ use lib.ListN.{length, length-append}
 use borrow.Author.Tests.{lt-ltb, le-ltb}
 use Rattle.text_notation.specs.Notation.{digits-within, decimal}
 
+-- whether x has one digit
+abbrev one-or-more : ℕ → ℕ → Bool → List ℕ
+one-or-more k x t = elim t [ true ↦ (48 + x) ∷ [] | false ↦ digits-within k (x / 10) ++ ((48 + x % 10) ∷ []) ]
+
 pub within-small : (k x : ℕ) → x < 10 → digits-within (suc k) x ≡ (48 + x) ∷ []
 unfolding digits-within
-within-small k x h = ap (λ (t : Bool). elim t [ true ↦ (48 + x) ∷ [] | false ↦ digits-within k (x / 10) ++ ((48 + x % 10) ∷ []) ]) (lt-ltb x 10 h)
+within-small k x h = ap (one-or-more k x) (lt-ltb x 10 h)
 
 pub within-large : (k x : ℕ) → 10 ≤ x → digits-within (suc k) x ≡ digits-within k (x / 10) ++ ((48 + x % 10) ∷ [])
 unfolding digits-within
-within-large k x h = ap (λ (t : Bool). elim t [ true ↦ (48 + x) ∷ [] | false ↦ digits-within k (x / 10) ++ ((48 + x % 10) ∷ []) ]) (le-ltb x 10 h)
+within-large k x h = ap (one-or-more k x) (le-ltb x 10 h)
 
 -- any bound above the number gives its digits
 pub within-enough : (j k x : ℕ) → x < j → x < k → digits-within j x ≡ digits-within k x
@@ -41,7 +45,8 @@ decimal-small x h = within-small x x h
 
 pub decimal-large : (x : ℕ) → 10 ≤ x → decimal x ≡ decimal (x / 10) ++ ((48 + x % 10) ∷ [])
 decimal-large x h =
-    within-large x x h ∙ ap (λ (d : List ℕ). d ++ ((48 + x % 10) ∷ [])) (within-enough x (suc (x / 10)) (x / 10) (omega arith) (omega arith))
+    within-large x x h
+    ∙ ap (λ (d : List ℕ). d ++ ((48 + x % 10) ∷ [])) (within-enough x (suc (x / 10)) (x / 10) (omega arith) (omega arith))
 
 pub within-short : (j k x : ℕ) → x < 10 ^ suc k → length (digits-within j x) ≤ suc k
 unfolding digits-within

@@ -23,6 +23,10 @@ pub of-the-notation : every (λ (s : String). is-text 12 (codes s)) (
 unfolding digits-within terms codes gathered same-text all-below
 of-the-notation = refl
 
+pub at-the-largest-n : is-text 4294967295 (codes "4294967294*x^48+4294967294") && not (is-text 4294967295 (codes "4294967295")) ≡ true
+unfolding digits-within terms codes gathered same-text all-below
+at-the-largest-n = refl
+
 pub not-of-the-notation : every (λ (s : String). not (is-text 12 (codes s))) (
     "" ∷ "12" ∷ "00" ∷ "01" ∷ "1*x+0" ∷ "0*x" ∷ "02*x" ∷ "1*x^02" ∷ "1+1*x" ∷ "1*x+1*x" ∷ "x" ∷ "*x" ∷ "1*x^1" ∷ "1*x^0" ∷ "1*x^49"
     ∷ "1*x^4294967297" ∷ "4294967297" ∷ "+1" ∷ "1+" ∷ "1 + 1" ∷ "1x" ∷ "1*y" ∷ "-1" ∷ []

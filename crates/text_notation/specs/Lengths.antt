@@ -31,7 +31,8 @@ most-characters k zero = 0
 most-characters k (suc m) = 11 + length (power-text k) + most-characters (suc k) m
 
 -- the plus sign after the last term is not written
-pub terms-short : (k : ℕ) (f : List ℕ) → ((i : ℕ) → i < length f → coef f i < 4294967296) → length (terms k f) ≤ most-characters k (length f) - 1
+pub terms-short : (k : ℕ) (f : List ℕ) → ((i : ℕ) → i < length f → coef f i < 4294967296)
+    → length (terms k f) ≤ most-characters k (length f) - 1
 unfolding terms most-characters
 terms-short k [] h = omega arith
 terms-short k (c ∷ []) h = omega (arith, term-short c k (omega (arith, h 0 (omega arith))))

@@ -20,7 +20,8 @@ use Rattle.refusals.specs.Refusals.{all-below}
 use Rattle.refusals.specs.Conditions.{Fails, residues-of, words-fail}
 use Rattle.text_notation.specs.Notation.{text, dropped, padded, TextOf}
 use Rattle.text_notation.specs.Tops.{text-padded, text-dropped, dropped-within, dropped-length, dropped-above, dropped-dropped}
-use Rattle.text_notation.specs.Candidates.{number-after, coefficient-after, stored, gathered, candidate, same-text, is-text-of, is-text}
+use Rattle.text_notation.specs.Candidates.{number-after, coefficient-after, stored, gathered, candidate}
+use Rattle.text_notation.specs.Candidates.{same-text, is-text-of, is-text}
 use Rattle.text_notation.specs.CandidateLaws.{gathered-text}
 
 -- ---- equal texts
@@ -153,7 +154,10 @@ pub text-fails : (n : ℕ) (s : List ℕ) → Fails (not (is-text n s)) ((f : Li
 text-fails n s = go (is-text n s) refl
   where
     go : (t : Bool) → is-text n s ≡ t → Fails (not t) ((f : List ℕ) × TextOf n s f)
-    go true e = record { passed = λ _. (dropped (candidate s), text-found n s (candidate s) (candidate-length s) e); failed = λ z. absurd (false≢true z) }
+    go true e = record {
+      passed = λ _. (dropped (candidate s), text-found n s (candidate s) (candidate-length s) e);
+      failed = λ z. absurd (false≢true z);
+    }
     go false e = record {
       passed = λ z. absurd (false≢true (sym z));
       failed = λ _ p. false≢true (sym e ∙ ap (is-text-of n s) (candidate-is (p .1)) ∙ text-passes (p .1));

@@ -20,7 +20,8 @@ returns c =
     let start = known .before .before in
     c .same-text .ensures
     ∙ ap (same-text (start .args .s .now))
-    (text-part (start .args .f .now) (start .pre) (λ i l. omega (arith, known .shared-slice-known2 .given i)) refl (wrote .put-text .ensures))
+    (text-part (start .args .f .now) (start .pre) (λ i l. omega (arith, known .shared-slice-known2 .given i)) refl
+    (wrote .put-text .ensures))
 
 pub is-text-of-spec : {M : Type 1} → statement M
 is-text-of-spec =

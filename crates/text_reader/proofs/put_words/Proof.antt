@@ -18,7 +18,10 @@ loop-holds : tie.Need-loop-holds Inv-loop μ-loop
 loop-holds c = (search needs, (search needs, copied-none (c .args .f .now) _))
 
 loop-again : tie.Need-loop-again Inv-loop μ-loop
-loop-again c = (search needs, (search needs, copied-step (c .before .before .before .args .f .now) (c .before .before .loop .inv .1 .1) (omega arith) (omega arith)))
+loop-again c = (
+  search needs,
+  (search needs, copied-step (c .before .before .before .args .f .now) (c .before .before .loop .inv .1 .1) (omega arith) (omega arith)),
+)
 
 returns : tie.Need-returns Inv-loop μ-loop
 returns c = copied-all (c .before .before .args .f .now) (c .before .before .args .count) (c .before .loop .inv .1 .1) (omega arith)

@@ -19,7 +19,8 @@ put-text-requires : tie.Need-put-text-requires
 put-text-requires c κs =
     let tested = c .before .before .before in
     let start = tested .before .before .before in
-    let a = accepted-one narrow (start .args .n) (start .args .f .now) (sym (tested .refusal-one .ensures) ∙ c .before .before .if1 .left) in
+    let a = accepted-one narrow (start .args .n) (start .args .f .now)
+    (sym (tested .refusal-one .ensures) ∙ c .before .before .if1 .left) in
     record { few = a .few; bytes = c .before .if2 .left }
 
 put-zeros-requires : tie.Need-put-zeros-requires
@@ -28,7 +29,8 @@ put-zeros-requires c κs =
     let else2 = wrote .before .before in
     let tested = else2 .before .before in
     let start = tested .before .before .before in
-    let z = text-within (start .args .n) (start .args .f .now) (start .args .text .now) (tested .refusal-one .result) (tested .refusal-one .ensures) (else2 .before .if1 .left) in
+    let z = text-within (start .args .n) (start .args .f .now) (start .args .text .now)
+    (tested .refusal-one .result) (tested .refusal-one .ensures) (else2 .before .if1 .left) in
     (omega (arith, wrote .put-text .ensures .end), omega (arith, wrote .put-text .kept .1 .0, else2 .if2 .left))
 
 cast-t13 : tie.Need-cast-t13
@@ -37,7 +39,8 @@ cast-t13 c =
     let else2 = wrote .before .before in
     let tested = else2 .before .before in
     let start = tested .before .before .before in
-    let z = text-within (start .args .n) (start .args .f .now) (start .args .text .now) (tested .refusal-one .result) (tested .refusal-one .ensures) (else2 .before .if1 .left) in
+    let z = text-within (start .args .n) (start .args .f .now) (start .args .text .now)
+    (tested .refusal-one .result) (tested .refusal-one .ensures) (else2 .before .if1 .left) in
     omega (arith, wrote .put-text .ensures .end)
 
 returns-3 : tie.Need-returns-3
