@@ -1,8 +1,7 @@
 -- Texts of the notation, and texts that are not: the examples that a reader of the request would try, computed.
 use mathlib.Core.Path.{_≡_, refl}
-use mathlib.Core.Bool.{Bool, true, false, not, _&&_}
+use mathlib.Core.Bool.{Bool, true, not, _&&_}
 use mathlib.Core.List.{List, [], _∷_}
-use Prim.Native.Nat.{ℕ}
 use Prim.Native.String.{String}
 use Rattle.refusals.specs.Refusals.{all-below}
 use Rattle.text_notation.specs.Notation.{digits-within, terms, text}

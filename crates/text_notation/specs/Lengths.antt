@@ -2,8 +2,8 @@
 --
 --   most-characters k m     what m words from power k on may have at most, a plus sign after each term
 --   text-short              767 characters are enough for 49 words of 32 bits, and so the 775 of the request
-use mathlib.Core.Path.{_≡_, refl, sym, ap, _∙_}
-use mathlib.Core.List.{List, [], _∷_, _++_}
+use mathlib.Core.Path.{_≡_, refl}
+use mathlib.Core.List.{List, [], _∷_}
 use Prim.Native.Nat.{ℕ, zero, suc, _+_, _-_, _<_, _≤_}
 use native.Mathlib.Omega.{arith}
 use lib.ListN.{length, length-append}

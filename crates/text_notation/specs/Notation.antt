@@ -10,7 +10,7 @@
 --   padded m x                x with zeros above, up to m
 --   TextOf n s f              f is the polynomial over Z/nZ that the text s is read as
 use mathlib.Core.Path.{_≡_}
-use mathlib.Core.Bool.{Bool, true, false}
+use mathlib.Core.Bool.{true, false}
 use mathlib.Core.List.{List, [], _∷_, _++_}
 use Prim.Native.Nat.{ℕ, zero, suc, _+_, _-_, _/_, _%_, _≤_}
 use lib.Dec.{ltb}

@@ -1,20 +1,21 @@
 -- Zero top words: they have no term, and dropping them loses nothing.
 --
---   text-padded            zeros above do not change the text
---   dropped-padded         nor what is left when they are dropped
---   padded-dropped         putting them back gives the polynomial again
+--   text-padded                       zeros above do not change the text
+--   dropped-above                     nor what is left when they are dropped
+--   padded-dropped                    putting them back gives the polynomial again
 --   dropped-dropped, text-dropped     what is left has no zero top word, and the same text
---   dropped-zeros          a zero polynomial
-use mathlib.Core.Path.{_≡_, refl, sym, ap, ap₂, _∙_, subst}
+--   dropped-zeros                     of a zero polynomial the single word 0 is left
+use mathlib.Core.Path.{_≡_, refl, sym, ap, ap₂, _∙_}
 use mathlib.Core.Bool.{Bool, true, false}
 use mathlib.Core.List.{List, [], _∷_, _++_}
-use Prim.Native.Nat.{ℕ, zero, suc, pred, _+_, _-_, _≤_, _<_}
+use Prim.Native.Nat.{ℕ, zero, suc, pred, _-_, _≤_}
 use native.Mathlib.Omega.{arith}
 use lib.Dec.{eqb}
-use lib.ListN.{length, take, replicate, length-append, length-replicate}
+use lib.ListN.{length, take, replicate}
 use lib.Seq.{take-append-le, length-take-le}
 use borrow.Author.Tests.{eqb-true}
 use Rattle.definitions.specs.Polynomials.{extent, true-degree}
+use Rattle.polynomial_tests.specs.Counts.{extent-length}
 use Rattle.text_notation.specs.Notation.{term, plus-joined, terms, or-zero, text, dropped, padded}
 
 terms-zeros : (k m : ℕ) → terms k (replicate m 0) ≡ []
@@ -35,16 +36,6 @@ text-padded m f = ap or-zero (terms-above 0 f (m - length f))
 abbrev longer : Bool → ℕ → ℕ
 longer t e = elim e [ zero ↦ elim t [ true ↦ 0 | false ↦ 1 ] | suc k ↦ suc (suc k) ]
 
-longer-most : (t : Bool) (e m : ℕ) → e ≤ m → longer t e ≤ suc m
-longer-most true zero m h = omega arith
-longer-most false zero m h = omega arith
-longer-most t (suc e) m h = omega arith
-
-extent-most : (f : List ℕ) → extent f ≤ length f
-unfolding extent
-extent-most [] = omega arith
-extent-most (x ∷ f) = longer-most (eqb x 0) (extent f) (length f) (extent-most f)
-
 extent-zeros : (m : ℕ) → extent (replicate m 0) ≡ 0
 unfolding extent
 extent-zeros zero = refl
@@ -59,7 +50,7 @@ extent-above (x ∷ f) m = ap (longer (eqb x 0)) (extent-above f m)
 above : (f : List ℕ) → f ≡ take (extent f) f ++ replicate (length f - extent f) 0
 unfolding extent
 above [] = refl
-above (x ∷ f) = go (eqb x 0) (extent f) refl (extent-most f) (above f)
+above (x ∷ f) = go (eqb x 0) (extent f) refl (extent-length f) (above f)
   where
     go : (t : Bool) (e : ℕ) → eqb x 0 ≡ t → e ≤ length f → f ≡ take e f ++ replicate (length f - e) 0
         → x ∷ f ≡ take (longer t e) (x ∷ f) ++ replicate (suc (length f) - longer t e) 0
@@ -76,7 +67,7 @@ above (x ∷ f) = go (eqb x 0) (extent f) refl (extent-most f) (above f)
 -- ---- dropping
 
 pub dropped-within : (f : List ℕ) → 1 ≤ length f → suc (true-degree f) ≤ length f
-dropped-within f h = go (extent f) (extent-most f)
+dropped-within f h = go (extent f) (extent-length f)
   where
     go : (e : ℕ) → e ≤ length f → suc (pred e) ≤ length f
     go zero l = h

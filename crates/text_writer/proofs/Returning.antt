@@ -9,7 +9,7 @@ use Rattle.refusals.specs.Conditions.{accepted-one}
 use Rattle.refusals.proofs.Statuses.{refused-early, passed-on, too-short, long-enough, refused-value, replaced-refused}
 use Rattle.text_notation.specs.Notation.{text, padded}
 use Rattle.text_notation.specs.Lengths.{text-short}
-use Rattle.text_writer.specs.Parts.{Put, Room}
+use Rattle.text_writer.specs.Parts.{Put}
 use Rattle.text_writer.specs.TextWriter.{WriteAnswer}
 use Rattle.text_writer.proofs.Putting.{put-then}
 
