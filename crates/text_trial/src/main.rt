@@ -221,7 +221,7 @@ fn damaged_lines(x: u32) {
     }
 }
 
-fn chosen_lines() {
+fn chosen_numbers() {
     text_line(12, b"");
     text_line(12, b"0");
     text_line(12, b"00");
@@ -230,6 +230,9 @@ fn chosen_lines() {
     text_line(12, b"12");
     text_line(12, b"0*x");
     text_line(12, b"1*x+0");
+}
+
+fn chosen_powers() {
     text_line(12, b"1*x");
     text_line(12, b"01*x");
     text_line(12, b"x");
@@ -237,6 +240,9 @@ fn chosen_lines() {
     text_line(12, b"1*x^0");
     text_line(12, b"1*x^1");
     text_line(12, b"1*x^2");
+}
+
+fn chosen_high_powers() {
     text_line(12, b"1*x^02");
     text_line(12, b"1*x^48");
     text_line(12, b"1*x^49");
@@ -244,6 +250,9 @@ fn chosen_lines() {
     text_line(12, b"1+1*x");
     text_line(12, b"1*x+1*x");
     text_line(12, b"4294967297");
+}
+
+fn chosen_moduli() {
     text_line(12, b"18446744073709551617");
     text_line(4294967295, b"4294967294*x^48+4294967294");
     text_line(4294967295, b"4294967295");
@@ -291,6 +300,9 @@ fn main() {
     all_words(3);
     all_words(4);
     damaged_lines(largest_lines(1));
-    chosen_lines();
+    chosen_numbers();
+    chosen_powers();
+    chosen_high_powers();
+    chosen_moduli();
     refusal_lines();
 }
