@@ -6,6 +6,8 @@
 //   jingcobu_product              polynomial_product::product
 //   jingcobu_product_word         polynomial_word::product_word
 //   jingcobu_true_degree          polynomial_degree::true_degree_words
+//   jingcobu_read_text            text_reader::read_text
+//   jingcobu_write_text           text_writer::write_text
 //   jingcobu_shares               shares::shares
 ghost use mathlib.Core.Path.{_≡_};
 ghost use Rattle.refusals.specs.Refusals.{narrow};
@@ -15,6 +17,8 @@ ghost use Rattle.polynomial_product.specs.ProductService.{ProductAnswer};
 ghost use Rattle.polynomial_degree.specs.DegreeService.{DegreeWordsAnswer};
 ghost use Rattle.polynomial_word.specs.ProductWord.{ProductWordAnswer};
 ghost use mathlib.Core.List.{[], _∷_};
+ghost use Rattle.text_reader.specs.TextReader.{ReadAnswer};
+ghost use Rattle.text_writer.specs.TextWriter.{WriteAnswer};
 ghost use Rattle.shares.specs.SharesService.{SharesAnswer};
 use polynomial_degree::DegreeAnswer;
 use refusals::Answer;
@@ -75,6 +79,22 @@ pub extern "C" fn jingcobu_true_degree(n: u32, f: &[u32]) -> DegreeAnswer
     ensures { λ r. ⌜ DegreeWordsAnswer narrow n (now (f .entry)) (r .some) (r .degree) (r .status) ⌝ }
 {
     polynomial_degree::true_degree_words(n, f)
+}
+
+// The polynomial that a text of the notation spells, in the first words of words.
+#[no_mangle]
+pub extern "C" fn jingcobu_read_text(n: u32, text: &[u8], words: &mut [u32]) -> Answer
+    ensures { λ r. ⌜ ReadAnswer narrow n (now (text .entry)) (now (words .entry)) (now (words .exit)) (r .value) (r .status) ⌝ }
+{
+    text_reader::read_text(n, text, words)
+}
+
+// The text of f, in the first characters of text.
+#[no_mangle]
+pub extern "C" fn jingcobu_write_text(n: u32, f: &[u32], text: &mut [u8]) -> Answer
+    ensures { λ r. ⌜ WriteAnswer narrow n (now (f .entry)) (now (text .entry)) (now (text .exit)) (r .value) (r .status) ⌝ }
+{
+    text_writer::write_text(n, f, text)
 }
 
 // How many jobs of each of four groups go into a run of frames.

@@ -1,0 +1,2 @@
+pub mod TextReader
+pub mod RoundTrips

@@ -1,0 +1,45 @@
+-- What the reader answers, and what it leaves in every lent word, over any width W. s is the text, w the words lent.
+--
+--   in-word y                      y as a word of 32 bits
+--   read-refusals, read-status     the refusals in their order, and the number of the first that applies
+--   ReadAnswer                     all that is promised of a call
+--   read-listed                    each refusal under its condition and no other
+use mathlib.Core.Path.{_≡_}
+use mathlib.Core.Bool.{not, cond}
+use mathlib.Core.List.{List, [], _∷_}
+use Prim.Native.Nat.{ℕ, _≤_}
+use native.Mathlib.Omega.{arith}
+use lib.Dec.{ltb}
+use lib.ListN.{length}
+use Rattle.refusals.specs.Refusals.{Width, Tested, bad-modulus, short, first-refusal, answered, replaced}
+use Rattle.refusals.specs.Conditions.{Listed, ServedModulus, modulus-fails, short-fails}
+use Rattle.text_notation.specs.Notation.{padded, TextOf}
+use Rattle.text_notation.specs.Candidates.{is-text}
+use Rattle.text_notation.specs.NotationLaws.{text-fails}
+
+-- a number that does not fit counts as the largest word
+abbrev pub in-word : ℕ → ℕ
+in-word y = cond (ltb y 4294967296) y 4294967295
+
+-- "It refuses with 17 any other text or a power above 48, tested after 1 and before 6"; l is the number of words lent: "needs 49 words"
+abbrev pub read-refusals : Width → ℕ → List ℕ → ℕ → List Tested
+read-refusals W n s l = (1, bad-modulus W n) ∷ (17, not (is-text n s)) ∷ (6, short l 49) ∷ []
+
+abbrev pub read-status : Width → ℕ → List ℕ → ℕ → ℕ
+read-status W n s l = first-refusal (read-refusals W n s l)
+
+-- "A text that is read is the text that would be written"; "The reader answers the number of words and needs 49 words, zeros above";
+-- "What lies beyond those 49 words … is unchanged"
+pub record ReadAnswer (W : Width) (n : ℕ) (s w w' : List ℕ) (value status : ℕ) : Type 0 where
+  pub polynomial : List ℕ
+  pub status-is : status ≡ read-status W n s (length w)
+  pub text-is : status ≡ 0 → TextOf n s polynomial
+  pub value-is : value ≡ answered status (length polynomial)
+  pub words-are : w' ≡ replaced status (padded 49 polynomial) w
+
+-- the conditions of an answer: so `status-zero` and `status-is` (refusals/Conditions) say when the status is 0, and when it is k
+abbrev pub read-conditions : Width → ℕ → List ℕ → ℕ → List (Type 0)
+read-conditions W n s l = ServedModulus W n ∷ ((f : List ℕ) × TextOf n s f) ∷ (49 ≤ l) ∷ []
+
+pub read-listed : (W : Width) (n : ℕ) (s : List ℕ) (l : ℕ) → Listed (read-refusals W n s l) (read-conditions W n s l)
+read-listed W n s l = ((omega arith, modulus-fails W n), ((omega arith, text-fails n s), ((omega arith, short-fails l 49), tt)))
