@@ -6,6 +6,7 @@
 --   plus-joined s t           s and t with a plus sign between them, if both are there
 --   terms k f                 the terms of f, whose first word belongs to power k
 --   text f                    the text of f
+--   last-place t              the place of the last word that is kept
 --   dropped f                 f with zero top words dropped
 --   padded m x                x with zeros above, up to m
 --   TextOf n s f              f is the polynomial over Z/nZ that the text s is read as
@@ -15,7 +16,7 @@ use mathlib.Core.List.{List, [], _∷_, _++_}
 use Prim.Native.Nat.{ℕ, zero, suc, _+_, _-_, _/_, _%_, _≤_}
 use lib.Dec.{ltb}
 use lib.ListN.{length, take, replicate}
-use Rattle.definitions.specs.Polynomials.{Residues, true-degree}
+use Rattle.definitions.specs.Polynomials.{Residues, TrueDegree, none, place, true-degree}
 
 -- the digits of x where they are at most k
 unfoldable pub digits-within : ℕ → ℕ → List ℕ
@@ -56,9 +57,14 @@ or-zero (a ∷ s) = a ∷ s
 abbrev pub text : List ℕ → List ℕ
 text f = or-zero (terms 0 f)
 
+-- the place of the last word that is kept: the highest nonzero one, and the constant where there is none
+abbrev pub last-place : TrueDegree → ℕ
+last-place none = 0
+last-place (place k) = k
+
 -- "with zero top words dropped; a zero polynomial comes back as the single word 0"
 abbrev pub dropped : List ℕ → List ℕ
-dropped f = take (suc (true-degree f)) f
+dropped f = take (suc (last-place (true-degree f))) f
 
 -- "zeros above": x with zeros up to m words or bytes
 abbrev pub padded : ℕ → List ℕ → List ℕ

@@ -18,7 +18,7 @@ use borrow.Author.Tests.{eqb-true, eq-eqb}
 use Rattle.definitions.specs.Polynomials.{coef, Residues, true-degree}
 use Rattle.refusals.specs.Refusals.{all-below}
 use Rattle.refusals.specs.Conditions.{Fails, residues-of, words-fail}
-use Rattle.text_notation.specs.Notation.{text, dropped, padded, TextOf}
+use Rattle.text_notation.specs.Notation.{text, last-place, dropped, padded, TextOf}
 use Rattle.text_notation.specs.Tops.{text-padded, text-dropped, dropped-within, dropped-length, dropped-above, dropped-dropped}
 use Rattle.text_notation.specs.Candidates.{number-after, coefficient-after, stored, gathered, candidate}
 use Rattle.text_notation.specs.Candidates.{same-text, is-text-of, is-text}
@@ -99,7 +99,7 @@ text-found n s g l h =
     record {
       some = omega arith;
       few = omega arith;
-      residues = residues-take n (suc (true-degree g)) g w (residues-of n g (b .0));
+      residues = residues-take n (suc (last-place (true-degree g))) g w (residues-of n g (b .0));
       top = dropped-dropped g (omega arith);
       is = same-true s (text g) (b .1) ∙ sym (text-dropped g (omega arith));
     }
@@ -178,7 +178,7 @@ written-read n f h l r =
     record {
       some = omega arith;
       few = omega arith;
-      residues = residues-take n (suc (true-degree f)) f w r;
+      residues = residues-take n (suc (last-place (true-degree f))) f w r;
       top = dropped-dropped f h;
       is = sym (text-dropped f h);
     }

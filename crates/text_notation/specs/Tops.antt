@@ -8,15 +8,15 @@
 use mathlib.Core.Path.{_≡_, refl, sym, ap, ap₂, _∙_}
 use mathlib.Core.Bool.{Bool, true, false}
 use mathlib.Core.List.{List, [], _∷_, _++_}
-use Prim.Native.Nat.{ℕ, zero, suc, pred, _-_, _≤_}
+use Prim.Native.Nat.{ℕ, zero, suc, _-_, _≤_}
 use native.Mathlib.Omega.{arith}
 use lib.Dec.{eqb}
 use lib.ListN.{length, take, replicate}
 use lib.Seq.{take-append-le, length-take-le}
 use borrow.Author.Tests.{eqb-true}
-use Rattle.definitions.specs.Polynomials.{extent, true-degree}
+use Rattle.definitions.specs.Polynomials.{extent, TrueDegree, none, place, true-degree}
 use Rattle.polynomial_tests.specs.Counts.{extent-length}
-use Rattle.text_notation.specs.Notation.{term, plus-joined, terms, or-zero, text, dropped, padded}
+use Rattle.text_notation.specs.Notation.{term, plus-joined, terms, or-zero, text, last-place, dropped, padded}
 
 terms-zeros : (k m : ℕ) → terms k (replicate m 0) ≡ []
 unfolding terms
@@ -66,22 +66,26 @@ above (x ∷ f) = go (eqb x 0) (extent f) refl (extent-length f) (above f)
 
 -- ---- dropping
 
-pub dropped-within : (f : List ℕ) → 1 ≤ length f → suc (true-degree f) ≤ length f
+-- the place of the last word that is kept, from the extent
+abbrev kept : ℕ → ℕ
+kept e = last-place (elim e [ zero ↦ none | suc k ↦ place k ])
+
+pub dropped-within : (f : List ℕ) → 1 ≤ length f → suc (last-place (true-degree f)) ≤ length f
 dropped-within f h = go (extent f) (extent-length f)
   where
-    go : (e : ℕ) → e ≤ length f → suc (pred e) ≤ length f
+    go : (e : ℕ) → e ≤ length f → suc (kept e) ≤ length f
     go zero l = h
     go (suc e) l = l
 
-pub dropped-length : (f : List ℕ) → 1 ≤ length f → length (dropped f) ≡ suc (true-degree f)
-dropped-length f h = length-take-le (suc (true-degree f)) f (dropped-within f h)
+pub dropped-length : (f : List ℕ) → 1 ≤ length f → length (dropped f) ≡ suc (last-place (true-degree f))
+dropped-length f h = length-take-le (suc (last-place (true-degree f))) f (dropped-within f h)
 
 pub dropped-above : (f : List ℕ) (m : ℕ) → 1 ≤ length f → dropped (f ++ replicate m 0) ≡ dropped f
 dropped-above f m h =
-    ap (λ (e : ℕ). take (suc (pred e)) (f ++ replicate m 0)) (extent-above f m)
-    ∙ take-append-le (suc (true-degree f)) f (replicate m 0) (dropped-within f h)
+    ap (λ (e : ℕ). take (suc (kept e)) (f ++ replicate m 0)) (extent-above f m)
+    ∙ take-append-le (suc (last-place (true-degree f))) f (replicate m 0) (dropped-within f h)
 
-pub dropped-rest : (f : List ℕ) → 1 ≤ length f → f ≡ dropped f ++ replicate (length f - suc (true-degree f)) 0
+pub dropped-rest : (f : List ℕ) → 1 ≤ length f → f ≡ dropped f ++ replicate (length f - suc (last-place (true-degree f))) 0
 dropped-rest [] h = absurd (omega arith)
 dropped-rest (x ∷ f) h = go (extent (x ∷ f)) (above (x ∷ f))
   where
@@ -89,7 +93,7 @@ dropped-rest (x ∷ f) h = go (extent (x ∷ f)) (above (x ∷ f))
     zeros g m e = cc
 
     go : (e : ℕ) → x ∷ f ≡ take e (x ∷ f) ++ replicate (suc (length f) - e) 0
-        → x ∷ f ≡ take (suc (pred e)) (x ∷ f) ++ replicate (suc (length f) - suc (pred e)) 0
+        → x ∷ f ≡ take (suc (kept e)) (x ∷ f) ++ replicate (suc (length f) - suc (kept e)) 0
     go zero q =
         let y : suc (length f) - 0 ≡ suc (length f) = omega arith in
         let z : suc (length f) - 1 ≡ length f = omega arith in
@@ -98,7 +102,7 @@ dropped-rest (x ∷ f) h = go (extent (x ∷ f)) (above (x ∷ f))
 
 pub dropped-dropped : (f : List ℕ) → 1 ≤ length f → dropped f ≡ dropped (dropped f)
 dropped-dropped f h =
-    ap dropped (dropped-rest f h) ∙ dropped-above (dropped f) (length f - suc (true-degree f)) (omega (arith, dropped-length f h))
+    ap dropped (dropped-rest f h) ∙ dropped-above (dropped f) (length f - suc (last-place (true-degree f))) (omega (arith, dropped-length f h))
 
 pub padded-dropped : (f : List ℕ) → 1 ≤ length f → padded (length f) (dropped f) ≡ f
 padded-dropped f h =
@@ -109,4 +113,4 @@ text-dropped f h = sym (text-padded (length f) (dropped f)) ∙ ap text (padded-
 
 -- "a zero polynomial comes back as the single word 0"
 pub dropped-zeros : (m : ℕ) → dropped (replicate (suc m) 0) ≡ 0 ∷ []
-dropped-zeros m = ap (λ (e : ℕ). take (suc (pred e)) (replicate (suc m) 0)) (extent-zeros (suc m))
+dropped-zeros m = ap (λ (e : ℕ). take (suc (kept e)) (replicate (suc m) 0)) (extent-zeros (suc m))

@@ -7,12 +7,12 @@ use native.Mathlib.Omega.{arith}
 use lib.Dec.{ltb, eqb}
 use lib.ListN.{length, take, drop, replicate}
 use lib.Seq.{take-all}
-use Rattle.definitions.specs.Polynomials.{true-degree}
-use Rattle.refusals.specs.Refusals.{narrow, bad-modulus, bad-length, all-below, short, first-refusal, refusals-one, answered}
+use Rattle.definitions.specs.Polynomials.{TrueDegree, none, place, true-degree}
+use Rattle.refusals.specs.Refusals.{narrow, bad-modulus, bad-length, all-below, short, first-refusal, refusals-one}
 use Rattle.refusals.specs.Conditions.{accepted-one}
 use Rattle.refusals.proofs.Statuses.{row-applies, row-passes, too-short, long-enough}
-use Rattle.polynomial_degree.specs.DegreeService.{TrueDegreeAnswer}
-use Rattle.text_notation.specs.Notation.{text, dropped, padded}
+use Rattle.polynomial_degree.specs.DegreeService.{told, degree-value, DegreeWordsAnswer}
+use Rattle.text_notation.specs.Notation.{text, last-place, dropped, padded}
 use Rattle.text_notation.specs.Tops.{dropped-within, dropped-length, padded-dropped}
 use Rattle.text_notation.specs.Candidates.{gathered, same-text, is-text-of, is-text}
 use Rattle.text_notation.specs.NotationLaws.{gathered-length, text-found, residues-below, test-same}
@@ -22,6 +22,10 @@ use Rattle.text_reader.proofs.Gathering.{fits-in-word}
 and-false : (a : Bool) → (a && false) ≡ false
 and-false true = refl
 and-false false = refl
+
+told-place : (t : TrueDegree) → degree-value (told 0 t) ≡ last-place t
+told-place none = refl
+told-place (place k) = refl
 
 module _ (n : ℕ) (s w : List ℕ) where
   pub modulus-refused : bad-modulus narrow n ≡ true → ReadAnswer narrow n s w w 0 1
@@ -57,7 +61,7 @@ module _ (n : ℕ) (s w : List ℕ) where
         (row-passes 2 (bad-length g) ((3, not (all-below n g)) ∷ []) 0
         (ap (λ (k : ℕ). cond (eqb k 0) true (ltb 49 k)) words-length) (row-passes 3 (not (all-below n g)) [] 0 (ap not e) refl))
 
-    module _ (v st : ℕ) (a : TrueDegreeAnswer narrow n g v st) where
+    module _ (some v st : ℕ) (a : DegreeWordsAnswer narrow n g some v st) where
       pub word-refused : (st ≡ 0 → ⊥) → ReadAnswer narrow n s w w 0 17
       word-refused z = go (all-below n g) refl
         where
@@ -83,8 +87,8 @@ module _ (n : ℕ) (s w : List ℕ) where
           words-are = refl;
         }
 
-        degree-is : v ≡ true-degree g
-        degree-is = a .value-is ∙ ap (λ (q : ℕ). answered q (true-degree g)) z
+        degree-is : v ≡ last-place (true-degree g)
+        degree-is = a .degree-is ∙ ap (λ (q : ℕ). degree-value (told q (true-degree g))) z ∙ told-place (true-degree g)
 
         pub degree-small : v < 49
         degree-small = omega (arith, degree-is, dropped-within g (omega (arith, words-length)), words-length)

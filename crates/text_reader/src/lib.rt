@@ -139,7 +139,7 @@ pub fn read_text(n: u32, text: &[u8], words: &mut [u32]) -> Answer
     }
     let mut f = [0u32; 49];
     gather(text, &mut f);
-    let degree = polynomial_degree::true_degree(n, &f);
+    let degree = polynomial_degree::true_degree_words(n, &f);
     if degree.status != 0 {
         return Answer {
             value: 0,
@@ -160,7 +160,7 @@ pub fn read_text(n: u32, text: &[u8], words: &mut [u32]) -> Answer
     }
     put_words(words, &f, 49);
     Answer {
-        value: degree.value + 1,
+        value: degree.degree + 1,
         status: 0,
     }
 }

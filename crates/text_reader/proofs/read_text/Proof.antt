@@ -16,8 +16,8 @@ returns-2 c =
     let else1 = gathered .before .before in
     let start = else1 .before .before .before .before in
     word-refused (start .args .n) (start .args .text .now) (start .args .words .now)
-    (sym (else1 .before .bad-modulus .ensures) ∙ else1 .if1 .left) (omega (arith, start .fits .n)) _ (gathered .gather .ensures) _ _
-    (degree .true-degree .ensures) (c .if2 .taken)
+    (sym (else1 .before .bad-modulus .ensures) ∙ else1 .if1 .left) (omega (arith, start .fits .n)) _ (gathered .gather .ensures) _ _ _
+    (degree .true-degree-words .ensures) (c .if2 .taken)
 
 returns-3 : tie.Need-returns-3
 returns-3 c =
@@ -27,8 +27,8 @@ returns-3 c =
     let else1 = gathered .before .before in
     let start = else1 .before .before .before .before in
     text-refused (start .args .n) (start .args .text .now) (start .args .words .now)
-    (sym (else1 .before .bad-modulus .ensures) ∙ else1 .if1 .left) (omega (arith, start .fits .n)) _ (gathered .gather .ensures) _ _
-    (degree .true-degree .ensures) (sym (written .is-text-of .ensures) ∙ not-true _ (c .if3 .taken))
+    (sym (else1 .before .bad-modulus .ensures) ∙ else1 .if1 .left) (omega (arith, start .fits .n)) _ (gathered .gather .ensures) _ _ _
+    (degree .true-degree-words .ensures) (sym (written .is-text-of .ensures) ∙ not-true _ (c .if3 .taken))
 
 returns-4 : tie.Need-returns-4
 returns-4 c =
@@ -38,8 +38,8 @@ returns-4 c =
     let else1 = gathered .before .before in
     let start = else1 .before .before .before .before in
     lent-short (start .args .n) (start .args .text .now) (start .args .words .now)
-    (sym (else1 .before .bad-modulus .ensures) ∙ else1 .if1 .left) (omega (arith, start .fits .n)) _ (gathered .gather .ensures) _ _
-    (degree .true-degree .ensures) (written .before .before .if2 .left)
+    (sym (else1 .before .bad-modulus .ensures) ∙ else1 .if1 .left) (omega (arith, start .fits .n)) _ (gathered .gather .ensures) _ _ _
+    (degree .true-degree-words .ensures) (written .before .before .if2 .left)
     (sym (written .is-text-of .ensures) ∙ not-false _ (c .before .if3 .left)) (c .if4 .taken)
 
 add-t21 : tie.Need-add-t21
@@ -51,8 +51,8 @@ add-t21 c =
     let else1 = gathered .before .before in
     let start = else1 .before .before .before .before in
     let z = degree-small (start .args .n) (start .args .text .now) (start .args .words .now)
-    (sym (else1 .before .bad-modulus .ensures) ∙ else1 .if1 .left) (omega (arith, start .fits .n)) _ (gathered .gather .ensures) _ _
-    (degree .true-degree .ensures) (written .before .before .if2 .left)
+    (sym (else1 .before .bad-modulus .ensures) ∙ else1 .if1 .left) (omega (arith, start .fits .n)) _ (gathered .gather .ensures) _ _ _
+    (degree .true-degree-words .ensures) (written .before .before .if2 .left)
     (sym (written .is-text-of .ensures) ∙ not-false _ (else4 .before .if3 .left)) in
     omega arith
 
@@ -66,8 +66,8 @@ returns-5 c =
     let else1 = gathered .before .before in
     let start = else1 .before .before .before .before in
     done (start .args .n) (start .args .text .now) (start .args .words .now)
-    (sym (else1 .before .bad-modulus .ensures) ∙ else1 .if1 .left) (omega (arith, start .fits .n)) _ (gathered .gather .ensures) _ _
-    (degree .true-degree .ensures) (written .before .before .if2 .left)
+    (sym (else1 .before .bad-modulus .ensures) ∙ else1 .if1 .left) (omega (arith, start .fits .n)) _ (gathered .gather .ensures) _ _ _
+    (degree .true-degree-words .ensures) (written .before .before .if2 .left)
     (sym (written .is-text-of .ensures) ∙ not-false _ (else4 .before .if3 .left)) (else4 .if4 .left) _ (copied .put-words .ensures)
 
 pub read-text-spec : {M : Type 1} → statement M
