@@ -633,7 +633,7 @@ static void there_and_back(uint32_t n, const uint32_t *f, size_t fl, const char 
     expect(!memcmp(text, written + MARGIN, length), "texts: what was read is written", where);
 }
 
-/* Texts with the words they spell, and texts that are none. `length` 0 stands for that of the C string. */
+/* Texts with the words they spell, and strings that are no texts: `length` 0 stands for that of the C string. */
 static const struct { uint32_t n; const char *text; size_t count; uint32_t words[4]; } spelled[] = {
     { 2, "0", 1, { 0 } }, { 2, "1", 1, { 1 } }, { 2, "1*x", 2, { 0, 1 } }, { 2, "1*x+1", 2, { 1, 1 } }, { 12, "0", 1, { 0 } },
     { 12, "5", 1, { 5 } }, { 12, "11*x^3+10*x", 4, { 0, 10, 0, 11 } }, { 12, "3*x^3+1*x+5", 4, { 5, 1, 0, 3 } },
@@ -679,7 +679,10 @@ static void texts(void)
         for (int t = 0; t < 600; t++) {
             uint32_t n = moduli[m], sparse = 1 + draw() % 4;
             size_t fl = t % 4 == 0 ? MOST : 1 + draw() % MOST;
-            for (size_t i = 0; i < fl; i++) f[i] = draw() % sparse ? 0 : draw() % n >> (draw() % 3 ? 0 : draw() % 32);
+            for (size_t i = 0; i < fl; i++) {
+                uint32_t shorter = draw() % 3 ? 0 : draw() % 32;
+                f[i] = draw() % sparse ? 0 : draw() % n >> shorter;
+            }
             if (t % 5 == 0) f[fl - 1] = 0;
             if (t % 97 == 0) memset(f, 0, sizeof f);
             snprintf(where, sizeof where, "text %d modulo %u", t, n);
@@ -688,7 +691,7 @@ static void texts(void)
             /* one character changed, left out, put in or exchanged with the next, and the text cut short */
             uint8_t text[JINGCOBU_TEXT + 1], other[JINGCOBU_TEXT + 2];
             size_t length = text_of(f, fl, (char *) text);
-            for (int change = 0; change < 60; change++) {
+            for (int change = 0; change < 20; change++) {
                 size_t at = draw() % length, l = length;
                 static const char signs[] = "0123456789*+^x";
                 uint8_t sign = (uint8_t) signs[draw() % 14];
@@ -748,19 +751,20 @@ static void texts(void)
 static void runs(void)
 {
     static const uint32_t frames[] = { 0, 1, 2, 3, 4, 5, 6, 7, 8, 9, 1023, 1024, 1025, 1026, 2048, 65536, 2147483648u, 4294967295u };
-    static const uint32_t counts[] = { 0, 1, 2, 3, 255, 256, 257, 1024, 4294967295u };
+    static const uint32_t counts[] = { 0, 1, 3, 256, 257, 65536, 4294967295u };
     long plans = 0;
     char where[90];
     for (size_t m = 0; m < sizeof frames / sizeof *frames; m++)
-        for (int j = 0; j < 9 * 9 * 9 * 9; j++) {
-            uint32_t a = counts[j % 9], b = counts[j / 9 % 9], c = counts[j / 81 % 9], d = counts[j / 729];
+        for (int j = 0; j < 7 * 7 * 7 * 7; j++) {
+            uint32_t a = counts[j % 7], b = counts[j / 7 % 7], c = counts[j / 49 % 7], d = counts[j / 343];
             snprintf(where, sizeof where, "%u frames, %u, %u, %u and %u waiting", frames[m], a, b, c, d);
             shares(frames[m], a, b, c, d, where);
             plans++;
         }
     for (uint32_t n = 1; n <= 1024; n++)
-        for (int t = 0; t < 8; t++) {
-            uint32_t a = draw() % (n + 2), b = draw() % (n / 2 + 2), c = draw() % (n / 4 + 2), d = draw() >> draw() % 32;
+        for (int t = 0; t < 4; t++) {
+            uint32_t a = draw() % (n + 2), b = draw() % (n / 2 + 2), c = draw() % (n / 4 + 2), d = draw();
+            d >>= draw() % 32;
             snprintf(where, sizeof where, "%u frames, %u, %u, %u and %u waiting", n, a, b, c, d);
             shares(n, a, b, c, d, where);
             shares(n, d, c, b, a, where);
