@@ -546,6 +546,7 @@ static void ends(void)
             one_word(2, fl ? f : NULL, fl, gl ? g : NULL, gl, 100, 0, right && fl + gl <= 50 ? JINGCOBU_OK : JINGCOBU_BAD_LENGTH, where);
             if (right && fl + gl <= 50) one_word(2, f, fl, g, gl, fl + gl - 2, 0, JINGCOBU_SHORT_RESULT, where);
             if (right && fl + gl <= 50) one_word(2, f, fl, g, gl, fl + gl - 1, fl + gl - 2, JINGCOBU_OK, where);
+            if (right && fl + gl <= 50) one_word(2, f, fl, g, gl, 100, fl + gl - 1, JINGCOBU_OK, where);
         }
     for (int k = 1; k < 32; k++)
         for (int high = 0; high < 2; high++)
@@ -668,7 +669,8 @@ static void texts(void)
         expect(any_text(spelled[i].n, text, length, spelled[i].text), "a text", spelled[i].text);
         expect(read_text(spelled[i].n, text, length, 49, JINGCOBU_OK, spelled[i].text) == spelled[i].count, "the number of its words", spelled[i].text);
         expect(!memcmp(out + MARGIN, spelled[i].words, spelled[i].count * sizeof *f), "its words", spelled[i].text);
-        expect(write_text(spelled[i].n, spelled[i].words, spelled[i].count, 800, JINGCOBU_OK, spelled[i].text) == length
+        memcpy(f, spelled[i].words, sizeof spelled[i].words);
+        expect(write_text(spelled[i].n, f, spelled[i].count, 800, JINGCOBU_OK, spelled[i].text) == length
             && !memcmp(written + MARGIN, text, length), "is what is written for its words", spelled[i].text);
     }
     for (size_t i = 0; i < sizeof damaged / sizeof *damaged; i++) {

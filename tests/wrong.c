@@ -231,7 +231,7 @@ jingcobu_answer __wrap_jingcobu_read_text(uint32_t n, const uint8_t *text, size_
     if (w == READ_WIPES_BEYOND_49 && wl > 49) words[wl - 1] = 0;
     if (w == READ_COUNTS_NO_WORD_OF_ZERO && tl == 1 && text[0] == '0') a.value = 0;
     if (w == READ_COUNTS_THE_DEGREE) a.value--;
-    if (w == READ_REFUSES_49_WORDS && wl == 49) { wipe(words, wl); memcpy(words, found, kept * sizeof *found); a.value = 0; a.status = 6; }
+    if (w == READ_REFUSES_49_WORDS && wl == 49) { memcpy(words, found, wl * sizeof *found); a.value = 0; a.status = 6; }
     return a;
 }
 
