@@ -31,6 +31,7 @@ static void expect(int ok, const char *what, const char *where)
     if (!ok) {
         failed++;
         if (failed <= 20) printf("FAILED: %s (%s)\n", what, where);
+        if (failed == 100) { printf("100 failed, the rest is not tried\n"); exit(1); }
     }
 }
 
