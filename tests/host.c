@@ -1,5 +1,6 @@
-/* A C host that tries the three services through the header: the stored pairs with their numbers, cofactors, what becomes of
- * every word of every buffer, each refusal and their order, the ends of the ranges, and the law of products on drawn triples.
+/* A C host that tries the services through the header: the stored pairs with their numbers, cofactors, products word by word, true
+ * degrees, texts written, read and damaged, shares of runs, what becomes of every word and byte of every buffer, each refusal and
+ * their order, the ends of the ranges, and the law of products on drawn triples.
  * It reads crates/vectors/stdin and crates/vectors/stdout, and says "FAILED" and exits with 1 where something is not as it should
  * be. Build and run: make -C tests (under a stack of 256 KiB; the output is held to the file `expected`). */
 #include <stdio.h>
@@ -11,13 +12,16 @@
 #define TRIPLES 3000
 #define MOST 49
 #define MARK 0xabcdef01u
+#define BYTE_MARK 0xa7
 
 /* Buffers, with words before and behind what is lent: a call is lent `length` words from place MARGIN on. */
 #define MARGIN 64
 #define WORK_ROOM (MARGIN + 9000 + MARGIN)
 #define COFACTOR_ROOM (MARGIN + 1600 + MARGIN)
 #define PRODUCT_ROOM (MARGIN + 100 + MARGIN)
+#define TEXT_ROOM (MARGIN + 900 + MARGIN)
 static uint32_t work[WORK_ROOM], u[COFACTOR_ROOM], v[COFACTOR_ROOM], out[PRODUCT_ROOM];
+static uint8_t written[TEXT_ROOM];
 
 static long tried, failed;
 
@@ -27,6 +31,7 @@ static void expect(int ok, const char *what, const char *where)
     if (!ok) {
         failed++;
         if (failed <= 20) printf("FAILED: %s (%s)\n", what, where);
+        if (failed == 100) { printf("100 failed, the rest is not tried\n"); exit(1); }
     }
 }
 
@@ -44,6 +49,13 @@ static int all(const uint32_t *b, size_t from, size_t to, uint32_t x)
 static int kept_but(const uint32_t *b, size_t room, size_t length)
 {
     for (size_t i = 0; i < room; i++) if ((i < MARGIN || i >= MARGIN + length) && b[i] != MARK) return 0;
+    return 1;
+}
+
+/* the same for bytes */
+static int bytes_kept_but(const uint8_t *b, size_t room, size_t length)
+{
+    for (size_t i = 0; i < room; i++) if ((i < MARGIN || i >= MARGIN + length) && b[i] != BYTE_MARK) return 0;
     return 1;
 }
 
@@ -83,6 +95,57 @@ static uint32_t product_word(uint32_t n, const uint32_t *f, size_t fl, const uin
     return (uint32_t) s;
 }
 
+/* the text of f, closed by a zero byte as C has it; answers the number of characters */
+static size_t text_of(const uint32_t *f, size_t fl, char *text)
+{
+    char *end = text;
+    for (size_t k = fl; k-- > 0;) {
+        if (!f[k]) continue;
+        end += sprintf(end, "%s%u", end == text ? "" : "+", f[k]);
+        if (k == 1) end += sprintf(end, "*x");
+        if (k > 1) end += sprintf(end, "*x^%zu", k);
+    }
+    if (end == text) end += sprintf(end, "0");
+    return (size_t) (end - text);
+}
+
+/* the number from 1 to `most` that stands at place *i of a text, and *i behind it; 0 where none stands there */
+static uint32_t number_in(const uint8_t *text, size_t length, size_t *i, uint32_t most)
+{
+    uint64_t x = 0;
+    size_t from = *i;
+    while (*i < length && text[*i] >= '0' && text[*i] <= '9' && *i - from < 10) x = 10 * x + (uint64_t) (text[(*i)++] - '0');
+    return *i > from && text[from] != '0' && x <= most ? (uint32_t) x : 0;
+}
+
+/* the words that a text spells, in `w` with zeros above; answers their number, and 0 where it is no text */
+static size_t words_of(uint32_t n, const uint8_t *text, size_t length, uint32_t *w)
+{
+    size_t i = 0, count = 0, before = MOST;
+    memset(w, 0, MOST * sizeof *w);
+    if (length == 1 && text[0] == '0') return 1;
+    for (;;) {
+        uint32_t c = number_in(text, length, &i, n - 1);
+        size_t k = 0;
+        if (!c) return 0;
+        if (i < length && text[i] == '*') {
+            if (++i >= length || text[i++] != 'x') return 0;
+            k = 1;
+            if (i < length && text[i] == '^') {
+                i++;
+                k = number_in(text, length, &i, MOST - 1);
+                if (k < 2) return 0;
+            }
+        }
+        if (k >= before) return 0;
+        if (!count) count = k + 1;
+        w[k] = c;
+        before = k;
+        if (i == length) return count;
+        if (text[i++] != '+') return 0;
+    }
+}
+
 /* ---- one call, with all that the header promises of it: the value, the status, every word. `status` is the one it should have. */
 
 static uint32_t first_copy[MOST + 11], second_copy[MOST + 11];
@@ -113,6 +176,100 @@ static uint32_t product(uint32_t n, const uint32_t *f, size_t fl, const uint32_t
     for (size_t k = 0; k < fl + gl - 1; k++) if (out[MARGIN + k] != product_word(n, f, fl, g, gl, k)) right = 0;
     expect(right, "product: the first d + e + 1 words", where);
     return a.value;
+}
+
+static void one_word(uint32_t n, const uint32_t *f, size_t fl, const uint32_t *g, size_t gl, size_t ol, size_t k, uint32_t status, const char *where)
+{
+    mark(out, PRODUCT_ROOM);
+    copy(f, fl, g, gl);
+    jingcobu_answer a = jingcobu_product_word(n, f, fl, g, gl, lent(out, ol), ol, k);
+    expect(a.status == status, "one word: the status", where);
+    expect(a.value == 0, "one word: the value is 0", where);
+    expect(same(f, fl, g, gl), "one word: f and g are only read", where);
+    if (status != JINGCOBU_OK) {
+        expect(kept_but(out, PRODUCT_ROOM, 0), "one word refused: the buffer is as found", where);
+        return;
+    }
+    if (k <= fl + gl - 2) {
+        expect(out[MARGIN + k] == product_word(n, f, fl, g, gl, k), "one word: word k of the product", where);
+        out[MARGIN + k] = MARK;
+    }
+    expect(kept_but(out, PRODUCT_ROOM, 0), "one word: every other word is as found", where);
+}
+
+static void degree(uint32_t n, const uint32_t *f, size_t fl, uint32_t status, const char *where)
+{
+    size_t k = fl;
+    copy(f, fl, NULL, 0);
+    jingcobu_degree a = jingcobu_true_degree(n, f, fl);
+    expect(a.status == status, "degree: the status", where);
+    expect(same(f, fl, NULL, 0), "degree: f is only read", where);
+    if (status != JINGCOBU_OK) {
+        expect(a.some == 0 && a.degree == 0, "degree refused: the values are 0", where);
+        return;
+    }
+    while (k > 0 && f[k - 1] == 0) k--;
+    if (k) expect(a.some == 1 && a.degree == k - 1, "degree: the place of the highest word that is not zero", where);
+    else expect(a.some == 0 && a.degree == 0, "degree: a zero polynomial has none", where);
+}
+
+static uint32_t write_text(uint32_t n, const uint32_t *f, size_t fl, size_t tl, uint32_t status, const char *where)
+{
+    char text[MARGIN + 900];
+    memset(written, BYTE_MARK, TEXT_ROOM);
+    copy(f, fl, NULL, 0);
+    jingcobu_answer a = jingcobu_write_text(n, f, fl, tl ? written + MARGIN : NULL, tl);
+    expect(a.status == status, "writer: the status", where);
+    expect(same(f, fl, NULL, 0), "writer: f is only read", where);
+    if (status != JINGCOBU_OK) {
+        expect(a.value == 0, "writer refused: the value is 0", where);
+        expect(bytes_kept_but(written, TEXT_ROOM, 0), "writer refused: the bytes are as found", where);
+        return 0;
+    }
+    memset(text, 0, sizeof text);
+    expect(a.value == text_of(f, fl, text), "writer: the number of characters", where);
+    expect(!memcmp(text, written + MARGIN, JINGCOBU_TEXT), "writer: the text, and zeros above it", where);
+    expect(bytes_kept_but(written, TEXT_ROOM, JINGCOBU_TEXT), "writer: bytes beyond 800 are unchanged", where);
+    return a.value <= JINGCOBU_TEXT ? a.value : 0;
+}
+
+static uint32_t read_text(uint32_t n, const uint8_t *text, size_t length, size_t wl, uint32_t status, const char *where)
+{
+    static uint8_t text_copy[3000];
+    uint32_t w[MOST];
+    if (length) memcpy(text_copy, text, length);
+    mark(out, PRODUCT_ROOM);
+    jingcobu_answer a = jingcobu_read_text(n, text, length, lent(out, wl), wl);
+    expect(a.status == status, "reader: the status", where);
+    expect(!length || !memcmp(text_copy, text, length), "reader: the text is only read", where);
+    if (status != JINGCOBU_OK) {
+        expect(a.value == 0, "reader refused: the value is 0", where);
+        expect(kept_but(out, PRODUCT_ROOM, 0), "reader refused: the words are as found", where);
+        return 0;
+    }
+    expect(a.value == words_of(n, text, length, w), "reader: the number of words", where);
+    expect(!memcmp(w, out + MARGIN, sizeof w), "reader: the words, and zeros above them", where);
+    expect(kept_but(out, PRODUCT_ROOM, JINGCOBU_WORDS), "reader: words beyond 49 are unchanged", where);
+    return a.value;
+}
+
+static void shares(uint32_t frames, uint32_t w1, uint32_t w2, uint32_t w3, uint32_t w4, const char *where)
+{
+    uint32_t waiting[] = { w1, w2, w3, w4 }, share[] = { 0, 0, 0, 0 }, left = frames;
+    jingcobu_plan p = jingcobu_shares(frames, w1, w2, w3, w4);
+    if (frames < 1 || frames > 1024) {
+        expect(p.status == JINGCOBU_BAD_FRAMES, "shares: the status", where);
+        expect(!p.share[0] && !p.share[1] && !p.share[2] && !p.share[3], "shares refused: all counts are 0", where);
+        return;
+    }
+    for (int passed = 0, i = 0; left && passed < 4; i = (i + 1) % 4) {
+        if (share[i] < waiting[i]) { share[i]++; left--; passed = 0; } else passed++;
+    }
+    expect(p.status == JINGCOBU_OK, "shares: the status", where);
+    expect(!memcmp(p.share, share, sizeof share), "shares: as frames are given out one at a time", where);
+    int fourth = 1;
+    for (int i = 0; i < 4; i++) if (p.share[i] < frames / 4 && p.share[i] < waiting[i]) fourth = 0;
+    expect(fourth, "shares: at least what waits or a fourth", where);
 }
 
 static uint32_t resultant(uint32_t n, const uint32_t *f, size_t fl, const uint32_t *g, size_t gl, size_t wl, uint32_t status, const char *where)
@@ -196,12 +353,39 @@ static int read_figures(const char *s, uint32_t *r, uint32_t *D)
     return ok;
 }
 
+/* The product word by word against the product in one call, where d + e is at most 48: after word k the first k + 1 words are made and
+ * the others are as found, and a k above d + e writes nothing. */
+static int word_by_word(uint32_t n, const uint32_t *f, size_t fl, const uint32_t *g, size_t gl, const char *where)
+{
+    uint32_t whole[2 * MOST];
+    size_t l = fl + gl - 1;
+    if (l > MOST) {
+        one_word(n, f, fl, g, gl, 100, 0, JINGCOBU_BAD_LENGTH, where);
+        return 0;
+    }
+    product(n, f, fl, g, gl, l, JINGCOBU_OK, where);
+    memcpy(whole, out + MARGIN, l * sizeof *whole);
+    mark(out, PRODUCT_ROOM);
+    int made = 1, others = 1, answered = 1;
+    for (size_t i = 0; i < l + 3; i++) {
+        jingcobu_answer a = jingcobu_product_word(n, f, fl, g, gl, out + MARGIN, 60, i < l + 2 ? i : SIZE_MAX);
+        size_t done = i < l ? i + 1 : l;
+        if (a.status || a.value) answered = 0;
+        if (memcmp(out + MARGIN, whole, done * sizeof *whole)) made = 0;
+        if (!kept_but(out, PRODUCT_ROOM, done)) others = 0;
+    }
+    expect(answered, "word by word: status and value are 0", where);
+    expect(made, "word by word: after word k the words up to k are the product's", where);
+    expect(others, "word by word: the other words are as found", where);
+    return 1;
+}
+
 static void pairs(const char *folder)
 {
     char path[400], line[1000], figures[100], where[40];
     uint32_t w[2 * MOST], n, r, D;
     size_t fl, gl;
-    long count = 0, full = 0, between = 0;
+    long count = 0, full = 0, between = 0, by_words = 0;
     snprintf(path, sizeof path, "%s/stdin", folder);
     FILE *in = fopen(path, "r");
     snprintf(path, sizeof path, "%s/stdout", folder);
@@ -218,6 +402,9 @@ static void pairs(const char *folder)
         if (!whole) break;
         expect(resultant(n, w, fl, w + fl, gl, 9000, JINGCOBU_OK, where) == r, "the resultant is the other program's", where);
         expect(reduced(n, w, fl, w + fl, gl, 1600, 1600, 9000, JINGCOBU_OK, where) == D, "D is the other program's", where);
+        by_words += word_by_word(n, w, fl, w + fl, gl, where);
+        degree(n, w, fl, JINGCOBU_OK, where);
+        degree(n, w + fl, gl, JINGCOBU_OK, where);
         count++;
         if (fl == MOST && gl == MOST) full++;
         if (D > 1 && D < n) between++;
@@ -225,7 +412,7 @@ static void pairs(const char *folder)
     expect(count >= LEAST_PAIRS, "all the stored pairs were read", folder);
     fclose(in);
     fclose(numbers);
-    printf("%ld stored pairs, %ld of them with d = e = 48, %ld with D neither 1 nor n\n", count, full, between);
+    printf("%ld stored pairs, %ld of them with d = e = 48, %ld with D neither 1 nor n, %ld multiplied word by word\n", count, full, between, by_words);
 }
 
 /* ---- refusals */
@@ -265,9 +452,40 @@ static void orders(void)
             if (!common && (set & SUM)) common = JINGCOBU_BAD_LENGTH;
             three = common ? common : word;
             product(n, fl ? f : NULL, fl, gl ? g : NULL, gl, ol, three ? three : short_product, where);
+            size_t places[] = { 0, d + e - 2, d + e - 1, SIZE_MAX };
+            for (int i = 0; i < 4; i++)
+                one_word(n, fl ? f : NULL, fl, gl ? g : NULL, gl, ol, places[i], three ? three : short_product, where);
             sets++;
         }
     printf("%ld sets of reasons to refuse\n", sets);
+}
+
+/* The same for one polynomial or one text: n is 0 or 1, the length, a word, no text, a short buffer. */
+static void orders_of_one(void)
+{
+    enum { N = 1, F = 2, W = 4, SHORT = 8, TEXT = 16, SETS = 32 };
+    static const char *const not_texts[] = { "", "1*x^49", "2*x+7", "01" };
+    long sets = 0;
+    for (int other = 0; other < 16; other++)
+        for (int set = 0; set < SETS; set++) {
+            int empty = other & 1, last = other & 2;
+            uint32_t f[60], n = set & N ? (uint32_t) empty : 7;
+            char where[40];
+            for (int i = 0; i < 60; i++) f[i] = (uint32_t) ((5 * i + 2) % 7);
+            size_t fl = set & F ? empty ? 0 : 50 : 5;
+            if ((set & W) && fl) f[last ? fl - 1 : 0] = empty ? 7 : 4294967295u;
+            size_t tl = set & SHORT ? last ? 0 : 799 : 800, wl = set & SHORT ? last ? 0 : 48 : 49;
+            const char *text = set & TEXT ? not_texts[other / 4] : "3*x^48+6*x^2+1*x+5";
+            uint32_t three = set & N ? JINGCOBU_BAD_MODULUS : set & F ? JINGCOBU_BAD_LENGTH : set & W ? JINGCOBU_BAD_WORD : 0;
+            uint32_t read = set & N ? JINGCOBU_BAD_MODULUS : set & TEXT ? JINGCOBU_NO_TEXT : 0;
+            uint32_t too_short = set & SHORT ? JINGCOBU_SHORT_RESULT : 0;
+            snprintf(where, sizeof where, "set %d of one's reasons, %d", set, other);
+            degree(n, fl ? f : NULL, fl, three, where);
+            write_text(n, fl ? f : NULL, fl, tl, three ? three : too_short, where);
+            read_text(n, *text ? (const uint8_t *) text : NULL, strlen(text), wl, read ? read : too_short, where);
+            sets++;
+        }
+    printf("%ld sets of reasons with one polynomial or text\n", sets);
 }
 
 /* Each place of a word that is n or more, in f and in g. */
@@ -286,6 +504,9 @@ static void words(void)
                 resultant(11, f, fl, g, gl, 8192, status, where);
                 reduced(11, f, fl, g, gl, 1489, 1489, 8192, status, where);
                 product(11, f, fl, g, gl, 49, status, where);
+                one_word(11, f, fl, g, gl, 49, k, status, where);
+                degree(11, second ? g : f, MOST, status, where);
+                write_text(11, second ? g : f, MOST, 800, status, where);
             }
 }
 
@@ -299,6 +520,21 @@ static void ends(void)
         resultant(n, f, 1, g, 1, 8192, JINGCOBU_BAD_MODULUS, "n below 2");
         reduced(n, f, 1, g, 1, 1489, 1489, 8192, JINGCOBU_BAD_MODULUS, "n below 2");
         product(n, f, 1, g, 1, 1, JINGCOBU_BAD_MODULUS, "n below 2");
+        one_word(n, f, 1, g, 1, 1, 0, JINGCOBU_BAD_MODULUS, "n below 2");
+        degree(n, f, 1, JINGCOBU_BAD_MODULUS, "n below 2");
+        write_text(n, f, 1, 800, JINGCOBU_BAD_MODULUS, "n below 2");
+        read_text(n, (const uint8_t *) "0", 1, 49, JINGCOBU_BAD_MODULUS, "n below 2");
+    }
+    for (size_t fl = 0; fl <= 60; fl++) {
+        int right = fl >= 1 && fl <= 49;
+        snprintf(where, sizeof where, "%zu words", fl);
+        degree(2, fl ? f : NULL, fl, right ? JINGCOBU_OK : JINGCOBU_BAD_LENGTH, where);
+        write_text(2, fl ? f : NULL, fl, 800, right ? JINGCOBU_OK : JINGCOBU_BAD_LENGTH, where);
+        read_text(2, (const uint8_t *) "1*x", 3, fl, fl >= 49 ? JINGCOBU_OK : JINGCOBU_SHORT_RESULT, where);
+    }
+    for (size_t tl = 0; tl <= 900; tl++) {
+        snprintf(where, sizeof where, "%zu bytes", tl);
+        write_text(2, f, 1, tl, tl >= 800 ? JINGCOBU_OK : JINGCOBU_SHORT_RESULT, where);
     }
     for (size_t fl = 0; fl <= 60; fl++)
         for (size_t gl = 0; gl <= 60; gl++) {
@@ -308,6 +544,10 @@ static void ends(void)
             product(2, fl ? f : NULL, fl, gl ? g : NULL, gl, 100, right && fl + gl <= 50 ? JINGCOBU_OK : JINGCOBU_BAD_LENGTH, where);
             if (right && fl + gl <= 50) product(2, f, fl, g, gl, fl + gl - 2, JINGCOBU_SHORT_RESULT, where);
             if (right && fl + gl <= 50) product(2, f, fl, g, gl, fl + gl - 1, JINGCOBU_OK, where);
+            one_word(2, fl ? f : NULL, fl, gl ? g : NULL, gl, 100, 0, right && fl + gl <= 50 ? JINGCOBU_OK : JINGCOBU_BAD_LENGTH, where);
+            if (right && fl + gl <= 50) one_word(2, f, fl, g, gl, fl + gl - 2, 0, JINGCOBU_SHORT_RESULT, where);
+            if (right && fl + gl <= 50) one_word(2, f, fl, g, gl, fl + gl - 1, fl + gl - 2, JINGCOBU_OK, where);
+            if (right && fl + gl <= 50) one_word(2, f, fl, g, gl, 100, fl + gl - 1, JINGCOBU_OK, where);
         }
     for (int k = 1; k < 32; k++)
         for (int high = 0; high < 2; high++)
@@ -331,7 +571,7 @@ static void ends(void)
     expect(all(out, 0, 1, 5) && all(out, 1, 2, 1) && all(out, 2, 3, 0), "the product is 5,1,0", "1,2 times 5,3 modulo 6");
 }
 
-/* ---- the law of products */
+/* ---- drawn numbers */
 
 static uint64_t state = 20261115;
 static uint32_t draw(void)
@@ -339,6 +579,206 @@ static uint32_t draw(void)
     state ^= state << 13; state ^= state >> 7; state ^= state << 17;
     return (uint32_t) (state >> 16);
 }
+
+/* ---- true degrees */
+
+/* Every length and every place of the highest word that is not zero, with zeros, drawn words or the largest below it. */
+static void degrees(void)
+{
+    static const uint32_t moduli[] = { 2, 3, 12, 2147483648u, 4294967295u };
+    uint32_t f[MOST];
+    long count = 0;
+    char where[60];
+    for (size_t m = 0; m < sizeof moduli / sizeof *moduli; m++)
+        for (size_t fl = 1; fl <= MOST; fl++)
+            for (size_t k = 0; k <= fl; k++)
+                for (int kind = 0; kind < 3; kind++) {
+                    uint32_t n = moduli[m];
+                    for (size_t i = 0; i < fl; i++) f[i] = i + 1 >= k || kind == 0 ? 0 : kind == 1 ? draw() % n : n - 1;
+                    if (k) f[k - 1] = kind == 0 ? 1 : kind == 1 ? 1 + draw() % (n - 1) : n - 1;
+                    snprintf(where, sizeof where, "%zu words modulo %u, zero from place %zu on", fl, n, k);
+                    degree(n, f, fl, JINGCOBU_OK, where);
+                    count++;
+                }
+    uint32_t zeros[] = { 0, 0, 0 }, five[] = { 5, 0 };
+    jingcobu_degree a = jingcobu_true_degree(12, zeros, 3), b = jingcobu_true_degree(12, five, 2);
+    expect(a.some == 0 && a.degree == 0 && a.status == 0, "none for the zero polynomial", "0,0,0 modulo 12");
+    expect(b.some == 1 && b.degree == 0 && b.status == 0, "0 for the constant 5", "5,0 modulo 12");
+    printf("%ld true degrees\n", count);
+}
+
+/* ---- texts */
+
+/* the reader on any bytes: it reads what words_of reads, and refuses the others with 17; answers whether they are a text */
+static int any_text(uint32_t n, const uint8_t *text, size_t length, const char *where)
+{
+    uint32_t w[MOST];
+    int right = words_of(n, text, length, w) != 0;
+    read_text(n, length ? text : NULL, length, 60, right ? JINGCOBU_OK : JINGCOBU_NO_TEXT, where);
+    return right;
+}
+
+/* The polynomial is written, what was written is read, and what was read is written. */
+static void there_and_back(uint32_t n, const uint32_t *f, size_t fl, const char *where)
+{
+    uint32_t w[MOST];
+    uint8_t text[JINGCOBU_TEXT];
+    size_t dropped = fl;
+    while (dropped > 1 && f[dropped - 1] == 0) dropped--;
+    size_t length = write_text(n, f, fl, 900, JINGCOBU_OK, where);
+    memcpy(text, written + MARGIN, length);
+    size_t count = read_text(n, text, length, 60, JINGCOBU_OK, where);
+    memcpy(w, out + MARGIN, sizeof w);
+    expect(count == dropped && !memcmp(w, f, dropped * sizeof *w), "texts: what was written is read, zero tops dropped", where);
+    if (count < 1 || count > MOST) return;
+    expect(write_text(n, w, count, 800, JINGCOBU_OK, where) == length, "texts: what was read is written, as long as it was", where);
+    expect(!memcmp(text, written + MARGIN, length), "texts: what was read is written", where);
+}
+
+/* Texts with the words they spell, and strings that are no texts: `length` 0 stands for that of the C string. */
+static const struct { uint32_t n; const char *text; size_t count; uint32_t words[4]; } spelled[] = {
+    { 2, "0", 1, { 0 } }, { 2, "1", 1, { 1 } }, { 2, "1*x", 2, { 0, 1 } }, { 2, "1*x+1", 2, { 1, 1 } }, { 12, "0", 1, { 0 } },
+    { 12, "5", 1, { 5 } }, { 12, "11*x^3+10*x", 4, { 0, 10, 0, 11 } }, { 12, "3*x^3+1*x+5", 4, { 5, 1, 0, 3 } },
+    { 12, "7*x^2", 3, { 0, 0, 7 } }, { 4294967295u, "4294967294*x+4294967294", 2, { 4294967294u, 4294967294u } },
+    { 4294967295u, "1000000000*x^2+10", 3, { 10, 0, 1000000000 } },
+};
+static const struct { uint32_t n; const char *text; size_t length; } damaged[] = {
+    { 12, "", 0 }, { 12, "x", 0 }, { 12, "*x", 0 }, { 12, "x^2", 0 }, { 12, "1x", 0 }, { 12, "1*", 0 }, { 12, "1*2", 0 }, { 12, "1^2", 0 },
+    { 12, "1*x^", 0 }, { 12, "1*x^0", 0 }, { 12, "1*x^1", 0 }, { 12, "1*x^02", 0 }, { 12, "1*x^49", 0 }, { 12, "1*x^480", 0 },
+    { 12, "1*x^99", 0 }, { 12, "1*x^4294967298", 0 }, { 12, "1*x^18446744073709551618", 0 }, { 12, "1*x^340282366920938463463374607431768211458", 0 },
+    { 12, "00", 0 }, { 12, "01", 0 }, { 12, "0*x", 0 }, { 12, "0*x^2", 0 }, { 12, "01*x", 0 }, { 12, "1*x+0", 0 }, { 12, "0+1", 0 },
+    { 12, "1*x^2+0*x+1", 0 }, { 12, "12", 0 }, { 12, "13", 0 }, { 12, "12*x", 0 }, { 12, "1*x+12", 0 }, { 2, "2", 0 }, { 2, "2*x", 0 },
+    { 4294967295u, "4294967295", 0 }, { 4294967295u, "4294967296", 0 }, { 4294967295u, "4294967297", 0 }, { 4294967295u, "4294967297*x", 0 },
+    { 12, "4294967297", 0 }, { 12, "18446744073709551617", 0 }, { 12, "340282366920938463463374607431768211457", 0 },
+    { 12, "1+1", 0 }, { 12, "1*x+1*x", 0 }, { 12, "1*x^2+1*x^2", 0 }, { 12, "1+1*x", 0 }, { 12, "1*x+1*x^2", 0 }, { 12, "1*x^9+1*x^10", 0 },
+    { 12, "+1", 0 }, { 12, "1+", 0 }, { 12, "1*x+", 0 }, { 12, "1*x++1", 0 }, { 12, "+", 0 }, { 12, "-1", 0 }, { 12, "1*x-1", 0 },
+    { 12, " 1", 0 }, { 12, "1 ", 0 }, { 12, "1*x +1", 0 }, { 12, "1 *x", 0 }, { 12, "1*x\n", 0 }, { 12, "1*X", 0 }, { 12, "1*y", 0 },
+    { 12, "1*xx", 0 }, { 12, "1**x", 0 }, { 12, "1*x^^2", 0 }, { 12, "1*x^+2", 0 }, { 12, "1*x^2x", 0 }, { 12, "1*x*x", 0 }, { 12, "1*x^2^2", 0 },
+    { 12, "1*x2", 0 }, { 12, "1e1", 0 }, { 12, "0x1", 0 }, { 12, "a", 0 }, { 12, "1,1", 0 }, { 12, "1*x;", 0 }, { 12, "1*x+p", 0 }, { 12, "a1", 0 },
+    { 12, "1", 2 }, { 12, "1*x", 4 }, { 12, "\0", 1 }, { 12, "5\0" "5", 3 },
+};
+
+static void texts(void)
+{
+    static const uint32_t moduli[] = { 2, 3, 12, 4294967295u };
+    uint32_t f[MOST];
+    char where[90];
+    long back = 0, read = 0, none = 0;
+    for (size_t i = 0; i < sizeof spelled / sizeof *spelled; i++) {
+        const uint8_t *text = (const uint8_t *) spelled[i].text;
+        size_t length = strlen(spelled[i].text);
+        expect(any_text(spelled[i].n, text, length, spelled[i].text), "a text", spelled[i].text);
+        expect(read_text(spelled[i].n, text, length, 49, JINGCOBU_OK, spelled[i].text) == spelled[i].count, "the number of its words", spelled[i].text);
+        expect(!memcmp(out + MARGIN, spelled[i].words, spelled[i].count * sizeof *f), "its words", spelled[i].text);
+        memcpy(f, spelled[i].words, sizeof spelled[i].words);
+        expect(write_text(spelled[i].n, f, spelled[i].count, 800, JINGCOBU_OK, spelled[i].text) == length
+            && !memcmp(written + MARGIN, text, length), "is what is written for its words", spelled[i].text);
+    }
+    for (size_t i = 0; i < sizeof damaged / sizeof *damaged; i++) {
+        size_t length = damaged[i].length ? damaged[i].length : strlen(damaged[i].text);
+        expect(!any_text(damaged[i].n, (const uint8_t *) damaged[i].text, length, damaged[i].text), "no text", damaged[i].text);
+    }
+    for (size_t m = 0; m < 4; m++)
+        for (int t = 0; t < 600; t++) {
+            uint32_t n = moduli[m], sparse = 1 + draw() % 4;
+            size_t fl = t % 4 == 0 ? MOST : 1 + draw() % MOST;
+            for (size_t i = 0; i < fl; i++) {
+                uint32_t shorter = draw() % 3 ? 0 : draw() % 32;
+                f[i] = draw() % sparse ? 0 : draw() % n >> shorter;
+            }
+            if (t % 5 == 0) f[fl - 1] = 0;
+            if (t % 97 == 0) memset(f, 0, sizeof f);
+            snprintf(where, sizeof where, "text %d modulo %u", t, n);
+            there_and_back(n, f, fl, where);
+            back++;
+            /* one character changed, left out, put in or exchanged with the next, and the text cut short */
+            uint8_t text[JINGCOBU_TEXT + 1], other[JINGCOBU_TEXT + 2];
+            size_t length = text_of(f, fl, (char *) text);
+            for (int change = 0; change < 20; change++) {
+                size_t at = draw() % length, l = length;
+                static const char signs[] = "0123456789*+^x";
+                uint8_t sign = (uint8_t) signs[draw() % 14];
+                memcpy(other, text, length);
+                if (change % 5 == 0) other[at] = sign;
+                if (change % 5 == 1) { memmove(other + at, text + at + 1, length - at - 1); l--; }
+                if (change % 5 == 2) { memmove(other + at + 1, text + at, length - at); other[at] = sign; l++; }
+                if (change % 5 == 3 && at + 1 < length) { other[at] = text[at + 1]; other[at + 1] = text[at]; }
+                if (change % 5 == 4) l = at;
+                if (any_text(n, other, l, where)) read++; else none++;
+            }
+        }
+    /* every byte in every place, and before and behind */
+    static const char *const whole[] = { "0", "7", "1*x", "3*x^3+1*x+5", "11*x^48+2*x^12+10" };
+    for (size_t i = 0; i < sizeof whole / sizeof *whole; i++)
+        for (size_t at = 0; at < strlen(whole[i]); at++)
+            for (int byte = 0; byte < 256; byte++) {
+                uint8_t text[40];
+                size_t l = strlen(whole[i]);
+                snprintf(where, sizeof where, "%s with byte %d at place %zu", whole[i], byte, at);
+                memcpy(text, whole[i], l);
+                text[at] = (uint8_t) byte;
+                if (any_text(12, text, l, where)) read++; else none++;
+                memcpy(text, whole[i], at);
+                text[at] = (uint8_t) byte;
+                memcpy(text + at + 1, whole[i] + at, l - at);
+                if (any_text(12, text, l + 1, where)) read++; else none++;
+                memcpy(text, whole[i], l);
+                text[l] = (uint8_t) byte;
+                if (any_text(12, text, l + 1, where)) read++; else none++;
+            }
+    /* the longest text, longer ones that are none, and all short strings over the characters of the notation */
+    for (size_t i = 0; i < MOST; i++) f[i] = 4294967294u;
+    expect(write_text(4294967295u, f, MOST, 800, JINGCOBU_OK, "the longest text") == 767, "has 767 characters", "the longest text");
+    there_and_back(4294967295u, f, MOST, "the longest text");
+    static uint8_t longer[3000];
+    for (size_t l = 11; l <= 3000; l = l < 820 ? l + 1 : l + 545) {
+        memset(longer, '1', sizeof longer);
+        read_text(4294967295u, longer, l, 49, JINGCOBU_NO_TEXT, "a number that is too long");
+        for (size_t i = 1; i < l; i += 2) longer[i] = '+';
+        read_text(4294967295u, longer, l, 49, JINGCOBU_NO_TEXT, "too many terms");
+    }
+    for (size_t l = 0; l <= 5; l++) {
+        static const char signs[] = "0129*+^x";
+        for (uint32_t j = 0; j < 1u << (3 * l); j++) {
+            uint8_t text[5];
+            for (size_t i = 0; i < l; i++) text[i] = (uint8_t) signs[j >> (3 * i) & 7];
+            snprintf(where, sizeof where, "short string %u of %zu", j, l);
+            if (any_text(12, text, l, where)) read++; else none++;
+        }
+    }
+    printf("%ld polynomials written and read, %ld changed texts read, %ld refused\n", back, read, none);
+}
+
+/* ---- shares */
+
+static void runs(void)
+{
+    static const uint32_t frames[] = { 0, 1, 2, 3, 4, 5, 6, 7, 8, 9, 1023, 1024, 1025, 1026, 2048, 65536, 2147483648u, 4294967295u };
+    static const uint32_t counts[] = { 0, 1, 3, 256, 257, 65536, 4294967295u };
+    long plans = 0;
+    char where[90];
+    for (size_t m = 0; m < sizeof frames / sizeof *frames; m++)
+        for (int j = 0; j < 7 * 7 * 7 * 7; j++) {
+            uint32_t a = counts[j % 7], b = counts[j / 7 % 7], c = counts[j / 49 % 7], d = counts[j / 343];
+            snprintf(where, sizeof where, "%u frames, %u, %u, %u and %u waiting", frames[m], a, b, c, d);
+            shares(frames[m], a, b, c, d, where);
+            plans++;
+        }
+    for (uint32_t n = 1; n <= 1024; n++)
+        for (int t = 0; t < 4; t++) {
+            uint32_t a = draw() % (n + 2), b = draw() % (n / 2 + 2), c = draw() % (n / 4 + 2), d = draw();
+            d >>= draw() % 32;
+            snprintf(where, sizeof where, "%u frames, %u, %u, %u and %u waiting", n, a, b, c, d);
+            shares(n, a, b, c, d, where);
+            shares(n, d, c, b, a, where);
+            plans += 2;
+        }
+    jingcobu_plan p = jingcobu_shares(10, 1, 0, 9, 2);
+    expect(p.share[0] == 1 && p.share[1] == 0 && p.share[2] == 7 && p.share[3] == 2 && p.status == 0, "are 1, 0, 7, 2", "10 frames, 1, 0, 9, 2 waiting");
+    printf("%ld runs shared\n", plans);
+}
+
+/* ---- the law of products */
 
 static void products(void)
 {
@@ -377,9 +817,13 @@ int main(int argc, char **argv)
 {
     pairs(argc > 1 ? argv[1] : "../crates/vectors");
     orders();
+    orders_of_one();
     words();
     ends();
     products();
+    degrees();
+    texts();
+    runs();
     printf("%ld passed, %ld failed\n", tried - failed, failed);
     return failed != 0;
 }

@@ -1,4 +1,4 @@
-/* Wrong versions of the three services, each of which tests/host.c must find out. They stand between the host and the library (the
+/* Wrong versions of the services, each of which tests/host.c must find out. They stand between the host and the library (the
  * linker's --wrap); the number of the version is the first word of the environment's WRONG, and version 0 is the library itself.
  * Build and run: make -C tests wrong */
 #include <stdlib.h>
@@ -9,6 +9,11 @@ jingcobu_answer __real_jingcobu_product(uint32_t, const uint32_t *, size_t, cons
 jingcobu_answer __real_jingcobu_resultant(uint32_t, const uint32_t *, size_t, const uint32_t *, size_t, uint32_t *, size_t);
 jingcobu_answer __real_jingcobu_reduced_resultant(uint32_t, const uint32_t *, size_t, const uint32_t *, size_t, uint32_t *, size_t,
                                                   uint32_t *, size_t, uint32_t *, size_t);
+jingcobu_answer __real_jingcobu_product_word(uint32_t, const uint32_t *, size_t, const uint32_t *, size_t, uint32_t *, size_t, size_t);
+jingcobu_degree __real_jingcobu_true_degree(uint32_t, const uint32_t *, size_t);
+jingcobu_answer __real_jingcobu_read_text(uint32_t, const uint8_t *, size_t, uint32_t *, size_t);
+jingcobu_answer __real_jingcobu_write_text(uint32_t, const uint32_t *, size_t, uint8_t *, size_t);
+jingcobu_plan __real_jingcobu_shares(uint32_t, uint32_t, uint32_t, uint32_t, uint32_t);
 
 enum {
     RIGHT,
@@ -21,6 +26,21 @@ enum {
     REDUCED_REFUSED_WIPES_WORK, REDUCED_REFUSED_HAS_A_VALUE, REDUCED_LEAVES_THE_LAST_WORKING_WORD, REDUCED_WRITES_G,
     PRODUCT_LEAVES_A_ZERO_TOP, PRODUCT_WIPES_BEYOND, PRODUCT_HAS_A_VALUE, PRODUCT_TAKES_DEGREE_49, PRODUCT_WORDS_BEFORE_LENGTHS,
     PRODUCT_REFUSES_ENOUGH_WORDS, PRODUCT_REFUSED_WIPES, PRODUCT_OF_F_ALONE, PRODUCT_WRITES_F,
+    WORD_IN_THE_NEXT_PLACE, WORD_OF_THE_NEXT_PLACE, WORD_WRITES_ALL, WORD_ADDED_TO_WHAT_IS_THERE, WORD_LEAVES_THE_TOP,
+    WORD_ABOVE_IS_ZEROED, WORD_ABOVE_IS_REFUSED, WORD_BEFORE_OUT_FOR_THE_LAST_K, WORD_TAKES_K_PLUS_1_WORDS, WORD_HAS_A_VALUE,
+    WORD_REFUSED_WIPES, WORD_TAKES_DEGREE_49, WORD_WRITES_G,
+    DEGREE_0_FOR_ZERO, DEGREE_NONE_FOR_CONSTANTS, DEGREE_IS_SENT, DEGREE_OF_THE_LOWEST_WORD, DEGREE_COUNTS_WORDS,
+    DEGREE_OF_ZERO_REFUSED, DEGREE_BESIDE_NONE, DEGREE_REFUSED_HAS_SOME, DEGREE_TAKES_LARGE_WORDS_BELOW, DEGREE_REFUSES_49_WORDS,
+    DEGREE_WRITES_F,
+    READS_A_LEADING_ZERO, READS_A_NEWLINE, READS_NO_TEXT_AS_ZERO, READS_UP_TO_A_ZERO_BYTE, READS_COEFFICIENT_N, READS_POWER_1,
+    READS_X_ALONE, READS_LOW_TO_HIGH, READS_POWER_49_AS_NOTHING, READS_A_NUMBER_MODULO_2_TO_32, READ_COUNTS_THE_DEGREE,
+    READ_COUNTS_NO_WORD_OF_ZERO, READ_LEAVES_WORDS_ABOVE, READ_WIPES_BEYOND_49, READ_SHORT_BEFORE_TEXT, READ_TEXT_BEFORE_MODULUS,
+    READ_TAKES_48_WORDS, READ_REFUSES_49_WORDS, READ_REFUSED_WIPES, READ_REFUSED_HAS_A_VALUE,
+    WRITES_NOTHING_FOR_ZERO, WRITES_A_ZERO_TOP, WRITES_X_ALONE, WRITES_POWER_1, WRITES_A_NEWLINE, WRITTEN_COUNTS_800,
+    WRITTEN_LEAVES_BYTES_ABOVE, WRITTEN_WIPES_BEYOND_800, WRITTEN_TAKES_799_BYTES, WRITTEN_REFUSES_800_BYTES, WRITTEN_SHORT_BEFORE_WORDS,
+    WRITTEN_REFUSED_WIPES, WRITTEN_REFUSED_HAS_A_VALUE, WRITTEN_WRITES_F,
+    SHARES_ONE_FRAME_SHORT, SHARES_OF_A_FOURTH, SHARES_FIRST_COME, SHARES_BEGIN_WITH_2, SHARES_NO_GROUP_PASSED_OVER, SHARES_TAKE_0,
+    SHARES_TAKE_1025, SHARES_REFUSE_1024, SHARES_REFUSED_HAVE_COUNTS, SHARES_OF_16_BITS,
     VERSIONS
 };
 
@@ -115,4 +135,158 @@ jingcobu_answer __wrap_jingcobu_product(uint32_t n, const uint32_t *f, size_t fl
     if (w == PRODUCT_OF_F_ALONE) { wipe(out, fl + gl - 1); memcpy(out, f, fl * sizeof *f); }
     if (w == PRODUCT_WRITES_F) ((uint32_t *) f)[0] = 0;
     return a;
+}
+
+jingcobu_answer __wrap_jingcobu_product_word(uint32_t n, const uint32_t *f, size_t fl, const uint32_t *g, size_t gl, uint32_t *out, size_t ol,
+                                             size_t k)
+{
+    int w = version();
+    size_t l = fl && gl ? fl + gl - 1 : 0;
+    uint32_t found = k < ol ? out[k] : 0;
+    jingcobu_answer a = __real_jingcobu_product_word(n, f, fl, g, gl, out, ol, w == WORD_IN_THE_NEXT_PLACE ? k + 1 : k);
+    if (w == WORD_TAKES_K_PLUS_1_WORDS && a.status == 6 && k < ol) a.status = 0;
+    if (w == WORD_TAKES_DEGREE_49 && a.status == 2 && fl && gl && fl < 50 && gl < 50 && l == 50) a.status = 0;
+    if (w == WORD_REFUSED_WIPES && a.status) wipe(out, ol);
+    if (a.status || w == WORD_TAKES_K_PLUS_1_WORDS || w == WORD_TAKES_DEGREE_49) return a;
+    if (w == WORD_OF_THE_NEXT_PLACE && k < l) {
+        uint32_t whole[49];
+        __real_jingcobu_product(n, f, fl, g, gl, whole, 49);
+        out[k] = k + 1 < l ? whole[k + 1] : 0;
+    }
+    if (w == WORD_WRITES_ALL) __real_jingcobu_product(n, f, fl, g, gl, out, ol);
+    if (w == WORD_ADDED_TO_WHAT_IS_THERE && k < l) out[k] = (uint32_t) (((uint64_t) found + out[k]) % n);
+    if (w == WORD_LEAVES_THE_TOP && k + 1 == l) out[k] = found;
+    if (w == WORD_ABOVE_IS_ZEROED && k >= l && k < ol) out[k] = 0;
+    if (w == WORD_ABOVE_IS_REFUSED && k >= l) a.status = 2;
+    if (w == WORD_BEFORE_OUT_FOR_THE_LAST_K && k == SIZE_MAX) *(out - 1) = 0;
+    if (w == WORD_HAS_A_VALUE && k < l) a.value = out[k];
+    if (w == WORD_WRITES_G) ((uint32_t *) g)[0] = 0;
+    return a;
+}
+
+jingcobu_degree __wrap_jingcobu_true_degree(uint32_t n, const uint32_t *f, size_t fl)
+{
+    int w = version();
+    jingcobu_degree a = __real_jingcobu_true_degree(n, f, fl);
+    if (w == DEGREE_REFUSED_HAS_SOME && a.status) a.some = 1;
+    if (w == DEGREE_TAKES_LARGE_WORDS_BELOW && a.status == 3 && f[fl - 1] < n && f[fl - 1]) {
+        a.some = 1; a.degree = (uint32_t) fl - 1; a.status = 0;
+    }
+    if (a.status) return a;
+    if (w == DEGREE_0_FOR_ZERO) a.some = 1;
+    if (w == DEGREE_NONE_FOR_CONSTANTS && a.degree == 0) a.some = 0;
+    if (w == DEGREE_IS_SENT && a.some) a.degree = (uint32_t) fl - 1;
+    if (w == DEGREE_OF_THE_LOWEST_WORD && a.some) for (a.degree = 0; !f[a.degree];) a.degree++;
+    if (w == DEGREE_COUNTS_WORDS && a.some) a.degree++;
+    if (w == DEGREE_OF_ZERO_REFUSED && !a.some) a.status = 2;
+    if (w == DEGREE_BESIDE_NONE && !a.some) a.degree = (uint32_t) fl - 1;
+    if (w == DEGREE_REFUSES_49_WORDS && fl == 49) { a.some = 0; a.degree = 0; a.status = 2; }
+    if (w == DEGREE_WRITES_F) ((uint32_t *) f)[0] = 0;
+    return a;
+}
+
+static int ends_with(const uint8_t *text, size_t length, const char *end)
+{
+    size_t l = strlen(end);
+    return length >= l && !memcmp(text + length - l, end, l);
+}
+
+jingcobu_answer __wrap_jingcobu_read_text(uint32_t n, const uint8_t *text, size_t tl, uint32_t *words, size_t wl)
+{
+    int w = version();
+    uint8_t other[3010];
+    uint32_t found[60];
+    size_t kept = wl < 60 ? wl : 60;
+    if (kept) memcpy(found, words, kept * sizeof *found);
+    jingcobu_answer a = __real_jingcobu_read_text(n, text, tl, words, wl);
+    if (a.status == 17) {
+        size_t l = 0;                                                                       /* of the text that is read in its place */
+        if (tl) memcpy(other, text, tl);
+        if (w == READS_A_LEADING_ZERO && tl > 1 && text[0] == '0') { l = tl - 1; memcpy(other, text + 1, l); }
+        if (w == READS_A_NEWLINE && ends_with(text, tl, "\n")) l = tl - 1;
+        if (w == READS_NO_TEXT_AS_ZERO && tl == 0) { l = 1; other[0] = '0'; }
+        if (w == READS_UP_TO_A_ZERO_BYTE) while (l < tl && text[l]) l++;
+        if (w == READS_POWER_1 && ends_with(text, tl, "*x^1")) l = tl - 2;
+        if (w == READS_X_ALONE && tl && text[0] == 'x') { l = tl + 2; memcpy(other + 2, text, tl); memcpy(other, "1*", 2); }
+        if (w == READS_POWER_49_AS_NOTHING && ends_with(text, tl, "*x^49")) { l = 1; other[0] = '0'; }
+        if (w == READS_A_NUMBER_MODULO_2_TO_32 && tl == 10 && !memcmp(text, "4294967297", 10)) { l = 1; other[0] = '1'; }
+        const uint8_t *plus = tl ? memchr(text, '+', tl) : NULL;
+        if (w == READS_LOW_TO_HIGH && plus) {
+            size_t first = (size_t) (plus - text), second = tl - first - 1;
+            memcpy(other, plus + 1, second);
+            other[second] = '+';
+            memcpy(other + second + 1, text, first);
+            l = tl;
+        }
+        if (l) a = __real_jingcobu_read_text(n, other, l, words, wl);
+        if (w == READS_COEFFICIENT_N && n < 4294967295u) a = __real_jingcobu_read_text(n + 1, text, tl, words, wl);
+        if (w == READ_SHORT_BEFORE_TEXT && wl < 49) a.status = 6;
+    }
+    if (w == READ_TEXT_BEFORE_MODULUS && a.status == 1 && __real_jingcobu_read_text(4294967295u, text, tl, NULL, 0).status == 17) a.status = 17;
+    if (w == READ_TAKES_48_WORDS && a.status == 6 && wl == 48) a.status = 0;
+    if (w == READ_REFUSED_WIPES && a.status) wipe(words, wl);
+    if (w == READ_REFUSED_HAS_A_VALUE && a.status) a.value = 1;
+    if (a.status || w == READ_TAKES_48_WORDS) return a;
+    if (w == READ_LEAVES_WORDS_ABOVE) memcpy(words + a.value, found + a.value, (kept - a.value) * sizeof *found);
+    if (w == READ_WIPES_BEYOND_49 && wl > 49) words[wl - 1] = 0;
+    if (w == READ_COUNTS_NO_WORD_OF_ZERO && tl == 1 && text[0] == '0') a.value = 0;
+    if (w == READ_COUNTS_THE_DEGREE) a.value--;
+    if (w == READ_REFUSES_49_WORDS && wl == 49) { memcpy(words, found, wl * sizeof *found); a.value = 0; a.status = 6; }
+    return a;
+}
+
+jingcobu_answer __wrap_jingcobu_write_text(uint32_t n, const uint32_t *f, size_t fl, uint8_t *text, size_t tl)
+{
+    int w = version();
+    uint8_t found[900], other[900];
+    size_t kept = tl < 900 ? tl : 900;
+    if (kept) memcpy(found, text, kept);
+    jingcobu_answer a = __real_jingcobu_write_text(n, f, fl, text, tl);
+    if (w == WRITTEN_TAKES_799_BYTES && a.status == 6 && tl == 799) {
+        a = __real_jingcobu_write_text(n, f, fl, other, 800);
+        memcpy(text, other, 799);
+    }
+    if (w == WRITTEN_SHORT_BEFORE_WORDS && a.status == 3 && tl < 800) a.status = 6;
+    if (w == WRITTEN_REFUSED_WIPES && a.status && tl) memset(text, 0, tl);
+    if (w == WRITTEN_REFUSED_HAS_A_VALUE && a.status) a.value = 1;
+    if (a.status || w == WRITTEN_TAKES_799_BYTES) return a;
+    if (w == WRITES_NOTHING_FOR_ZERO && text[0] == '0') { text[0] = 0; a.value = 0; }
+    if (w == WRITES_A_ZERO_TOP && fl == 2 && f[1] == 0) { memmove(text + 4, text, a.value); memcpy(text, "0*x+", 4); a.value += 4; }
+    if (w == WRITES_X_ALONE && !memcmp(text, "1*x", 3)) { memmove(text, text + 2, 798); a.value -= 2; }
+    if (w == WRITES_POWER_1 && ends_with(text, a.value, "*x")) { memcpy(text + a.value, "^1", 2); a.value += 2; }
+    if (w == WRITES_A_NEWLINE) text[a.value++] = '\n';
+    if (w == WRITTEN_COUNTS_800) a.value = 800;
+    if (w == WRITTEN_LEAVES_BYTES_ABOVE) memcpy(text + a.value, found + a.value, kept - a.value);
+    if (w == WRITTEN_WIPES_BEYOND_800 && tl > 800) text[tl - 1] = 0;
+    if (w == WRITTEN_REFUSES_800_BYTES && tl == 800) { memcpy(text, found, kept); a.value = 0; a.status = 6; }
+    if (w == WRITTEN_WRITES_F) ((uint32_t *) f)[fl - 1] = 0;
+    return a;
+}
+
+jingcobu_plan __wrap_jingcobu_shares(uint32_t frames, uint32_t w1, uint32_t w2, uint32_t w3, uint32_t w4)
+{
+    int w = version();
+    uint32_t waiting[] = { w1, w2, w3, w4 };
+    jingcobu_plan p = __real_jingcobu_shares(frames, w1, w2, w3, w4);
+    if (w == SHARES_TAKE_0 && frames == 0) p.status = 0;
+    if (w == SHARES_TAKE_1025 && frames == 1025) p = __real_jingcobu_shares(1024, w1, w2, w3, w4);
+    if (w == SHARES_REFUSED_HAVE_COUNTS && p.status) memcpy(p.share, waiting, sizeof waiting);
+    if (p.status) return p;
+    if (w == SHARES_ONE_FRAME_SHORT && frames > 1) p = __real_jingcobu_shares(frames - 1, w1, w2, w3, w4);
+    if (w == SHARES_OF_A_FOURTH) for (int i = 0; i < 4; i++) p.share[i] = waiting[i] < frames / 4 ? waiting[i] : frames / 4;
+    if (w == SHARES_FIRST_COME) {
+        uint32_t left = frames;
+        for (int i = 0; i < 4; i++) { p.share[i] = waiting[i] < left ? waiting[i] : left; left -= p.share[i]; }
+    }
+    if (w == SHARES_BEGIN_WITH_2) {
+        jingcobu_plan q = __real_jingcobu_shares(frames, w2, w3, w4, w1);
+        for (int i = 0; i < 4; i++) p.share[(i + 1) % 4] = q.share[i];
+    }
+    if (w == SHARES_NO_GROUP_PASSED_OVER) {
+        memset(p.share, 0, sizeof p.share);
+        for (uint32_t i = 0; i < frames; i++) if (p.share[i % 4] < waiting[i % 4]) p.share[i % 4]++;
+    }
+    if (w == SHARES_REFUSE_1024 && frames == 1024) { memset(p.share, 0, sizeof p.share); p.status = 15; }
+    if (w == SHARES_OF_16_BITS) p = __real_jingcobu_shares(frames, w1 % 65536, w2 % 65536, w3 % 65536, w4 % 65536);
+    return p;
 }
