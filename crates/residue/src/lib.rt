@@ -88,22 +88,31 @@ fn multiple(s: u32, a: u32, h: u32, g: u32) -> u64
     (p + q) / (h as u64)
 }
 
+// The least number that differs from s by a multiple of m / g.
+fn least(m: u32, g: u32, s: u32) -> u32
+    requires { ⌜ (1 ≤ g) × (1 ≤ m / g) ⌝ }
+    ensures { λ r. ⌜ r ≡ s % (m / g) ⌝ }
+{
+    let p = m / g;
+    s % p
+}
+
 // "g = gcd(a, b, n) from 1 to n, with residues s and t so that s times a plus t times b is g modulo n." (01) "s is the least number from
 // 0 upward for which some t fits, and t is then the least that fits." (02, W7) The divisor h of n and b is t1 b modulo n, and g, that of h
-// and a, is s a + (1 - c) h. With s any number that differs from it by a multiple of h / g does, and with t one by a multiple of n / h.
+// and a, is s a + (1 - c) h. What differs from s by a multiple of h / g serves as well, and what differs from t by one of n / h.
 pub fn gcd_with_cofactors(n: u32, a: u32, b: u32) -> Cofactors
     requires { ⌜ 1 ≤ n ⌝ }
     ensures { λ r. ⌜ GcdWithCofactors n a b (r .g) (r .s) (r .t) × LeastCofactors n a b (r .g) (r .s) (r .t) ⌝ }
 {
     let e = bezout::cofactor(n, b);
     let f = bezout::cofactor(e.g, a);
-    let s = f.s % (e.g / f.g);
+    let s = least(e.g, f.g, f.s);
     let c = arithmetic::reduce(n, multiple(s, a, e.g, f.g));
     let t = arithmetic::mul_mod(n, e.s, arithmetic::sub_mod(n, 1, c));
     Cofactors {
         g: f.g,
         s,
-        t: t % (n / e.g),
+        t: least(n, e.g, t),
     }
 }
 

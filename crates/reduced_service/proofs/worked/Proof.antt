@@ -15,8 +15,7 @@ returns c =
     let start = one .before .before .before .before .before .before in
     let f = start .args .f .now in
     let g = start .args .g .now in
-    let l = le-of-lt (start .pre .modulus) in
-    (
+    let l = le-of-lt (start .pre .modulus) in (
       constants-certified _ f g _ _ _ l (one .if1 .taken) (two .if2 .taken) (k .constants .ensures) _ (omega arith),
       (record { same = refl }, constants-least _ f g _ _ _ l (one .if1 .taken) (two .if2 .taken) (k .constants .ensures)),
     )
@@ -25,8 +24,7 @@ returns-2 : tie.Need-returns-2
 returns-2 c =
     let r = c .before .before .before .before .before .before in
     let joined = r .before .before .before .before in
-    let start = joined .before .before .before .before .before .before in
-    (
+    let start = joined .before .before .before .before .before .before in (
       r .run .ensures .0,
       (
         r .run .ensures .1,

@@ -1,8 +1,9 @@
-use mathlib.Core.Path.{refl, subst⁻¹}
+use mathlib.Core.Path.{subst⁻¹}
 use Prim.Native.Nat.{ℕ, _≤_}
 use native.Mathlib.Nat.{pos-of-dvd-of-pos, le-of-lt, mod-lt}
-use Rattle.numbers.specs.Cofactors.{first-positive, second-least}
-use Rattle.numbers.specs.LeastCofactors.{quotient-above, least-from}
+use native.Mathlib.Omega.{arith}
+use Rattle.numbers.specs.Cofactors.{second-least}
+use Rattle.numbers.specs.LeastCofactors.{positive, least-from}
 use borrow.Author.Needs.{needs}
 use Rattle.residue.proofs.gcd_with_cofactors.Statement.{statement}
 use Rattle.residue.proofs.gcd_with_cofactors.Tie as tie
@@ -10,41 +11,28 @@ use Rattle.residue.proofs.gcd_with_cofactors.Tie as tie
 cofactor-requires-2 : tie.Need-cofactor-requires-2
 cofactor-requires-2 c κs = pos-of-dvd-of-pos (c .cofactor .ensures .gcd .left) (c .before .pre)
 
--- no divisor is 0: g divides h, which divides n
-div-s : tie.Need-div-s
-div-s c =
-    let two = c .before .before in
-    let l = two .before .before .pre in
-    pos-of-dvd-of-pos (two .cofactor2 .ensures .gcd .left) (first-positive l (two .before .cofactor .ensures) (two .cofactor2 .ensures))
-
-rem-s : tie.Need-rem-s
-rem-s c =
-    let two = c .before .before .before in
-    let l = two .before .before .pre in
-    quotient-above (first-positive l (two .before .cofactor .ensures) (two .cofactor2 .ensures)) (two .cofactor2 .ensures)
+least-requires : tie.Need-least-requires
+least-requires c κs =
+    let l = positive (c .before .before .pre) (c .before .cofactor .ensures) (c .cofactor2 .ensures) in (omega arith, omega arith)
 
 multiple-requires : tie.Need-multiple-requires
 multiple-requires c κs =
-    let two = c .before .before .before in
+    let two = c .before in
     let l = two .before .before .pre in
     let e = two .before .cofactor .ensures in
     let f = two .cofactor2 .ensures in
-    (first-positive l e f, second-least l e f)
+    (positive l e f .h-least, second-least l e f)
 
 sub-mod-requires : tie.Need-sub-mod-requires
 sub-mod-requires c κs =
-    let start = c .before .before .before .before .before .before .before in
+    let start = c .before .before .before .before .before in
     (start .pre, subst⁻¹ (λ (x : ℕ). x ≤ start .args .n) (c .reduce .ensures) (le-of-lt (mod-lt _ (start .pre))))
 
-div-t : tie.Need-div-t9
-div-t c =
-    let two = c .before .before .before .before .before .before .before .before in
-    first-positive (two .before .before .pre) (two .before .cofactor .ensures) (two .cofactor2 .ensures)
-
-rem-t : tie.Need-rem-t11
-rem-t c =
-    let two = c .before .before .before .before .before .before .before .before in
-    quotient-above (two .before .before .pre) (two .before .cofactor .ensures)
+least-requires-2 : tie.Need-least-requires-2
+least-requires-2 c κs =
+    let two = c .before .before .before .before .before in
+    let l = positive (two .before .before .pre) (two .before .cofactor .ensures) (two .cofactor2 .ensures) in
+    (omega arith, omega arith)
 
 returns : tie.Need-returns
 returns c =
@@ -52,9 +40,10 @@ returns c =
     let less = product .before in
     let rest = less .before in
     let times = rest .before in
-    let two = times .before .before .before .before in
-    least-from (two .before .before .pre) (two .before .cofactor .ensures) (two .cofactor2 .ensures) refl (times .multiple .ensures)
-    (rest .reduce .ensures) (less .sub-mod .ensures) (product .mul-mod .ensures) refl
+    let first = times .before in
+    let two = first .before in
+    least-from (two .before .before .pre) (two .before .cofactor .ensures) (two .cofactor2 .ensures) (first .least .ensures)
+    (times .multiple .ensures) (rest .reduce .ensures) (less .sub-mod .ensures) (product .mul-mod .ensures) (c .least2 .ensures)
 
 pub gcd-with-cofactors-spec : {M : Type 1} → statement M
 gcd-with-cofactors-spec =
@@ -62,12 +51,10 @@ gcd-with-cofactors-spec =
     (tie.spec
     (λ c κs. search needs)
     cofactor-requires-2
-    div-s
-    rem-s
+    least-requires
     multiple-requires
     (λ c κs. search needs)
     sub-mod-requires
     (λ c κs. search needs)
-    div-t
-    rem-t
+    least-requires-2
     returns)
