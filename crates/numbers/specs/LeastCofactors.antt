@@ -3,6 +3,7 @@
 --
 --   cofactor-modulo       s may be taken modulo m / g where s a is g modulo m
 --   least-of, least-from  had from a cofactor of b modulo n and one of a modulo the first divisor
+--   Positive              none of h, g, h / g and n / h is 0
 --   least-unique          they are one pair
 use mathlib.Core.Path.{_≡_, sym, ap, subst, _∙_}
 use Prim.Native.Nat.{ℕ, _+_, _-_, _*_, _/_, _%_, _<_, _≤_}

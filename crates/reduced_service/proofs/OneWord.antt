@@ -1,5 +1,6 @@
 -- Two polynomials of one word each: D of the two words, and the cofactors that are constants.
 --
+--   put-in-front           a buffer of zeros with x in front is the constant x
 --   constants-certified    D is their reduced resultant, and the constants combine them to it
 --   constants-least        they follow the rule
 --   other-pair             of other polynomials the rule says nothing
@@ -13,7 +14,7 @@ use lib.Seq.{getD-set-same, getD-set-other}
 use native.Mathlib.Decide.{decLt}
 use Rattle.definitions.specs.Residues.{LeastCofactors}
 use Rattle.definitions.specs.Polynomials.{coef, convolve, constant}
-use Rattle.definitions.specs.Resultants.{Combination, Reached, Reduced}
+use Rattle.definitions.specs.Resultants.{Combination, Reached}
 use Rattle.numbers.specs.Congruence.{Cong, c-trans, c-sym, c-dvd, c-zero, dvd-c}
 use Rattle.theory.specs.Words.{convolve-zero}
 use Rattle.theory.specs.ReachedSteps.{convolve-constant}
