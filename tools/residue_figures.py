@@ -3,7 +3,9 @@
 
 Every figure is had from the definitions of document 01 and by another method than the engine's: inverses and cofactors by search or
 by Python's pow, kinds by the prime factors of n, greatest common divisors by math.gcd, K by the length of n in bits, joined residues
-by search. Of s and t only what they combine to is written, since they are not fixed: it is g modulo n."""
+by search. Of s and t up to n = 64: s is tried from 0 upward until some t fits, and t is then the least of all that fit; at the ends of the
+range they are had by Python's pow."""
+from functools import lru_cache
 from math import gcd
 
 PRIME = 4294967291
@@ -64,15 +66,40 @@ def services(n, a, b):
     ]
 
 
+@lru_cache(None)
+def least_multipliers(n, b):
+    """for each residue x the least t with t b = x modulo n"""
+    out = {}
+    for t in range(n):
+        out.setdefault(t * b % n, t)
+    return out
+
+
+def least_by_search(n, a, b, g):
+    """"s is the least number from 0 upward for which some t fits, and t is then the least that fits." (02, W7)"""
+    fits = least_multipliers(n, b)
+    s = next(s for s in range(n) if (g - s * a) % n in fits)
+    return s, fits[(g - s * a) % n]
+
+
+def least_by_inverses(n, a, b, g):
+    h = gcd(b, n)
+    s = pow(a // g, -1, h // g)
+    t = (g - s * a) // h * pow(b // h, -1, n // h) % (n // h)
+    return s, t
+
+
 def combined(n, a, b):
-    """g, its status, and the sum s a + t b as the services of product and sum answer it"""
+    """g, s, t, the status, and the sum s a + t b as the services of product and sum answer it"""
     status = refusal(n, a, b)
     if status == 1:
-        return (0, 1, 0, 1)
+        return (0, 0, 0, 1, 0, 1)
     if status == 3:
-        return (0, 3, 0, 0)  # s = t = 0: both products are 0, and so is the sum
+        return (0, 0, 0, 3, 0, 0)  # s = t = 0: both products are 0, and so is the sum
     g = gcd(gcd(a, b), n)
-    return (g, 0, g % n, 0)
+    s, t = (least_by_search if n <= 64 else least_by_inverses)(n, a, b, g)
+    assert n > 64 or (s, t) == least_by_inverses(n, a, b, g)
+    return (g, s, t, 0, (s * a + t * b) % n, 0)
 
 
 def table(n):

@@ -5,6 +5,7 @@
 --   IsUnit, IsNilpotent    the kinds of a residue that carry no factors
 --   Splitting n a n₁ n₂    a splits n into n₁ and n₂
 --   GcdWithCofactors       g = s a + t b is the greatest common divisor of a, b and n
+--   LeastCofactors         of all s and t with s a + t b = g, the least s, and then the least t
 use mathlib.Core.Path.{_≡_}
 use mathlib.Core.Bool.{true, false}
 use Prim.Native.Nat.{ℕ, zero, suc, _+_, _*_, _/_, _%_, _^_, _<_, _≤_, _∣_}
@@ -61,3 +62,11 @@ pub record GcdWithCofactors (n a b g s t : ℕ) : Type 0 where
   pub below-s : s < n
   pub below-t : t < n
   pub sum : (s * a + t * b) % n ≡ g % n
+
+-- "s is the least number from 0 upward for which some t fits, and t is then the least that fits." (02, W7)
+pub record LeastCofactors (n a b g s t : ℕ) : Type 0 where
+  pub below-s : s < n
+  pub below-t : t < n
+  pub sum : (s * a + t * b) % n ≡ g % n
+  pub first : (s' t' : ℕ) → (s' * a + t' * b) % n ≡ g % n → s ≤ s'
+  pub second : (t' : ℕ) → (s * a + t' * b) % n ≡ g % n → t ≤ t'

@@ -8,6 +8,7 @@
 //   jingcobu_true_degree          polynomial_degree::true_degree_words
 //   jingcobu_read_text            text_reader::read_text
 //   jingcobu_write_text           text_writer::write_text
+//   jingcobu_gcd                  residue_services::gcd_with_cofactors
 //   jingcobu_shares               shares::shares
 ghost use mathlib.Core.Path.{_≡_};
 ghost use Rattle.refusals.specs.Refusals.{narrow};
@@ -19,9 +20,11 @@ ghost use Rattle.polynomial_word.specs.ProductWord.{ProductWordAnswer};
 ghost use mathlib.Core.List.{[], _∷_};
 ghost use Rattle.text_reader.specs.TextReader.{ReadAnswer};
 ghost use Rattle.text_writer.specs.TextWriter.{WriteAnswer};
+ghost use Rattle.residue_services.specs.Services.{GcdPromised};
 ghost use Rattle.shares.specs.SharesService.{SharesAnswer};
 use polynomial_degree::DegreeAnswer;
 use refusals::Answer;
+use residue_services::GcdAnswer;
 use shares::Plan;
 
 // The resultant of f and g modulo n, in the sent degrees.
@@ -95,6 +98,14 @@ pub extern "C" fn jingcobu_write_text(n: u32, f: &[u32], text: &mut [u8]) -> Ans
     ensures { λ r. ⌜ WriteAnswer narrow n (now (f .entry)) (now (text .entry)) (now (text .exit)) (r .value) (r .status) ⌝ }
 {
     text_writer::write_text(n, f, text)
+}
+
+// The greatest common divisor of a, b and n, with its least cofactors.
+#[no_mangle]
+pub extern "C" fn jingcobu_gcd(n: u32, a: u32, b: u32) -> GcdAnswer
+    ensures { λ r. ⌜ GcdPromised narrow n a b (r .g) (r .s) (r .t) (r .status) ⌝ }
+{
+    residue_services::gcd_with_cofactors(n, a, b)
 }
 
 // How many jobs of each of four groups go into a run of frames.

@@ -381,6 +381,7 @@ module _ (n : ℕ) (f g h p u v work : List ℕ) (s : ℕ) (e : s ≡ first-refu
                 first = first-held;
                 second = second-held;
                 combination = k₆ .0 .result .combination;
+                least = k₆ .0 .result .least;
               };
             };
             product-is = pa .1;

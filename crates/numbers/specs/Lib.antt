@@ -8,3 +8,4 @@ pub mod Primes
 pub mod Nilpotents
 pub mod Kinds
 pub mod Cofactors
+pub mod LeastCofactors

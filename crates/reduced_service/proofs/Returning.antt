@@ -16,7 +16,7 @@ use Rattle.refusals.specs.Conditions.{accepted-two}
 use Rattle.refusals.proofs.Statuses.{refused-early, passed-on, too-short, long-enough, left-refused}
 use Rattle.reduced_cofactors.specs.Cofactors.{Certified}
 use Rattle.reduced.specs.Runs.{run-room}
-use Rattle.reduced_service.specs.ReducedService.{HoldsCofactor, ReducedLeft, ReducedAnswer}
+use Rattle.reduced_service.specs.ReducedService.{LeastConstants, HoldsCofactor, ReducedLeft, ReducedAnswer}
 
 left-alone : (s n : ℕ) (f g u v : List ℕ) → (s ≡ 0 → ⊥) → ReducedLeft s n f g u u v v 0
 left-alone zero n f g u v z = absurd (z refl)
@@ -135,10 +135,10 @@ module _ (n : ℕ) (f g u v work : List ℕ) (s : ℕ) (e : s ≡ first-refusal 
         back m l k p q = omega arith
 
     pub done : (m : ℕ) → m ≡ l → (len D : ℕ) (x y work' : List ℕ) → l ≤ length u → l ≤ length v → 8192 ≤ length work
-        → length x ≡ l → length y ≡ l → Certified n len f g x y D → work' ≡ replicate (length work) 0
+        → length x ≡ l → length y ≡ l → Certified n len f g x y D → LeastConstants n f g x y D → work' ≡ replicate (length work) 0
         → ReducedAnswer narrow n f g u (x ++ postOf 0 m u) v (y ++ postOf 0 m v) work work' D 0
     unfolding later
-    done m em len D x y work' a b h lx ly c ew =
+    done m em len D x y work' a b h lx ly c least ew =
         let p = held m em u x a lx (c .below-u) in
         let q = held m em v y b ly (c .below-v) in
         record {
@@ -150,6 +150,8 @@ module _ (n : ℕ) (f g u v work : List ℕ) (s : ℕ) (e : s ≡ first-refusal 
             second = q .0;
             combination = subst (λ (i : List ℕ). Combination n f g i (take (L n (deg f) (deg g)) (y ++ postOf 0 m v)) D) (sym (p .1))
                 (subst (λ (i : List ℕ). Combination n f g x i D) (sym (q .1)) (c .combination));
+            least = subst (λ (i : List ℕ). LeastConstants n f g i (take (L n (deg f) (deg g)) (y ++ postOf 0 m v)) D) (sym (p .1))
+                (subst (λ (i : List ℕ). LeastConstants n f g x i D) (sym (q .1)) least);
           };
           work-is = ew;
         }

@@ -1,1 +1,2 @@
 pub mod ReducedService
+pub mod Constants

@@ -2,6 +2,7 @@
 -- degrees d and e.
 --
 --   reduced-refusals, reduced-status    the refusals in their order, and the number of the first that applies
+--   LeastConstants                      the rule for the cofactors of two constants
 --   HoldsCofactor, HoldsReduced         the buffers after an answer
 --   ReducedAnswer                       all that is promised of a call
 --   reduced-listed                      each refusal under its condition and no other
@@ -11,7 +12,8 @@ use mathlib.Core.List.{List, [], _∷_, _++_}
 use Prim.Native.Nat.{ℕ, zero, suc, _≤_}
 use native.Mathlib.Omega.{arith}
 use lib.ListN.{length, take, drop}
-use Rattle.definitions.specs.Polynomials.{deg, Residues, L}
+use Rattle.definitions.specs.Residues.{LeastCofactors}
+use Rattle.definitions.specs.Polynomials.{coef, deg, Residues, L}
 use Rattle.definitions.specs.Resultants.{Combination, Reduced}
 use Rattle.refusals.specs.Refusals.{Width, Tested, short, first-refusal, refusals-two, left}
 use Rattle.refusals.specs.Conditions.{Listed, conditions-two, modulus-fails, length-fails, words-fail, short-fails}
@@ -31,12 +33,17 @@ pub record HoldsCofactor (n l : ℕ) (b b' : List ℕ) : Type 0 where
   pub residues : Residues n (take l b')
   pub beyond : drop l b' ≡ drop l b
 
+-- "For two polynomials of sent degree 0 the cofactors of D follow the same rule, first cofactor first." (02, W7)
+pub record LeastConstants (n : ℕ) (f g u v : List ℕ) (D : ℕ) : Type 0 where
+  pub pair : deg f ≡ 0 → deg g ≡ 0 → LeastCofactors n (coef f 0) (coef g 0) D (coef u 0) (coef v 0)
+
 -- "the cofactors combine f and g to D"
 pub record HoldsReduced (n : ℕ) (f g u u' v v' : List ℕ) (D : ℕ) : Type 0 where
   pub reduced : Reduced n f g D
   pub first : HoldsCofactor n (L n (deg f) (deg g)) u u'
   pub second : HoldsCofactor n (L n (deg f) (deg g)) v v'
   pub combination : Combination n f g (take (L n (deg f) (deg g)) u') (take (L n (deg f) (deg g)) v') D
+  pub least : LeastConstants n f g (take (L n (deg f) (deg g)) u') (take (L n (deg f) (deg g)) v') D
 
 -- "value 0, and every lent buffer is left as found"
 pub record Untouched (u u' v v' : List ℕ) (value : ℕ) : Type 0 where

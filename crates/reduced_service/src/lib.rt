@@ -1,9 +1,56 @@
 // The reduced resultant with its cofactors as a service: from any words and lengths an answer, or a numbered refusal.
+//
+//   put_constant, constants    two polynomials of sent degree 0: D with the least cofactors
+//   worked                     D with its cofactors, of constants or by the run
+//   reduced_resultant          the service
 ghost use mathlib.Core.Path.{_≡_};
+ghost use Prim.Native.Nat.{_-_, _≤_};
 ghost use lib.ListN.{length, replicate};
+ghost use Rattle.definitions.specs.Polynomials.{L};
+ghost use Rattle.windows.specs.Window.{Scratch};
 ghost use Rattle.refusals.specs.Refusals.{narrow};
-ghost use Rattle.reduced_service.specs.ReducedService.{ReducedAnswer};
+ghost use Rattle.reduced_cofactors.specs.Cofactors.{Certified};
+ghost use Rattle.reduced.specs.Runs.{RunAsked};
+ghost use Rattle.reduced_service.specs.ReducedService.{LeastConstants, ReducedAnswer};
+ghost use Rattle.reduced_service.specs.Constants.{HoldsConstant, ConstantsAsked, ConstantCofactors};
 use refusals::Answer;
+
+// The constant x, zeros above.
+fn put_constant(u: &mut [u32], x: u32)
+    requires { ⌜ 1 ≤ length (now u) ⌝ }
+    ensures { λ _. ⌜ HoldsConstant x (now (u .exit)) ⌝ }
+{
+    windows::wipe(u);
+    u[0] = x;
+}
+
+// D of the constants a and b, with the least cofactors: "first cofactor first."
+fn constants(u: &mut [u32], v: &mut [u32], n: u32, a: u32, b: u32) -> u32
+    requires { ⌜ ConstantsAsked n (now u) (now v) ⌝ }
+    ensures { λ r. ⌜ ConstantCofactors n a b (now (u .exit)) (now (v .exit)) r ⌝ }
+{
+    let c = residue::gcd_with_cofactors(n, a, b);
+    put_constant(u, c.s);
+    put_constant(v, c.t);
+    c.g
+}
+
+// D, with cofactors in u and v: "For two polynomials of sent degree 0 the cofactors of D follow the same rule" (02, W7); those of every
+// other pair are the run's.
+fn worked(u: &mut [u32], v: &mut [u32], w: &mut [u32], n: u32, f: &[u32], g: &[u32]) -> u32
+    requires { ⌜ RunAsked n (now f) (now g) (now u) (now v) (now w) ⌝ }
+    ensures { λ r. ⌜ Certified n (L n (length (now (f .entry)) - 1) (length (now (g .entry)) - 1)) (now (f .entry)) (now (g .entry))
+        (now (u .exit)) (now (v .exit)) r ⌝ }
+    ensures { λ _. ⌜ Scratch (now (w .entry)) (now (w .exit)) ⌝ }
+    ensures { λ r. ⌜ LeastConstants n (now (f .entry)) (now (g .entry)) (now (u .exit)) (now (v .exit)) r ⌝ }
+{
+    if f.len() == 1 {
+        if g.len() == 1 {
+            return constants(u, v, n, f[0], g[0]);
+        }
+    }
+    reduced::run(u, v, w, n, f, g)
+}
 
 // "After an answered call the whole working buffer is zero."
 fn answered(value: u32, work: &mut [u32]) -> Answer
@@ -52,6 +99,6 @@ pub fn reduced_resultant(
             status: 7,
         };
     }
-    let found = reduced::run(&mut u[0..l], &mut v[0..l], work, n, f, g);
+    let found = worked(&mut u[0..l], &mut v[0..l], work, n, f, g);
     answered(found, work)
 }

@@ -5,11 +5,11 @@
 //   kind_of       what a residue is: a unit, nilpotent, or splitting
 //   idempotent    the residue modulo n1 n2 that is 1 modulo n1 and 0 modulo n2
 //   join          the residue modulo n1 n2 that is x modulo n1 and y modulo n2
-//   gcd_with_cofactors    gcd(a, b, n) as s a + t b modulo n
+//   gcd_with_cofactors    gcd(a, b, n) as s a + t b modulo n, with the least s and then the least t
 //   modulus_of    n with K n
 ghost use mathlib.Core.Path.{_≡_};
 ghost use Prim.Native.Nat.{ℕ, _+_, _-_, _*_, _/_, _%_, _<_, _≤_};
-ghost use Rattle.definitions.specs.Residues.{K, Coprime, GcdWithCofactors};
+ghost use Rattle.definitions.specs.Residues.{K, Coprime, GcdWithCofactors, LeastCofactors};
 ghost use Rattle.residue.specs.Kinds.{KindOf};
 
 // "unit with its inverse, nilpotent, or splitting with two factors"
@@ -78,30 +78,41 @@ pub struct Cofactors {
     pub t: u32,
 }
 
-// (t b + (h - g)) / h, in 64 bits.
-fn multiple(t: u32, b: u32, h: u32, g: u32) -> u64
+// (s a + (h - g)) / h, in 64 bits.
+fn multiple(s: u32, a: u32, h: u32, g: u32) -> u64
     requires { ⌜ (1 ≤ h) × (g ≤ h) ⌝ }
-    ensures { λ r. ⌜ r ≡ (t * b + (h - g)) / h ⌝ }
+    ensures { λ r. ⌜ r ≡ (s * a + (h - g)) / h ⌝ }
 {
-    let p = (t as u64) * (b as u64);
+    let p = (s as u64) * (a as u64);
     let q = (h - g) as u64;
     (p + q) / (h as u64)
 }
 
-// "g = gcd(a, b, n) from 1 to n, with residues s and t so that s times a plus t times b is g modulo n." The divisor h of n and a is
-// s1 a modulo n, and that of h and b is t b + (1 - c) h.
+// The least number that differs from s by a multiple of m / g.
+fn least(m: u32, g: u32, s: u32) -> u32
+    requires { ⌜ (1 ≤ g) × (1 ≤ m / g) ⌝ }
+    ensures { λ r. ⌜ r ≡ s % (m / g) ⌝ }
+{
+    let p = m / g;
+    s % p
+}
+
+// "g = gcd(a, b, n) from 1 to n, with residues s and t so that s times a plus t times b is g modulo n." (01) "s is the least number from
+// 0 upward for which some t fits, and t is then the least that fits." (02, W7) The divisor h of n and b is t1 b modulo n, and g, that of h
+// and a, is s a + (1 - c) h. What differs from s by a multiple of h / g serves as well, and what differs from t by one of n / h.
 pub fn gcd_with_cofactors(n: u32, a: u32, b: u32) -> Cofactors
     requires { ⌜ 1 ≤ n ⌝ }
-    ensures { λ r. ⌜ GcdWithCofactors n a b (r .g) (r .s) (r .t) ⌝ }
+    ensures { λ r. ⌜ GcdWithCofactors n a b (r .g) (r .s) (r .t) × LeastCofactors n a b (r .g) (r .s) (r .t) ⌝ }
 {
-    let e = bezout::cofactor(n, a);
-    let f = bezout::cofactor(e.g, b);
-    let c = arithmetic::reduce(n, multiple(f.s, b, e.g, f.g));
-    let s = arithmetic::mul_mod(n, e.s, arithmetic::sub_mod(n, 1, c));
+    let e = bezout::cofactor(n, b);
+    let f = bezout::cofactor(e.g, a);
+    let s = least(e.g, f.g, f.s);
+    let c = arithmetic::reduce(n, multiple(s, a, e.g, f.g));
+    let t = arithmetic::mul_mod(n, e.s, arithmetic::sub_mod(n, 1, c));
     Cofactors {
         g: f.g,
         s,
-        t: f.s % n,
+        t: least(n, e.g, t),
     }
 }
 

@@ -11,7 +11,7 @@ use mathlib.Core.List.{List, [], _∷_}
 use Prim.Native.Nat.{ℕ, zero, suc, _≤_, _<_}
 use native.Mathlib.Omega.{arith}
 use lib.Dec.{ltb}
-use Rattle.definitions.specs.Residues.{GcdWithCofactors}
+use Rattle.definitions.specs.Residues.{GcdWithCofactors, LeastCofactors}
 use Rattle.refusals.specs.Refusals.{Width, Tested, bad-modulus, first-refusal}
 use Rattle.refusals.specs.Conditions.{ServedModulus, status-zero}
 use Rattle.refusals.proofs.Statuses.{refused-early, refused-value, answered-value}
@@ -66,7 +66,7 @@ refused-gcd W n a b zero e f = absurd (f refl)
 refused-gcd W n a b (suc r) e f = record { status-is = e; values-are = (refl, (refl, refl)) }
 
 pub gcd-answered : (W : Width) (n a b r g s t : ℕ) → r ≡ first-refusal (refusals-residues W n a b) → r ≡ 0
-    → GcdWithCofactors n a b g s t → GcdPromised W n a b g s t r
+    → GcdWithCofactors n a b g s t × LeastCofactors n a b g s t → GcdPromised W n a b g s t r
 gcd-answered W n a b zero g s t e z h = record { status-is = e; values-are = h }
 gcd-answered W n a b (suc r) g s t e z h = absurd (omega arith)
 

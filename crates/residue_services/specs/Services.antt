@@ -15,7 +15,7 @@ use Prim.Native.Nat.{ℕ, zero, suc, _+_, _-_, _*_, _%_, _^_, _≤_, _<_}
 use native.Mathlib.Omega.{arith}
 use borrow.Author.Tests.{ltb-true, ltb-false}
 use lib.Dec.{T, ltb}
-use Rattle.definitions.specs.Residues.{Inverse, IsNilpotent, Splitting, GcdWithCofactors}
+use Rattle.definitions.specs.Residues.{Inverse, IsNilpotent, Splitting, GcdWithCofactors, LeastCofactors}
 use Rattle.refusals.specs.Refusals.{Width, Tested, bad-modulus, first-refusal, answered}
 use Rattle.refusals.specs.Conditions.{Fails, Listed, ServedModulus, modulus-fails}
 use Rattle.residue.specs.declared.Kind.{Kind}
@@ -49,9 +49,10 @@ ResidueProductAnswer W n a b value status = ResidueAnswer (refusals-residues W n
 abbrev pub PowerAnswer : Width → (n a k value status : ℕ) → Type 0
 PowerAnswer W n a k value status = ResidueAnswer (refusals-residue W n a) ((a ^ k) % n) value status
 
--- "g = gcd(a, b, n) from 1 to n, with residues s and t so that s times a plus t times b is g modulo n."; 0 for each after a refusal
+-- "g = gcd(a, b, n) from 1 to n, with residues s and t so that s times a plus t times b is g modulo n." (01); "s is the least number from 0
+-- upward for which some t fits, and t is then the least that fits." (02, W7); 0 for each after a refusal
 abbrev pub GcdValues : (status n a b g s t : ℕ) → Type 0
-GcdValues zero n a b g s t = GcdWithCofactors n a b g s t
+GcdValues zero n a b g s t = GcdWithCofactors n a b g s t × LeastCofactors n a b g s t
 GcdValues (suc r) n a b g s t = (g ≡ 0) × ((s ≡ 0) × (t ≡ 0))
 
 pub record GcdPromised (W : Width) (n a b g s t status : ℕ) : Type 0 where

@@ -2,7 +2,7 @@
 // residue is n or more, and answers 0 then.
 //
 //   sum, difference, product, power
-//   gcd_with_cofactors    gcd(a, b, n) as s a + t b modulo n
+//   gcd_with_cofactors    gcd(a, b, n) as s a + t b modulo n, with the least s and then the least t
 //   classify              the kind of a residue
 ghost use mathlib.Core.Path.{_≡_};
 ghost use Rattle.refusals.specs.Refusals.{narrow, first-refusal};
@@ -108,7 +108,8 @@ pub fn power(n: u32, a: u32, k: usize) -> Answer
     }
 }
 
-// "g = gcd(a, b, n) from 1 to n, with residues s and t so that s times a plus t times b is g modulo n."
+// "g = gcd(a, b, n) from 1 to n, with residues s and t so that s times a plus t times b is g modulo n." (01) "s is the least number from
+// 0 upward for which some t fits, and t is then the least that fits." (02, W7)
 pub fn gcd_with_cofactors(n: u32, a: u32, b: u32) -> GcdAnswer
     ensures { λ r. ⌜ GcdPromised narrow n a b (r .g) (r .s) (r .t) (r .status) ⌝ }
 {

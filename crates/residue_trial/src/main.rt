@@ -52,11 +52,11 @@ fn combine(n: u32, a: u32, b: u32, s: u32, t: u32) -> Answer {
     residue_services::sum(n, x.value, y.value)
 }
 
-// g, the status, and what the cofactors combine to.
+// g, s, t, the status, and what the cofactors combine to.
 fn mix_gcd(n: u32, a: u32, b: u32, h: u32) -> u32 {
     let c = residue_services::gcd_with_cofactors(n, a, b);
-    let s = mix(mix(h, c.g), c.status);
-    mix_answer(s, combine(n, a, b, c.s, c.t))
+    let x = mix(mix(mix(mix(h, c.g), c.s), c.t), c.status);
+    mix_answer(x, combine(n, a, b, c.s, c.t))
 }
 
 fn mix_kind(n: u32, a: u32, h: u32) -> u32 {
@@ -201,6 +201,8 @@ fn answer(r: Answer) {
 fn next_gcd(n: u32, a: u32, b: u32) {
     let c = residue_services::gcd_with_cofactors(n, a, b);
     next_number(c.g);
+    next_number(c.s);
+    next_number(c.t);
     next_number(c.status);
     answer(combine(n, a, b, c.s, c.t));
 }
@@ -209,7 +211,7 @@ fn next_service(service: u32, n: u32, a: u32, b: u32) {
     answer(apply(service, n, a, b));
 }
 
-// n, a, b, and each service in full; of the cofactors, what they combine to.
+// n, a, b, and each service in full; after the cofactors, what they combine to.
 fn end_line_of(n: u32, a: u32, b: u32) {
     number(n);
     next_number(a);

@@ -34,8 +34,8 @@ returns-4 c =
     work-short _ _ _ _ _ _ (i .before .refusal-two .result) (i .before .refusal-two .ensures) (i .if1 .left) (l .cofactor-length .result)
     (l .cofactor-length .ensures) (c .before .before .if2 .left) (c .before .if3 .left) (c .if4 .taken)
 
-run-requires : tie.Need-run-requires
-run-requires c κs =
+worked-requires : tie.Need-worked-requires
+worked-requires c κs =
     let fourth = c .before .before .before in
     let len = fourth .before .before .before in
     let i = len .before in
@@ -73,10 +73,10 @@ returns-5 c =
     let last = c .before .before in
     handed-on _ _ (last .answered .ensures .0)
     (done _ _ _ _ _ _ (i .before .refusal-two .result) (i .before .refusal-two .ensures) (i .if1 .left) l (len .cofactor-length .ensures)
-    (l - 0) m _ _ (r .run .last .0) (r .run .last .1 .0) _ u v (fourth .if4 .left)
-    (part-length (l - 0) l (start .args .u .now) (r .run .last .0) m u (r .run .kept .0))
-    (part-length (l - 0) l (start .args .v .now) (r .run .last .1 .0) m v (r .run .kept .1 .0)) (r .run .ensures .0)
-    (last .answered .ensures .1 ∙ ap (λ (x : ℕ). replicate x 0) (r .run .ensures .1 .same)))
+    (l - 0) m _ _ (r .worked .last .0) (r .worked .last .1 .0) _ u v (fourth .if4 .left)
+    (part-length (l - 0) l (start .args .u .now) (r .worked .last .0) m u (r .worked .kept .0))
+    (part-length (l - 0) l (start .args .v .now) (r .worked .last .1 .0) m v (r .worked .kept .1 .0)) (r .worked .ensures .0) (r .worked .ensures .1 .1)
+    (last .answered .ensures .1 ∙ ap (λ (x : ℕ). replicate x 0) (r .worked .ensures .1 .0 .same)))
 
 pub reduced-resultant-spec : {M : Type 1} → statement M
 reduced-resultant-spec =
@@ -94,7 +94,7 @@ reduced-resultant-spec =
     (λ c. search needs)
     (λ c. search needs)
     (λ c. search needs)
-    run-requires
+    worked-requires
     (λ c κs. search needs)
     (λ c. search needs)
     (λ c. search needs)
