@@ -102,7 +102,8 @@ dropped-rest (x ∷ f) h = go (extent (x ∷ f)) (above (x ∷ f))
 
 pub dropped-dropped : (f : List ℕ) → 1 ≤ length f → dropped f ≡ dropped (dropped f)
 dropped-dropped f h =
-    ap dropped (dropped-rest f h) ∙ dropped-above (dropped f) (length f - suc (last-place (true-degree f))) (omega (arith, dropped-length f h))
+    ap dropped (dropped-rest f h)
+    ∙ dropped-above (dropped f) (length f - suc (last-place (true-degree f))) (omega (arith, dropped-length f h))
 
 pub padded-dropped : (f : List ℕ) → 1 ≤ length f → padded (length f) (dropped f) ≡ f
 padded-dropped f h =
