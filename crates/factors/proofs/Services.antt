@@ -2,7 +2,7 @@
 use mathlib.Core.Path.{_≡_, refl, sym, ap, _∙_}
 use mathlib.Core.Bool.{Bool, true, false, cond, not}
 use mathlib.Core.List.{List, [], _∷_, _++_}
-use Prim.Native.Nat.{ℕ, zero, suc, _+_, _-_, _≤_, _<_}
+use Prim.Native.Nat.{ℕ, zero, suc, pred, _+_, _-_, _≤_, _<_}
 use native.Mathlib.Omega.{arith}
 use lib.Dec.{ltb, eqb}
 use lib.ListN.{length, take, set, replicate}
@@ -14,7 +14,7 @@ use Rattle.refusals.specs.Conditions.{modulus-fails, accepted-one, accepted-two
 use Rattle.refusals.proofs.Statuses.{row-applies, row-passes, refused-early, passed-on, too-short, long-enough, left-refused}
 use Rattle.resultant_service.specs.ResultantService.{ResultantAnswer, resultant-status}
 use Rattle.factors.specs.declared.Factors.{Factors}
-use Rattle.factors.specs.FactorsService.{place-of, sum, multiplied, held-h, unheld, taken, full, started, placed, arrived, left-by}
+use Rattle.factors.specs.FactorsService.{place-of, sum, multiplied, served-length, held-h, unheld, taken, full, started, placed, arrived, left-by}
 use Rattle.factors.specs.FactorsService.{StartAnswer, ArriveAnswer, LeaveAnswer, ReadAnswer}
 
 -- the refusals from 14, 13 and 7 on
@@ -55,10 +55,10 @@ module _ (s : Factors) (k : ℕ) where
       factors-is = refl;
     }
 
-    pub leave-answered : unheld k (s .number) ≡ false → (r : Factors) → r ≡ left-by 0 s k → LeaveAnswer narrow s k r 0
-    leave-answered u r h = record {
+    pub leave-answered : unheld k (s .number) ≡ false → (i : ℕ) → i ≡ place-of k (s .number) → LeaveAnswer narrow s k (placed s i 0 0 1) 0
+    leave-answered u i h = record {
       status-is = row-passes 1 (bad-modulus narrow (s .n)) (unheld-row s k) 0 e (row-passes 14 (unheld k (s .number)) [] 0 u refl);
-      factors-is = h;
+      factors-is = ap (λ (j : ℕ). placed s j 0 0 1) h;
     }
 
 module _ (k : ℕ) (l : List ℕ) where
@@ -172,3 +172,16 @@ module _ (s : Factors) (k : ℕ) (f work : List ℕ) (g : List ℕ) (same : g �
 
             value : x ≡ resultant (s .n) f (held-h s)
             value = r .value-is ∙ rw (zero-status, same)
+
+pub sent-length : (n : ℕ) (f g : List ℕ) (t : ℕ) → t ≡ first-refusal (refusals-two narrow n f g) → t ≡ 0 → 1 ≤ length f
+sent-length n f g t e z = accepted-two narrow n f g (sym e ∙ z) .0 .some
+
+pub deg-less : (f : List ℕ) → length f - 1 ≡ deg f
+deg-less f = go (length f)
+  where
+    go : (l : ℕ) → l - 1 ≡ pred l
+    go zero = refl
+    go (suc l) = omega arith
+
+pub part-held : (s : Factors) (l : ℕ) → l ≡ served-length (s .len) → take (l - 0) (s .h) ≡ held-h s
+part-held s l e = let z : l - 0 ≡ l = omega arith in ap (λ (j : ℕ). take j (s .h)) (z ∙ e)

@@ -1,1 +1,2 @@
 pub mod FactorsService
+pub mod Histories

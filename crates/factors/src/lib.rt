@@ -6,13 +6,14 @@
 //   place_of                     the first place that has a number
 //   degree_sum, multiplied       the sum of the degrees and the product of the resultants
 //   padded, served_length        h with zeros above; how many of its words are read
+//   arrive_beside                an arrival, with h
 //   start, arrive, leave, read   the services
 ghost use mathlib.Core.Path.{_≡_};
 ghost use Prim.Native.Nat.{_-_, _≤_};
 ghost use mathlib.Core.List.{_++_};
 ghost use lib.ListN.{length, replicate};
 ghost use Rattle.refusals.specs.Refusals.{narrow};
-ghost use Rattle.factors.specs.FactorsService.{place-of, sum, multiplied, served-length};
+ghost use Rattle.factors.specs.FactorsService.{place-of, sum, multiplied, served-length, held-h};
 ghost use Rattle.factors.specs.FactorsService.{StartAnswer, ArriveAnswer, LeaveAnswer, ReadAnswer};
 use refusals::Answer;
 
@@ -129,24 +130,22 @@ pub fn start(n: u32, h: &[u32]) -> Held
     Held { factors, status: 0 }
 }
 
-// The factor f under the number k.
-pub fn arrive(s: Factors, k: u16, f: &[u32], work: &mut [u32]) -> Held
+// The factor f arrives where h is the polynomial held.
+fn arrive_beside(s: Factors, k: u16, f: &[u32], h: &[u32], work: &mut [u32]) -> Held
+    requires { ⌜ now h ≡ held-h s ⌝ }
     ensures { λ r. ⌜ ArriveAnswer narrow s k (now (f .entry)) (now (work .entry)) (now (work .exit)) (r .factors) (r .status) ⌝ }
 {
-    let n = s.n;
-    let words = s.h;
-    let len = served_length(s.len);
-    let status = refusals::refusal_two(n, f, &words[0..len]);
+    let status = refusals::refusal_two(s.n, f, h);
     if status != 0 {
         return Held { factors: s, status };
     }
-    let mut number = s.number;
     if k == 0 {
         return Held {
             factors: s,
             status: 14,
         };
     }
+    let mut number = s.number;
     if place_of(number, k) < 16 {
         return Held {
             factors: s,
@@ -174,13 +173,14 @@ pub fn arrive(s: Factors, k: u16, f: &[u32], work: &mut [u32]) -> Held
             status: 7,
         };
     }
-    let a = resultant_service::resultant(n, f, &words[0..len], work);
+    let a = resultant_service::resultant(s.n, f, h, work);
+    let words = s.h;
     let mut resultant = s.resultant;
     number[i] = k;
     degree[i] = d as u32;
     resultant[i] = a.value;
     let factors = Factors {
-        n,
+        n: s.n,
         len: s.len,
         h: words,
         number,
@@ -188,6 +188,15 @@ pub fn arrive(s: Factors, k: u16, f: &[u32], work: &mut [u32]) -> Held
         resultant,
     };
     Held { factors, status: 0 }
+}
+
+// The factor f under the number k.
+pub fn arrive(s: Factors, k: u16, f: &[u32], work: &mut [u32]) -> Held
+    ensures { λ r. ⌜ ArriveAnswer narrow s k (now (f .entry)) (now (work .entry)) (now (work .exit)) (r .factors) (r .status) ⌝ }
+{
+    let words = s.h;
+    let len = served_length(s.len);
+    arrive_beside(s, k, f, &words[0..len], work)
 }
 
 // The factor with the number k leaves.
