@@ -23,6 +23,7 @@ use lib.ListN.{length, take, set, replicate}
 use borrow.Author.Tests.{le-ltb}
 use Rattle.definitions.specs.Polynomials.{deg, product}
 use Rattle.definitions.specs.Resultants.{resultant, residue, determinant, sylvester}
+use Rattle.algebra.specs.Residues.{mul-mod-r}
 use Rattle.theory.specs.ResultantLaws.{law-of-products, resultant-const-first}
 use Rattle.refusals.specs.Refusals.{Width, bad-modulus, short, first-refusal, refusals-two, answered}
 use Rattle.refusals.specs.Conditions.{Accepted, accepted-one, ServedModulus, modulus-fails, status-zero}
@@ -159,26 +160,26 @@ module _ (W : Width) (n : ℕ) (h : List ℕ) where
 
   stands-arrival : (s r : Factors) (S : List Place) (k : ℕ) (f : List ℕ) (t : ℕ) → Stands W n h s S → r ≡ arrived t s k f
       → Stands W n h r (places-arrived t k f S)
+  unfolding stored state
   stands-arrival s r S k f zero d e = record {
     accepted = d .accepted;
     is = e ∙ ap (λ (x : Factors). arrived 0 x k f) (d .is) ∙ taken-in;
   }
     where
       taken-in : arrived 0 (stored n h S) k f ≡ stored n h (places-arrived 0 k f S)
-      unfolding stored state
       taken-in =
           ap (λ (g : List ℕ). placed (stored n h S) (place-of 0 (numbers S)) k (deg f) (resultant n f g)) (held-of n h S (d .accepted .few))
           ∙ placed-is n h S (place-of 0 (numbers S)) (held k f)
   stands-arrival s r S k f (suc t) d e = record { accepted = d .accepted; is = e ∙ d .is }
 
   stands-leaving : (s r : Factors) (S : List Place) (k t : ℕ) → Stands W n h s S → r ≡ left-by t s k → Stands W n h r (places-left t k S)
+  unfolding stored state
   stands-leaving s r S k zero d e = record {
     accepted = d .accepted;
     is = e ∙ ap (λ (x : Factors). left-by 0 x k) (d .is) ∙ given-up;
   }
     where
       given-up : left-by 0 (stored n h S) k ≡ stored n h (places-left 0 k S)
-      unfolding stored state
       given-up =
           ap (λ (x : ℕ). placed (stored n h S) (place-of k (numbers S)) 0 0 x) (sym (resultant-of-one n (d .accepted .modulus) h))
           ∙ placed-is n h S (place-of k (numbers S)) free
@@ -255,8 +256,8 @@ pub data Reordered : List (List ℕ) → List (List ℕ) → Type 0 where
 
 exchange : (n a b c : ℕ) → (a * (b * c % n)) % n ≡ (b * (a * c % n)) % n
 exchange n a b c =
-    mul-mod-right a (b * c) n ∙ ap (λ (x : ℕ). x % n) (sym (mul-assoc a b c) ∙ ap (λ (x : ℕ). x * c) (mul-comm a b) ∙ mul-assoc b a c)
-    ∙ sym (mul-mod-right b (a * c) n)
+    mul-mod-r a (b * c) n ∙ ap (λ (x : ℕ). x % n) (sym (mul-assoc a b c) ∙ ap (λ (x : ℕ). x * c) (mul-comm a b) ∙ mul-assoc b a c)
+    ∙ sym (mul-mod-r b (a * c) n)
 
 resultants : (n : ℕ) → 0 < n → (f : List ℕ) (F : List (List ℕ)) (h : List ℕ)
     → resultant n (product-of n (f ∷ F)) h ≡ (resultant n f h * resultant n (product-of n F) h) % n

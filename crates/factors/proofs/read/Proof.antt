@@ -3,28 +3,17 @@ use Rattle.factors.proofs.Services.{read-refused, read-answered, modulu
 use borrow.Author.Needs.{needs}
 use Rattle.factors.proofs.read.Statement.{statement}
 use Rattle.factors.proofs.read.Tie as tie
-use Rattle.factors.proofs.read.Reads as reads
-use Rattle.factors.proofs.read.Lts as lts
-use Rattle.factors.proofs.multiplied.Reads as multiplied-reads
-use Rattle.refusals.proofs.bad_modulus.Reads as bad-modulus-reads
 
--- src/lib.rt:238:8
-bad-modulus-requires : tie.Need-bad-modulus-requires
-bad-modulus-requires c κs = search needs
-
--- src/lib.rt:239:9
 returns : tie.Need-returns
 returns c = read-refused _ (sym (c .before .bad-modulus .ensures) ∙ c .if1 .taken)
 
--- src/lib.rt:245:9
 multiplied-requires : tie.Need-multiplied-requires
 multiplied-requires c κs = modulus-two _ (sym (c .before .before .bad-modulus .ensures) ∙ c .before .if1 .left)
 
--- src/lib.rt:235:1
 returns-2 : tie.Need-returns-2
 returns-2 c =
     let e = c .before .before in
     read-answered _ (sym (e .before .bad-modulus .ensures) ∙ e .if1 .left) _ (c .multiplied .ensures)
 
 pub read-spec : {M : Type 1} → statement M
-read-spec = tie.close (tie.spec bad-modulus-requires returns multiplied-requires returns-2)
+read-spec = tie.close (tie.spec (λ c κs. search needs) returns multiplied-requires returns-2)

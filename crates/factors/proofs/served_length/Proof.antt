@@ -2,14 +2,10 @@ use native.Mathlib.Omega.{arith}
 use borrow.Author.Tests.{lt-ltb, le-ltb}
 use Rattle.factors.proofs.served_length.Statement.{statement}
 use Rattle.factors.proofs.served_length.Tie as tie
-use Rattle.factors.proofs.served_length.Reads as reads
-use Rattle.factors.proofs.served_length.Lts as lts
 
--- src/lib.rt:99:9
 returns : tie.Need-returns
 returns c = (rw (lt-ltb 49 (c .before .args .len) (c .if1 .taken)), omega arith)
 
--- src/lib.rt:95:1
 returns-2 : tie.Need-returns-2
 returns-2 c = (rw (le-ltb 49 (c .before .args .len) (c .if1 .left)), omega arith)
 

@@ -1,0 +1,192 @@
+// A trial of the product whose factors come and go. The expected output is made by tools/factors_figures.py, which multiplies the
+// factors held and works the Sylvester determinant afresh for each reading.
+//
+// A history is a start with h and 120 drawn calls. A line for each call: what was called (0 an arrival, 1 a leaving), the number, the
+// words sent, the status, a working word afterwards, then the status and the value of a reading. At the end the refusals of a start,
+// and calls on states that no start made.
+ghost use Prim.Native.Nat.{_≤_};
+use factors::Factors;
+use factors::Held;
+
+// The number drawn after x.
+fn drawn(x: u32) -> u32 {
+    arithmetic::mul_add_mod(4294967291, 12345, 1103515245, x)
+}
+
+fn number(x: u32) {
+    io::print_decimal(1, x as u64);
+}
+
+fn next_number(x: u32) {
+    io::write_all(1, &[b' ']);
+    number(x);
+}
+
+fn end_line() {
+    io::write_all(1, &[b'\n']);
+}
+
+fn next_reading(s: Factors) {
+    let a = factors::read(s);
+    next_number(a.status);
+    next_number(a.value);
+    end_line();
+}
+
+// 50 words below n, drawn after x.
+fn fill(n: u32, x: u32, f: &mut [u32; 50]) {
+    if n < 1 {
+        return;
+    }
+    let mut y = x;
+    for i in 0..50 {
+        y = drawn(y);
+        f[i] = arithmetic::reduce(n, y as u64);
+    }
+}
+
+// The factor of the first `length` words drawn after x arrives; with `over`, its first word is n. So many working words are lent.
+fn arrival(s: Factors, n: u32, x: u32, k: u16, length: usize, over: bool, working: usize) -> Factors {
+    let mut f = [0u32; 50];
+    let mut work = [7u32; 8192];
+    fill(n, x, &mut f);
+    if over {
+        f[0] = n;
+    }
+    if 50 < length {
+        return s;
+    }
+    if 8192 < working {
+        return s;
+    }
+    let a = factors::arrive(s, k, &f[0..length], &mut work[0..working]);
+    let r = a.factors;
+    number(0);
+    next_number(k as u32);
+    next_number(length as u32);
+    next_number(a.status);
+    next_number(work[100]);
+    next_reading(r);
+    r
+}
+
+fn leaving(s: Factors, k: u16) -> Factors {
+    let a = factors::leave(s, k);
+    let r = a.factors;
+    number(1);
+    next_number(k as u32);
+    next_number(0);
+    next_number(a.status);
+    next_number(0);
+    next_reading(r);
+    r
+}
+
+fn length_of(x: u32) -> usize {
+    if x % 32 == 0 {
+        return 50;
+    }
+    if x % 32 == 1 {
+        return 30;
+    }
+    (x % 7) as usize
+}
+
+// One call drawn after x. Numbers from 0 to 19.
+fn call(s: Factors, n: u32, x: u32, long: bool) -> Factors {
+    let y = drawn(x);
+    let z = drawn(y);
+    let v = drawn(z);
+    let k = (y % 20) as u16;
+    if x % 8 < 3 {
+        return leaving(s, k);
+    }
+    let mut working: usize = 8192;
+    if v % 16 == 0 {
+        working = 8191;
+    }
+    let mut length = length_of(z);
+    if long {
+        length = (z % 4) as usize;
+    }
+    arrival(s, n, v, k, length, v % 16 == 1, working)
+}
+
+fn history(n: u32, seed: u32, e: usize, long: bool) {
+    let mut h = [0u32; 50];
+    fill(n, seed, &mut h);
+    if 49 < e {
+        return;
+    }
+    let a = factors::start(n, &h[0..e]);
+    let mut s = a.factors;
+    number(n);
+    next_number(e as u32);
+    next_number(a.status);
+    next_reading(s);
+    let mut x = seed;
+    for i in 0..120 {
+        x = drawn(drawn(drawn(drawn(x))));
+        s = call(s, n, x, long);
+    }
+}
+
+fn refused_start(n: u32, word: u32, e: usize) {
+    let h = [word; 50];
+    if 50 < e {
+        return;
+    }
+    let a = factors::start(n, &h[0..e]);
+    let s = a.factors;
+    number(n);
+    next_number(e as u32);
+    next_number(a.status);
+    next_reading(s);
+    let b = arrival(s, 2, 5, 1, 2, false, 8192);
+    leaving(b, 1);
+}
+
+// Calls on a state that no start made: all its numbers are k, all its degrees d, all its resultants x, all words of h are w.
+fn any_state(n: u32, len: u32, w: u32, k: u16, d: u32, x: u32) {
+    let s = Factors {
+        n,
+        len,
+        h: [w; 49],
+        number: [k; 16],
+        degree: [d; 16],
+        resultant: [x; 16],
+    };
+    number(n);
+    next_number(len);
+    next_reading(s);
+    let a = arrival(s, 7, 5, 3, 3, false, 8192);
+    let b = leaving(a, 3);
+    let c = leaving(b, 4);
+    leaving(c, 0);
+}
+
+fn main() {
+    history(12, 1, 3, false);
+    history(4294967295, 2, 4, false);
+    history(30030, 3, 6, true);
+    history(65536, 4, 2, true);
+    history(2, 5, 5, true);
+    history(4294836225, 6, 1, true);
+    history(6, 7, 7, true);
+    refused_start(0, 0, 2);
+    refused_start(1, 0, 2);
+    refused_start(9, 0, 0);
+    refused_start(9, 0, 50);
+    refused_start(9, 9, 3);
+    any_state(0, 3, 0, 0, 0, 1);
+    any_state(1, 3, 0, 4, 0, 1);
+    any_state(7, 0, 0, 0, 0, 1);
+    any_state(7, 50, 0, 0, 0, 1);
+    any_state(7, 4294967295, 0, 0, 0, 1);
+    any_state(7, 49, 1, 0, 3, 4294967295);
+    any_state(7, 3, 7, 0, 0, 1);
+    any_state(7, 3, 6, 4, 0, 5);
+    any_state(7, 3, 6, 3, 4294967295, 5);
+    any_state(7, 3, 6, 0, 4294967295, 4294967295);
+    any_state(4294967295, 3, 6, 4, 0, 4294967295);
+}
