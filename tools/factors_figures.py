@@ -163,6 +163,19 @@ def history(n, seed, e, long):
             arrival(s, n, v, k, z % 4 if long else length_of(z), v % 16 == 1, 8191 if v % 16 == 0 else 8192)
 
 
+def crowd(n, seed, e, length):
+    s = State(n, fill(n, seed)[:e])
+    print(n, e, 0, *s.read())
+    x = seed
+    for k in range(1, 18):
+        x = drawn(x)
+        arrival(s, n, x, k, length, False, 8192)
+    leaving(s, 5)
+    arrival(s, n, x, 18, length, False, 8192)
+    for k in range(1, 19):
+        leaving(s, k)
+
+
 def refused_start(n, e, status):
     s = State(0, [])
     print(n, e, status, *s.read())
@@ -186,6 +199,9 @@ history(65536, 4, 2, True)
 history(2, 5, 5, True)
 history(4294836225, 6, 1, True)
 history(6, 7, 7, True)
+crowd(12, 8, 3, 4)
+crowd(4294967295, 9, 5, 3)
+crowd(10, 10, 4, 49)
 refused_start(0, 2, 1)
 refused_start(1, 2, 1)
 refused_start(9, 0, 2)

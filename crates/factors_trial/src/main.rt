@@ -2,8 +2,8 @@
 // factors held and works the Sylvester determinant afresh for each reading.
 //
 // A history is a start with h and 120 drawn calls. A line for each call: what was called (0 an arrival, 1 a leaving), the number, the
-// words sent, the status, a working word afterwards, then the status and the value of a reading. At the end the refusals of a start,
-// and calls on states that no start made.
+// words sent, the status, a working word afterwards, then the status and the value of a reading. Then eighteen factors that arrive and
+// leave in turn, the refusals of a start, and calls on states that no start made.
 ghost use Prim.Native.Nat.{_≤_};
 use factors::Factors;
 use factors::Held;
@@ -131,6 +131,31 @@ fn history(n: u32, seed: u32, e: usize, long: bool) {
     }
 }
 
+// Eighteen arrivals of so many words each, one leaving after the seventeenth, and all leave.
+fn crowd(n: u32, seed: u32, e: usize, length: usize) {
+    let mut h = [0u32; 50];
+    fill(n, seed, &mut h);
+    if 49 < e {
+        return;
+    }
+    let a = factors::start(n, &h[0..e]);
+    let mut s = a.factors;
+    number(n);
+    next_number(e as u32);
+    next_number(a.status);
+    next_reading(s);
+    let mut x = seed;
+    for k in 1u16..18 {
+        x = drawn(x);
+        s = arrival(s, n, x, k, length, false, 8192);
+    }
+    s = leaving(s, 5);
+    s = arrival(s, n, x, 18, length, false, 8192);
+    for k in 1u16..19 {
+        s = leaving(s, k);
+    }
+}
+
 fn refused_start(n: u32, word: u32, e: usize) {
     let h = [word; 50];
     if 50 < e {
@@ -173,6 +198,9 @@ fn main() {
     history(2, 5, 5, true);
     history(4294836225, 6, 1, true);
     history(6, 7, 7, true);
+    crowd(12, 8, 3, 4);
+    crowd(4294967295, 9, 5, 3);
+    crowd(10, 10, 4, 49);
     refused_start(0, 0, 2);
     refused_start(1, 0, 2);
     refused_start(9, 0, 0);
