@@ -45,25 +45,39 @@ fn fill(n: u32, x: u32, f: &mut [u32; 50]) {
     }
 }
 
-// The factor of the first `length` words drawn after x arrives; with `over`, its first word is n. So many working words are lent.
-fn arrival(s: Factors, n: u32, x: u32, k: u16, length: usize, over: bool, working: usize) -> Factors {
-    let mut f = [0u32; 50];
-    let mut work = [7u32; 8192];
-    fill(n, x, &mut f);
+// With `over`, a word that is n.
+fn exceed(n: u32, over: bool, f: &mut [u32; 50]) {
     if over {
         f[0] = n;
     }
-    if 50 < length {
-        return s;
+}
+
+fn fill_factor(n: u32, x: u32, over: bool, f: &mut [u32; 50]) {
+    fill(n, x, f);
+    exceed(n, over, f);
+}
+
+// The first `length` words of f and the first `working` working words are lent.
+fn sent(s: Factors, k: u16, f: &[u32], length: usize, work: &mut [u32], working: usize) -> Held {
+    if f.len() < length {
+        return factors::arrive(s, k, f, work);
     }
-    if 8192 < working {
-        return s;
+    if work.len() < working {
+        return factors::arrive(s, k, f, work);
     }
-    let a = factors::arrive(s, k, &f[0..length], &mut work[0..working]);
+    factors::arrive(s, k, &f[0..length], &mut work[0..working])
+}
+
+// The factor of the first `length` words drawn after x arrives; with `over`, its first word is n. So many working words are lent.
+fn arrival(s: Factors, n: u32, x: u32, k: u16, length: u32, over: bool, working: usize) -> Factors {
+    let mut f = [0u32; 50];
+    let mut work = [7u32; 8192];
+    fill_factor(n, x, over, &mut f);
+    let a = sent(s, k, &f, length as usize, &mut work, working);
     let r = a.factors;
     number(0);
     next_number(k as u32);
-    next_number(length as u32);
+    next_number(length);
     next_number(a.status);
     next_number(work[100]);
     next_reading(r);
@@ -82,14 +96,14 @@ fn leaving(s: Factors, k: u16) -> Factors {
     r
 }
 
-fn length_of(x: u32) -> usize {
+fn length_of(x: u32) -> u32 {
     if x % 32 == 0 {
         return 50;
     }
     if x % 32 == 1 {
         return 30;
     }
-    (x % 7) as usize
+    x % 7
 }
 
 // One call drawn after x. Numbers from 0 to 19.
@@ -107,23 +121,33 @@ fn call(s: Factors, n: u32, x: u32, long: bool) -> Factors {
     }
     let mut length = length_of(z);
     if long {
-        length = (z % 4) as usize;
+        length = z % 4;
     }
     arrival(s, n, v, k, length, v % 16 == 1, working)
 }
 
-fn history(n: u32, seed: u32, e: usize, long: bool) {
-    let mut h = [0u32; 50];
-    fill(n, seed, &mut h);
-    if 49 < e {
-        return;
+fn first_of(n: u32, h: &[u32], e: usize) -> Held {
+    if h.len() < e {
+        return factors::start(n, h);
     }
-    let a = factors::start(n, &h[0..e]);
-    let mut s = a.factors;
+    factors::start(n, &h[0..e])
+}
+
+// A start with the first e words of h.
+fn begun(n: u32, h: &[u32], e: u32) -> Factors {
+    let a = first_of(n, h, e as usize);
+    let s = a.factors;
     number(n);
-    next_number(e as u32);
+    next_number(e);
     next_number(a.status);
     next_reading(s);
+    s
+}
+
+fn history(n: u32, seed: u32, e: u32, long: bool) {
+    let mut h = [0u32; 50];
+    fill(n, seed, &mut h);
+    let mut s = begun(n, &h, e);
     let mut x = seed;
     for i in 0..120 {
         x = drawn(drawn(drawn(drawn(x))));
@@ -132,18 +156,10 @@ fn history(n: u32, seed: u32, e: usize, long: bool) {
 }
 
 // Eighteen arrivals of so many words each, one leaving after the seventeenth, and all leave.
-fn crowd(n: u32, seed: u32, e: usize, length: usize) {
+fn crowd(n: u32, seed: u32, e: u32, length: u32) {
     let mut h = [0u32; 50];
     fill(n, seed, &mut h);
-    if 49 < e {
-        return;
-    }
-    let a = factors::start(n, &h[0..e]);
-    let mut s = a.factors;
-    number(n);
-    next_number(e as u32);
-    next_number(a.status);
-    next_reading(s);
+    let mut s = begun(n, &h, e);
     let mut x = seed;
     for k in 1u16..18 {
         x = drawn(x);
@@ -156,17 +172,9 @@ fn crowd(n: u32, seed: u32, e: usize, length: usize) {
     }
 }
 
-fn refused_start(n: u32, word: u32, e: usize) {
+fn refused_start(n: u32, word: u32, e: u32) {
     let h = [word; 50];
-    if 50 < e {
-        return;
-    }
-    let a = factors::start(n, &h[0..e]);
-    let s = a.factors;
-    number(n);
-    next_number(e as u32);
-    next_number(a.status);
-    next_reading(s);
+    let s = begun(n, &h, e);
     let b = arrival(s, 2, 5, 1, 2, false, 8192);
     leaving(b, 1);
 }
