@@ -33,28 +33,21 @@ fn next_reading(s: Factors) {
     end_line();
 }
 
-// 50 words below n, drawn after x.
-fn fill(n: u32, x: u32, f: &mut [u32; 50]) {
+// 50 words below n, drawn after x; with `over`, the first is n.
+fn filled(n: u32, x: u32, over: bool) -> [u32; 50] {
+    let mut f = [0u32; 50];
     if n < 1 {
-        return;
+        return f;
     }
     let mut y = x;
     for i in 0..50 {
         y = drawn(y);
         f[i] = arithmetic::reduce(n, y as u64);
     }
-}
-
-// With `over`, a word that is n.
-fn exceed(n: u32, over: bool, f: &mut [u32; 50]) {
     if over {
         f[0] = n;
     }
-}
-
-fn fill_factor(n: u32, x: u32, over: bool, f: &mut [u32; 50]) {
-    fill(n, x, f);
-    exceed(n, over, f);
+    f
 }
 
 // The first `length` words of f and the first `working` working words are lent.
@@ -70,9 +63,8 @@ fn sent(s: Factors, k: u16, f: &[u32], length: usize, work: &mut [u32], working:
 
 // The factor of the first `length` words drawn after x arrives; with `over`, its first word is n. So many working words are lent.
 fn arrival(s: Factors, n: u32, x: u32, k: u16, length: u32, over: bool, working: usize) -> Factors {
-    let mut f = [0u32; 50];
+    let f = filled(n, x, over);
     let mut work = [7u32; 8192];
-    fill_factor(n, x, over, &mut f);
     let a = sent(s, k, &f, length as usize, &mut work, working);
     let r = a.factors;
     number(0);
@@ -145,11 +137,10 @@ fn begun(n: u32, h: &[u32], e: u32) -> Factors {
 }
 
 fn history(n: u32, seed: u32, e: u32, long: bool) {
-    let mut h = [0u32; 50];
-    fill(n, seed, &mut h);
+    let h = filled(n, seed, false);
     let mut s = begun(n, &h, e);
     let mut x = seed;
-    for i in 0..120 {
+    for i in 0usize..120 {
         x = drawn(drawn(drawn(drawn(x))));
         s = call(s, n, x, long);
     }
@@ -157,8 +148,7 @@ fn history(n: u32, seed: u32, e: u32, long: bool) {
 
 // Eighteen arrivals of so many words each, one leaving after the seventeenth, and all leave.
 fn crowd(n: u32, seed: u32, e: u32, length: u32) {
-    let mut h = [0u32; 50];
-    fill(n, seed, &mut h);
+    let h = filled(n, seed, false);
     let mut s = begun(n, &h, e);
     let mut x = seed;
     for k in 1u16..18 {

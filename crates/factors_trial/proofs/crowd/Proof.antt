@@ -24,6 +24,7 @@ crowd-spec =
     Inv-loop2
     μ-loop2
     (λ c κs. search needs)
+    (λ c. search needs)
     (λ c κs. search needs)
     (λ c. search needs)
     (λ c κs. search needs)
