@@ -127,7 +127,7 @@ module _ (s : Factors) (k : ℕ) (f work : List ℕ) (g : List ℕ) (same : g �
   }
 
   module _ (z : t ≡ 0) where
-    on : (x : ℕ) → x ≡ first-refusal (taken-row s k f work) 
+    on : (x : ℕ) → x ≡ first-refusal (taken-row s k f work)
         → x ≡ first-refusal (refusals-two narrow (s .n) f (held-h s) ++ taken-row s k f work)
     on x h = passed-on (refusals-two narrow (s .n) f (held-h s)) (taken-row s k f work) t x sent z h
 

@@ -29,7 +29,7 @@ loop-again c =
     let l : length (s .before .args .t1) ≡ 16 = search needs in (
       omega arith,
       ap (λ (x : ℕ). s .loop .s + x) (c .wide .ensures .0)
-      ∙ one-more-degree _ (s .loop .i) (omega arith) (omega arith) (s .loop .s) (s .loop .inv .1),
+          ∙ one-more-degree _ (s .loop .i) (omega arith) (omega arith) (s .loop .s) (s .loop .inv .1),
       omega arith,
     )
 
