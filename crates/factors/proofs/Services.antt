@@ -1,20 +1,24 @@
 -- The promise of each call at each place where it returns.
+--
+--   read-refused, read-answered, leave-refused, leave-unheld, leave-answered, start-refused, start-answered
+--   arrive-sent, arrive-taken, arrive-full, arrive-short, arrive-answered
+--   unheld-.., held-found, taken-.., full-.., not-full     the tests of the refusals 14 and 13, as the code makes them
+--   part-held                                              the part of the words of h that is lent
 use mathlib.Core.Path.{_≡_, refl, sym, ap, _∙_}
-use mathlib.Core.Bool.{Bool, true, false, cond, not}
+use mathlib.Core.Bool.{true, false}
 use mathlib.Core.List.{List, [], _∷_, _++_}
 use Prim.Native.Nat.{ℕ, zero, suc, pred, _+_, _-_, _≤_, _<_}
 use native.Mathlib.Omega.{arith}
-use lib.Dec.{ltb, eqb}
-use lib.ListN.{length, take, set, replicate}
+use lib.ListN.{length, take, replicate}
 use borrow.Author.Tests.{lt-ltb, le-ltb, eq-eqb, ne-eqb}
 use Rattle.definitions.specs.Polynomials.{deg}
 use Rattle.definitions.specs.Resultants.{resultant}
 use Rattle.refusals.specs.Refusals.{Tested, narrow, bad-modulus, short, first-refusal, refusals-one, refusals-two, left}
 use Rattle.refusals.specs.Conditions.{modulus-fails, accepted-one, accepted-two}
 use Rattle.refusals.proofs.Statuses.{row-applies, row-passes, refused-early, passed-on, too-short, long-enough, left-refused}
-use Rattle.resultant_service.specs.ResultantService.{ResultantAnswer, resultant-status}
+use Rattle.resultant_service.specs.ResultantService.{ResultantAnswer}
 use Rattle.factors.specs.declared.Factors.{Factors}
-use Rattle.factors.specs.FactorsService.{place-of, sum, multiplied, served-length, held-h, unheld, taken, full, started, placed, arrived, left-by}
+use Rattle.factors.specs.FactorsService.{place-of, sum, multiplied, served-length, held-h, unheld, taken, full, started, placed, arrived}
 use Rattle.factors.specs.FactorsService.{StartAnswer, ArriveAnswer, LeaveAnswer, ReadAnswer}
 
 -- the refusals from 14, 13 and 7 on

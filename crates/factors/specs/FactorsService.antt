@@ -8,7 +8,7 @@
 --   start-refusals, arrive-refusals, leave-refusals, read-refusals     the refusals of each call in their order
 --   StartAnswer, ArriveAnswer, LeaveAnswer, ReadAnswer      all that is promised of a call
 use mathlib.Core.Path.{_≡_}
-use mathlib.Core.Bool.{Bool, true, false, cond, not}
+use mathlib.Core.Bool.{Bool, true, cond, not}
 use mathlib.Core.List.{List, [], _∷_, _++_}
 use Prim.Native.Nat.{ℕ, zero, suc, _+_, _*_, _-_, _%_}
 use lib.Dec.{ltb, eqb}

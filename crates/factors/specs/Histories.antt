@@ -17,7 +17,6 @@ use mathlib.Core.List.{List, [], _∷_, _++_, map}
 use Prim.Native.Nat.{ℕ, zero, suc, _+_, _*_, _-_, _%_, _^_, _≤_, _<_}
 use native.Mathlib.Nat.{mod-eq-of-lt, mod-lt, mul-comm, mul-assoc}
 use native.Mathlib.Omega.{arith}
-use lib.Dec.{ltb}
 use lib.IntN.{ℤ, pos, negsuc}
 use lib.ListN.{length, take, set, replicate}
 use borrow.Author.Tests.{le-ltb}
@@ -28,7 +27,7 @@ use Rattle.theory.specs.ResultantLaws.{law-of-products, resultant-const-first}
 use Rattle.refusals.specs.Refusals.{Width, bad-modulus, short, first-refusal, refusals-two, answered}
 use Rattle.refusals.specs.Conditions.{Accepted, accepted-one, ServedModulus, modulus-fails, status-zero}
 use Rattle.factors.specs.declared.Factors.{Factors}
-use Rattle.factors.specs.FactorsService.{place-of, multiplied, held-h, taken, full, unheld, placed, started, arrived, left-by}
+use Rattle.factors.specs.FactorsService.{place-of, multiplied, held-h, taken, full, unheld, placed, arrived, left-by}
 use Rattle.factors.specs.FactorsService.{arrive-refusals, leave-refusals, read-refusals, StartAnswer, ArriveAnswer, LeaveAnswer, ReadAnswer}
 
 pub data Place : Type 0 where

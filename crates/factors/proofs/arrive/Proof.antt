@@ -1,6 +1,4 @@
-use Prim.Native.Nat.{_≤_}
 use mathlib.Core.Path.{_≡_}
-use native.Mathlib.Omega.{arith}
 use lib.ListN.{length}
 use Rattle.factors.proofs.Services.{part-held}
 use borrow.Author.Needs.{needs}

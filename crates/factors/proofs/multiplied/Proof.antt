@@ -1,10 +1,9 @@
 use borrow.Author.Needs.{needs}
-use mathlib.Core.Path.{_≡_, ap, _∙_}
-use mathlib.Core.List.{_++_}
-use Prim.Native.Nat.{ℕ, _+_, _-_, _*_, _≤_}
+use mathlib.Core.Path.{_≡_, _∙_}
+use Prim.Native.Nat.{_-_, _≤_}
 use native.Mathlib.Omega.{arith}
-use lib.ListN.{length, getD, drop, take, replicate}
-use Rattle.factors.specs.FactorsService.{place-of, sum, multiplied}
+use lib.ListN.{length, drop}
+use Rattle.factors.specs.FactorsService.{multiplied}
 use Rattle.factors.proofs.Places.{no-resultant, one-more-resultant, all-resultants}
 use Rattle.factors.proofs.multiplied.Statement.{statement}
 use Rattle.factors.proofs.multiplied.Tie as tie

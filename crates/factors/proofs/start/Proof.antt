@@ -1,6 +1,5 @@
 use Prim.Native.Nat.{_≤_}
 use lib.ListN.{length}
-use native.Mathlib.Omega.{arith}
 use Rattle.factors.proofs.Services.{start-refused, start-answered, start-length}
 use borrow.Author.Needs.{needs}
 use Rattle.factors.proofs.start.Statement.{statement}
