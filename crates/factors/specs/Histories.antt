@@ -28,7 +28,8 @@ use Rattle.refusals.specs.Refusals.{Width, bad-modulus, short, first-refusal, r
 use Rattle.refusals.specs.Conditions.{Accepted, accepted-one, ServedModulus, modulus-fails, status-zero}
 use Rattle.factors.specs.declared.Factors.{Factors}
 use Rattle.factors.specs.FactorsService.{place-of, multiplied, held-h, taken, full, unheld, placed, arrived, left-by}
-use Rattle.factors.specs.FactorsService.{arrive-refusals, leave-refusals, read-refusals, StartAnswer, ArriveAnswer, LeaveAnswer, ReadAnswer}
+use Rattle.factors.specs.FactorsService.{arrive-refusals, leave-refusals, read-refusals}
+use Rattle.factors.specs.FactorsService.{StartAnswer, ArriveAnswer, LeaveAnswer, ReadAnswer}
 
 pub data Place : Type 0 where
   free : Place
@@ -70,8 +71,8 @@ places-left (suc t) k S = S
 -- "a state that an answered start made and only these calls changed"; a reading changes no state
 pub data History (W : Width) (n : ℕ) (h : List ℕ) : Factors → List Place → Type 0 where
   start : {s : Factors} → StartAnswer W n h s 0 → History W n h s (replicate 16 free)
-  arrive : {s r : Factors} {S : List Place} (k : ℕ) (f work work' : List ℕ) (t : ℕ) → History W n h s S → ArriveAnswer W s k f work work' r t
-      → History W n h r (places-arrived t k f S)
+  arrive : {s r : Factors} {S : List Place} (k : ℕ) (f work work' : List ℕ) (t : ℕ) → History W n h s S
+      → ArriveAnswer W s k f work work' r t → History W n h r (places-arrived t k f S)
   leave : {s r : Factors} {S : List Place} (k t : ℕ) → History W n h s S → LeaveAnswer W s k r t → History W n h r (places-left t k S)
 
 -- ---- the resultant of a product
@@ -103,7 +104,8 @@ product-law n l h (free ∷ S) =
     let b = resultant-below n (omega arith) (product-of n (factors-held S)) h in
     ap₂ (λ (x y : ℕ). (x * y) % n) (resultant-of-one n l h) i ∙ ap (λ (x : ℕ). x % n) (omega arith) ∙ mod-eq-of-lt b
 product-law n l h (held k f ∷ S) =
-    ap (λ (x : ℕ). (resultant n f h * x) % n) (product-law n l h S) ∙ sym (law-of-products n (omega arith) f (product-of n (factors-held S)) h)
+    ap (λ (x : ℕ). (resultant n f h * x) % n) (product-law n l h S)
+    ∙ sym (law-of-products n (omega arith) f (product-of n (factors-held S)) h)
 
 -- ---- what a state stands for
 
@@ -235,7 +237,8 @@ history-leaving W n h s r S k t y a =
     let d = stands W n h y in
     a .status-is ∙ ap (λ (x : Factors). first-refusal (leave-refusals W x k)) (d .is) ∙ passes (bad-modulus W n) (served d)
   where
-    passes : (b : Bool) → b ≡ false → first-refusal ((1, b) ∷ (14, unheld k (numbers S)) ∷ []) ≡ first-refusal ((14, unheld k (numbers S)) ∷ [])
+    passes : (b : Bool) → b ≡ false
+        → first-refusal ((1, b) ∷ (14, unheld k (numbers S)) ∷ []) ≡ first-refusal ((14, unheld k (numbers S)) ∷ [])
     passes b e = ap (λ (x : Bool). first-refusal ((1, x) ∷ (14, unheld k (numbers S)) ∷ [])) e
 
     served : Stands W n h s S → bad-modulus W n ≡ false

@@ -1,2 +1,3 @@
 pub mod FactorsService
+pub mod FactorsListed
 pub mod Histories
