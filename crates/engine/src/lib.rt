@@ -9,6 +9,7 @@
 //   jingcobu_read_text            text_reader::read_text
 //   jingcobu_write_text           text_writer::write_text
 //   jingcobu_gcd                  residue_services::gcd_with_cofactors
+//   jingcobu_factors_start, _arrive, _leave, _read    factors::start, arrive, leave, read
 //   jingcobu_shares               shares::shares
 ghost use mathlib.Core.Path.{_≡_};
 ghost use Rattle.refusals.specs.Refusals.{narrow};
@@ -21,7 +22,10 @@ ghost use mathlib.Core.List.{[], _∷_};
 ghost use Rattle.text_reader.specs.TextReader.{ReadAnswer};
 ghost use Rattle.text_writer.specs.TextWriter.{WriteAnswer};
 ghost use Rattle.residue_services.specs.Services.{GcdPromised};
+ghost use Rattle.factors.specs.FactorsService.{StartAnswer, ArriveAnswer, LeaveAnswer, ReadingAnswer};
 ghost use Rattle.shares.specs.SharesService.{SharesAnswer};
+use factors::Factors;
+use factors::Held;
 use polynomial_degree::DegreeAnswer;
 use refusals::Answer;
 use residue_services::GcdAnswer;
@@ -106,6 +110,43 @@ pub extern "C" fn jingcobu_gcd(n: u32, a: u32, b: u32) -> GcdAnswer
     ensures { λ r. ⌜ GcdPromised narrow n a b (r .g) (r .s) (r .t) (r .status) ⌝ }
 {
     residue_services::gcd_with_cofactors(n, a, b)
+}
+
+// A product whose factors come and go: the state with h and no factor.
+#[no_mangle]
+pub extern "C" fn jingcobu_factors_start(n: u32, h: &[u32]) -> Held
+    ensures { λ r. ⌜ StartAnswer narrow n (now (h .entry)) (r .factors) (r .status) ⌝ }
+{
+    factors::start(n, h)
+}
+
+// The state with one factor more, f under its number.
+#[no_mangle]
+pub extern "C" fn jingcobu_factors_arrive(
+    state: Factors,
+    number: u16,
+    f: &[u32],
+    work: &mut [u32],
+) -> Held
+    ensures { λ r. ⌜ ArriveAnswer narrow state number (now (f .entry)) (now (work .entry)) (now (work .exit)) (r .factors) (r .status) ⌝ }
+{
+    factors::arrive(state, number, f, work)
+}
+
+// The state without the factor under a number.
+#[no_mangle]
+pub extern "C" fn jingcobu_factors_leave(state: Factors, number: u16) -> Held
+    ensures { λ r. ⌜ LeaveAnswer narrow state number (r .factors) (r .status) ⌝ }
+{
+    factors::leave(state, number)
+}
+
+// The resultant of the product of the factors held with h.
+#[no_mangle]
+pub extern "C" fn jingcobu_factors_read(state: Factors) -> Answer
+    ensures { λ r. ⌜ ReadingAnswer narrow state (r .value) (r .status) ⌝ }
+{
+    factors::read(state)
 }
 
 // How many jobs of each of four groups go into a run of frames.

@@ -1,0 +1,130 @@
+-- What the four calls on a state answer, whatever words the state holds. s is the state sent, r the one handed back, W the width.
+--
+--   place-of k l           the first place of l that has k, or the length of l
+--   sum, multiplied        the sum of words, their product modulo n
+--   served-length, held-h  how many words of h a state holds, and which; none where their number is above 49
+--   started, arrived, left-by      the states that answered calls hand back, s or zeros after a refusal
+--   unheld, taken, full    the tests of the refusals 14 and 13
+--   start-refusals, arrive-refusals, leave-refusals, read-refusals     the refusals of each call in their order
+--   StartAnswer, ArriveAnswer, LeaveAnswer, ReadingAnswer      all that is promised of a call
+use mathlib.Core.Path.{_≡_}
+use mathlib.Core.Bool.{Bool, true, cond, not}
+use mathlib.Core.List.{List, [], _∷_, _++_}
+use Prim.Native.Nat.{ℕ, zero, suc, _+_, _*_, _-_, _%_}
+use lib.Dec.{ltb, eqb}
+use lib.ListN.{length, take, set, replicate}
+use Rattle.definitions.specs.Polynomials.{deg}
+use Rattle.definitions.specs.Resultants.{resultant}
+use Rattle.refusals.specs.Refusals.{Width, Tested, bad-modulus, short, first-refusal, refusals-one, refusals-two, answered, left}
+use Rattle.factors.specs.declared.Factors.{Factors}
+
+unfoldable pub place-of : ℕ → List ℕ → ℕ
+place-of k [] = 0
+place-of k (x ∷ l) = cond (eqb x k) 0 (suc (place-of k l))
+
+unfoldable pub sum : List ℕ → ℕ
+sum [] = 0
+sum (x ∷ l) = x + sum l
+
+-- "With no factor held, the product is the constant 1 and the reading is 1."
+unfoldable pub multiplied : ℕ → List ℕ → ℕ
+multiplied n [] = 1
+multiplied n (x ∷ l) = (x * multiplied n l) % n
+
+-- a state of any words: a count above 49 is no length of h, and no word is read
+abbrev pub served-length : ℕ → ℕ
+served-length l = cond (ltb 49 l) 0 l
+
+abbrev pub held-h : Factors → List ℕ
+held-h s = take (served-length (s .len)) (s .h)
+
+-- ---- refusals
+
+-- "a number 0 or … one not held on leaving"
+abbrev pub unheld : ℕ → List ℕ → Bool
+unheld k l = cond (eqb k 0) true (not (ltb (place-of k l) 16))
+
+-- "a number 0 or one already held on arrival"
+abbrev pub taken : ℕ → List ℕ → Bool
+taken k l = cond (eqb k 0) true (ltb (place-of k l) 16)
+
+-- "a seventeenth factor or a summed degree above 48": no place is free, or the degrees held and d add up to more
+abbrev pub full : ℕ → List ℕ → List ℕ → Bool
+full d number degree = cond (ltb (place-of 0 number) 16) (ltb 48 (sum degree + d)) true
+
+-- "The start, with n and h, refuses by 1, 2 and 3"
+abbrev pub start-refusals : Width → ℕ → List ℕ → List Tested
+start-refusals W n h = refusals-one W n h
+
+-- "14 … then … 13 … both after 3"; "7 comes last wherever working words are lent". l is the number of working words.
+abbrev pub arrive-refusals : Width → Factors → ℕ → List ℕ → ℕ → List Tested
+arrive-refusals W s k f l =
+    refusals-two W (s .n) f (held-h s)
+    ++ ((14, taken k (s .number)) ∷ (13, full (deg f) (s .number) (s .degree)) ∷ (7, short l (W .working)) ∷ [])
+
+-- "every call on a state whose n is 0 or 1 refuses it with 1"
+abbrev pub leave-refusals : Width → Factors → ℕ → List Tested
+leave-refusals W s k = (1, bad-modulus W (s .n)) ∷ (14, unheld k (s .number)) ∷ []
+
+abbrev pub read-refusals : Width → Factors → List Tested
+read-refusals W s = (1, bad-modulus W (s .n)) ∷ []
+
+-- ---- states
+
+-- sixteen free places; zeros after a refusal
+abbrev pub started : ℕ → ℕ → List ℕ → Factors
+started zero n h = record {
+  n = n;
+  len = length h;
+  h = h ++ replicate (49 - length h) 0;
+  number = replicate 16 0;
+  degree = replicate 16 0;
+  resultant = replicate 16 1;
+}
+started (suc t) n h = record {
+  n = 0;
+  len = 0;
+  h = replicate 49 0;
+  number = replicate 16 0;
+  degree = replicate 16 0;
+  resultant = replicate 16 0;
+}
+
+-- place i has the number k, the degree d and the resultant x
+abbrev pub placed : Factors → ℕ → ℕ → ℕ → ℕ → Factors
+placed s i k d x = record {
+  n = s .n;
+  len = s .len;
+  h = s .h;
+  number = set (s .number) i k;
+  degree = set (s .degree) i d;
+  resultant = set (s .resultant) i x;
+}
+
+-- "A refusal leaves the held factors unchanged."
+abbrev pub arrived : ℕ → Factors → ℕ → List ℕ → Factors
+arrived zero s k f = placed s (place-of 0 (s .number)) k (deg f) (resultant (s .n) f (held-h s))
+arrived (suc t) s k f = s
+
+abbrev pub left-by : ℕ → Factors → ℕ → Factors
+left-by zero s k = placed s (place-of k (s .number)) 0 0 1
+left-by (suc t) s k = s
+
+-- ---- answers
+
+pub record StartAnswer (W : Width) (n : ℕ) (h : List ℕ) (r : Factors) (status : ℕ) : Type 0 where
+  pub status-is : status ≡ first-refusal (start-refusals W n h)
+  pub factors-is : r ≡ started status n h
+
+pub record ArriveAnswer (W : Width) (s : Factors) (k : ℕ) (f work work' : List ℕ) (r : Factors) (status : ℕ) : Type 0 where
+  pub status-is : status ≡ first-refusal (arrive-refusals W s k f (length work))
+  pub factors-is : r ≡ arrived status s k f
+  pub work-is : work' ≡ left status work
+
+pub record LeaveAnswer (W : Width) (s : Factors) (k : ℕ) (r : Factors) (status : ℕ) : Type 0 where
+  pub status-is : status ≡ first-refusal (leave-refusals W s k)
+  pub factors-is : r ≡ left-by status s k
+
+pub record ReadingAnswer (W : Width) (s : Factors) (value status : ℕ) : Type 0 where
+  pub status-is : status ≡ first-refusal (read-refusals W s)
+  pub value-is : value ≡ answered status (multiplied (s .n) (s .resultant))

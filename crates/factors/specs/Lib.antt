@@ -1,0 +1,3 @@
+pub mod FactorsService
+pub mod FactorsListed
+pub mod Histories

@@ -1,0 +1,256 @@
+// A product whose factors come and go: one h, at most 16 factors, each under a number, and the resultant of their product with h.
+// Of a factor only its degree and its resultant with h are held: the resultant of a product is the product of the resultants, so a
+// factor leaves by giving up its place, also where its resultant is a zero divisor.
+//
+//   Factors, Held                start, arrive, leave and read take and hand back the state by value; a status beside it
+//   place_of                     the first place that has a number
+//   degree_sum, multiplied       the sum of the degrees and the product of the resultants
+//   padded, served_length        h with zeros above; how many of its words are read
+//   arrive_beside                an arrival, with h
+//   start, arrive, leave, read   the services
+ghost use mathlib.Core.Path.{_≡_};
+ghost use Prim.Native.Nat.{_-_, _≤_};
+ghost use mathlib.Core.List.{_++_};
+ghost use lib.ListN.{length, replicate};
+ghost use Rattle.refusals.specs.Refusals.{narrow};
+ghost use Rattle.factors.specs.FactorsService.{place-of, sum, multiplied, served-length, held-h};
+ghost use Rattle.factors.specs.FactorsService.{StartAnswer, ArriveAnswer, LeaveAnswer, ReadingAnswer};
+use refusals::Answer;
+
+// A place is free where its number is 0; degree 0 and resultant 1 stand there. h has len words, zeros above.
+#[repr(C)]
+pub struct Factors {
+    pub n: u32,
+    pub len: u32,
+    pub h: [u32; 49],
+    pub number: [u16; 16],
+    pub degree: [u32; 16],
+    pub resultant: [u32; 16],
+}
+
+#[repr(C)]
+pub struct Held {
+    pub factors: Factors,
+    pub status: u32,
+}
+
+// The first place that has the number k, or 16 where none has.
+fn place_of(number: [u16; 16], k: u16) -> usize
+    ensures { λ r. ⌜ r ≡ place-of k number ⌝ }
+{
+    let mut i: usize = 0;
+    while i < 16 {
+        if number[i] == k {
+            return i;
+        }
+        i += 1;
+    }
+    16
+}
+
+fn wide(x: u32) -> u64
+    ensures { λ r. ⌜ (r ≡ x) × (r ≤ 4294967295) ⌝ }
+{
+    x as u64
+}
+
+fn degree_sum(degree: [u32; 16]) -> u64
+    ensures { λ r. ⌜ (r ≡ sum degree) × (r ≤ 68719476720) ⌝ }
+{
+    let mut s: u64 = 0;
+    let mut i: usize = 16;
+    while 0 < i {
+        i -= 1;
+        s += wide(degree[i]);
+    }
+    s
+}
+
+fn multiplied(n: u32, resultant: [u32; 16]) -> u32
+    requires { ⌜ 2 ≤ n ⌝ }
+    ensures { λ r. ⌜ r ≡ multiplied n resultant ⌝ }
+{
+    let mut p: u32 = 1;
+    let mut i: usize = 16;
+    while 0 < i {
+        i -= 1;
+        p = arithmetic::mul_mod(n, resultant[i], p);
+    }
+    p
+}
+
+fn padded(h: &[u32]) -> [u32; 49]
+    requires { ⌜ length (now h) ≤ 49 ⌝ }
+    ensures { λ r. ⌜ r ≡ now (h .entry) ++ replicate (49 - length (now (h .entry))) 0 ⌝ }
+{
+    let mut words = [0u32; 49];
+    let mut i: usize = 0;
+    while i < h.len() {
+        words[i] = h[i];
+        i += 1;
+    }
+    words
+}
+
+// The number of words of h that a state holds: of any state, so it may be no length.
+fn served_length(len: u32) -> usize
+    ensures { λ r. ⌜ (r ≡ served-length len) × (r ≤ 49) ⌝ }
+{
+    if 49 < len {
+        return 0;
+    }
+    len as usize
+}
+
+// No factor held.
+pub fn start(n: u32, h: &[u32]) -> Held
+    ensures { λ r. ⌜ StartAnswer narrow n (now (h .entry)) (r .factors) (r .status) ⌝ }
+{
+    let status = refusals::refusal_one(n, h);
+    if status != 0 {
+        let factors = Factors {
+            n: 0,
+            len: 0,
+            h: [0; 49],
+            number: [0; 16],
+            degree: [0; 16],
+            resultant: [0; 16],
+        };
+        return Held { factors, status };
+    }
+    let words = padded(h);
+    let factors = Factors {
+        n,
+        len: h.len() as u32,
+        h: words,
+        number: [0; 16],
+        degree: [0; 16],
+        resultant: [1; 16],
+    };
+    Held { factors, status: 0 }
+}
+
+// The factor f arrives where h is the polynomial held.
+fn arrive_beside(s: Factors, k: u16, f: &[u32], h: &[u32], work: &mut [u32]) -> Held
+    requires { ⌜ now h ≡ held-h s ⌝ }
+    ensures { λ r. ⌜ ArriveAnswer narrow s k (now (f .entry)) (now (work .entry)) (now (work .exit)) (r .factors) (r .status) ⌝ }
+{
+    let status = refusals::refusal_two(s.n, f, h);
+    if status != 0 {
+        return Held { factors: s, status };
+    }
+    if k == 0 {
+        return Held {
+            factors: s,
+            status: 14,
+        };
+    }
+    let mut number = s.number;
+    if place_of(number, k) < 16 {
+        return Held {
+            factors: s,
+            status: 14,
+        };
+    }
+    let i = place_of(number, 0);
+    if 16 <= i {
+        return Held {
+            factors: s,
+            status: 13,
+        };
+    }
+    let mut degree = s.degree;
+    let d = f.len() - 1;
+    if 48 < degree_sum(degree) + (d as u64) {
+        return Held {
+            factors: s,
+            status: 13,
+        };
+    }
+    if work.len() < 8192 {
+        return Held {
+            factors: s,
+            status: 7,
+        };
+    }
+    let a = resultant_service::resultant(s.n, f, h, work);
+    let words = s.h;
+    let mut resultant = s.resultant;
+    number[i] = k;
+    degree[i] = d as u32;
+    resultant[i] = a.value;
+    let factors = Factors {
+        n: s.n,
+        len: s.len,
+        h: words,
+        number,
+        degree,
+        resultant,
+    };
+    Held { factors, status: 0 }
+}
+
+// The factor f under the number k.
+pub fn arrive(s: Factors, k: u16, f: &[u32], work: &mut [u32]) -> Held
+    ensures { λ r. ⌜ ArriveAnswer narrow s k (now (f .entry)) (now (work .entry)) (now (work .exit)) (r .factors) (r .status) ⌝ }
+{
+    let words = s.h;
+    let len = served_length(s.len);
+    arrive_beside(s, k, f, &words[0..len], work)
+}
+
+// The factor with the number k leaves.
+pub fn leave(s: Factors, k: u16) -> Held
+    ensures { λ r. ⌜ LeaveAnswer narrow s k (r .factors) (r .status) ⌝ }
+{
+    if refusals::bad_modulus(s.n) {
+        return Held {
+            factors: s,
+            status: 1,
+        };
+    }
+    if k == 0 {
+        return Held {
+            factors: s,
+            status: 14,
+        };
+    }
+    let mut number = s.number;
+    let i = place_of(number, k);
+    if 16 <= i {
+        return Held {
+            factors: s,
+            status: 14,
+        };
+    }
+    let h = s.h;
+    let mut degree = s.degree;
+    let mut resultant = s.resultant;
+    number[i] = 0;
+    degree[i] = 0;
+    resultant[i] = 1;
+    let factors = Factors {
+        n: s.n,
+        len: s.len,
+        h,
+        number,
+        degree,
+        resultant,
+    };
+    Held { factors, status: 0 }
+}
+
+// The resultant of the product of the factors held with h.
+pub fn read(s: Factors) -> Answer
+    ensures { λ r. ⌜ ReadingAnswer narrow s (r .value) (r .status) ⌝ }
+{
+    if refusals::bad_modulus(s.n) {
+        return Answer {
+            value: 0,
+            status: 1,
+        };
+    }
+    let resultant = s.resultant;
+    let value = multiplied(s.n, resultant);
+    Answer { value, status: 0 }
+}
