@@ -27,7 +27,7 @@ fn end_line() {
 }
 
 fn next_reading(s: Factors) {
-    let a = factors::read(s);
+    let a: refusals::Answer = factors::read(s);
     next_number(a.status);
     next_number(a.value);
     end_line();
