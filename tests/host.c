@@ -1017,8 +1017,8 @@ static uint32_t reads(const holding *x, const char *where)
 static void places(void)
 {
     static holding x;
-    uint32_t h[] = { 5, 1, 0, 2 }, f[MOST], one = 1, five = 5;
-    for (size_t i = 0; i < MOST; i++) f[i] = (uint32_t) (7 * i + 1) % 12;
+    uint32_t h[] = { 5, 1, 0, 2 }, f[MOST + 1], one = 1, five = 5;
+    for (size_t i = 0; i <= MOST; i++) f[i] = (uint32_t) (7 * i + 1) % 12;
     for (size_t d = 0; d <= 3; d++) {                                                       /* sixteen times 3 is 48 */
         begin(&x, 12, h, 4, "sixteen factors");
         for (uint16_t k = 0; k < 16; k++) {
