@@ -1013,14 +1013,16 @@ static uint32_t reads(const holding *x, const char *where)
 }
 
 /* The ends: sixteen factors and a seventeenth, the summed degrees 48 and 49, and a factor that leaves though its resultant is a zero
- * divisor. */
+ * divisor. 4294049777 is 65521 times 65537: the readings are units there, so each of the sixteen counts. */
 static void places(void)
 {
     static holding x;
     uint32_t h[] = { 5, 1, 0, 2 }, f[MOST + 1], one = 1, five = 5;
-    for (size_t i = 0; i <= MOST; i++) f[i] = (uint32_t) (7 * i + 1) % 12;
-    for (size_t d = 0; d <= 3; d++) {                                                       /* sixteen times 3 is 48 */
-        begin(&x, 12, h, 4, "sixteen factors");
+    for (size_t j = 0; j < 8; j++) {
+        uint32_t n = j % 2 ? 12 : 4294049777u;
+        size_t d = j / 2;                                                                   /* sixteen times 3 is 48 */
+        for (size_t i = 0; i <= MOST; i++) f[i] = draw() % n;
+        begin(&x, n, h, 4, "sixteen factors");
         for (uint16_t k = 0; k < 16; k++) {
             expect(comes(&x, (uint16_t) (65535 - k), f + k, d + 1, 8192, "sixteen factors") == JINGCOBU_OK, "are held", "sixteen factors");
             reads(&x, "sixteen factors");
@@ -1031,11 +1033,12 @@ static void places(void)
             expect(goes(&x, (uint16_t) (65535 - (5 * k + 3) % 16), "one of sixteen") == JINGCOBU_OK, "leaves", "one of sixteen");
             expect(comes(&x, (uint16_t) (k + 1), f + 2 * k, d + 1, 8192, "in its place") == JINGCOBU_OK, "comes", "in its place");
             expect(comes(&x, 100, &five, 1, 8192, "a seventeenth") == JINGCOBU_FACTORS_FULL, "is refused with 13", "a seventeenth");
-            reads(&x, "in its place");
+            expect(common_divisor(reads(&x, "in its place"), n) == 1 || n == 12, "the reading is a unit", "in its place");
         }
         for (uint16_t k = 16; k > 0; k--) goes(&x, k, "all leave");
         expect(reads(&x, "none held any more") == 1, "the reading is 1", "none held any more");
     }
+    for (size_t i = 0; i <= MOST; i++) f[i] = (uint32_t) (7 * i + 1) % 12;
     for (size_t d = 0; d <= 48; d++) {
         char where[60];
         snprintf(where, sizeof where, "degree %zu, and 48 in all", d);
@@ -1110,7 +1113,7 @@ static void factor_orders(void)
 /* Drawn histories: arrivals and leavings, right and wrong, a reading after each, and now and then a return to a copy of the state. */
 static void histories(void)
 {
-    static const uint32_t moduli[] = { 4, 6, 12, 30, 36, 210, 65536, 2147483648u, 3486784401u, 223092870u, 2176782336u, 4294967295u };
+    static const uint32_t moduli[] = { 4, 6, 12, 30, 36, 210, 65536, 2147483648u, 3486784401u, 223092870u, 2176782336u, 4294049777u, 4294967295u };
     static const size_t most[] = { 0, 1, 3, 6, 12, 48 };
     static holding x, kept;
     uint32_t f[60], h[MOST];
@@ -1150,7 +1153,7 @@ static void histories(void)
             calls++;
         }
     }
-    printf("%ld calls in %d histories: %ld factors came, %ld left, %ld of them with a zero divisor; %ld readings are not 0\n", calls, HISTORIES,
+    printf("%ld calls in %d histories: %ld factors came, %ld left, %ld of them with a resultant that is no unit; %ld readings are not 0\n", calls, HISTORIES,
            answered[0], answered[1], divisors, nonzero);
     printf("refused in them: %ld with 2, %ld with 3, %ld with 14, %ld with 13, %ld with 7\n", refused[2], refused[3], refused[14], refused[13], refused[7]);
 }
