@@ -372,7 +372,8 @@ static jingcobu_factors start(uint32_t n, const uint32_t *h, size_t hl, uint32_t
     return a.factors;
 }
 
-static jingcobu_factors arrive(jingcobu_factors s, uint16_t number, const uint32_t *f, size_t fl, size_t wl, uint32_t status, const char *where)
+static jingcobu_factors arrive(jingcobu_factors s, uint16_t number, const uint32_t *f, size_t fl, size_t wl, uint32_t status,
+                               const char *where)
 {
     jingcobu_factors sent = s;
     mark(work, WORK_ROOM);
@@ -890,7 +891,7 @@ static void runs(void)
  * order; the ends of the range; drawn pairs. */
 static void gcds(void)
 {
-    static const uint32_t moduli[] = { 25, 30, 36, 210, 65536, 65537, 1000000, 2147483648u, 3486784401u, 223092870u, 4294967291u, 4294967295u };
+    static const uint32_t moduli[] = { 25, 30, 36, 210, 65536, 65537, 1000000, 223092870, 2147483648u, 3486784401u, 4294967291u, 4294967295u };
     long pairs = 0, drawn = 0;
     char where[60];
     for (uint32_t n = 2; n <= 24; n++)
@@ -927,7 +928,8 @@ static void gcds(void)
             snprintf(where, sizeof where, "%u and %u modulo %u", a, b, n);
             jingcobu_cofactors c = gcd(n, a, b, JINGCOBU_OK, where);
             if (i % 8 == 0) {
-                expect(reduced(n, &a, 1, &b, 1, 1489, 1489, 8192, JINGCOBU_OK, where) == c.g, "reduced: D of two constants is their gcd", where);
+                uint32_t D = reduced(n, &a, 1, &b, 1, 1489, 1489, 8192, JINGCOBU_OK, where);
+                expect(D == c.g, "reduced: D of two constants is their gcd", where);
                 expect(u[MARGIN] == c.s && v[MARGIN] == c.t, "reduced: the cofactors of two constants are those of their gcd", where);
             }
             drawn++;
@@ -1007,8 +1009,8 @@ static uint32_t reads(const holding *x, const char *where)
         memcpy(p, out + MARGIN, l * sizeof *p);
     }
     expect(l == x->degrees + 1, "the sent degree of the multiplied factors is the sum", where);
-    uint32_t r = reading(x->state, JINGCOBU_OK, where);
-    expect(r == resultant(x->n, p, l, x->h, x->h_len, 8192, JINGCOBU_OK, where), "reading: the resultant of the multiplied factors with h", where);
+    uint32_t r = reading(x->state, JINGCOBU_OK, where), afresh = resultant(x->n, p, l, x->h, x->h_len, 8192, JINGCOBU_OK, where);
+    expect(r == afresh, "reading: the resultant of the multiplied factors with h", where);
     return r;
 }
 
@@ -1103,8 +1105,9 @@ static void factor_orders(void)
                 : set & NUMBER ? JINGCOBU_BAD_NUMBER : set & FULL ? JINGCOBU_FACTORS_FULL : set & WORK ? JINGCOBU_SHORT_WORK : JINGCOBU_OK;
             snprintf(where, sizeof where, "set %d of an arrival's reasons, %d", set, other);
             arrive(s, number, fl ? words : NULL, fl, wl, status, where);
-            leave(s, set & NUMBER ? zero ? 0 : 21 : last ? 2 : 1, set & N ? JINGCOBU_BAD_MODULUS : set & NUMBER ? JINGCOBU_BAD_NUMBER : JINGCOBU_OK, where);
-            reading(s, set & N ? JINGCOBU_BAD_MODULUS : JINGCOBU_OK, where);
+            uint32_t one = set & N ? JINGCOBU_BAD_MODULUS : JINGCOBU_OK;
+            leave(s, set & NUMBER ? zero ? 0 : 21 : last ? 2 : 1, one ? one : set & NUMBER ? JINGCOBU_BAD_NUMBER : JINGCOBU_OK, where);
+            reading(s, one, where);
             sets++;
         }
     printf("%ld sets of reasons to refuse a factor\n", sets);
@@ -1113,7 +1116,7 @@ static void factor_orders(void)
 /* Drawn histories: arrivals and leavings, right and wrong, a reading after each, and now and then a return to a copy of the state. */
 static void histories(void)
 {
-    static const uint32_t moduli[] = { 4, 6, 12, 30, 36, 210, 65536, 2147483648u, 3486784401u, 223092870u, 2176782336u, 4294049777u, 4294967295u };
+    static const uint32_t moduli[] = { 4, 6, 12, 30, 36, 210, 65536, 223092870, 2147483648u, 2176782336u, 3486784401u, 4294049777u, 4294967295u };
     static const size_t most[] = { 0, 1, 3, 6, 12, 48 };
     static holding x, kept;
     uint32_t f[60], h[MOST];
@@ -1141,7 +1144,10 @@ static void histories(void)
             } else if (kind < 15) {
                 if (x.count && draw() % 3) number = x.held[draw() % x.count].number;
                 size_t k = place(&x, number);
-                if (k < x.count && common_divisor(resultant(n, x.held[k].f, x.held[k].length, h, e + 1, 8192, JINGCOBU_OK, where), n) > 1) divisors++;
+                if (k < x.count) {
+                    uint32_t r = resultant(n, x.held[k].f, x.held[k].length, h, e + 1, 8192, JINGCOBU_OK, where);
+                    if (common_divisor(r, n) > 1) divisors++;
+                }
                 uint32_t status = goes(&x, number, where);
                 if (status) refused[status]++; else answered[1]++;
             } else if (draw() % 2) {
@@ -1153,9 +1159,10 @@ static void histories(void)
             calls++;
         }
     }
-    printf("%ld calls in %d histories: %ld factors came, %ld left, %ld of them with a resultant that is no unit; %ld readings are not 0\n", calls, HISTORIES,
-           answered[0], answered[1], divisors, nonzero);
-    printf("refused in them: %ld with 2, %ld with 3, %ld with 14, %ld with 13, %ld with 7\n", refused[2], refused[3], refused[14], refused[13], refused[7]);
+    printf("%ld calls in %d histories: %ld factors came, %ld left, %ld of them with a resultant that is no unit; %ld readings are not 0\n",
+           calls, HISTORIES, answered[0], answered[1], divisors, nonzero);
+    printf("refused in them: %ld with 2, %ld with 3, %ld with 14, %ld with 13, %ld with 7\n",
+           refused[2], refused[3], refused[14], refused[13], refused[7]);
 }
 
 /* the first of the sixteen places that has the number k, or 16 */
@@ -1184,7 +1191,7 @@ static void any_states(void)
         for (int k = 0; k < 49; k++) if (bits & 4) s.h[k] = draw();
         for (int k = 0; k < 16; k++) {
             if (bits & 8) s.number[k] = (uint16_t) (draw() % (i % 2 ? 65536 : 9));
-            if (bits & 16) s.degree[k] = i % 4 == 0 ? 1u << 30 : i % 4 == 1 ? draw() % 5 : draw();  /* 2^30 sixteen times is a multiple of 2^32 */
+            if (bits & 16) s.degree[k] = i % 4 == 0 ? 1u << 30 : i % 4 == 1 ? draw() % 5 : draw();  /* sixteen times 2^30 is 2^34 */
             if (bits & 32) s.resultant[k] = draw();
         }
         uint32_t n = s.n;

@@ -440,9 +440,7 @@ jingcobu_held __wrap_jingcobu_factors_arrive(jingcobu_factors s, uint16_t number
     if (w == ARRIVAL_REFUSED_WIPES_WORK && a.status) wipe(work, wl);
     if (a.status) return a;
     i = at(&a.factors, number);
-    if (w == ARRIVAL_OF_EXCHANGED) {
-        a.factors.resultant[i] = __real_jingcobu_resultant(s.n, s.h, s.h_len, f, fl, other, 8192).value;
-    }
+    if (w == ARRIVAL_OF_EXCHANGED) a.factors.resultant[i] = __real_jingcobu_resultant(s.n, s.h, s.h_len, f, fl, other, 8192).value;
     if (w == ARRIVAL_COUNTED_TWICE) a.factors.resultant[i] = (uint32_t) ((uint64_t) a.factors.resultant[i] * a.factors.resultant[i] % s.n);
     if (w == ARRIVAL_NOT_COUNTED) a.factors.resultant[i] = 1;
     if (w == ARRIVAL_LEAVES_THE_LAST_WORKING_WORD) work[wl - 1] = 1;
@@ -471,7 +469,8 @@ jingcobu_held __wrap_jingcobu_factors_leave(jingcobu_factors s, uint16_t number)
         a = __real_jingcobu_factors_leave(s, s.number[i + 1]);
         a.factors.number[i] = s.number[i + 1];
     }
-    if (w == LEFT_ARE_ALL) for (int j = 0; j < 16; j++) if (s.number[j]) a.factors = __real_jingcobu_factors_leave(a.factors, s.number[j]).factors;
+    if (w == LEFT_ARE_ALL)
+        for (int j = 0; j < 16; j++) if (s.number[j]) a.factors = __real_jingcobu_factors_leave(a.factors, s.number[j]).factors;
     if (w == LEAVING_ZERO_DIVISOR_REFUSED && divisor(s.resultant[i], s.n) > 1) { a.factors = s; a.status = 14; }
     return a;
 }
