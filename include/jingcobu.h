@@ -1,13 +1,14 @@
 /* jingcobu.h: products, true degrees, resultants and reduced resultants of polynomials over Z/nZ, n from 2 to 4294967295;
- * polynomials as text; the shares of four groups in a run of frames.
+ * the gcd of two residues with cofactors; a product whose factors come and go; polynomials as text; the shares of four groups in a
+ * run of frames.
  *
  * A polynomial of sent degree d is d + 1 words, constant first, each below n, d from 0 to 48. The top word may be zero and
  * counts: the resultant is the determinant of the Sylvester matrix in the sent degrees, modulo n. Below, f has the sent degree
  * d = f_len - 1 and g has e = g_len - 1.
  *
  * Every call answers a status, and a value or more. Status JINGCOBU_OK: the values are the answer. Any other status is a refusal:
- * every value is 0 and every buffer is left as it was found. The refusals are tested in the order in which they stand at the
- * function, and the first that applies is the status.
+ * every value is 0 (a state of factors is the one that was sent) and every buffer is left as it was found. The refusals are tested
+ * in the order in which they stand at the function, and the first that applies is the status.
  *
  * Buffers: a length counts words, that of a text bytes. What is const is read only. No two buffers of one call may overlap. NULL
  * is taken where the length is 0. A buffer may be longer than asked for. Nothing is kept between calls, and no memory is asked
@@ -28,6 +29,23 @@ typedef struct { uint32_t value; uint32_t status; } jingcobu_answer;
 /* some is 1 where there is a degree. some = 0 with status 0 says "none"; some and degree are 0 then, and after a refusal. */
 typedef struct { uint32_t some; uint32_t degree; uint32_t status; } jingcobu_degree;
 
+/* g = gcd(a, b, n) and its cofactors. */
+typedef struct { uint32_t g; uint32_t s; uint32_t t; uint32_t status; } jingcobu_cofactors;
+
+/* An h and the factors held beside it: a plain value, which the host keeps, copies and drops as it likes. Its fields are the
+ * implementation's: a state is made by jingcobu_factors_start and changed by jingcobu_factors_arrive and _leave alone. */
+typedef struct {
+    uint32_t n;
+    uint32_t h_len;
+    uint32_t h[49];
+    uint16_t number[16];
+    uint32_t degree[16];
+    uint32_t resultant[16];
+} jingcobu_factors;
+
+/* A state that is handed back. */
+typedef struct { jingcobu_factors factors; uint32_t status; } jingcobu_held;
+
 /* share[0] to share[3] belong to the groups 1 to 4. */
 typedef struct { uint32_t share[4]; uint32_t status; } jingcobu_plan;
 
@@ -36,20 +54,22 @@ typedef struct { uint32_t share[4]; uint32_t status; } jingcobu_plan;
 enum jingcobu_status {
     JINGCOBU_OK = 0,
     JINGCOBU_BAD_MODULUS = 1,       /* n is 0 or 1 */
-    JINGCOBU_BAD_LENGTH = 2,        /* f or g has no word or more than 49; for a product also d + e above 48 */
-    JINGCOBU_BAD_WORD = 3,          /* a word of f or g is n or more */
+    JINGCOBU_BAD_LENGTH = 2,        /* f, g or h has no word or more than 49; for a product also d + e above 48 */
+    JINGCOBU_BAD_WORD = 3,          /* a word of f, g or h, or a residue a or b, is n or more */
     JINGCOBU_LEAD_NO_UNIT = 4,      /* division: the divisor's top word is not a unit */
     JINGCOBU_NO_UNIT_FACTOR = 5,    /* not a unit polynomial times a monic one; inverse: not a unit polynomial */
     JINGCOBU_SHORT_RESULT = 6,      /* a result buffer (out, u or v, the words read, the text written) is too short */
     JINGCOBU_SHORT_WORK = 7,        /* work has fewer than JINGCOBU_WORK words */
     JINGCOBU_NO_FRAME = 8,          /* the line is not a frame */
     JINGCOBU_EMPTY_TOP = 10,        /* frames only: the top word of f or g is zero */
+    JINGCOBU_FACTORS_FULL = 13,     /* factors: 16 are held, or the sent degrees would add up to more than 48 */
+    JINGCOBU_BAD_NUMBER = 14,       /* factors: the number is 0, or is held already on arrival, or is not held on leaving */
     JINGCOBU_BAD_FRAMES = 15,       /* shares: the number of frames is 0 or above 1024 */
     JINGCOBU_NO_TEXT = 17           /* the text is not one of the notation, or has a power above 48 */
 };
 
-/* The words that work needs. After a resultant or a reduced resultant is answered, ALL words of work are zero, however many
- * there are. */
+/* The words that work needs. After a resultant, a reduced resultant or the arrival of a factor is answered, ALL words of work are
+ * zero, however many there are. */
 #define JINGCOBU_WORK 8192
 
 /* Words that always suffice for a cofactor: 31 * 48 + 1. */
@@ -88,9 +108,40 @@ jingcobu_answer jingcobu_resultant(uint32_t n, const uint32_t *f, size_t f_len, 
  *
  * u and v need L = K * max(d, e) + 1 words each, where 2^K is the largest power of 2 that is at most n. After an answer the first
  * L words of u and of v hold cofactors, constant first, zeros above them: u f + v g is the constant D modulo n. Words beyond the
- * first L are left as they were found. Refusals: 1, 2, 3, 6, 7. */
+ * first L are left as they were found. Which cofactors come back is fixed for d = e = 0 alone: L is 1 then, and u[0] and v[0] are
+ * the s and t of jingcobu_gcd(n, f[0], g[0]). Refusals: 1, 2, 3, 6, 7. */
 jingcobu_answer jingcobu_reduced_resultant(uint32_t n, const uint32_t *f, size_t f_len, const uint32_t *g, size_t g_len,
                                            uint32_t *u, size_t u_len, uint32_t *v, size_t v_len, uint32_t *work, size_t work_len);
+
+/* The greatest common divisor g of a, b and n, from 1 to n, for residues a and b, each below n; it is n where both are 0. s and t
+ * are its least cofactors, each below n: s is the least number from 0 upward for which some t makes s a + t b equal to g modulo n,
+ * and t is then the least that does. Refusals: 1, 3 (a or b is n or more). */
+jingcobu_cofactors jingcobu_gcd(uint32_t n, uint32_t a, uint32_t b);
+
+/* A product whose factors come and go: one h, and beside it at most 16 factors, each under a number from 1 to 65535 that the host
+ * chooses. The resultant of the product of the factors held with h can be read at any time.
+ *
+ * A state goes in by value and comes back by value; after a refusal the state that comes back is the one that was sent. What is
+ * said here of the factors held and of readings holds for a state that an answered start made and only these calls changed. A
+ * call on any other state answers or refuses, and does no harm; one whose n is 0 or 1 every call refuses with 1. */
+
+/* The state with n and h and no factor. A refused start hands back zeros in every field. Refusals: 1, 2, 3. */
+jingcobu_held jingcobu_factors_start(uint32_t n, const uint32_t *h, size_t h_len);
+
+/* The state with the factor f more, under its number. Only f's sent degree and its resultant with h are kept.
+ *
+ * Refusals: 1, 2, 3, 14 (the number is 0 or is held already), 13 (16 factors are held, or the sent degrees of those and of f add up
+ * to more than 48), 7. */
+jingcobu_held jingcobu_factors_arrive(jingcobu_factors state, uint16_t number, const uint32_t *f, size_t f_len,
+                                      uint32_t *work, size_t work_len);
+
+/* The state without the factor under that number, which is free again; also where its resultant with h is a zero divisor.
+ * Refusals: 1, 14 (the number is 0 or is not held). */
+jingcobu_held jingcobu_factors_leave(jingcobu_factors state, uint16_t number);
+
+/* The resultant of the product of the factors held with h, the product in its summed sent degree: what jingcobu_resultant answers
+ * for the multiplied factors and h. With no factor held the product is the constant 1, and the value is 1. Refusals: 1. */
+jingcobu_answer jingcobu_factors_read(jingcobu_factors state);
 
 /* Polynomials as text, without blanks: terms from high power to low, joined by +, each power at most once. A term is a coefficient
  * from 1 to n - 1, then nothing for power 0, *x for power 1, *x^k for a higher k. Numbers are decimal without leading zeros. The

@@ -1,6 +1,7 @@
 /* A C host that tries the services through the header: the stored pairs with their numbers, cofactors, products word by word, true
- * degrees, texts written, read and damaged, shares of runs, what becomes of every word and byte of every buffer, each refusal and
- * their order, the ends of the ranges, and the law of products on drawn triples.
+ * degrees, least cofactors of two residues, factors that come and go, texts written, read and damaged, shares of runs, what becomes
+ * of every word and byte of every buffer, each refusal and their order, the ends of the ranges, and the law of products on drawn
+ * triples.
  * It reads crates/vectors/stdin and crates/vectors/stdout, and says "FAILED" and exits with 1 where something is not as it should
  * be. Build and run: make -C tests (under a stack of 256 KiB; the output is held to the file `expected`). */
 #include <stdio.h>
@@ -10,6 +11,7 @@
 
 #define LEAST_PAIRS 639
 #define TRIPLES 3000
+#define HISTORIES 48
 #define MOST 49
 #define MARK 0xabcdef01u
 #define BYTE_MARK 0xa7
@@ -85,6 +87,20 @@ static int below(const uint32_t *b, size_t l, uint32_t n)
 {
     for (size_t i = 0; i < l; i++) if (b[MARGIN + i] >= n) return 0;
     return 1;
+}
+
+static uint32_t common_divisor(uint32_t a, uint32_t b)
+{
+    while (b) { uint32_t c = a % b; a = b; b = c; }
+    return a;
+}
+
+/* whether s and t are the least cofactors of g = gcd(a, b, n): they fit, and two s that fit differ by a multiple of h / g, with
+ * h = gcd(b, n), two t that fit with one s by a multiple of n / h */
+static int least(uint32_t n, uint32_t a, uint32_t b, uint32_t g, uint32_t s, uint32_t t)
+{
+    uint32_t h = common_divisor(b, n);
+    return ((uint64_t) s * a % n + (uint64_t) t * b % n) % n == g % n && s < h / g && t < n / h;
 }
 
 /* word k of the product of f and g */
@@ -312,7 +328,90 @@ static uint32_t reduced(uint32_t n, const uint32_t *f, size_t fl, const uint32_t
     expect(kept_but(v, COFACTOR_ROOM, l), "reduced: words of v beyond L are unchanged", where);
     expect(below(u, l, n) && below(v, l, n), "reduced: the words of the cofactors are below n", where);
     expect(combines(n, f, fl, g, gl, l, a.value), "reduced: the cofactors combine f and g to D", where);
+    if (fl == 1 && gl == 1 && a.value)
+        expect(least(n, f[0], g[0], a.value, u[MARGIN], v[MARGIN]), "reduced: the cofactors of two constants are the least", where);
     return a.value ? a.value : 1;
+}
+
+static jingcobu_cofactors gcd(uint32_t n, uint32_t a, uint32_t b, uint32_t status, const char *where)
+{
+    jingcobu_cofactors c = jingcobu_gcd(n, a, b);
+    expect(c.status == status, "gcd: the status", where);
+    if (status != JINGCOBU_OK) {
+        expect(c.g == 0 && c.s == 0 && c.t == 0, "gcd refused: the values are 0", where);
+        return c;
+    }
+    uint32_t g = common_divisor(common_divisor(a, b), n);
+    expect(c.g == g, "gcd: the greatest common divisor of a, b and n", where);
+    expect(least(n, a, b, g, c.s, c.t), "gcd: the least s, and then the least t", where);
+    return c;
+}
+
+/* ---- the calls on a state of factors. The fields are looked at one by one, so that no bits between them count. */
+
+static int same_state(const jingcobu_factors *s, const jingcobu_factors *r)
+{
+    return s->n == r->n && s->h_len == r->h_len && !memcmp(s->h, r->h, sizeof s->h) && !memcmp(s->number, r->number, sizeof s->number)
+        && !memcmp(s->degree, r->degree, sizeof s->degree) && !memcmp(s->resultant, r->resultant, sizeof s->resultant);
+}
+
+static jingcobu_factors start(uint32_t n, const uint32_t *h, size_t hl, uint32_t status, const char *where)
+{
+    static const jingcobu_factors zeros;
+    copy(h, hl, NULL, 0);
+    jingcobu_held a = jingcobu_factors_start(n, h, hl);
+    expect(a.status == status, "start: the status", where);
+    expect(same(h, hl, NULL, 0), "start: h is only read", where);
+    jingcobu_answer b = jingcobu_factors_read(a.factors);
+    if (status != JINGCOBU_OK) {
+        expect(same_state(&a.factors, &zeros), "start refused: zeros are handed back", where);
+        expect(b.value == 0 && b.status == JINGCOBU_BAD_MODULUS, "start refused: a reading is refused with 1", where);
+    } else {
+        expect(b.value == 1 && b.status == JINGCOBU_OK, "start: with no factor held the reading is 1", where);
+    }
+    return a.factors;
+}
+
+static jingcobu_factors arrive(jingcobu_factors s, uint16_t number, const uint32_t *f, size_t fl, size_t wl, uint32_t status,
+                               const char *where)
+{
+    jingcobu_factors sent = s;
+    mark(work, WORK_ROOM);
+    copy(f, fl, NULL, 0);
+    jingcobu_held a = jingcobu_factors_arrive(s, number, f, fl, lent(work, wl), wl);
+    expect(a.status == status, "arrival: the status", where);
+    expect(same(f, fl, NULL, 0), "arrival: f is only read", where);
+    expect(same_state(&s, &sent), "arrival: the host's own copy is as it was", where);
+    if (status != JINGCOBU_OK) {
+        expect(same_state(&a.factors, &sent), "arrival refused: the state sent is handed back", where);
+        expect(kept_but(work, WORK_ROOM, 0), "arrival refused: the working words are as found", where);
+        return sent;
+    }
+    expect(all(work, 0, wl, 0), "arrival: all working words are zero", where);
+    expect(kept_but(work, WORK_ROOM, wl), "arrival: words that are not lent", where);
+    return a.factors;
+}
+
+static jingcobu_factors leave(jingcobu_factors s, uint16_t number, uint32_t status, const char *where)
+{
+    jingcobu_factors sent = s;
+    jingcobu_held a = jingcobu_factors_leave(s, number);
+    expect(a.status == status, "leaving: the status", where);
+    expect(same_state(&s, &sent), "leaving: the host's own copy is as it was", where);
+    if (status == JINGCOBU_OK) return a.factors;
+    expect(same_state(&a.factors, &sent), "leaving refused: the state sent is handed back", where);
+    return sent;
+}
+
+static uint32_t reading(jingcobu_factors s, uint32_t status, const char *where)
+{
+    jingcobu_factors sent = s;
+    jingcobu_answer a = jingcobu_factors_read(s);
+    expect(a.status == status, "reading: the status", where);
+    expect(same_state(&s, &sent), "reading: the host's own copy is as it was", where);
+    if (status != JINGCOBU_OK) expect(a.value == 0, "reading refused: the value is 0", where);
+    else expect(a.value < s.n, "reading: below n", where);
+    return a.value;
 }
 
 /* ---- the stored pairs */
@@ -481,6 +580,7 @@ static void orders_of_one(void)
             uint32_t too_short = set & SHORT ? JINGCOBU_SHORT_RESULT : 0;
             snprintf(where, sizeof where, "set %d of one's reasons, %d", set, other);
             degree(n, fl ? f : NULL, fl, three, where);
+            start(n, fl ? f : NULL, fl, three, where);
             write_text(n, fl ? f : NULL, fl, tl, three ? three : too_short, where);
             read_text(n, *text ? (const uint8_t *) text : NULL, strlen(text), wl, read ? read : too_short, where);
             sets++;
@@ -506,6 +606,8 @@ static void words(void)
                 product(11, f, fl, g, gl, 49, status, where);
                 one_word(11, f, fl, g, gl, 49, k, status, where);
                 degree(11, second ? g : f, MOST, status, where);
+                start(11, second ? g : f, MOST, status, where);
+                arrive(start(11, f + (k + 1) % MOST, 1, JINGCOBU_OK, where), 1, second ? g : f, MOST, 8192, status, where);
                 write_text(11, second ? g : f, MOST, 800, status, where);
             }
 }
@@ -522,6 +624,8 @@ static void ends(void)
         product(n, f, 1, g, 1, 1, JINGCOBU_BAD_MODULUS, "n below 2");
         one_word(n, f, 1, g, 1, 1, 0, JINGCOBU_BAD_MODULUS, "n below 2");
         degree(n, f, 1, JINGCOBU_BAD_MODULUS, "n below 2");
+        gcd(n, 0, 0, JINGCOBU_BAD_MODULUS, "n below 2");
+        start(n, f, 1, JINGCOBU_BAD_MODULUS, "n below 2");
         write_text(n, f, 1, 800, JINGCOBU_BAD_MODULUS, "n below 2");
         read_text(n, (const uint8_t *) "0", 1, 49, JINGCOBU_BAD_MODULUS, "n below 2");
     }
@@ -529,6 +633,9 @@ static void ends(void)
         int right = fl >= 1 && fl <= 49;
         snprintf(where, sizeof where, "%zu words", fl);
         degree(2, fl ? f : NULL, fl, right ? JINGCOBU_OK : JINGCOBU_BAD_LENGTH, where);
+        jingcobu_factors s = start(2, fl ? f : NULL, fl, right ? JINGCOBU_OK : JINGCOBU_BAD_LENGTH, where);
+        if (right) arrive(s, 1, g, 50 - fl, 8192, JINGCOBU_OK, where);
+        arrive(start(2, g, 1, JINGCOBU_OK, where), 1, fl ? f : NULL, fl, 8192, right ? JINGCOBU_OK : JINGCOBU_BAD_LENGTH, where);
         write_text(2, fl ? f : NULL, fl, 800, right ? JINGCOBU_OK : JINGCOBU_BAD_LENGTH, where);
         read_text(2, (const uint8_t *) "1*x", 3, fl, fl >= 49 ? JINGCOBU_OK : JINGCOBU_SHORT_RESULT, where);
     }
@@ -778,6 +885,343 @@ static void runs(void)
     printf("%ld runs shared\n", plans);
 }
 
+/* ---- the gcd of two residues with its least cofactors */
+
+/* Every pair up to n = 24 against a search from 0 upward, also as two constants of the reduced resultant; the refusals in their
+ * order; the ends of the range; drawn pairs. */
+static void gcds(void)
+{
+    static const uint32_t moduli[] = { 25, 30, 36, 210, 65536, 65537, 1000000, 223092870, 2147483648u, 3486784401u, 4294967291u, 4294967295u };
+    long pairs = 0, drawn = 0;
+    char where[60];
+    for (uint32_t n = 2; n <= 24; n++)
+        for (uint32_t a = 0; a < n; a++)
+            for (uint32_t b = 0; b < n; b++) {
+                uint32_t g = common_divisor(common_divisor(a, b), n), s = 0, t = 0;
+                snprintf(where, sizeof where, "%u and %u modulo %u", a, b, n);
+                while (s < n && (s * a + t * b) % n != g % n) if (++t == n) { t = 0; s++; }
+                jingcobu_cofactors c = gcd(n, a, b, JINGCOBU_OK, where);
+                expect(c.s == s, "gcd: s is the first that fits", where);
+                expect(c.t == t, "gcd: t is the first that fits", where);
+                expect(reduced(n, &a, 1, &b, 1, 1, 1, 8192, JINGCOBU_OK, where) == g, "reduced: D of two constants is their gcd", where);
+                expect(u[MARGIN] == s && v[MARGIN] == t, "reduced: the cofactors of two constants are the first that fit", where);
+                pairs++;
+            }
+    for (uint32_t n = 0; n < 5; n++)
+        for (uint32_t a = 0; a < 7; a++)
+            for (uint32_t b = 0; b < 7; b++) {
+                uint32_t large_a = a == 6 ? 4294967295u : a, large_b = b == 6 ? 4294967295u : b;
+                snprintf(where, sizeof where, "%u and %u modulo %u", large_a, large_b, n);
+                gcd(n, large_a, large_b, n < 2 ? JINGCOBU_BAD_MODULUS : a >= n || b >= n ? JINGCOBU_BAD_WORD : JINGCOBU_OK, where);
+            }
+    for (size_t m = 0; m < sizeof moduli / sizeof *moduli; m++) {
+        uint32_t n = moduli[m], ends[] = { 0, 1, 2, n / 2, n / 3, n - 2, n - 1, n, n + 1, 4294967295u };
+        for (size_t i = 0; i < 100; i++) {
+            uint32_t a = ends[i % 10], b = ends[i / 10];
+            snprintf(where, sizeof where, "%u and %u modulo %u", a, b, n);
+            gcd(n, a, b, a >= n || b >= n ? JINGCOBU_BAD_WORD : JINGCOBU_OK, where);
+        }
+        for (int i = 0; i < 400; i++) {
+            uint32_t small = 1 + draw() % 60, a = draw() % n, b = draw() % n;
+            if (i % 2) { a = (uint32_t) ((uint64_t) a * small % n); b = (uint32_t) ((uint64_t) b * (1 + draw() % 60) % n); }
+            if (i % 4 == 3) b = (uint32_t) ((uint64_t) a * small % n);
+            snprintf(where, sizeof where, "%u and %u modulo %u", a, b, n);
+            jingcobu_cofactors c = gcd(n, a, b, JINGCOBU_OK, where);
+            if (i % 8 == 0) {
+                uint32_t D = reduced(n, &a, 1, &b, 1, 1489, 1489, 8192, JINGCOBU_OK, where);
+                expect(D == c.g, "reduced: D of two constants is their gcd", where);
+                expect(u[MARGIN] == c.s && v[MARGIN] == c.t, "reduced: the cofactors of two constants are those of their gcd", where);
+            }
+            drawn++;
+        }
+    }
+    jingcobu_cofactors c = jingcobu_gcd(12, 8, 6), d = jingcobu_gcd(12, 0, 0);
+    expect(c.g == 2 && c.s == 1 && c.t == 1 && c.status == 0, "g = 2, s = 1, t = 1", "8 and 6 modulo 12");
+    expect(d.g == 12 && d.s == 0 && d.t == 0 && d.status == 0, "g = 12, s = 0, t = 0", "0 and 0 modulo 12");
+    printf("%ld pairs of residues against a search, %ld drawn\n", pairs, drawn);
+}
+
+/* ---- factors that come and go */
+
+/* What is held, kept beside the state: so nothing here rests on the state's fields. */
+typedef struct { uint16_t number; size_t length; uint32_t f[MOST]; } factor;
+typedef struct { uint32_t n; size_t h_len, count, degrees; uint32_t h[MOST]; factor held[16]; jingcobu_factors state; } holding;
+
+/* the place of a number in what is held, or the count where it is not held */
+static size_t place(const holding *x, uint16_t number)
+{
+    size_t i = 0;
+    while (i < x->count && x->held[i].number != number) i++;
+    return i;
+}
+
+static void begin(holding *x, uint32_t n, const uint32_t *h, size_t hl, const char *where)
+{
+    x->n = n;
+    x->h_len = hl;
+    x->count = x->degrees = 0;
+    memcpy(x->h, h, hl * sizeof *h);
+    x->state = start(n, h, hl, JINGCOBU_OK, where);
+}
+
+/* the status that an arrival should have; f may be of any length */
+static uint32_t arrival_status(const holding *x, uint16_t number, const uint32_t *f, size_t fl, size_t wl)
+{
+    if (fl < 1 || fl > MOST) return JINGCOBU_BAD_LENGTH;
+    for (size_t i = 0; i < fl; i++) if (f[i] >= x->n) return JINGCOBU_BAD_WORD;
+    if (number == 0 || place(x, number) < x->count) return JINGCOBU_BAD_NUMBER;
+    if (x->count == 16 || x->degrees + fl - 1 > 48) return JINGCOBU_FACTORS_FULL;
+    return wl < JINGCOBU_WORK ? JINGCOBU_SHORT_WORK : JINGCOBU_OK;
+}
+
+static uint32_t comes(holding *x, uint16_t number, const uint32_t *f, size_t fl, size_t wl, const char *where)
+{
+    uint32_t status = arrival_status(x, number, f, fl, wl);
+    x->state = arrive(x->state, number, fl ? f : NULL, fl, wl, status, where);
+    if (status) return status;
+    factor *a = &x->held[x->count++];
+    a->number = number;
+    a->length = fl;
+    memcpy(a->f, f, fl * sizeof *f);
+    x->degrees += fl - 1;
+    return status;
+}
+
+static uint32_t goes(holding *x, uint16_t number, const char *where)
+{
+    size_t i = place(x, number);
+    uint32_t status = number == 0 || i == x->count ? JINGCOBU_BAD_NUMBER : JINGCOBU_OK;
+    x->state = leave(x->state, number, status, where);
+    if (status) return status;
+    x->degrees -= x->held[i].length - 1;
+    x->held[i] = x->held[--x->count];
+    return status;
+}
+
+/* The reading against the resultant worked afresh from the multiplied factors; the factors are multiplied from the constant 1. */
+static uint32_t reads(const holding *x, const char *where)
+{
+    uint32_t p[MOST] = { 1 };
+    size_t l = 1;
+    for (size_t i = 0; i < x->count; i++) {
+        product(x->n, p, l, x->held[i].f, x->held[i].length, 60, JINGCOBU_OK, where);
+        l += x->held[i].length - 1;
+        memcpy(p, out + MARGIN, l * sizeof *p);
+    }
+    expect(l == x->degrees + 1, "the sent degree of the multiplied factors is the sum", where);
+    uint32_t r = reading(x->state, JINGCOBU_OK, where), afresh = resultant(x->n, p, l, x->h, x->h_len, 8192, JINGCOBU_OK, where);
+    expect(r == afresh, "reading: the resultant of the multiplied factors with h", where);
+    return r;
+}
+
+/* The ends: sixteen factors and a seventeenth, the summed degrees 48 and 49, and a factor that leaves though its resultant is a zero
+ * divisor. 4294049777 is 65521 times 65537: the readings are units there, so each of the sixteen counts. */
+static void places(void)
+{
+    static holding x;
+    uint32_t h[] = { 5, 1, 0, 2 }, f[MOST + 1], one = 1, five = 5;
+    for (size_t j = 0; j < 8; j++) {
+        uint32_t n = j % 2 ? 12 : 4294049777u;
+        size_t d = j / 2;                                                                   /* sixteen times 3 is 48 */
+        for (size_t i = 0; i <= MOST; i++) f[i] = draw() % n;
+        begin(&x, n, h, 4, "sixteen factors");
+        for (uint16_t k = 0; k < 16; k++) {
+            expect(comes(&x, (uint16_t) (65535 - k), f + k, d + 1, 8192, "sixteen factors") == JINGCOBU_OK, "are held", "sixteen factors");
+            reads(&x, "sixteen factors");
+        }
+        expect(comes(&x, 1, &five, 1, 8192, "a seventeenth") == JINGCOBU_FACTORS_FULL, "is refused with 13", "a seventeenth");
+        reads(&x, "a seventeenth");
+        for (uint16_t k = 0; k < 16; k++) {                                                 /* each place is free again */
+            expect(goes(&x, (uint16_t) (65535 - (5 * k + 3) % 16), "one of sixteen") == JINGCOBU_OK, "leaves", "one of sixteen");
+            expect(comes(&x, (uint16_t) (k + 1), f + 2 * k, d + 1, 8192, "in its place") == JINGCOBU_OK, "comes", "in its place");
+            expect(comes(&x, 100, &five, 1, 8192, "a seventeenth") == JINGCOBU_FACTORS_FULL, "is refused with 13", "a seventeenth");
+            expect(common_divisor(reads(&x, "in its place"), n) == 1 || n == 12, "the reading is a unit", "in its place");
+        }
+        for (uint16_t k = 16; k > 0; k--) goes(&x, k, "all leave");
+        expect(reads(&x, "none held any more") == 1, "the reading is 1", "none held any more");
+    }
+    for (size_t i = 0; i <= MOST; i++) f[i] = (uint32_t) (7 * i + 1) % 12;
+    for (size_t d = 0; d <= 48; d++) {
+        char where[60];
+        snprintf(where, sizeof where, "degree %zu, and 48 in all", d);
+        begin(&x, 12, h, 4, where);
+        expect(comes(&x, 7, f, d + 1, 8192, where) == JINGCOBU_OK, "is held", where);
+        expect(d == 0 || comes(&x, 8, f, 50 - d, 8192, where) == JINGCOBU_FACTORS_FULL, "49 is refused with 13", where);
+        expect(comes(&x, 8, f, 49 - d, 8192, where) == JINGCOBU_OK, "48 is held", where);
+        reads(&x, where);
+        expect(comes(&x, 9, f, 2, 8192, where) == JINGCOBU_FACTORS_FULL, "then 49 is refused with 13", where);
+        expect(comes(&x, 9, &one, 1, 8192, where) == JINGCOBU_OK, "and a constant is held", where);
+        reads(&x, where);
+        goes(&x, 7, where);
+        expect(comes(&x, 7, f + 1, d + 1, 8192, where) == JINGCOBU_OK, "its degree is free again", where);
+        reads(&x, where);
+    }
+    /* modulo 12 the resultants of x + 4, x + 3 and 5 with x are 8, 9 and 5 */
+    uint32_t four[] = { 4, 1 }, three[] = { 3, 1 }, X[] = { 0, 1 };
+    begin(&x, 12, X, 2, "zero divisors");
+    comes(&x, 4, four, 2, 8192, "zero divisors");
+    expect(reads(&x, "zero divisors") == 8, "the reading is 8", "zero divisors");
+    comes(&x, 3, three, 2, 8192, "zero divisors");
+    expect(reads(&x, "zero divisors") == 0, "the reading is 0", "zero divisors");
+    comes(&x, 5, &five, 1, 8192, "zero divisors");
+    expect(reads(&x, "zero divisors") == 0, "the reading is 0 still", "zero divisors");
+    expect(goes(&x, 4, "zero divisors") == JINGCOBU_OK, "one leaves", "zero divisors");
+    expect(reads(&x, "zero divisors") == 9, "the reading is 9", "zero divisors");
+    expect(goes(&x, 3, "zero divisors") == JINGCOBU_OK, "the other leaves", "zero divisors");
+    expect(reads(&x, "zero divisors") == 5, "the reading is 5", "zero divisors");
+    comes(&x, 4, four + 1, 1, 8192, "zero divisors");
+    comes(&x, 3, X, 2, 8192, "zero divisors");
+    expect(reads(&x, "a resultant of 0") == 0, "the reading is 0", "a resultant of 0");
+    expect(goes(&x, 3, "a resultant of 0") == JINGCOBU_OK, "leaves", "a resultant of 0");
+    expect(reads(&x, "a resultant of 0") == 5, "the reading is 5", "a resultant of 0");
+}
+
+/* Every set of reasons at once, in each way a reason can come: the status is the first of 1, 2, 3, 14, 13, 7. */
+static void factor_orders(void)
+{
+    enum { N = 1, F = 2, WF = 4, NUMBER = 8, FULL = 16, WORK = 32, SETS = 64 };
+    static holding sixteen, some;
+    uint32_t h[] = { 5, 1, 0, 2 }, f[60];
+    char where[60];
+    long sets = 0;
+    for (int i = 0; i < 60; i++) f[i] = (uint32_t) (5 * i + 1) % 12;
+    begin(&sixteen, 12, h, 4, "sixteen");
+    for (uint16_t k = 1; k <= 16; k++) comes(&sixteen, k, f + k, 2, 8192, "sixteen");
+    begin(&some, 12, h, 4, "some");
+    comes(&some, 1, f, 41, 8192, "some");
+    comes(&some, 2, f, 5, 8192, "some");
+    for (int other = 0; other < 32; other++)
+        for (int set = 0; set < SETS; set++) {
+            int few = other & 1, last = other & 2, zero = other & 4, summed = other & 8;
+            jingcobu_factors s = (set & FULL) && !summed ? sixteen.state : some.state;
+            uint32_t words[60];
+            size_t fl = set & F ? few ? 0 : 50 : (set & FULL) && summed ? 6 : 5;            /* 44 are held: 48, or 49 */
+            memcpy(words, f, sizeof words);
+            if ((set & WF) && fl) words[last ? fl - 1 : 0] = other & 16 ? 12 : 4294967295u;
+            if (set & N) s.n = few ? 0 : 1;
+            uint16_t number = set & NUMBER ? zero ? 0 : last ? 2 : 1 : 20;
+            size_t wl = set & WORK ? zero ? 0 : 8191 : last ? 8192 : 9000;
+            uint32_t status = set & N ? JINGCOBU_BAD_MODULUS : set & F ? JINGCOBU_BAD_LENGTH : set & WF ? JINGCOBU_BAD_WORD
+                : set & NUMBER ? JINGCOBU_BAD_NUMBER : set & FULL ? JINGCOBU_FACTORS_FULL : set & WORK ? JINGCOBU_SHORT_WORK : JINGCOBU_OK;
+            snprintf(where, sizeof where, "set %d of an arrival's reasons, %d", set, other);
+            arrive(s, number, fl ? words : NULL, fl, wl, status, where);
+            uint32_t one = set & N ? JINGCOBU_BAD_MODULUS : JINGCOBU_OK;
+            leave(s, set & NUMBER ? zero ? 0 : 21 : last ? 2 : 1, one ? one : set & NUMBER ? JINGCOBU_BAD_NUMBER : JINGCOBU_OK, where);
+            reading(s, one, where);
+            sets++;
+        }
+    printf("%ld sets of reasons to refuse a factor\n", sets);
+}
+
+/* Drawn histories: arrivals and leavings, right and wrong, a reading after each, and now and then a return to a copy of the state. */
+static void histories(void)
+{
+    static const uint32_t moduli[] = { 4, 6, 12, 30, 36, 210, 65536, 223092870, 2147483648u, 2176782336u, 3486784401u, 4294049777u, 4294967295u };
+    static const size_t most[] = { 0, 1, 3, 6, 12, 48 };
+    static holding x, kept;
+    uint32_t f[60], h[MOST];
+    long calls = 0, answered[2] = { 0, 0 }, refused[20] = { 0 }, nonzero = 0, divisors = 0;
+    char where[60];
+    for (int i = 0; i < HISTORIES; i++) {
+        uint32_t n = moduli[draw() % (sizeof moduli / sizeof *moduli)];
+        size_t e = i % 20 == 0 ? 48 : draw() % 7, d = most[i % 6];
+        for (size_t k = 0; k <= e; k++) h[k] = draw() % n * (draw() % 5 != 0);
+        if (i % 7 == 0) h[e] = 0;
+        begin(&x, n, h, e + 1, "a history");
+        kept = x;
+        for (int j = 0; j < 200; j++) {
+            uint16_t number = (uint16_t) (draw() % 24 * (i % 2 ? 1 : 2849));                /* 23 times 2849 is 65527 */
+            uint32_t kind = draw() % 16;
+            snprintf(where, sizeof where, "history %d, call %d", i, j);
+            if (kind < 9) {
+                size_t fl = draw() % 40 ? 1 + draw() % (d + 1) : draw() % 2 * 50, wl = draw() % 30 ? 8192 : 8191;
+                uint32_t small = draw() % 3 ? 1 : 1 + draw() % 12;
+                for (size_t k = 0; k < fl; k++) f[k] = (uint32_t) ((uint64_t) (draw() % n) * small % n);
+                if (fl && draw() % 6 == 0) f[fl - 1] = 0;
+                if (fl && draw() % 40 == 0) f[draw() % fl] = n;
+                uint32_t status = comes(&x, number, f, fl, wl, where);
+                if (status) refused[status]++; else answered[0]++;
+            } else if (kind < 15) {
+                if (x.count && draw() % 3) number = x.held[draw() % x.count].number;
+                size_t k = place(&x, number);
+                if (k < x.count) {
+                    uint32_t r = resultant(n, x.held[k].f, x.held[k].length, h, e + 1, 8192, JINGCOBU_OK, where);
+                    if (common_divisor(r, n) > 1) divisors++;
+                }
+                uint32_t status = goes(&x, number, where);
+                if (status) refused[status]++; else answered[1]++;
+            } else if (draw() % 2) {
+                kept = x;
+            } else {
+                x = kept;
+            }
+            if (reads(&x, where)) nonzero++;
+            calls++;
+        }
+    }
+    printf("%ld calls in %d histories: %ld factors came, %ld left, %ld of them with a resultant that is no unit; %ld readings are not 0\n",
+           calls, HISTORIES, answered[0], answered[1], divisors, nonzero);
+    printf("refused in them: %ld with 2, %ld with 3, %ld with 14, %ld with 13, %ld with 7\n",
+           refused[2], refused[3], refused[14], refused[13], refused[7]);
+}
+
+/* the first of the sixteen places that has the number k, or 16 */
+static size_t first_place(const uint16_t *number, uint16_t k)
+{
+    size_t i = 0;
+    while (i < 16 && number[i] != k) i++;
+    return i;
+}
+
+/* States that no start made: some fields are those of a right state, the others any bits. Nothing is said of readings but that they
+ * are residues; each call answers or refuses, by the fields as they are. */
+static void any_states(void)
+{
+    static holding x;
+    uint32_t h[] = { 5, 1, 0, 2 }, f[60];
+    long states = 0, answered = 0;
+    char where[40];
+    begin(&x, 12, h, 4, "any state");
+    for (int i = 0; i < 6000; i++) {
+        jingcobu_factors s = x.state;
+        uint32_t bits = i % 3 ? draw() & draw() : 127;                                      /* in which fields */
+        snprintf(where, sizeof where, "state %d of any bits", i);
+        if (bits & 1) s.n = i % 5 ? draw() : (uint32_t) (i / 5 % 4);
+        if (bits & 2) s.h_len = i % 2 ? draw() : draw() % 60;
+        for (int k = 0; k < 49; k++) if (bits & 4) s.h[k] = draw();
+        for (int k = 0; k < 16; k++) {
+            if (bits & 8) s.number[k] = (uint16_t) (draw() % (i % 2 ? 65536 : 9));
+            if (bits & 16) s.degree[k] = i % 4 == 0 ? 1u << 30 : i % 4 == 1 ? draw() % 5 : draw();  /* sixteen times 2^30 is 2^34 */
+            if (bits & 32) s.resultant[k] = draw();
+        }
+        uint32_t n = s.n;
+        uint16_t number = (uint16_t) (draw() % 9);
+        size_t fl = 1 + draw() % 4, wl = draw() % 8 ? 8192 : 8191;
+        for (size_t k = 0; k < fl; k++) f[k] = n > 1 ? draw() % n : draw();
+        uint64_t degrees = fl - 1;
+        int large = 0;
+        for (int k = 0; k < 16; k++) degrees += s.degree[k];
+        for (size_t k = 0; k < s.h_len && k < 49; k++) if (s.h[k] >= n) large = 1;
+        size_t at = first_place(s.number, number);
+        uint32_t status = n < 2 ? JINGCOBU_BAD_MODULUS : s.h_len < 1 || s.h_len > 49 ? JINGCOBU_BAD_LENGTH : large ? JINGCOBU_BAD_WORD
+            : number == 0 || at < 16 ? JINGCOBU_BAD_NUMBER : first_place(s.number, 0) == 16 || degrees > 48 ? JINGCOBU_FACTORS_FULL
+            : wl < 8192 ? JINGCOBU_SHORT_WORK : JINGCOBU_OK;
+        jingcobu_factors r = arrive(s, number, f, fl, wl, status, where);
+        if (status == JINGCOBU_OK) {
+            answered++;
+            reading(r, JINGCOBU_OK, where);
+            leave(r, number, JINGCOBU_OK, where);
+            arrive(r, number, f, fl, wl, JINGCOBU_BAD_NUMBER, where);
+        }
+        status = n < 2 ? JINGCOBU_BAD_MODULUS : number == 0 || at == 16 ? JINGCOBU_BAD_NUMBER : JINGCOBU_OK;
+        r = leave(s, number, status, where);
+        reading(r, n < 2 ? JINGCOBU_BAD_MODULUS : JINGCOBU_OK, where);
+        reading(s, n < 2 ? JINGCOBU_BAD_MODULUS : JINGCOBU_OK, where);
+        states++;
+    }
+    printf("%ld states of any bits, %ld of them took a factor\n", states, answered);
+}
+
 /* ---- the law of products */
 
 static void products(void)
@@ -824,6 +1268,11 @@ int main(int argc, char **argv)
     degrees();
     texts();
     runs();
+    gcds();
+    places();
+    factor_orders();
+    histories();
+    any_states();
     printf("%ld passed, %ld failed\n", tried - failed, failed);
     return failed != 0;
 }

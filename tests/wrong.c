@@ -14,6 +14,11 @@ jingcobu_degree __real_jingcobu_true_degree(uint32_t, const uint32_t *, size_t);
 jingcobu_answer __real_jingcobu_read_text(uint32_t, const uint8_t *, size_t, uint32_t *, size_t);
 jingcobu_answer __real_jingcobu_write_text(uint32_t, const uint32_t *, size_t, uint8_t *, size_t);
 jingcobu_plan __real_jingcobu_shares(uint32_t, uint32_t, uint32_t, uint32_t, uint32_t);
+jingcobu_cofactors __real_jingcobu_gcd(uint32_t, uint32_t, uint32_t);
+jingcobu_held __real_jingcobu_factors_start(uint32_t, const uint32_t *, size_t);
+jingcobu_held __real_jingcobu_factors_arrive(jingcobu_factors, uint16_t, const uint32_t *, size_t, uint32_t *, size_t);
+jingcobu_held __real_jingcobu_factors_leave(jingcobu_factors, uint16_t);
+jingcobu_answer __real_jingcobu_factors_read(jingcobu_factors);
 
 enum {
     RIGHT,
@@ -41,6 +46,20 @@ enum {
     WRITTEN_REFUSED_WIPES, WRITTEN_REFUSED_HAS_A_VALUE, WRITTEN_WRITES_F,
     SHARES_ONE_FRAME_SHORT, SHARES_OF_A_FOURTH, SHARES_FIRST_COME, SHARES_BEGIN_WITH_2, SHARES_NO_GROUP_PASSED_OVER, SHARES_TAKE_0,
     SHARES_TAKE_1025, SHARES_REFUSE_1024, SHARES_REFUSED_HAVE_COUNTS, SHARES_OF_16_BITS,
+    CONSTANTS_GREATER_U, CONSTANTS_GREATER_V, CONSTANTS_LEAST_V_FIRST, CONSTANTS_OF_ZEROS_NOT_0,
+    GCD_GREATER_S, GCD_GREATER_T, GCD_LEAST_T_FIRST, GCD_EXCHANGED, GCD_S_FROM_1, GCD_WITHOUT_N, GCD_OF_ZEROS_IS_0, GCD_TAKES_A_ABOVE_N,
+    GCD_TAKES_B_ABOVE_N, GCD_TAKES_N_1, GCD_WORDS_BEFORE_MODULUS, GCD_REFUSES_N_LESS_1, GCD_REFUSED_HAS_VALUES,
+    START_READS_0, START_WITHOUT_ZERO_TOPS, START_REFUSED_HAS_N, START_REFUSED_READS_1, START_REFUSES_49_WORDS, START_WORDS_BEFORE_LENGTH,
+    START_WRITES_H, START_FORGETS_H,
+    ARRIVAL_TWO_UNDER_ONE_NUMBER, ARRIVAL_REPLACES_THE_HELD, ARRIVAL_TAKES_NUMBER_0, ARRIVAL_SEVENTEENTH_REPLACES, ARRIVAL_REFUSES_THE_16TH,
+    ARRIVAL_TAKES_DEGREE_49, ARRIVAL_REFUSES_DEGREE_48, ARRIVAL_SUMS_32_BITS, ARRIVAL_WITHOUT_ZERO_TOP, ARRIVAL_OF_EXCHANGED,
+    ARRIVAL_COUNTED_TWICE, ARRIVAL_NOT_COUNTED, ARRIVAL_OF_8_BITS, ARRIVAL_FULL_BEFORE_NUMBER, ARRIVAL_NUMBER_BEFORE_WORDS,
+    ARRIVAL_WORK_BEFORE_FULL, ARRIVAL_NUMBER_BEFORE_MODULUS, ARRIVAL_REFUSED_IS_TAKEN, ARRIVAL_REFUSED_IS_ZEROS, ARRIVAL_REFUSED_WIPES_WORK,
+    ARRIVAL_LEAVES_THE_LAST_WORKING_WORD, ARRIVAL_WRITES_BEHIND_WORK, ARRIVAL_TAKES_8191_WORDS, ARRIVAL_REFUSES_8192_WORDS, ARRIVAL_WRITES_F,
+    LEFT_STILL_COUNTED, LEFT_DEGREE_STILL_COUNTED, LEFT_NUMBER_STILL_HELD, LEFT_IS_THE_NEXT, LEFT_ARE_ALL, LEAVING_ZERO_DIVISOR_REFUSED,
+    LEAVING_UNHELD_ANSWERED, LEAVING_0_ANSWERED, LEAVING_NUMBER_BEFORE_MODULUS, LEAVING_REFUSED_IS_ZEROS, LEAVING_MODULO_1,
+    READING_0_OF_NONE, READING_WITHOUT_THE_LAST_PLACE, READING_ABOVE_N, READING_MODULO_1, READING_REFUSED_HAS_A_VALUE, READING_OF_THE_SUM,
+    READING_OF_DIVISORS,
     VERSIONS
 };
 
@@ -83,6 +102,14 @@ static uint32_t divisor(uint32_t a, uint32_t b)
     return a;
 }
 
+/* the least t that fits with s, where one does and s is below n */
+static void fit(uint32_t n, uint32_t a, uint32_t b, uint32_t g, uint32_t *s, uint32_t *t, uint32_t other)
+{
+    if (other >= n) return;
+    for (uint32_t x = 0; x < n; x++)
+        if (((uint64_t) other * a + (uint64_t) x * b) % n == g % n) { *s = other; *t = x; return; }
+}
+
 jingcobu_answer __wrap_jingcobu_reduced_resultant(uint32_t n, const uint32_t *f, size_t fl, const uint32_t *g, size_t gl, uint32_t *u,
                                                   size_t ul, uint32_t *v, size_t vl, uint32_t *work, size_t wl)
 {
@@ -114,6 +141,16 @@ jingcobu_answer __wrap_jingcobu_reduced_resultant(uint32_t n, const uint32_t *f,
     if (w == REDUCED_REFUSES_L_WORDS && ul == l) { a.value = 0; a.status = 6; }
     if (w == REDUCED_LEAVES_THE_LAST_WORKING_WORD) work[wl - 1] = 1;
     if (w == REDUCED_WRITES_G) ((uint32_t *) g)[gl - 1] = 0;
+    if (fl > 1 || gl > 1) return a;
+    uint32_t h = divisor(g[0], n);
+    if (w == CONSTANTS_GREATER_U && n < 65536) fit(n, f[0], g[0], a.value, u, v, u[0] + h / a.value);
+    if (w == CONSTANTS_GREATER_V && n - v[0] > n / h) v[0] += n / h;
+    if (w == CONSTANTS_LEAST_V_FIRST) {
+        jingcobu_cofactors c = __real_jingcobu_gcd(n, g[0], f[0]);
+        u[0] = c.t;
+        v[0] = c.s;
+    }
+    if (w == CONSTANTS_OF_ZEROS_NOT_0 && a.value == n) { u[0] = n - 1; v[0] = n - 1; }
     return a;
 }
 
@@ -289,4 +326,168 @@ jingcobu_plan __wrap_jingcobu_shares(uint32_t frames, uint32_t w1, uint32_t w2, 
     if (w == SHARES_REFUSE_1024 && frames == 1024) { memset(p.share, 0, sizeof p.share); p.status = 15; }
     if (w == SHARES_OF_16_BITS) p = __real_jingcobu_shares(frames, w1 % 65536, w2 % 65536, w3 % 65536, w4 % 65536);
     return p;
+}
+
+jingcobu_cofactors __wrap_jingcobu_gcd(uint32_t n, uint32_t a, uint32_t b)
+{
+    int w = version();
+    jingcobu_cofactors c = __real_jingcobu_gcd(n, a, b);
+    if (w == GCD_TAKES_A_ABOVE_N && c.status == 3 && b < n) c = __real_jingcobu_gcd(n, a % n, b);
+    if (w == GCD_TAKES_B_ABOVE_N && c.status == 3 && a < n) c = __real_jingcobu_gcd(n, a, b % n);
+    if (w == GCD_TAKES_N_1 && n == 1 && a == 0 && b == 0) { c.g = 1; c.status = 0; }
+    if (w == GCD_WORDS_BEFORE_MODULUS && c.status == 1 && (a >= n || b >= n)) c.status = 3;
+    if (w == GCD_REFUSED_HAS_VALUES && c.status) c.g = n;
+    if (c.status || n < 2) return c;
+    uint32_t h = divisor(b, n);
+    if (w == GCD_GREATER_S && n < 65536) fit(n, a, b, c.g, &c.s, &c.t, c.s + h / c.g);
+    if (w == GCD_GREATER_T && n - c.t > n / h) c.t += n / h;
+    if (w == GCD_LEAST_T_FIRST || w == GCD_EXCHANGED) {
+        if (w == GCD_LEAST_T_FIRST) c = __real_jingcobu_gcd(n, b, a);
+        uint32_t x = c.s;
+        c.s = c.t;
+        c.t = x;
+    }
+    if (w == GCD_S_FROM_1 && c.s == 0 && n < 65536) fit(n, a, b, c.g, &c.s, &c.t, h / c.g);
+    if (w == GCD_WITHOUT_N && (a || b)) c.g = divisor(a, b);
+    if (w == GCD_OF_ZEROS_IS_0) c.g %= n;
+    if (w == GCD_REFUSES_N_LESS_1 && a == n - 1) { c.g = c.s = c.t = 0; c.status = 3; }
+    return c;
+}
+
+/* ---- factors. Some of these look at the state's fields. */
+
+static int at(const jingcobu_factors *s, uint16_t number)
+{
+    int i = 0;
+    while (i < 16 && s->number[i] != number) i++;
+    return i;
+}
+
+static uint32_t degrees(const jingcobu_factors *s)
+{
+    uint32_t sum = 0;
+    for (int i = 0; i < 16; i++) sum += s->degree[i];
+    return sum;
+}
+
+static int large(uint32_t n, const uint32_t *f, size_t fl)
+{
+    for (size_t i = 0; i < fl; i++) if (f[i] >= n) return 1;
+    return 0;
+}
+
+jingcobu_held __wrap_jingcobu_factors_start(uint32_t n, const uint32_t *h, size_t hl)
+{
+    int w = version();
+    size_t l = hl;
+    if (w == START_WITHOUT_ZERO_TOPS) while (l > 1 && l < 50 && h[l - 1] == 0) l--;
+    jingcobu_held a = __real_jingcobu_factors_start(n, h, l);
+    if (w == START_WORDS_BEFORE_LENGTH && a.status == 2 && large(n, h, hl)) a.status = 3;
+    if (w == START_REFUSED_HAS_N && a.status) a.factors.n = n;
+    if (w == START_REFUSED_READS_1 && a.status) for (int i = 0; i < 16; i++) a.factors.resultant[i] = 1;
+    if (a.status) return a;
+    if (w == START_READS_0) a.factors.resultant[15] = 0;
+    if (w == START_REFUSES_49_WORDS && hl == 49) { memset(&a, 0, sizeof a); a.status = 2; }
+    if (w == START_WRITES_H) ((uint32_t *) h)[0] = 0;
+    if (w == START_FORGETS_H) wipe(a.factors.h, 49);
+    return a;
+}
+
+jingcobu_held __wrap_jingcobu_factors_arrive(jingcobu_factors s, uint16_t number, const uint32_t *f, size_t fl, uint32_t *work, size_t wl)
+{
+    int w = version(), i = number ? at(&s, number) : 16;
+    static uint32_t other[8192];
+    size_t l = fl;
+    if (w == ARRIVAL_WITHOUT_ZERO_TOP) while (l > 1 && l < 50 && f[l - 1] == 0) l--;
+    if (w == ARRIVAL_OF_8_BITS && number > 255) number %= 256;
+    jingcobu_held a = __real_jingcobu_factors_arrive(s, number, f, l, work, wl);
+    if (a.status == 14 && i < 16) {
+        jingcobu_factors t = s;
+        t.number[i] = 54321;                                                                /* the number of no factor of the host */
+        if (w == ARRIVAL_TWO_UNDER_ONE_NUMBER) {
+            a = __real_jingcobu_factors_arrive(t, number, f, fl, work, wl);
+            a.factors.number[i] = number;
+        }
+        if (w == ARRIVAL_REPLACES_THE_HELD)
+            a = __real_jingcobu_factors_arrive(__real_jingcobu_factors_leave(s, number).factors, number, f, fl, work, wl);
+    }
+    if (w == ARRIVAL_TAKES_NUMBER_0 && a.status == 14 && number == 0) a = __real_jingcobu_factors_arrive(s, 54321, f, fl, work, wl);
+    if (w == ARRIVAL_SEVENTEENTH_REPLACES && a.status == 13 && at(&s, 0) == 16)
+        a = __real_jingcobu_factors_arrive(__real_jingcobu_factors_leave(s, s.number[0]).factors, number, f, fl, work, wl);
+    if (w == ARRIVAL_TAKES_DEGREE_49 && a.status == 13 && degrees(&s) + fl - 1 == 49) {
+        jingcobu_factors t = s;
+        for (i = 0; i < 16 && !t.degree[i];) i++;
+        t.degree[i]--;
+        a = __real_jingcobu_factors_arrive(t, number, f, fl, work, wl);
+        a.factors.degree[i]++;
+    }
+    if (w == ARRIVAL_SUMS_32_BITS && a.status == 13 && degrees(&s) == 0) {
+        jingcobu_factors t = s;
+        wipe(t.degree, 16);
+        a = __real_jingcobu_factors_arrive(t, number, f, fl, work, wl);
+    }
+    if (w == ARRIVAL_FULL_BEFORE_NUMBER && a.status == 14 && (at(&s, 0) == 16 || degrees(&s) + fl - 1 > 48)) a.status = 13;
+    if (w == ARRIVAL_NUMBER_BEFORE_WORDS && a.status == 3 && number == 0) a.status = 14;
+    if (w == ARRIVAL_NUMBER_BEFORE_MODULUS && a.status == 1 && number == 0) a.status = 14;
+    if (w == ARRIVAL_WORK_BEFORE_FULL && a.status == 13 && wl < 8192) a.status = 7;
+    if (w == ARRIVAL_TAKES_8191_WORDS && a.status == 7 && wl == 8191) {
+        a = __real_jingcobu_factors_arrive(s, number, f, fl, other, 8192);
+        wipe(work, wl);
+        return a;
+    }
+    if (w == ARRIVAL_REFUSED_IS_TAKEN && a.status == 7) a.factors = __real_jingcobu_factors_arrive(s, number, f, fl, other, 8192).factors;
+    if (w == ARRIVAL_REFUSED_IS_ZEROS && a.status) memset(&a.factors, 0, sizeof a.factors);
+    if (w == ARRIVAL_REFUSED_WIPES_WORK && a.status) wipe(work, wl);
+    if (a.status) return a;
+    i = at(&a.factors, number);
+    if (w == ARRIVAL_OF_EXCHANGED) a.factors.resultant[i] = __real_jingcobu_resultant(s.n, s.h, s.h_len, f, fl, other, 8192).value;
+    if (w == ARRIVAL_COUNTED_TWICE) a.factors.resultant[i] = (uint32_t) ((uint64_t) a.factors.resultant[i] * a.factors.resultant[i] % s.n);
+    if (w == ARRIVAL_NOT_COUNTED) a.factors.resultant[i] = 1;
+    if (w == ARRIVAL_LEAVES_THE_LAST_WORKING_WORD) work[wl - 1] = 1;
+    if (w == ARRIVAL_WRITES_BEHIND_WORK) work[wl] = 0;
+    if (w == ARRIVAL_WRITES_F) ((uint32_t *) f)[0] = 0;
+    if (w == ARRIVAL_REFUSES_8192_WORDS && wl == 8192) { a.factors = s; a.status = 7; }
+    if (w == ARRIVAL_REFUSES_THE_16TH && at(&a.factors, 0) == 16) { a.factors = s; a.status = 13; }
+    if (w == ARRIVAL_REFUSES_DEGREE_48 && degrees(&a.factors) == 48) { a.factors = s; a.status = 13; }
+    return a;
+}
+
+jingcobu_held __wrap_jingcobu_factors_leave(jingcobu_factors s, uint16_t number)
+{
+    int w = version(), i = number ? at(&s, number) : 16;
+    jingcobu_held a = __real_jingcobu_factors_leave(s, number);
+    if (w == LEAVING_UNHELD_ANSWERED && a.status == 14 && number) a.status = 0;
+    if (w == LEAVING_0_ANSWERED && a.status == 14 && !number) a.status = 0;
+    if (w == LEAVING_NUMBER_BEFORE_MODULUS && a.status == 1 && i == 16) a.status = 14;
+    if (w == LEAVING_MODULO_1 && s.n == 1 && i < 16) a.status = 0;
+    if (w == LEAVING_REFUSED_IS_ZEROS && a.status) memset(&a.factors, 0, sizeof a.factors);
+    if (a.status || i == 16) return a;
+    if (w == LEFT_STILL_COUNTED) a.factors.resultant[i] = s.resultant[i];
+    if (w == LEFT_DEGREE_STILL_COUNTED) a.factors.degree[i] = s.degree[i];
+    if (w == LEFT_NUMBER_STILL_HELD) a.factors.number[i] = number;
+    if (w == LEFT_IS_THE_NEXT && i < 15 && s.number[i + 1]) {
+        a = __real_jingcobu_factors_leave(s, s.number[i + 1]);
+        a.factors.number[i] = s.number[i + 1];
+    }
+    if (w == LEFT_ARE_ALL)
+        for (int j = 0; j < 16; j++) if (s.number[j]) a.factors = __real_jingcobu_factors_leave(a.factors, s.number[j]).factors;
+    if (w == LEAVING_ZERO_DIVISOR_REFUSED && divisor(s.resultant[i], s.n) > 1) { a.factors = s; a.status = 14; }
+    return a;
+}
+
+jingcobu_answer __wrap_jingcobu_factors_read(jingcobu_factors s)
+{
+    int w = version(), held = 0;
+    uint64_t sum = 0;
+    jingcobu_answer a = __real_jingcobu_factors_read(s);
+    for (int i = 0; i < 16; i++) if (s.number[i]) { held++; sum += s.resultant[i]; }
+    if (w == READING_MODULO_1 && s.n == 1) a.status = 0;
+    if (w == READING_REFUSED_HAS_A_VALUE && a.status) a.value = 1;
+    if (a.status || s.n < 2) return a;
+    if (w == READING_0_OF_NONE && !held) a.value = 0;
+    if (w == READING_WITHOUT_THE_LAST_PLACE) { s.resultant[15] = 1; a = __real_jingcobu_factors_read(s); }
+    if (w == READING_ABOVE_N && a.value <= 4294967295u - s.n) a.value += s.n;
+    if (w == READING_OF_THE_SUM && held) a.value = (uint32_t) (sum % s.n);
+    if (w == READING_OF_DIVISORS && held) a.value = divisor(a.value, s.n) % s.n;
+    return a;
 }
