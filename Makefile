@@ -1,7 +1,8 @@
 # make            build/libjingcobu.a, build/libjingcobu.so and build/jingcobu-desk. Needs the Rattle kit (rt) and gcc.
 # make install    header, libraries, pkg-config file, jingcobu-desk and manual pages, under PREFIX (and DESTDIR, for packages).
 # make gp         build/libjingcobu-gp.so, for PARI/GP. Needs libpari-dev too.
-# make check      all tests of what C, Python, GP and shell users see. Needs also python3, man-db, pkg-config, pari-gp, parallel.
+# make check      all tests of what C, Python, GP and shell users see. Needs also python3, man-db, pkg-config, libpari-dev, pari-gp and
+#                 parallel; sage is tried where it is installed.
 # make dist       build/jingcobu-VERSION.tar.gz, the sources as they are committed. Needs git.
 #
 # The first number of VERSION is that of the shared library's interface: it moves when a program would have to be built anew.
@@ -68,7 +69,7 @@ build/libjingcobu-gp.so: gp/jingcobu.c include/jingcobu.h build/libjingcobu.a
 	    $(if $(filter 1,$(JINGCOBU_ALL)),-Wl$(comma)-z$(comma)defs) -lpari
 comma = ,
 
-check: check-host check-install check-python check-gp check-scaling
+check: check-host check-install check-python check-gp check-sage check-scaling check-readme
 	@echo "make check: all passed"
 
 check-host:
@@ -82,6 +83,13 @@ check-python: all
 
 check-gp: gp
 	gp/test
+
+check-sage: all
+	@if command -v sage > /dev/null; then sage examples/resultants.sage | diff -u examples/resultants.expected - && rm -f examples/*.sage.py; \
+	    else echo "SKIPPED: sage is not installed"; fi
+
+check-readme: all gp
+	tests/readme.py
 
 check-scaling: all
 	tests/scaling.sh
@@ -97,5 +105,5 @@ clean:
 	$(MAKE) -C examples clean
 	$(MAKE) -C bench clean
 
-.PHONY: all install uninstall gp check check-host check-install check-python check-gp check-scaling dist clean
+.PHONY: all install uninstall gp check check-host check-install check-python check-gp check-sage check-scaling check-readme dist clean
 include tools/build.mk
