@@ -27,7 +27,7 @@ if [ -n "$missing" ]; then
 fi
 readelf -d "$folder/lib/libjingcobu.so" | grep -q "soname: \[libjingcobu.so.${version%%.*}\]" || fail "the soname"
 readelf -d "$folder/lib/libjingcobu.so" | grep -q TEXTREL && fail "the shared library has text relocations"
-[ "$(readlink -f "$folder/lib/libjingcobu.so.${version%%.*}")" = "$(readlink -f "$folder/lib/libjingcobu.so.$version")" ] || fail "the links"
+[ "$(readlink -f "$folder/lib/libjingcobu.so.${version%%.*}")" = "$folder/lib/libjingcobu.so.$version" ] || fail "the links"
 
 # A C program, built by what pkg-config says alone, shared and static.
 cat > "$folder/small.c" << 'END'
@@ -50,6 +50,13 @@ readelf -d "$folder/shared" | grep -q "libjingcobu.so.${version%%.*}" || fail "t
 gcc -static -o "$folder/static" "$folder/small.c" $(pkg-config --static --cflags --libs jingcobu)
 [ "$("$folder/static")" = "2 0" ] || fail "the program with the static library"
 
+# The Python package beside no library and outside the sources finds the installed one.
+mkdir "$folder/elsewhere"
+cp -r python/jingcobu "$folder/elsewhere"
+said=$(unset JINGCOBU_LIBRARY && cd "$folder" && export LD_LIBRARY_PATH="$folder/lib" PYTHONPATH="$folder/elsewhere" && \
+    python3 -m jingcobu resultant 12 "2*x+3" "4*x+1")
+[ "$said" = 2 ] || fail "the Python package with the installed library"
+
 # The manual pages: no warnings, every service and every refusal, and the examples.
 for page in man1/jingcobu-desk.1 man3/jingcobu.3; do
     warnings=$(MANWIDTH=100 man --warnings -l "$folder/share/man/$page" 2>&1 > "$folder/page" || echo failed)
@@ -60,7 +67,10 @@ for name in $(grep -oE '^    JINGCOBU_[A-Z_]+ = ' include/jingcobu.h | tr -d ' =
     grep -q "$name" man/jingcobu.3 || fail "jingcobu.3 does not name $name"
 done
 # the blocks of a page, one file each: .EX to .EE
-blocks() { awk -v to="$2" '/^\.EE/ { in_block = 0; close(to n) } in_block { gsub(/\\-/, "-"); gsub(/\\e/, "\\"); print > (to n) } /^\.EX/ { in_block = 1; n++ }' "$1"; }
+blocks() {
+    awk -v to="$2" '/^\.EE/ { inside = 0; close(to n) } inside { gsub(/\\-/, "-"); gsub(/\\e/, "\\"); print > (to n) }
+        /^\.EX/ { inside = 1; n++ }' "$1"
+}
 blocks man/jingcobu-desk.1 "$folder/desk."
 (cd "$folder" && PATH="$folder/bin:$PATH" bash desk.2 > desk.out) || fail "the example of jingcobu-desk.1"
 diff -u "$folder/desk.3" "$folder/desk.out" || fail "the example of jingcobu-desk.1 answers something else"

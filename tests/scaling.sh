@@ -20,7 +20,8 @@ cmp "$folder/whole" "$folder/piped" || fail "parallel --pipe answers something e
 export KILLED="$folder/killed"
 dying() { if mkdir "$KILLED" 2> /dev/null; then head -n 100 | "$DESK"; kill -9 $BASHPID; else "$DESK"; fi; }
 export -f dying
-if SHELL=$BASH parallel --will-cite --pipe --keep-order --block 1M --halt now,fail=1 dying < "$folder/frames" > "$folder/piped" 2> /dev/null; then
+export PARALLEL_SHELL=$BASH
+if parallel --will-cite --pipe --keep-order --block 1M --halt now,fail=1 dying < "$folder/frames" > "$folder/piped" 2> /dev/null; then
     fail "parallel --pipe does not tell that a worker died"
 fi
 
@@ -40,13 +41,13 @@ killed_once() {
     fi
 }
 export -f killed_once
-if SHELL=$BASH parallel --will-cite --joblog "$folder/log" --halt soon,fail=1 killed_once ::: "$folder"/parts/*.frames 2> /dev/null; then
+if parallel --will-cite --joblog "$folder/log" --halt soon,fail=1 killed_once ::: "$folder"/parts/*.frames 2> /dev/null; then
     fail "parallel does not tell that a worker was killed"
 fi
 if tools/frames_parts join "$folder/parts" > /dev/null 2>&1; then fail "an incomplete part is not found out"; fi
 before=$(awk 'NR > 1 && $7 == 0 && $8 == 0' "$folder/log" | wc -l)
 [ "$before" -lt 39 ] || fail "the run did not stop"
-SHELL=$BASH parallel --will-cite --joblog "$folder/log" --resume-failed killed_once ::: "$folder"/parts/*.frames
+parallel --will-cite --joblog "$folder/log" --resume-failed killed_once ::: "$folder"/parts/*.frames
 tools/frames_parts join "$folder/parts" > "$folder/joined"
 cmp "$folder/whole" "$folder/joined" || fail "the parts answer something else"
 [ -d "$KILLED" ] || fail "no worker was killed"

@@ -138,6 +138,10 @@ def _accept(answer: Any) -> Any:
     return answer
 
 
+def _value(answer: Any) -> int:
+    return int(_accept(answer).value)
+
+
 def _trimmed(words: "array[int]") -> List[int]:
     """The words up to the highest that is not zero; one word where there is none."""
     count = len(words)
@@ -155,7 +159,7 @@ def resultant(n: int, f: Words, g: Words) -> int:
     (1, 6)
     """
     x, y = _words(f, "f"), _words(g, "g")
-    return _accept(_library.service("resultant")(_word(n, "n"), *_lend(x, y), *_work())).value
+    return _value(_library.service("resultant")(_word(n, "n"), *_lend(x, y), *_work()))
 
 
 def resultants(n: int, pairs: Iterable[Tuple[Words, Words]]) -> List[int]:
@@ -196,7 +200,7 @@ def divisor(n: int, f: Words, g: Words) -> int:
     2
     """
     x, y = _words(f, "f"), _words(g, "g")
-    return _accept(_library.service("divisor")(_word(n, "n"), *_lend(x, y), *_work())).value
+    return _value(_library.service("divisor")(_word(n, "n"), *_lend(x, y), *_work()))
 
 
 def resultant_cofactors(n: int, f: Words, g: Words) -> Cofactors:
@@ -233,7 +237,7 @@ def check_claim(n: int, f: Words, g: Words, d: int, u: Words, v: Words) -> Claim
     """
     x, y, s, t = _words(f, "f"), _words(g, "g"), _words(u, "u"), _words(v, "v")
     call = _library.service("check_claim")
-    return Claim(_accept(call(_word(n, "n"), *_lend(x, y), _word(d, "d"), *_lend(s, t), *_work())).value)
+    return Claim(_value(call(_word(n, "n"), *_lend(x, y), _word(d, "d"), *_lend(s, t), *_work())))
 
 
 def _grid(f: Sequence[Words], name: str) -> Tuple["array[int]", int, int]:
@@ -375,7 +379,7 @@ class Factors:
 
     def resultant(self) -> int:
         """The resultant of the product of the factors held with h; 1 where none is held."""
-        return _accept(_library.service("factors_read")(self._state)).value
+        return _value(_library.service("factors_read")(self._state))
 
     def copy(self) -> "Factors":
         """The same h and factors, which come and go on their own."""

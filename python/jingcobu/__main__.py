@@ -85,7 +85,8 @@ def _parser() -> argparse.ArgumentParser:
     parser = argparse.ArgumentParser(prog="python3 -m jingcobu", description=__doc__, formatter_class=argparse.RawDescriptionHelpFormatter)
     parser.add_argument("--version", action="version", version="jingcobu " + jingcobu.__version__)
     commands = parser.add_subparsers(dest="command", required=True, metavar="COMMAND")
-    for name, work in (("resultant", resultant), ("reduced", reduced), ("cofactors", cofactors), ("why", why), ("check", check), ("frame", frame)):
+    for work in (resultant, reduced, cofactors, why, check, frame):
+        name = work.__name__
         command = commands.add_parser(name)
         command.set_defaults(work=work)
         if name == "frame":
