@@ -202,7 +202,7 @@ division-stage-take-product-requires t c κs = let s = c .before .before .before
     let e = st .within in
     let o = st .above in
     let g = dv .around .same in (
-      (omega arith, (omega arith, (omega arith, (omega arith, (omega arith, omega arith))))),
+      omega arith,
       record {
         factors = step-factors _ _ _ _ _ _ _ _ _ _ _ (s .pre .1 .shorter) (s .pre .1 .degree) st _ dv;
         degree = omega arith;
