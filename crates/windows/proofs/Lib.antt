@@ -3,4 +3,3 @@ pub mod Leaf
 pub mod Lift
 pub mod Pairs
 pub mod Parts
-pub mod Reciprocals

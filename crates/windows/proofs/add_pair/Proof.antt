@@ -4,7 +4,7 @@ use Prim.Native.Nat.{ℕ, _+_, _-_, _≤_}
 use lib.ListN.{getD}
 use native.Mathlib.Nat.{le-of-lt}
 use native.Mathlib.Omega.{arith}
-use Rattle.windows.proofs.Reciprocals.{modulo, never}
+use Rattle.reduction.proofs.Reciprocals.{modulo, never}
 use Rattle.windows.specs.Window.{Paired, behind}
 use Rattle.windows.proofs.Pairs.{paired-none, paired-step, source, next-behind}
 use Rattle.windows.proofs.add_pair.Statement.{statement}

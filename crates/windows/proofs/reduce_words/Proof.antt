@@ -2,7 +2,7 @@ use borrow.Author.Needs.{needs}
 use mathlib.Core.Path.{_≡_, ap, _∙_}
 use Prim.Native.Nat.{ℕ, _-_, _%_, _≤_}
 use native.Mathlib.Omega.{arith}
-use Rattle.windows.proofs.Reciprocals.{modulo, never}
+use Rattle.reduction.proofs.Reciprocals.{modulo, never}
 use Rattle.windows.proofs.Leaf.{moved-none, moved-own}
 use Rattle.windows.specs.Window.{Moved, reduced-by}
 use native.Mathlib.Nat.{mul-one}

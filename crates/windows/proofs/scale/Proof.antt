@@ -2,7 +2,7 @@ use borrow.Author.Needs.{needs}
 use mathlib.Core.Path.{_≡_}
 use Prim.Native.Nat.{_-_, _≤_}
 use native.Mathlib.Omega.{arith}
-use Rattle.windows.proofs.Reciprocals.{modulo, never}
+use Rattle.reduction.proofs.Reciprocals.{modulo, never}
 use Rattle.windows.proofs.Leaf.{moved-none, moved-step}
 use Rattle.windows.specs.Window.{Moved, mulBy}
 use Rattle.windows.proofs.scale.Statement.{statement}
