@@ -18,8 +18,11 @@ loop-holds : tie.Need-loop-holds Inv-loop μ-loop
 loop-holds c = (omega arith, filled-none _ _)
 
 loop-again : tie.Need-loop-again Inv-loop μ-loop
-loop-again c = (omega arith, filled-step (c .before .before .loop .inv .1) (omega arith)
-    (modulo _ (c .before .before .before .modulus-of .ensures .1) (c .product-word-by .ensures)))
+loop-again c = (
+  omega arith,
+  filled-step (c .before .before .loop .inv .1) (omega arith)
+      (modulo _ (c .before .before .before .modulus-of .ensures .1) (c .product-word-by .ensures)),
+)
 
 returns : tie.Need-returns Inv-loop μ-loop
 returns c = filled-end (c .before .loop .inv .1) (omega arith)
