@@ -1,4 +1,4 @@
-/* Times of product and division beside the same loops in plain C, in one run. Each figure is the best of several passes over a pool of
+/* Times of product and division beside the same loops in plain C, in one run. Each figure is the best of many short passes over a pool of
  * drawn pairs, in microseconds a call. Each loop in C has one % where the engine reduces by a reciprocal. "C" keeps the sum of a word
  * below n 2^32 by a comparison a term; "C wide" has a sum of 128 bits, which is what the engine has. "one %" is the schoolbook loop,
  * one % a term, for comparison. The modulus is read from a volatile.
@@ -15,8 +15,8 @@ Answer polynomial_bench_product(uint32_t n, const uint32_t *f, size_t f_len, con
 Answer polynomial_bench_division(uint32_t n, const uint32_t *f, size_t f_len, const uint32_t *g, size_t g_len, uint32_t *q, size_t q_len, uint32_t *r, size_t r_len);
 
 #define POOL 64
-#define PASSES 25
-#define ROUNDS 40
+#define PASSES 250
+#define ROUNDS 4
 
 static uint32_t first[POOL][49], second[POOL][49];
 static volatile uint32_t modulus = 4294967291u;
