@@ -101,7 +101,8 @@ static __attribute__((noinline)) int c_division(uint32_t n, const uint32_t *f, s
     memset(q, 0, m * 4);
     for (size_t s = fl > e ? fl - e : 0; s-- > 0;) {
         uint32_t x = word(n, q + s, m - s, g, gl, e);
-        q[s] = (uint32_t) ((uint64_t) i * (((uint64_t) f[e + s] + (n - x)) % n) % n);
+        uint64_t t = (uint64_t) f[e + s] + (n - x);
+        q[s] = (uint32_t) ((uint64_t) i * (t >= n ? t - n : t) % n);
     }
     for (size_t k = 0; k < e; k++) r[k] = (uint32_t) (((uint64_t) (k < fl ? f[k] : 0) + (n - word(n, q, m, g, gl, k))) % n);
     return 0;
@@ -116,7 +117,8 @@ static __attribute__((noinline)) int wide_division(uint32_t n, const uint32_t *f
     memset(q, 0, m * 4);
     for (size_t s = fl > e ? fl - e : 0; s-- > 0;) {
         uint32_t x = wide_word(n, q + s, m - s, g, gl, e);
-        q[s] = (uint32_t) ((uint64_t) i * (((uint64_t) f[e + s] + (n - x)) % n) % n);
+        uint64_t t = (uint64_t) f[e + s] + (n - x);
+        q[s] = (uint32_t) ((uint64_t) i * (t >= n ? t - n : t) % n);
     }
     for (size_t k = 0; k < e; k++) r[k] = (uint32_t) (((uint64_t) (k < fl ? f[k] : 0) + (n - wide_word(n, q, m, g, gl, k))) % n);
     return 0;
