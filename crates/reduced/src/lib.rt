@@ -13,16 +13,22 @@ ghost use Rattle.reduced_cofactors.specs.Cofactors.{Certified};
 ghost use Rattle.reduced.specs.Runs.{MixedWords, SaveAsked, Saved, MergeAsked, Merged, RunAsked};
 use residue::Attempt;
 
-// u[j] = a * s[j] + b * u[j]; s ends before u does, or with it.
+// u[j] = a * s[j] + b * u[j]; s ends before u does, or with it. The test of a residue against n fails always: it keeps the back end
+// from vector code, which has no upper half of a product.
 fn mix(u: &mut [u32], s: &[u32], n: u32, a: u32, b: u32)
     requires { ⌜ (1 ≤ n) × (length (now s) ≤ length (now u)) ⌝ }
     ensures { λ _. ⌜ MixedWords n a b (now (s .entry)) (now (u .entry)) (now (u .exit)) ⌝ }
 {
     let z = u.len();
     windows::scale(u, n, b, 0, 0, z);
+    let m = reduction::modulus_of(n);
     let mut j: usize = 0;
     while j < s.len() {
-        u[j] = arithmetic::mul_add_mod(n, u[j], a, s[j]);
+        let r = reduction::add_product(m, u[j], a, s[j]);
+        if r >= n {
+            return;
+        }
+        u[j] = r;
         j += 1;
     }
 }

@@ -1,16 +1,14 @@
--- What the loops need at a turn, and the word that a turn of combine_pair writes.
+-- A turn of combine_pair.
+--
+--   combined    the word that it writes
 use mathlib.Core.Path.{_≡_, ap, ap₂, _∙_}
 use mathlib.Core.List.{List}
-use Prim.Native.Nat.{ℕ, zero, suc, _+_, _*_, _%_, _≤_, _<_}
+use Prim.Native.Nat.{ℕ, _+_, _*_, _%_, _<_}
 use native.Mathlib.Omega.{arith}
 use lib.ListN.{getD}
-use Rattle.windows.specs.Window.{Apart, Below, Written, behind}
+use Rattle.windows.specs.Window.{Apart, Written, behind}
 use Rattle.windows.proofs.Leaf.{written-source}
 use Rattle.window_combining.specs.Combined.{combination}
-
-pub behind-below : (n src len : ℕ) (w : List ℕ) → 1 ≤ n → Below n src len w → (i : ℕ) → i ≤ len → behind (λ (k : ℕ). getD w (src + k) 0) i < n
-behind-below n src len w pos b zero l = pos
-behind-below n src len w pos b (suc i) l = b .at i (omega arith)
 
 pub combined : (n l c m src dst len i y v : ℕ) (w₀ w : List ℕ) → Written (combination n l c m src dst w₀) dst i w₀ w → Apart src len dst len → i < len
     → y ≡ behind (λ (k : ℕ). getD w₀ (src + k) 0) i → v ≡ (l * getD w (dst + i) 0 + c * y + m * getD w (src + i) 0) % n → v ≡ combination n l c m src dst w₀ i

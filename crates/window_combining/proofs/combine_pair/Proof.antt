@@ -5,14 +5,11 @@ use Rattle.windows.proofs.Pairs.{next-behind}
 use Rattle.windows.proofs.Leaf.{written-none, written-step, written-source}
 use Rattle.window_combining.proofs.Steps.{combined}
 use Rattle.window_combining.specs.Combined.{combination}
-use Prim.Native.Nat.{ℕ, _+_, _-_, _*_, _%_, _≤_, _<_}
-use mathlib.Core.Path.{_≡_, refl, subst, sym, ap, ap₂, _∙_}
+use Prim.Native.Nat.{ℕ, _+_, _-_, _≤_}
+use mathlib.Core.Path.{_≡_, refl, sym, _∙_}
 use lib.ListN.{getD}
 use Rattle.window_combining.proofs.combine_pair.Statement.{statement}
 use Rattle.window_combining.proofs.combine_pair.Tie as tie
-use Rattle.window_combining.proofs.combine_pair.Reads as reads
-use Rattle.window_combining.proofs.combine_pair.Lts as lts
-use Rattle.reduction.proofs.sum_three.Reads as sum-three-reads
 
 abbrev Inv-loop : tie.InvT-loop
 Inv-loop w₀ modulus l c m src dst len n j₀ y₀ w j y = (j ≤ len) × (Written (combination (modulus .n) l c m src dst w₀) dst j w₀ w × (y ≡ behind (λ (k : ℕ). getD w₀ (src + k) 0) j))
@@ -20,69 +17,17 @@ Inv-loop w₀ modulus l c m src dst len n j₀ y₀ w j y = (j ≤ len) × (Writ
 abbrev μ-loop : tie.MeasureT-loop
 μ-loop w₀ modulus l c m src dst len n j₀ y₀ w j y = len - j
 
--- src/lib.rt:30:5
 loop-holds : tie.Need-loop-holds Inv-loop μ-loop
 loop-holds c = (omega arith, (written-none _ _ _, refl))
 
--- src/lib.rt:31:19
-add-z : tie.Need-add-z Inv-loop μ-loop
-add-z c = search needs
-
--- src/lib.rt:31:17
-mul-z : tie.Need-mul-z Inv-loop μ-loop
-mul-z c = search needs
-
--- src/lib.rt:31:17
-slice-read-z : tie.Need-slice-read-z Inv-loop μ-loop
-slice-read-z c = search needs
-
--- src/lib.rt:33:13
-same-length : tie.Need-same-length Inv-loop μ-loop
-same-length c = search needs
-
--- src/lib.rt:33:13
 returns : tie.Need-returns Inv-loop μ-loop
 returns c = let s = c .before .before .before .before .before in
     let i = c .before .before .before .loop in
     absurd (omega (arith, c .if1 .taken, written-source (i .inv .1 .0) (s .args .src) (s .args .len) (s .pre .1 .1 .0) (omega arith) (i .j) (omega arith), s .pre .1 .1 .1 .at (i .j) (omega arith)))
 
--- src/lib.rt:35:57
-add-sum-three : tie.Need-add-sum-three Inv-loop μ-loop
-add-sum-three c = search needs
-
--- src/lib.rt:35:55
-mul-sum-three : tie.Need-mul-sum-three Inv-loop μ-loop
-mul-sum-three c = search needs
-
--- src/lib.rt:35:55
-slice-read-sum-three : tie.Need-slice-read-sum-three Inv-loop μ-loop
-slice-read-sum-three c = search needs
-
--- src/lib.rt:35:22
 sum-three-requires : tie.Need-sum-three-requires Inv-loop μ-loop
 sum-three-requires c κs = c .before .before .before .before .before .before .pre .0
 
--- src/lib.rt:35:11
-add-w : tie.Need-add-w Inv-loop μ-loop
-add-w c = search needs
-
--- src/lib.rt:35:9
-mul-w : tie.Need-mul-w Inv-loop μ-loop
-mul-w c = search needs
-
--- src/lib.rt:35:9
-slice-write-w : tie.Need-slice-write-w Inv-loop μ-loop
-slice-write-w c = search needs
-
--- src/lib.rt:37:9
-add-j : tie.Need-add-j Inv-loop μ-loop
-add-j c = search needs
-
--- src/lib.rt:30:5
-loop-less : tie.Need-loop-less Inv-loop μ-loop
-loop-less c = search needs
-
--- src/lib.rt:30:5
 loop-again : tie.Need-loop-again Inv-loop μ-loop
 loop-again c = let s = c .before .before .before .before .before .before .before in
     let i = c .before .before .before .before .before .loop in
@@ -97,11 +42,6 @@ loop-again c = let s = c .before .before .before .before .before .before .before
       ),
     )
 
--- src/lib.rt:12:1
-same-length-2 : tie.Need-same-length-2 Inv-loop μ-loop
-same-length-2 c = search needs
-
--- src/lib.rt:12:1
 returns-2 : tie.Need-returns-2 Inv-loop μ-loop
 returns-2 c = let e : c .before .loop .j ≡ c .before .before .before .args .len = omega arith in
     rw e at (c .before .loop .inv .1 .0)
@@ -113,20 +53,20 @@ combine-pair-spec =
     Inv-loop
     μ-loop
     loop-holds
-    add-z
-    mul-z
-    slice-read-z
-    same-length
+    (λ c. search needs)
+    (λ c. search needs)
+    (λ c. search needs)
+    (λ c. search needs)
     returns
-    add-sum-three
-    mul-sum-three
-    slice-read-sum-three
+    (λ c. search needs)
+    (λ c. search needs)
+    (λ c. search needs)
     sum-three-requires
-    add-w
-    mul-w
-    slice-write-w
-    add-j
-    loop-less
+    (λ c. search needs)
+    (λ c. search needs)
+    (λ c. search needs)
+    (λ c. search needs)
+    (λ c. search needs)
     loop-again
-    same-length-2
+    (λ c. search needs)
     returns-2)
