@@ -19,7 +19,7 @@ use Rattle.windows.specs.Window.{piece, Loaded, Scratch}
 use Rattle.windows.proofs.Leaf.{lt-or-le, piece-at, piece-length}
 use Rattle.resultant_steps.specs.AttemptAnswers.{ValueOrSplit}
 use Rattle.residue.specs.declared.Attempt.{Attempt}
-use Rattle.resultant_steps.proofs.Degrees.{deg-of}
+use Rattle.resultant_turns.specs.Degrees.{deg-of}
 use Rattle.resultant_attempt.specs.Rooms.{room}
 use Rattle.resultant_attempt.specs.Stages.{Placed}
 use Rattle.resultant.specs.Sizes.{RunSizes}

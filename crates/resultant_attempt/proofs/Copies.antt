@@ -23,9 +23,9 @@ use Rattle.windows.proofs.Lift.{mid-length, window}
 use Rattle.resultant_steps.specs.AttemptAnswers.{ValueOrSplit}
 use Rattle.residue.specs.declared.Attempt.{Attempt}
 use Rattle.resultant_steps.specs.Layouts.{Beside, words-at, words-back}
-use Rattle.resultant_steps.proofs.Degrees.{deg-of, resultant-lt}
+use Rattle.resultant_turns.specs.Degrees.{deg-of, resultant-lt}
 use Rattle.resultant_steps.proofs.SideBySide.{beside-below, beside-first, beside-second, beside-lead, pair-of, onward}
-use Rattle.resultant_steps.proofs.Signs.{signed-twice}
+use Rattle.resultant_turns.specs.Signs.{signed-twice}
 use Rattle.resultant_attempt.specs.Rooms.{room-copies}
 use Rattle.resultant_attempt.specs.Stages.{Placed, Divisor, Stacked, Part}
 

@@ -19,7 +19,7 @@ use Rattle.windows.specs.Window.{piece, Around, Kept}
 use Rattle.windows.proofs.Leaf.{piece-at, piece-length, piece-same}
 use Rattle.windows.proofs.Lift.{mid-length, piece-mid, piece-put, window, lift-below, piece-low, below-is}
 use Rattle.resultant_steps.proofs.SideBySide.{onward}
-use Rattle.resultant_steps.proofs.Degrees.{deg-of}
+use Rattle.resultant_turns.specs.Degrees.{deg-of}
 use Rattle.window_factor.specs.Factors.{Factored}
 use Rattle.resultant_attempt.specs.Rooms.{place, room-factor, room-place, room-monic}
 use Rattle.resultant_attempt.specs.Stages.{Stacked, Part}
