@@ -20,9 +20,10 @@ use Rattle.window_combining.specs.Combined.{combination}
 use Rattle.resultant_turns.specs.Degrees.{deg-of, resultant-lt}
 use Rattle.resultant_turns.specs.TurnLaws.{Turned, TurnedTwice, turn-law-at, last-law-at, pair-law-at, zero-law-at}
 use Rattle.resultant_turns.specs.TurnLaws.{itself, Within, within-self, within-trans, turn-within, last-within, pair-within, zero-within}
-use Rattle.resultant_turns.specs.RunLaws.{Run, run-turn, run-step, run-drop, run-start}
-use Rattle.resultant_pseudo.specs.Standing.{Placed, Led, Descended, standing}
+use Rattle.resultant_turns.specs.RunLaws.{Run, run-turn, run-step, run-drop, run-end, run-start}
+use Rattle.resultant_pseudo.specs.Standing.{Placed, Led, Descended, TriedAnswer, Answers, standing}
 use Rattle.resultant_pseudo.specs.declared.State.{State}
+use Rattle.resultant_pseudo.specs.declared.Tried.{Tried}
 
 -- a step, with its fields apart
 abbrev Step : ℕ → ℕ → ℕ → ℕ → ℕ → ℕ → ℕ → ℕ → List ℕ → ℕ → ℕ → ℕ → ℕ → ℕ → ℕ → ℕ → List ℕ → Type 0
@@ -382,6 +383,37 @@ led-trans p q = record {
 constant-is : (n : ℕ) → 1 ≤ n → (f g : List ℕ) (e : ℕ) → length f ≡ 0 + 1 → length g ≡ e + 1 → resultant n f g ≡ (coef f 0 ^ e) % n
 constant-is zero pos f g e lf lg = absurd (omega arith)
 constant-is (suc m) pos f g e lf lg = resultant-const-first m f g (deg-of f 0 lf) ∙ ap (λ (x : ℕ). (coef f 0 ^ x) % suc m) (deg-of g e lg)
+
+-- the value at the end of a run
+pub run-value : (n N a d b e s p t R₀ i g c z u v : ℕ) (w : List ℕ) → N ≡ n → Placed n a d b e w → d ≡ 0 → Run n s p t d R₀ (standing n a d b e w)
+    → R₀ < n → (i * s) % N ≡ g % N → g ≡ 1 → c ≡ (getD w a 0 ^ e) % N → z ≡ (p * t) % n → u ≡ (z * c) % n → v ≡ (i * u) % n → (v ≡ R₀) × (v < n)
+run-value n N a d b e s p t R₀ i g c z u v w k pl h run small hi hg hc hz hu hv = (
+  hv ∙ c-trans (c-mul (c-refl {a = i}) (c-trans (c-is hu) (c-trans (c-mul (c-is hz) (c-eq value)) (c-refl {a = p * t * standing n a d b e w}))))
+      (c-sym (run-end i h run (c-trans (record { same = subst (λ (x : ℕ). (i * s) % x ≡ g % x) k hi }) (c-eq hg)))) .same ∙ mod-eq-of-lt small,
+  subst (λ (x : ℕ). x < n) (sym hv) (mod-lt _ (pl .pos)),
+)
+  where
+    none : (x : ℕ) → x + 0 ≡ x
+    none x = omega arith
+
+    lf : length (piece w a (d + 1)) ≡ 0 + 1
+    lf = piece-length w a (d + 1) (omega (arith, pl .first)) ∙ ap (λ (x : ℕ). x + 1) h
+
+    value : c ≡ standing n a d b e w
+    value = hc ∙ ap (λ (x : ℕ). (getD w a 0 ^ e) % x) k
+        ∙ ap (λ (x : ℕ). (x ^ e) % n) (sym (piece-at w a (d + 1) 0 (omega arith) ∙ ap (λ (x : ℕ). getD w x 0) (none a)))
+        ∙ sym (constant-is n (pl .pos) (piece w a (d + 1)) (piece w b (e + 1)) e lf (piece-length w b (e + 1) (omega (arith, pl .second))))
+
+pub first-inside : {n a d b e : ℕ} {w : List ℕ} → Placed n a d b e w → a < length w
+first-inside {n} {a} {d} pl = omega (arith, pl .first)
+
+-- what a state answers, from a pair that leads to it, modulo an equal number
+pub answered : (n N a d b e : ℕ) (w : List ℕ) (y : State) (v : List ℕ) (r : Tried) → N ≡ n → 1 ≤ n
+    → Led N a d b e 1 1 1 w (y .a) (y .d) (y .b) (y .e) (y .s) (y .p) (y .t) v → Answers N y v r → TriedAnswer n (standing n a d b e w) r
+answered n N a d b e w y v r h pos led an =
+    subst (λ (x : ℕ). TriedAnswer x (standing x a d b e w) r) h
+    (an (standing N a d b e w) (resultant-lt N (subst (λ (x : ℕ). 1 ≤ x) (sym h) pos) (piece w a (d + 1)) (piece w b (e + 1)))
+    (led .run (standing N a d b e w) (run-start N d (standing N a d b e w))))
 
 -- the end of a run
 pub descended : (n a d b e : ℕ) (w : List ℕ) (y : State) (v : List ℕ) → Placed n a d b e w

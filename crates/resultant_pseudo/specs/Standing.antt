@@ -7,6 +7,7 @@
 --   Finished     led to a constant and a polynomial
 --   Descended    the same from a pair, in numbers: the resultant's equation, and the constant that is reached
 --   TriedAnswer  the value, or nothing
+--   Answers      the same of a state, for any resultant that is known by it
 --
 -- Letters: n is the modulus; R₀ is the resultant asked for; x, y are states, w, v the words with them.
 use mathlib.Core.Path.{_≡_}
@@ -68,3 +69,6 @@ pub record Descended (n a d b e : ℕ) (w : List ℕ) (y : State) (v : List ℕ)
 abbrev pub TriedAnswer : ℕ → ℕ → Tried → Type 0
 TriedAnswer n x (Value v) = (v ≡ x) × (v < n)
 TriedAnswer n x NotUnit = Unit
+
+abbrev pub Answers : ℕ → State → List ℕ → Tried → Type 0
+Answers n y w r = (R₀ : ℕ) → R₀ < n → Run n (y .s) (y .p) (y .t) (y .d) R₀ (standing n (y .a) (y .d) (y .b) (y .e) w) → TriedAnswer n R₀ r
