@@ -68,7 +68,7 @@ pub record Descended (n a d b e : ℕ) (w : List ℕ) (y : State) (v : List ℕ)
 -- "if every lead was a unit, one inverse and the value"
 abbrev pub TriedAnswer : ℕ → ℕ → Tried → Type 0
 TriedAnswer n x (Value v) = (v ≡ x) × (v < n)
-TriedAnswer n x NotUnit = Unit
+TriedAnswer n x (NotUnit s) = Unit
 
 abbrev pub Answers : ℕ → State → List ℕ → Tried → Type 0
 Answers n y w r = (R₀ : ℕ) → R₀ < n → Run n (y .s) (y .p) (y .t) (y .d) R₀ (standing n (y .a) (y .d) (y .b) (y .e) w) → TriedAnswer n R₀ r
