@@ -18,7 +18,7 @@ use Rattle.windows.proofs.Leaf.{lt-or-le, piece-at, piece-over, piece-length, p
 use Rattle.window_division.specs.Remainders.{Pair}
 use Rattle.window_combining.specs.Combined.{combination}
 use Rattle.resultant_turns.specs.Degrees.{deg-of, resultant-lt}
-use Rattle.resultant_turns.specs.TurnLaws.{Turned, TurnedTwice, turn-law-at, last-law-at, pair-law-at, zero-law-at}
+use Rattle.resultant_turns.specs.TurnLaws.{Turned, TurnedTwice, turn-law-at, last-law-at, pair-law-at, zero-law-at, dropped-words}
 use Rattle.resultant_turns.specs.TurnLaws.{itself, Within, within-self, within-trans, turn-within, last-within, pair-within, zero-within}
 use Rattle.resultant_turns.specs.RunLaws.{Run, run-turn, run-step, run-drop, run-end, run-start}
 use Rattle.resultant_pseudo.specs.Standing.{Placed, Led, Descended, TriedAnswer, Answers, standing}
@@ -338,13 +338,7 @@ drop-stepped n a d b e w pl one z y hy s p t t' s' ht hs = (record {
     lead = piece-at w b (e + 1) e (omega arith)
 
     words : (k : ℕ) → coef (piece w a (d + 1)) k ≡ coef (piece w a (d - 1 + 1)) k
-    words k = ⊎-elim
-        (λ h. piece-at w a (d + 1) k (omega arith) ∙ sym (piece-at w a (d - 1 + 1) k (omega arith)))
-        (λ h. ⊎-elim
-        (λ q. ap (coef (piece w a (d + 1))) (sym q) ∙ piece-at w a (d + 1) d (omega arith) ∙ z ∙ sym (piece-over w a (d - 1 + 1) k (omega arith)))
-        (λ q. piece-over w a (d + 1) k (omega arith) ∙ sym (piece-over w a (d - 1 + 1) k (omega arith)))
-        (eq-or-lt-of-le h))
-        (lt-or-le k d)
+    words = dropped-words w a d one z
 
 -- ---- what the code asks
 
