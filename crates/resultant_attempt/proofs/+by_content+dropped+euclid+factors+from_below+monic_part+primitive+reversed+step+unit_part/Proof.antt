@@ -181,7 +181,7 @@ by-content-clear-content-requires : (t : ℕ) → by-content-lts.Need-clear-cont
 ) (by-content-at t) by-content.Post
 by-content-clear-content-requires t c κs = let s = c .before .before .args in
     let st = c .before .before .pre .1 in
-    (omega (arith, st .two), stacked-fits (s .n) (s .d) (s .e) (s .w .now) st)
+    (omega (arith, st .two), (stacked-fits (s .n) (s .d) (s .e) (s .w .now) st, record { at = λ k l. st .below .at k (omega arith) }))
 
 -- src/lib.rt:100:9
 by-content-same-length : (t : ℕ) → by-content-lts.Need-same-length (
