@@ -7,15 +7,14 @@ use mathlib.Core.List.{List}
 use mathlib.Core.Logic.{⊎-elim}
 use Prim.Native.Nat.{ℕ, zero, suc, _+_, _-_, _*_, _%_, _^_, _≤_, _<_}
 use native.Mathlib.Omega.{arith}
-use native.Mathlib.Nat.{mod-lt, mul-mod-right, zero-mod, add-zero, pow-zero, mod-eq-of-lt, le-of-lt, eq-or-lt-of-le}
+use native.Mathlib.Nat.{mod-lt, mul-mod-right, zero-mod, add-zero, pow-zero, mod-eq-of-lt, le-of-lt}
 use lib.ListN.{length, getD}
-use Rattle.numbers.specs.Congruence.{Cong, c-refl, c-sym, c-trans, c-eq, c-add, c-mul, c-mod, ring}
-use Rattle.definitions.specs.Polynomials.{coef, deg}
+use Rattle.numbers.specs.Congruence.{Cong, c-refl, c-sym, c-trans, c-eq, c-add, c-mul, c-mod}
+use Rattle.definitions.specs.Polynomials.{coef}
 use Rattle.definitions.specs.Resultants.{resultant, Reached}
 use Rattle.theory.specs.ResultantLaws.{signed, resultant-const-first}
 use Rattle.windows.specs.Window.{piece, Moved, mulBy, Written, Below, Around, Apart, behind}
-use Rattle.windows.proofs.Leaf.{lt-or-le, piece-at, piece-over, piece-length, piece-same, apart-at, written-around}
-use Rattle.window_division.specs.Remainders.{Pair}
+use Rattle.windows.proofs.Leaf.{lt-or-le, piece-at, piece-length, piece-same, apart-at, written-around}
 use Rattle.window_combining.specs.Combined.{combination}
 use Rattle.resultant_turns.specs.Degrees.{deg-of, resultant-lt}
 use Rattle.resultant_turns.specs.TurnLaws.{Turned, TurnedTwice, turn-law-at, last-law-at, pair-law-at, zero-law-at, dropped-words}

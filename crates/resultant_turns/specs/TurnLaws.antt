@@ -10,7 +10,7 @@ use mathlib.Core.List.{List, [], _∷_}
 use mathlib.Core.Logic.{⊎-elim}
 use Prim.Native.Nat.{ℕ, zero, suc, pred, _+_, _-_, _*_, _%_, _^_, _≤_, _<_}
 use native.Mathlib.Omega.{arith}
-use native.Mathlib.Nat.{add-zero, zero-add, zero-mul, mul-zero, mul-comm, mul-one, one-mul, pow-suc, pow-zero, eq-or-lt-of-le, mul-mod-right, zero-mod, mod-mod}
+use native.Mathlib.Nat.{add-zero, zero-add, zero-mul, mul-zero, mul-comm, one-mul, pow-suc, pow-zero, eq-or-lt-of-le, mul-mod-right, zero-mod}
 use lib.ListN.{length, getD}
 use Rattle.definitions.specs.Polynomials.{coef, deg, convolve, tabulate, constant, Multiplied, Divided}
 use Rattle.definitions.specs.Resultants.{resultant, Reached}

@@ -166,7 +166,6 @@ abbrev unit-part-below : ℕ → In 1 unit-part-kinds.ps
 unit-part-below t =
     and 1 unit-part-kinds.ps (falls 1 unit-part-kinds.ps _<_ μ-unit-part t) unit-part.Pre
 
--- src/lib.rt:98:9
 by-content-clear-content-requires : (t : ℕ) → by-content-lts.Need-clear-content-requires (
   clear-content-reads.Asked,
   clear-content-reads.Learnt,
@@ -183,22 +182,6 @@ by-content-clear-content-requires t c κs = let s = c .before .before .args in
     let st = c .before .before .pre .1 in
     (omega (arith, st .two), (stacked-fits (s .n) (s .d) (s .e) (s .w .now) st, record { at = λ k l. st .below .at k (omega arith) }))
 
--- src/lib.rt:100:9
-by-content-same-length : (t : ℕ) → by-content-lts.Need-same-length (
-  clear-content-reads.Asked,
-  clear-content-reads.Learnt,
-  primitive-below t,
-  primitive.Post,
-  lifted-reads.Asked,
-  lifted-reads.Learnt,
-  power-reads.Asked,
-  power-reads.Learnt,
-  times-reads.Asked,
-  times-reads.Learnt,
-) (by-content-at t) by-content.Post
-by-content-same-length t c = search needs
-
--- src/lib.rt:100:9
 by-content-returns : (t : ℕ) → by-content-lts.Need-returns (
   clear-content-reads.Asked,
   clear-content-reads.Learnt,
@@ -215,7 +198,6 @@ by-content-returns t c = let s = c .before .before .before .before .before .befo
     let st = c .before .before .before .before .before .before .pre .1 in
     content-whole (s .n) (c .before .before .before .clear-content .result) (s .d) (s .e) (s .w .now) (c .before .before .before .clear-content .last .0) (st .two) (st .one) (st .near) (stacked-fits (s .n) (s .d) (s .e) (s .w .now) st) (st .below) (c .before .before .before .clear-content .ensures) (c .if1 .taken)
 
--- src/lib.rt:102:53
 by-content-div-primitive : (t : ℕ) → by-content-lts.Need-div-primitive (
   clear-content-reads.Asked,
   clear-content-reads.Learnt,
@@ -230,7 +212,6 @@ by-content-div-primitive : (t : ℕ) → by-content-lts.Need-div-primitive (
 ) (by-content-at t) by-content.Post
 by-content-div-primitive t c = content-positive (omega (arith, c .before .before .before .before .before .before .before .pre .1 .two)) (c .before .before .before .before .clear-content .ensures .content)
 
--- src/lib.rt:102:40
 by-content-primitive-requires : (t : ℕ) → by-content-lts.Need-primitive-requires (
   clear-content-reads.Asked,
   clear-content-reads.Learnt,
@@ -246,7 +227,6 @@ by-content-primitive-requires : (t : ℕ) → by-content-lts.Need-primitive-requ
 by-content-primitive-requires t c κs = let s = c .before .before .before .before .before .before .before .args in
     (omega (arith, c .before .before .before .before .before .before .before .pre .0), cleared-asked (s .n) (c .before .before .before .before .clear-content .result) (s .d) (s .e) (s .w .now) (c .before .before .before .before .clear-content .last .0) (c .before .before .before .before .before .before .before .pre .1) (c .before .before .before .before .clear-content .ensures) (c .before .if1 .left))
 
--- src/lib.rt:102:9
 by-content-lifted-requires : (t : ℕ) → by-content-lts.Need-lifted-requires (
   clear-content-reads.Asked,
   clear-content-reads.Learnt,
@@ -268,52 +248,6 @@ by-content-lifted-requires t c κs = let s = c .before .before .before .before .
   },
 )
 
--- src/lib.rt:103:31
-by-content-power-requires : (t : ℕ) → by-content-lts.Need-power-requires (
-  clear-content-reads.Asked,
-  clear-content-reads.Learnt,
-  primitive-below t,
-  primitive.Post,
-  lifted-reads.Asked,
-  lifted-reads.Learnt,
-  power-reads.Asked,
-  power-reads.Learnt,
-  times-reads.Asked,
-  times-reads.Learnt,
-) (by-content-at t) by-content.Post
-by-content-power-requires t c κs = search needs
-
--- src/lib.rt:103:5
-by-content-times-requires : (t : ℕ) → by-content-lts.Need-times-requires (
-  clear-content-reads.Asked,
-  clear-content-reads.Learnt,
-  primitive-below t,
-  primitive.Post,
-  lifted-reads.Asked,
-  lifted-reads.Learnt,
-  power-reads.Asked,
-  power-reads.Learnt,
-  times-reads.Asked,
-  times-reads.Learnt,
-) (by-content-at t) by-content.Post
-by-content-times-requires t c κs = search needs
-
--- src/lib.rt:94:1
-by-content-same-length-2 : (t : ℕ) → by-content-lts.Need-same-length-2 (
-  clear-content-reads.Asked,
-  clear-content-reads.Learnt,
-  primitive-below t,
-  primitive.Post,
-  lifted-reads.Asked,
-  lifted-reads.Learnt,
-  power-reads.Asked,
-  power-reads.Learnt,
-  times-reads.Asked,
-  times-reads.Learnt,
-) (by-content-at t) by-content.Post
-by-content-same-length-2 t c = search needs
-
--- src/lib.rt:94:1
 by-content-returns-2 : (t : ℕ) → by-content-lts.Need-returns-2 (
   clear-content-reads.Asked,
   clear-content-reads.Learnt,
@@ -334,51 +268,6 @@ by-content-returns-2 t c = let s = c .before .before .before .before .before .be
     followed (c .times .ensures) (c .before .before .lifted .ensures .at (s .n / g) (resultant (s .n / g) (piece w1 (s .e + 1) (s .d + 1)) (piece w1 0 (s .e + 1))) (cleared-divides (s .n) g (s .d) (s .e) (s .w .now) w1 cl) (c .before .before .before .before .before .primitive .ensures))
     (content-times (s .n) g (s .d) (s .e) (s .w .now) w1 (st .two) (st .one) (st .near) (stacked-fits (s .n) (s .d) (s .e) (s .w .now) st) (st .below) cl (c .before .before .before .before .before .before .before .if1 .left) (c .before .power .result) (c .before .power .ensures))
 
--- src/lib.rt:52:15
-dropped-add-c : (t : ℕ) → dropped-lts.Need-add-c (
-  euclid-below t,
-  euclid.Post,
-  times-reads.Asked,
-  times-reads.Learnt,
-  times-sign-reads.Asked,
-  times-sign-reads.Learnt,
-) (dropped-at t) dropped.Post
-dropped-add-c t c = search needs
-
--- src/lib.rt:52:13
-dropped-mul-c : (t : ℕ) → dropped-lts.Need-mul-c (
-  euclid-below t,
-  euclid.Post,
-  times-reads.Asked,
-  times-reads.Learnt,
-  times-sign-reads.Asked,
-  times-sign-reads.Learnt,
-) (dropped-at t) dropped.Post
-dropped-mul-c t c = search needs
-
--- src/lib.rt:52:13
-dropped-slice-read-c : (t : ℕ) → dropped-lts.Need-slice-read-c (
-  euclid-below t,
-  euclid.Post,
-  times-reads.Asked,
-  times-reads.Learnt,
-  times-sign-reads.Asked,
-  times-sign-reads.Learnt,
-) (dropped-at t) dropped.Post
-dropped-slice-read-c t c = search needs
-
--- src/lib.rt:53:29
-dropped-sub-euclid : (t : ℕ) → dropped-lts.Need-sub-euclid (
-  euclid-below t,
-  euclid.Post,
-  times-reads.Asked,
-  times-reads.Learnt,
-  times-sign-reads.Asked,
-  times-sign-reads.Learnt,
-) (dropped-at t) dropped.Post
-dropped-sub-euclid t c = search needs
-
--- src/lib.rt:53:9
 dropped-euclid-requires : (t : ℕ) → dropped-lts.Need-euclid-requires (
   euclid-below t,
   euclid.Post,
@@ -389,18 +278,6 @@ dropped-euclid-requires : (t : ℕ) → dropped-lts.Need-euclid-requires (
 ) (dropped-at t) dropped.Post
 dropped-euclid-requires t c κs = (omega (arith, c .before .before .before .pre .0, c .before .before .before .pre .1 .1 .0), dropped-asked (c .before .before .before .args .n) (c .before .before .before .args .a) (c .before .before .before .args .d) (c .before .before .before .args .b) (c .before .before .before .args .e) (c .before .before .before .args .s) (c .before .before .before .args .w .now) (c .before .before .before .pre .1 .0) (c .before .before .before .pre .1 .1 .0))
 
--- src/lib.rt:54:42
-dropped-times-requires : (t : ℕ) → dropped-lts.Need-times-requires (
-  euclid-below t,
-  euclid.Post,
-  times-reads.Asked,
-  times-reads.Learnt,
-  times-sign-reads.Asked,
-  times-sign-reads.Learnt,
-) (dropped-at t) dropped.Post
-dropped-times-requires t c κs = search needs
-
--- src/lib.rt:54:5
 dropped-times-sign-requires : (t : ℕ) → dropped-lts.Need-times-sign-requires (
   euclid-below t,
   euclid.Post,
@@ -411,18 +288,6 @@ dropped-times-sign-requires : (t : ℕ) → dropped-lts.Need-times-sign-requires
 ) (dropped-at t) dropped.Post
 dropped-times-sign-requires t c κs = let s = c .before .before .before .before .before .before .before .args in record { x = (getD (s .w .now) (s .b + s .e) 0 * resultant (s .n) (piece (s .w .now) (s .a) (s .d - 1 + 1)) (piece (s .w .now) (s .b) (s .e + 1))) % s .n; is = c .times .ensures .at (resultant (s .n) (piece (s .w .now) (s .a) (s .d - 1 + 1)) (piece (s .w .now) (s .b) (s .e + 1))) (c .before .before .before .euclid .ensures .0) }
 
--- src/lib.rt:48:1
-dropped-same-length : (t : ℕ) → dropped-lts.Need-same-length (
-  euclid-below t,
-  euclid.Post,
-  times-reads.Asked,
-  times-reads.Learnt,
-  times-sign-reads.Asked,
-  times-sign-reads.Learnt,
-) (dropped-at t) dropped.Post
-dropped-same-length t c = search needs
-
--- src/lib.rt:48:1
 dropped-returns : (t : ℕ) → dropped-lts.Need-returns (
   euclid-below t,
   euclid.Post,
@@ -434,67 +299,6 @@ dropped-returns : (t : ℕ) → dropped-lts.Need-returns (
 dropped-returns t c = let s = c .before .before .before .before .before .before .before .before .args in
     followed (c .times-sign .ensures) (c .before .times .ensures .at (resultant (s .n) (piece (s .w .now) (s .a) (s .d - 1 + 1)) (piece (s .w .now) (s .b) (s .e + 1))) (c .before .before .before .before .euclid .ensures .0)) (dropped-sign (s .n) (s .a) (s .d) (s .b) (s .e) (s .s) (s .w .now) (c .before .before .before .before .before .before .before .before .pre .1 .0) (c .before .before .before .before .before .before .before .before .pre .1 .1 .0) (c .before .before .before .before .before .before .before .before .pre .1 .1 .1))
 
--- src/lib.rt:33:18
-euclid-add-lead : (t : ℕ) → euclid-lts.Need-add-lead (
-  power-reads.Asked,
-  power-reads.Learnt,
-  dropped-below t,
-  dropped.Post,
-  cofactor-reads.Asked,
-  cofactor-reads.Learnt,
-  step-below t,
-  step.Post,
-  from-below-below t,
-  from-below.Post,
-) (euclid-at t) euclid.Post
-euclid-add-lead t c = search needs
-
--- src/lib.rt:33:16
-euclid-mul-lead : (t : ℕ) → euclid-lts.Need-mul-lead (
-  power-reads.Asked,
-  power-reads.Learnt,
-  dropped-below t,
-  dropped.Post,
-  cofactor-reads.Asked,
-  cofactor-reads.Learnt,
-  step-below t,
-  step.Post,
-  from-below-below t,
-  from-below.Post,
-) (euclid-at t) euclid.Post
-euclid-mul-lead t c = search needs
-
--- src/lib.rt:33:16
-euclid-slice-read-lead : (t : ℕ) → euclid-lts.Need-slice-read-lead (
-  power-reads.Asked,
-  power-reads.Learnt,
-  dropped-below t,
-  dropped.Post,
-  cofactor-reads.Asked,
-  cofactor-reads.Learnt,
-  step-below t,
-  step.Post,
-  from-below-below t,
-  from-below.Post,
-) (euclid-at t) euclid.Post
-euclid-slice-read-lead t c = search needs
-
--- src/lib.rt:35:31
-euclid-power-requires : (t : ℕ) → euclid-lts.Need-power-requires (
-  power-reads.Asked,
-  power-reads.Learnt,
-  dropped-below t,
-  dropped.Post,
-  cofactor-reads.Asked,
-  cofactor-reads.Learnt,
-  step-below t,
-  step.Post,
-  from-below-below t,
-  from-below.Post,
-) (euclid-at t) euclid.Post
-euclid-power-requires t c κs = search needs
-
--- src/lib.rt:35:9
 euclid-returns : (t : ℕ) → euclid-lts.Need-returns (
   power-reads.Asked,
   power-reads.Learnt,
@@ -510,7 +314,6 @@ euclid-returns : (t : ℕ) → euclid-lts.Need-returns (
 euclid-returns t c = let s = c .before .before .before .before .args in
     (at-constant (s .n) (s .a) (s .d) (s .b) (s .e) (s .s) (c .power .result) (s .w .now) (c .before .before .before .before .pre .1) (c .before .if1 .taken) (c .power .ensures), record { same = refl })
 
--- src/lib.rt:38:9
 euclid-dropped-requires : (t : ℕ) → euclid-lts.Need-dropped-requires (
   power-reads.Asked,
   power-reads.Learnt,
@@ -525,22 +328,6 @@ euclid-dropped-requires : (t : ℕ) → euclid-lts.Need-dropped-requires (
 ) (euclid-at t) euclid.Post
 euclid-dropped-requires t c κs = (omega (arith, c .before .before .before .before .before .pre .0), (c .before .before .before .before .before .pre .1, (omega (arith, c .before .before .if1 .left), c .before .if2 .taken)))
 
--- src/lib.rt:38:9
-euclid-same-length : (t : ℕ) → euclid-lts.Need-same-length (
-  power-reads.Asked,
-  power-reads.Learnt,
-  dropped-below t,
-  dropped.Post,
-  cofactor-reads.Asked,
-  cofactor-reads.Learnt,
-  step-below t,
-  step.Post,
-  from-below-below t,
-  from-below.Post,
-) (euclid-at t) euclid.Post
-euclid-same-length t c = search needs
-
--- src/lib.rt:38:9
 euclid-returns-2 : (t : ℕ) → euclid-lts.Need-returns-2 (
   power-reads.Asked,
   power-reads.Learnt,
@@ -555,22 +342,6 @@ euclid-returns-2 : (t : ℕ) → euclid-lts.Need-returns-2 (
 ) (euclid-at t) euclid.Post
 euclid-returns-2 t c = (c .before .before .dropped .ensures, record { same = search needs })
 
--- src/lib.rt:40:9
-euclid-cofactor-requires : (t : ℕ) → euclid-lts.Need-cofactor-requires (
-  power-reads.Asked,
-  power-reads.Learnt,
-  dropped-below t,
-  dropped.Post,
-  cofactor-reads.Asked,
-  cofactor-reads.Learnt,
-  step-below t,
-  step.Post,
-  from-below-below t,
-  from-below.Post,
-) (euclid-at t) euclid.Post
-euclid-cofactor-requires t c κs = search needs
-
--- src/lib.rt:42:9
 euclid-step-requires : (t : ℕ) → euclid-lts.Need-step-requires (
   power-reads.Asked,
   power-reads.Learnt,
@@ -586,22 +357,6 @@ euclid-step-requires : (t : ℕ) → euclid-lts.Need-step-requires (
 euclid-step-requires t c κs = let s = c .before .before .before .before .before .before .before .before .args in
     (omega (arith, c .before .before .before .before .before .before .before .before .pre .0), divisor-asked (c .before .before .before .before .before .before .before .before .args .n) (c .before .before .before .before .before .before .before .before .args .a) (c .before .before .before .before .before .before .before .before .args .d) (c .before .before .before .before .before .before .before .before .args .b) (c .before .before .before .before .before .before .before .before .args .e) (c .before .before .before .before .before .before .before .before .args .s) (c .before .before .before .cofactor .result .g) (c .before .before .before .cofactor .result .s) (s .w .now) (c .before .before .before .before .before .before .before .before .pre .1) (c .before .before .before .before .before .if1 .left) (c .before .before .before .cofactor .ensures) (c .before .if3 .taken))
 
--- src/lib.rt:42:9
-euclid-same-length-2 : (t : ℕ) → euclid-lts.Need-same-length-2 (
-  power-reads.Asked,
-  power-reads.Learnt,
-  dropped-below t,
-  dropped.Post,
-  cofactor-reads.Asked,
-  cofactor-reads.Learnt,
-  step-below t,
-  step.Post,
-  from-below-below t,
-  from-below.Post,
-) (euclid-at t) euclid.Post
-euclid-same-length-2 t c = search needs
-
--- src/lib.rt:42:9
 euclid-returns-3 : (t : ℕ) → euclid-lts.Need-returns-3 (
   power-reads.Asked,
   power-reads.Learnt,
@@ -616,7 +371,6 @@ euclid-returns-3 : (t : ℕ) → euclid-lts.Need-returns-3 (
 ) (euclid-at t) euclid.Post
 euclid-returns-3 t c = (c .before .before .step .ensures, record { same = search needs })
 
--- src/lib.rt:44:5
 euclid-from-below-requires : (t : ℕ) → euclid-lts.Need-from-below-requires (
   power-reads.Asked,
   power-reads.Learnt,
@@ -631,22 +385,6 @@ euclid-from-below-requires : (t : ℕ) → euclid-lts.Need-from-below-requires (
 ) (euclid-at t) euclid.Post
 euclid-from-below-requires t c κs = (omega (arith, c .before .before .before .before .before .before .before .before .pre .0), (c .before .before .before .before .before .before .before .before .pre .1, omega (arith, c .before .before .before .before .before .if1 .left)))
 
--- src/lib.rt:28:1
-euclid-same-length-3 : (t : ℕ) → euclid-lts.Need-same-length-3 (
-  power-reads.Asked,
-  power-reads.Learnt,
-  dropped-below t,
-  dropped.Post,
-  cofactor-reads.Asked,
-  cofactor-reads.Learnt,
-  step-below t,
-  step.Post,
-  from-below-below t,
-  from-below.Post,
-) (euclid-at t) euclid.Post
-euclid-same-length-3 t c = search needs
-
--- src/lib.rt:28:1
 euclid-returns-4 : (t : ℕ) → euclid-lts.Need-returns-4 (
   power-reads.Asked,
   power-reads.Learnt,
@@ -661,150 +399,6 @@ euclid-returns-4 : (t : ℕ) → euclid-lts.Need-returns-4 (
 ) (euclid-at t) euclid.Post
 euclid-returns-4 t c = (c .before .before .from-below .ensures, record { same = search needs })
 
--- src/lib.rt:133:13
-factors-add-a : (t : ℕ) → factors-lts.Need-add-a (
-  unit-times-monic-reads.Asked,
-  unit-times-monic-reads.Learnt,
-  monic-part-below t,
-  monic-part.Post,
-  unit-part-below t,
-  unit-part.Post,
-  times-reads.Asked,
-  times-reads.Learnt,
-) (factors-at t) factors.Post
-factors-add-a t c = search needs
-
--- src/lib.rt:134:13
-factors-add-l : (t : ℕ) → factors-lts.Need-add-l (
-  unit-times-monic-reads.Asked,
-  unit-times-monic-reads.Learnt,
-  monic-part-below t,
-  monic-part.Post,
-  unit-part-below t,
-  unit-part.Post,
-  times-reads.Asked,
-  times-reads.Learnt,
-) (factors-at t) factors.Post
-factors-add-l t c = search needs
-
--- src/lib.rt:135:13
-factors-add-h : (t : ℕ) → factors-lts.Need-add-h (
-  unit-times-monic-reads.Asked,
-  unit-times-monic-reads.Learnt,
-  monic-part-below t,
-  monic-part.Post,
-  unit-part-below t,
-  unit-part.Post,
-  times-reads.Asked,
-  times-reads.Learnt,
-) (factors-at t) factors.Post
-factors-add-h t c = search needs
-
--- src/lib.rt:136:18
-factors-add-v : (t : ℕ) → factors-lts.Need-add-v (
-  unit-times-monic-reads.Asked,
-  unit-times-monic-reads.Learnt,
-  monic-part-below t,
-  monic-part.Post,
-  unit-part-below t,
-  unit-part.Post,
-  times-reads.Asked,
-  times-reads.Learnt,
-) (factors-at t) factors.Post
-factors-add-v t c = search needs
-
--- src/lib.rt:136:13
-factors-add-v-2 : (t : ℕ) → factors-lts.Need-add-v-2 (
-  unit-times-monic-reads.Asked,
-  unit-times-monic-reads.Learnt,
-  monic-part-below t,
-  monic-part.Post,
-  unit-part-below t,
-  unit-part.Post,
-  times-reads.Asked,
-  times-reads.Learnt,
-) (factors-at t) factors.Post
-factors-add-v-2 t c = search needs
-
--- src/lib.rt:137:13
-factors-add-u : (t : ℕ) → factors-lts.Need-add-u (
-  unit-times-monic-reads.Asked,
-  unit-times-monic-reads.Learnt,
-  monic-part-below t,
-  monic-part.Post,
-  unit-part-below t,
-  unit-part.Post,
-  times-reads.Asked,
-  times-reads.Learnt,
-) (factors-at t) factors.Post
-factors-add-u t c = search needs
-
--- src/lib.rt:138:13
-factors-add-x : (t : ℕ) → factors-lts.Need-add-x (
-  unit-times-monic-reads.Asked,
-  unit-times-monic-reads.Learnt,
-  monic-part-below t,
-  monic-part.Post,
-  unit-part-below t,
-  unit-part.Post,
-  times-reads.Asked,
-  times-reads.Learnt,
-) (factors-at t) factors.Post
-factors-add-x t c = search needs
-
--- src/lib.rt:139:37
-factors-mul-unit-times-monic : (t : ℕ) → factors-lts.Need-mul-unit-times-monic (
-  unit-times-monic-reads.Asked,
-  unit-times-monic-reads.Learnt,
-  monic-part-below t,
-  monic-part.Post,
-  unit-part-below t,
-  unit-part.Post,
-  times-reads.Asked,
-  times-reads.Learnt,
-) (factors-at t) factors.Post
-factors-mul-unit-times-monic t c = search needs
-
--- src/lib.rt:139:37
-factors-sub-unit-times-monic : (t : ℕ) → factors-lts.Need-sub-unit-times-monic (
-  unit-times-monic-reads.Asked,
-  unit-times-monic-reads.Learnt,
-  monic-part-below t,
-  monic-part.Post,
-  unit-part-below t,
-  unit-part.Post,
-  times-reads.Asked,
-  times-reads.Learnt,
-) (factors-at t) factors.Post
-factors-sub-unit-times-monic t c = search needs
-
--- src/lib.rt:139:37
-factors-part-unit-times-monic-start : (t : ℕ) → factors-lts.Need-part-unit-times-monic-start (
-  unit-times-monic-reads.Asked,
-  unit-times-monic-reads.Learnt,
-  monic-part-below t,
-  monic-part.Post,
-  unit-part-below t,
-  unit-part.Post,
-  times-reads.Asked,
-  times-reads.Learnt,
-) (factors-at t) factors.Post
-factors-part-unit-times-monic-start t c = search needs
-
--- src/lib.rt:139:37
-factors-part-unit-times-monic-end : (t : ℕ) → factors-lts.Need-part-unit-times-monic-end (
-  unit-times-monic-reads.Asked,
-  unit-times-monic-reads.Learnt,
-  monic-part-below t,
-  monic-part.Post,
-  unit-part-below t,
-  unit-part.Post,
-  times-reads.Asked,
-  times-reads.Learnt,
-) (factors-at t) factors.Post
-factors-part-unit-times-monic-end t c = search needs
-
--- src/lib.rt:139:5
 factors-unit-times-monic-requires : (t : ℕ) → factors-lts.Need-unit-times-monic-requires (
   unit-times-monic-reads.Asked,
   unit-times-monic-reads.Learnt,
@@ -819,7 +413,6 @@ factors-unit-times-monic-requires t c κs = let s = c .before .before .args in
     let p = c .before .before .pre .1 in
     given-in (s .n) (s .d) (s .e) (s .t) (s .i) (s .w .now) (p .0 .0) (p .0 .1) (p .1)
 
--- src/lib.rt:140:11
 factors-monic-part-requires : (t : ℕ) → factors-lts.Need-monic-part-requires (
   unit-times-monic-reads.Asked,
   unit-times-monic-reads.Learnt,
@@ -840,33 +433,6 @@ factors-monic-part-requires t c κs = let s = c .before .before .before .before 
       ),
     )
 
--- src/lib.rt:141:24
-factors-enum-known-y : (t : ℕ) → factors-lts.Need-enum-known-y (
-  unit-times-monic-reads.Asked,
-  unit-times-monic-reads.Learnt,
-  monic-part-below t,
-  monic-part.Post,
-  unit-part-below t,
-  unit-part.Post,
-  times-reads.Asked,
-  times-reads.Learnt,
-) (factors-at t) factors.Post
-factors-enum-known-y t c = search needs
-
--- src/lib.rt:141:78
-factors-sub-unit-part : (t : ℕ) → factors-lts.Need-sub-unit-part (
-  unit-times-monic-reads.Asked,
-  unit-times-monic-reads.Learnt,
-  monic-part-below t,
-  monic-part.Post,
-  unit-part-below t,
-  unit-part.Post,
-  times-reads.Asked,
-  times-reads.Learnt,
-) (factors-at t) factors.Post
-factors-sub-unit-part t c = search needs
-
--- src/lib.rt:141:59
 factors-unit-part-requires : (t : ℕ) → factors-lts.Need-unit-part-requires (
   unit-times-monic-reads.Asked,
   unit-times-monic-reads.Learnt,
@@ -888,46 +454,6 @@ factors-unit-part-requires t c κs = let s = c .before .before .before .before .
       ),
     )
 
--- src/lib.rt:141:30
-factors-times-requires : (t : ℕ) → factors-lts.Need-times-requires (
-  unit-times-monic-reads.Asked,
-  unit-times-monic-reads.Learnt,
-  monic-part-below t,
-  monic-part.Post,
-  unit-part-below t,
-  unit-part.Post,
-  times-reads.Asked,
-  times-reads.Learnt,
-) (factors-at t) factors.Post
-factors-times-requires t c κs = search needs
-
--- src/lib.rt:142:25
-factors-enum-known-p : (t : ℕ) → factors-lts.Need-enum-known-p (
-  unit-times-monic-reads.Asked,
-  unit-times-monic-reads.Learnt,
-  monic-part-below t,
-  monic-part.Post,
-  unit-part-below t,
-  unit-part.Post,
-  times-reads.Asked,
-  times-reads.Learnt,
-) (factors-at t) factors.Post
-factors-enum-known-p t c = search needs
-
--- src/lib.rt:128:1
-factors-same-length : (t : ℕ) → factors-lts.Need-same-length (
-  unit-times-monic-reads.Asked,
-  unit-times-monic-reads.Learnt,
-  monic-part-below t,
-  monic-part.Post,
-  unit-part-below t,
-  unit-part.Post,
-  times-reads.Asked,
-  times-reads.Learnt,
-) (factors-at t) factors.Post
-factors-same-length t c = search needs
-
--- src/lib.rt:128:1
 factors-returns : (t : ℕ) → factors-lts.Need-returns (
   unit-times-monic-reads.Asked,
   unit-times-monic-reads.Learnt,
@@ -947,20 +473,6 @@ factors-returns t c = let s = c .before .before .before .before .before .before 
     let hy = subst (λ (r : Attempt). ValueOrSplit (s .n) (resultant (s .n) (piece w1 (s .e + 1 + (s .d + 1)) (s .t + 1)) (piece w1 0 (s .e + 1))) r) (y .1) (h .ensures .0) in
     followed (c .times .ensures) (c .before .before .before .unit-part .ensures) (product-times (s .n) (s .d) (s .e) (s .t) (s .w .now) (u .last .0) (p .0) (p .1) (u .kept .0) (u .ensures) (h .last .0) (h .ensures .1) (y .0 .0) (hy .0))
 
--- src/lib.rt:128:1
-factors-same-length-2 : (t : ℕ) → factors-lts.Need-same-length-2 (
-  unit-times-monic-reads.Asked,
-  unit-times-monic-reads.Learnt,
-  monic-part-below t,
-  monic-part.Post,
-  unit-part-below t,
-  unit-part.Post,
-  times-reads.Asked,
-  times-reads.Learnt,
-) (factors-at t) factors.Post
-factors-same-length-2 t c = search needs
-
--- src/lib.rt:128:1
 factors-returns-2 : (t : ℕ) → factors-lts.Need-returns-2 (
   unit-times-monic-reads.Asked,
   unit-times-monic-reads.Learnt,
@@ -975,46 +487,6 @@ factors-returns-2 t c = let s = c .before .before .before .before .before .befor
     let w1 : List ℕ = putMid (s .e + 1) (length (s .w .now) - (s .e + 1)) (s .w .now) (c .before .before .before .before .before .before .before .before .before .unit-times-monic .last .0) in
     subst (λ (r : Attempt). ValueOrSplit (s .n) (resultant (s .n) (piece w1 (s .e + 1 + (s .d + 1)) (s .t + 1)) (piece w1 0 (s .e + 1))) r) (c .before .p .given .1) (c .before .before .before .before .before .monic-part .ensures .0)
 
--- src/lib.rt:62:33
-from-below-mul-cofactor : (t : ℕ) → from-below-lts.Need-mul-cofactor (
-  cofactor-reads.Asked,
-  cofactor-reads.Learnt,
-  reversed-below t,
-  reversed.Post,
-  copy-pair-reads.Asked,
-  copy-pair-reads.Learnt,
-  by-content-below t,
-  by-content.Post,
-) (from-below-at t) from-below.Post
-from-below-mul-cofactor t c = search needs
-
--- src/lib.rt:62:33
-from-below-slice-read-cofactor : (t : ℕ) → from-below-lts.Need-slice-read-cofactor (
-  cofactor-reads.Asked,
-  cofactor-reads.Learnt,
-  reversed-below t,
-  reversed.Post,
-  copy-pair-reads.Asked,
-  copy-pair-reads.Learnt,
-  by-content-below t,
-  by-content.Post,
-) (from-below-at t) from-below.Post
-from-below-slice-read-cofactor t c = search needs
-
--- src/lib.rt:62:9
-from-below-cofactor-requires : (t : ℕ) → from-below-lts.Need-cofactor-requires (
-  cofactor-reads.Asked,
-  cofactor-reads.Learnt,
-  reversed-below t,
-  reversed.Post,
-  copy-pair-reads.Asked,
-  copy-pair-reads.Learnt,
-  by-content-below t,
-  by-content.Post,
-) (from-below-at t) from-below.Post
-from-below-cofactor-requires t c κs = search needs
-
--- src/lib.rt:64:9
 from-below-reversed-requires : (t : ℕ) → from-below-lts.Need-reversed-requires (
   cofactor-reads.Asked,
   cofactor-reads.Learnt,
@@ -1028,20 +500,6 @@ from-below-reversed-requires : (t : ℕ) → from-below-lts.Need-reversed-requir
 from-below-reversed-requires t c κs = let s = c .before .before .before .before .before .before .args in
     (omega (arith, c .before .before .before .before .before .before .pre .0), (placed-part (c .before .before .before .before .before .before .args .n) (c .before .before .before .before .before .before .args .a) (c .before .before .before .before .before .before .args .d) (c .before .before .before .before .before .before .args .b) (c .before .before .before .before .before .before .args .e) (c .before .before .before .before .before .before .args .s) (s .w .now) (c .before .before .before .before .before .before .pre .1 .0) (c .before .before .before .before .before .before .pre .1 .1), (c .before .before .before .before .before .before .pre .1 .1, c .before .before .before .cofactor .ensures .bezout ∙ ap (λ (x : ℕ). x % s .n) (c .before .if1 .taken))))
 
--- src/lib.rt:64:9
-from-below-same-length : (t : ℕ) → from-below-lts.Need-same-length (
-  cofactor-reads.Asked,
-  cofactor-reads.Learnt,
-  reversed-below t,
-  reversed.Post,
-  copy-pair-reads.Asked,
-  copy-pair-reads.Learnt,
-  by-content-below t,
-  by-content.Post,
-) (from-below-at t) from-below.Post
-from-below-same-length t c = search needs
-
--- src/lib.rt:64:9
 from-below-returns : (t : ℕ) → from-below-lts.Need-returns (
   cofactor-reads.Asked,
   cofactor-reads.Learnt,
@@ -1054,33 +512,6 @@ from-below-returns : (t : ℕ) → from-below-lts.Need-returns (
 ) (from-below-at t) from-below.Post
 from-below-returns t c = c .before .before .reversed .ensures
 
--- src/lib.rt:66:38
-from-below-add-copy-pair : (t : ℕ) → from-below-lts.Need-add-copy-pair (
-  cofactor-reads.Asked,
-  cofactor-reads.Learnt,
-  reversed-below t,
-  reversed.Post,
-  copy-pair-reads.Asked,
-  copy-pair-reads.Learnt,
-  by-content-below t,
-  by-content.Post,
-) (from-below-at t) from-below.Post
-from-below-add-copy-pair t c = search needs
-
--- src/lib.rt:66:48
-from-below-add-copy-pair-2 : (t : ℕ) → from-below-lts.Need-add-copy-pair-2 (
-  cofactor-reads.Asked,
-  cofactor-reads.Learnt,
-  reversed-below t,
-  reversed.Post,
-  copy-pair-reads.Asked,
-  copy-pair-reads.Learnt,
-  by-content-below t,
-  by-content.Post,
-) (from-below-at t) from-below.Post
-from-below-add-copy-pair-2 t c = search needs
-
--- src/lib.rt:66:5
 from-below-copy-pair-requires : (t : ℕ) → from-below-lts.Need-copy-pair-requires (
   cofactor-reads.Asked,
   cofactor-reads.Learnt,
@@ -1093,59 +524,6 @@ from-below-copy-pair-requires : (t : ℕ) → from-below-lts.Need-copy-pair-requ
 ) (from-below-at t) from-below.Post
 from-below-copy-pair-requires t c κs = copies-fit (c .before .before .before .before .before .before .args .n) (c .before .before .before .before .before .before .args .a) (c .before .before .before .before .before .before .args .d) (c .before .before .before .before .before .before .args .b) (c .before .before .before .before .before .before .args .e) (c .before .before .before .before .before .before .args .s) (c .before .before .before .before .before .before .args .w .now) (c .before .before .before .before .before .before .pre .1 .0) (λ z. omega (arith, c .before .before .before .before .before .before .pre .1 .1))
 
--- src/lib.rt:67:16
-from-below-mul-by-content : (t : ℕ) → from-below-lts.Need-mul-by-content (
-  cofactor-reads.Asked,
-  cofactor-reads.Learnt,
-  reversed-below t,
-  reversed.Post,
-  copy-pair-reads.Asked,
-  copy-pair-reads.Learnt,
-  by-content-below t,
-  by-content.Post,
-) (from-below-at t) from-below.Post
-from-below-mul-by-content t c = search needs
-
--- src/lib.rt:67:16
-from-below-sub-by-content : (t : ℕ) → from-below-lts.Need-sub-by-content (
-  cofactor-reads.Asked,
-  cofactor-reads.Learnt,
-  reversed-below t,
-  reversed.Post,
-  copy-pair-reads.Asked,
-  copy-pair-reads.Learnt,
-  by-content-below t,
-  by-content.Post,
-) (from-below-at t) from-below.Post
-from-below-sub-by-content t c = search needs
-
--- src/lib.rt:67:16
-from-below-part-by-content-start : (t : ℕ) → from-below-lts.Need-part-by-content-start (
-  cofactor-reads.Asked,
-  cofactor-reads.Learnt,
-  reversed-below t,
-  reversed.Post,
-  copy-pair-reads.Asked,
-  copy-pair-reads.Learnt,
-  by-content-below t,
-  by-content.Post,
-) (from-below-at t) from-below.Post
-from-below-part-by-content-start t c = search needs
-
--- src/lib.rt:67:16
-from-below-part-by-content-end : (t : ℕ) → from-below-lts.Need-part-by-content-end (
-  cofactor-reads.Asked,
-  cofactor-reads.Learnt,
-  reversed-below t,
-  reversed.Post,
-  copy-pair-reads.Asked,
-  copy-pair-reads.Learnt,
-  by-content-below t,
-  by-content.Post,
-) (from-below-at t) from-below.Post
-from-below-part-by-content-end t c = search needs
-
--- src/lib.rt:67:5
 from-below-by-content-requires : (t : ℕ) → from-below-lts.Need-by-content-requires (
   cofactor-reads.Asked,
   cofactor-reads.Learnt,
@@ -1158,20 +536,6 @@ from-below-by-content-requires : (t : ℕ) → from-below-lts.Need-by-content-re
 ) (from-below-at t) from-below.Post
 from-below-by-content-requires t c κs = (omega (arith, c .before .before .before .before .before .before .before .before .before .before .pre .0), stacked-asked (c .before .before .before .before .before .before .before .before .before .before .args .n) (c .before .before .before .before .before .before .before .before .before .before .args .a) (c .before .before .before .before .before .before .before .before .before .before .args .d) (c .before .before .before .before .before .before .before .before .before .before .args .b) (c .before .before .before .before .before .before .before .before .before .before .args .e) (c .before .before .before .before .before .before .before .before .before .before .args .s) (c .before .before .before .before .before .before .before .before .before .before .args .w .now) (c .before .before .before .copy-pair .last .0) (c .before .before .before .before .before .before .before .before .before .before .pre .1 .0) (λ z. omega (arith, c .before .before .before .before .before .before .before .before .before .before .pre .1 .1)) (c .before .before .before .copy-pair .ensures))
 
--- src/lib.rt:58:1
-from-below-same-length-2 : (t : ℕ) → from-below-lts.Need-same-length-2 (
-  cofactor-reads.Asked,
-  cofactor-reads.Learnt,
-  reversed-below t,
-  reversed.Post,
-  copy-pair-reads.Asked,
-  copy-pair-reads.Learnt,
-  by-content-below t,
-  by-content.Post,
-) (from-below-at t) from-below.Post
-from-below-same-length-2 t c = search needs
-
--- src/lib.rt:58:1
 from-below-returns-2 : (t : ℕ) → from-below-lts.Need-returns-2 (
   cofactor-reads.Asked,
   cofactor-reads.Learnt,
@@ -1184,7 +548,6 @@ from-below-returns-2 : (t : ℕ) → from-below-lts.Need-returns-2 (
 ) (from-below-at t) from-below.Post
 from-below-returns-2 t c = stacked-answer (c .before .before .before .before .before .before .before .before .before .before .before .before .before .args .n) (c .before .before .before .before .before .before .before .before .before .before .before .before .before .args .a) (c .before .before .before .before .before .before .before .before .before .before .before .before .before .args .d) (c .before .before .before .before .before .before .before .before .before .before .before .before .before .args .b) (c .before .before .before .before .before .before .before .before .before .before .before .before .before .args .e) (c .before .before .before .before .before .before .before .before .before .before .before .before .before .args .s) (c .before .before .before .before .before .before .before .before .before .before .before .before .before .args .w .now) (c .before .before .before .before .before .before .copy-pair .last .0) (c .before .before .before .before .before .before .before .before .before .before .before .before .before .pre .1 .0) (λ z. omega (arith, c .before .before .before .before .before .before .before .before .before .before .before .before .before .pre .1 .1)) (c .before .before .before .before .before .before .copy-pair .ensures) (c .before .before .by-content .result) (c .before .before .by-content .ensures)
 
--- src/lib.rt:153:9
 monic-part-returns : (t : ℕ) → monic-part-lts.Need-returns (
   copy-pair-reads.Asked,
   copy-pair-reads.Learnt,
@@ -1194,25 +557,6 @@ monic-part-returns : (t : ℕ) → monic-part-lts.Need-returns (
 monic-part-returns t c = let s = c .before .before .args in
     (monic-constant (s .n) (s .a) (s .t) (s .e) (s .x) (s .w .now) (c .before .before .pre .1 .0) (c .before .before .pre .1 .1) (c .if1 .taken), kept-none (s .x) (s .w .now))
 
--- src/lib.rt:155:13
-monic-part-add-l : (t : ℕ) → monic-part-lts.Need-add-l (
-  copy-pair-reads.Asked,
-  copy-pair-reads.Learnt,
-  step-below t,
-  step.Post,
-) (monic-part-at t) monic-part.Post
-monic-part-add-l t c = search needs
-
--- src/lib.rt:156:13
-monic-part-add-m : (t : ℕ) → monic-part-lts.Need-add-m (
-  copy-pair-reads.Asked,
-  copy-pair-reads.Learnt,
-  step-below t,
-  step.Post,
-) (monic-part-at t) monic-part.Post
-monic-part-add-m t c = search needs
-
--- src/lib.rt:157:5
 monic-part-copy-pair-requires : (t : ℕ) → monic-part-lts.Need-copy-pair-requires (
   copy-pair-reads.Asked,
   copy-pair-reads.Learnt,
@@ -1222,52 +566,6 @@ monic-part-copy-pair-requires : (t : ℕ) → monic-part-lts.Need-copy-pair-requ
 monic-part-copy-pair-requires t c κs = let s = c .before .before .before .args in
     part-fits (s .n) (s .a) (s .t) 0 (s .e) (s .x) (s .w .now) (c .before .before .before .pre .1 .0)
 
--- src/lib.rt:158:10
-monic-part-mul-step : (t : ℕ) → monic-part-lts.Need-mul-step (
-  copy-pair-reads.Asked,
-  copy-pair-reads.Learnt,
-  step-below t,
-  step.Post,
-) (monic-part-at t) monic-part.Post
-monic-part-mul-step t c = search needs
-
--- src/lib.rt:158:10
-monic-part-sub-step : (t : ℕ) → monic-part-lts.Need-sub-step (
-  copy-pair-reads.Asked,
-  copy-pair-reads.Learnt,
-  step-below t,
-  step.Post,
-) (monic-part-at t) monic-part.Post
-monic-part-sub-step t c = search needs
-
--- src/lib.rt:158:10
-monic-part-part-step-start : (t : ℕ) → monic-part-lts.Need-part-step-start (
-  copy-pair-reads.Asked,
-  copy-pair-reads.Learnt,
-  step-below t,
-  step.Post,
-) (monic-part-at t) monic-part.Post
-monic-part-part-step-start t c = search needs
-
--- src/lib.rt:158:10
-monic-part-part-step-end : (t : ℕ) → monic-part-lts.Need-part-step-end (
-  copy-pair-reads.Asked,
-  copy-pair-reads.Learnt,
-  step-below t,
-  step.Post,
-) (monic-part-at t) monic-part.Post
-monic-part-part-step-end t c = search needs
-
--- src/lib.rt:158:38
-monic-part-add-step : (t : ℕ) → monic-part-lts.Need-add-step (
-  copy-pair-reads.Asked,
-  copy-pair-reads.Learnt,
-  step-below t,
-  step.Post,
-) (monic-part-at t) monic-part.Post
-monic-part-add-step t c = search needs
-
--- src/lib.rt:158:5
 monic-part-step-requires : (t : ℕ) → monic-part-lts.Need-step-requires (
   copy-pair-reads.Asked,
   copy-pair-reads.Learnt,
@@ -1277,16 +575,6 @@ monic-part-step-requires : (t : ℕ) → monic-part-lts.Need-step-requires (
 monic-part-step-requires t c κs = let s = c .before .before .before .before .before .before .before .args in
     (omega (arith, c .before .before .before .before .before .before .before .pre .0), monic-asked (s .n) (s .a) (s .t) (s .e) (s .x) (s .w .now) (c .before .before .before .copy-pair .last .0) (c .before .before .before .before .before .before .before .pre .1 .0) (c .before .before .before .copy-pair .ensures) (c .before .before .before .before .before .before .before .pre .1 .1) (c .before .before .before .before .before .if1 .left))
 
--- src/lib.rt:147:1
-monic-part-same-length : (t : ℕ) → monic-part-lts.Need-same-length (
-  copy-pair-reads.Asked,
-  copy-pair-reads.Learnt,
-  step-below t,
-  step.Post,
-) (monic-part-at t) monic-part.Post
-monic-part-same-length t c = search needs
-
--- src/lib.rt:147:1
 monic-part-returns-2 : (t : ℕ) → monic-part-lts.Need-returns-2 (
   copy-pair-reads.Asked,
   copy-pair-reads.Learnt,
@@ -1299,106 +587,6 @@ monic-part-returns-2 t c = let s = c .before .before .before .before .before .be
       monic-kept (s .n) (s .a) (s .t) (s .e) (s .x) (s .w .now) w1 (c .before .before .before .before .before .before .before .before .before .before .pre .1 .0) (c .before .before .before .before .before .before .copy-pair .ensures) (c .before .before .step .last .0) (c .before .before .step .kept .0),
     )
 
--- src/lib.rt:112:13
-primitive-add-a : (t : ℕ) → primitive-lts.Need-add-a (
-  highest-of-reads.Asked,
-  highest-of-reads.Learnt,
-  step-below t,
-  step.Post,
-  factors-below t,
-  factors.Post,
-) (primitive-at t) primitive.Post
-primitive-add-a t c = search needs
-
--- src/lib.rt:113:18
-primitive-add-s : (t : ℕ) → primitive-lts.Need-add-s (
-  highest-of-reads.Asked,
-  highest-of-reads.Learnt,
-  step-below t,
-  step.Post,
-  factors-below t,
-  factors.Post,
-) (primitive-at t) primitive.Post
-primitive-add-s t c = search needs
-
--- src/lib.rt:113:13
-primitive-add-s-2 : (t : ℕ) → primitive-lts.Need-add-s-2 (
-  highest-of-reads.Asked,
-  highest-of-reads.Learnt,
-  step-below t,
-  step.Post,
-  factors-below t,
-  factors.Post,
-) (primitive-at t) primitive.Post
-primitive-add-s-2 t c = search needs
-
--- src/lib.rt:114:37
-primitive-mul-highest-of : (t : ℕ) → primitive-lts.Need-mul-highest-of (
-  highest-of-reads.Asked,
-  highest-of-reads.Learnt,
-  step-below t,
-  step.Post,
-  factors-below t,
-  factors.Post,
-) (primitive-at t) primitive.Post
-primitive-mul-highest-of t c = search needs
-
--- src/lib.rt:114:37
-primitive-sub-highest-of : (t : ℕ) → primitive-lts.Need-sub-highest-of (
-  highest-of-reads.Asked,
-  highest-of-reads.Learnt,
-  step-below t,
-  step.Post,
-  factors-below t,
-  factors.Post,
-) (primitive-at t) primitive.Post
-primitive-sub-highest-of t c = search needs
-
--- src/lib.rt:114:37
-primitive-part-highest-of-start : (t : ℕ) → primitive-lts.Need-part-highest-of-start (
-  highest-of-reads.Asked,
-  highest-of-reads.Learnt,
-  step-below t,
-  step.Post,
-  factors-below t,
-  factors.Post,
-) (primitive-at t) primitive.Post
-primitive-part-highest-of-start t c = search needs
-
--- src/lib.rt:114:37
-primitive-part-highest-of-end : (t : ℕ) → primitive-lts.Need-part-highest-of-end (
-  highest-of-reads.Asked,
-  highest-of-reads.Learnt,
-  step-below t,
-  step.Post,
-  factors-below t,
-  factors.Post,
-) (primitive-at t) primitive.Post
-primitive-part-highest-of-end t c = search needs
-
--- src/lib.rt:114:11
-primitive-highest-of-requires : (t : ℕ) → primitive-lts.Need-highest-of-requires (
-  highest-of-reads.Asked,
-  highest-of-reads.Learnt,
-  step-below t,
-  step.Post,
-  factors-below t,
-  factors.Post,
-) (primitive-at t) primitive.Post
-primitive-highest-of-requires t c κs = search needs
-
--- src/lib.rt:115:40
-primitive-enum-known-t : (t : ℕ) → primitive-lts.Need-enum-known-t (
-  highest-of-reads.Asked,
-  highest-of-reads.Learnt,
-  step-below t,
-  step.Post,
-  factors-below t,
-  factors.Post,
-) (primitive-at t) primitive.Post
-primitive-enum-known-t t c = search needs
-
--- src/lib.rt:117:17
 primitive-step-requires : (t : ℕ) → primitive-lts.Need-step-requires (
   highest-of-reads.Asked,
   highest-of-reads.Learnt,
@@ -1413,18 +601,6 @@ primitive-step-requires t c κs = let s = c .before .before .before .before .bef
     let u = lent (LeadingUnit (s .n) (g .0 .0) (g .0 .1 .0)) (s .e + 1) (s .d + 1) m (s .w .now) (omega arith) (subst (HighestOf (s .n) (midOf (s .e + 1) m (s .w .now))) (g .1) (c .before .before .before .before .before .highest-of .ensures)) in
     (omega (arith, c .before .before .before .before .before .before .before .before .before .pre .0), lead-asked (s .n) (s .d) (s .e) (g .0 .0) (g .0 .1 .0) (s .w .now) (c .before .before .before .before .before .before .before .before .before .pre .1 .0) u (c .before .if1 .taken))
 
--- src/lib.rt:117:17
-primitive-same-length : (t : ℕ) → primitive-lts.Need-same-length (
-  highest-of-reads.Asked,
-  highest-of-reads.Learnt,
-  step-below t,
-  step.Post,
-  factors-below t,
-  factors.Post,
-) (primitive-at t) primitive.Post
-primitive-same-length t c = search needs
-
--- src/lib.rt:117:17
 primitive-returns : (t : ℕ) → primitive-lts.Need-returns (
   highest-of-reads.Asked,
   highest-of-reads.Learnt,
@@ -1435,7 +611,6 @@ primitive-returns : (t : ℕ) → primitive-lts.Need-returns (
 ) (primitive-at t) primitive.Post
 primitive-returns t c = c .before .before .step .ensures
 
--- src/lib.rt:119:13
 primitive-factors-requires : (t : ℕ) → primitive-lts.Need-factors-requires (
   highest-of-reads.Asked,
   highest-of-reads.Learnt,
@@ -1450,40 +625,6 @@ primitive-factors-requires t c κs = let s = c .before .before .before .before .
     let u = lent (LeadingUnit (s .n) (g .0 .0) (g .0 .1 .0)) (s .e + 1) (s .d + 1) m (s .w .now) (omega arith) (subst (HighestOf (s .n) (midOf (s .e + 1) m (s .w .now))) (g .1) (c .before .before .before .before .before .highest-of .ensures)) in
     (omega (arith, c .before .before .before .before .before .before .before .before .before .pre .0), ((c .before .before .before .before .before .before .before .before .before .pre .1 .0, lead-below (s .n) (s .d) (s .e) (g .0 .0) (g .0 .1 .0) (s .w .now) (c .before .before .before .before .before .before .before .before .before .pre .1 .0) u (c .before .if1 .left)), u))
 
--- src/lib.rt:121:40
-primitive-enum-known-p : (t : ℕ) → primitive-lts.Need-enum-known-p (
-  highest-of-reads.Asked,
-  highest-of-reads.Learnt,
-  step-below t,
-  step.Post,
-  factors-below t,
-  factors.Post,
-) (primitive-at t) primitive.Post
-primitive-enum-known-p t c = search needs
-
--- src/lib.rt:122:49
-primitive-enum-told : (t : ℕ) → primitive-lts.Need-enum-told (
-  highest-of-reads.Asked,
-  highest-of-reads.Learnt,
-  step-below t,
-  step.Post,
-  factors-below t,
-  factors.Post,
-) (primitive-at t) primitive.Post
-primitive-enum-told t c = search needs
-
--- src/lib.rt:107:1
-primitive-same-length-2 : (t : ℕ) → primitive-lts.Need-same-length-2 (
-  highest-of-reads.Asked,
-  highest-of-reads.Learnt,
-  step-below t,
-  step.Post,
-  factors-below t,
-  factors.Post,
-) (primitive-at t) primitive.Post
-primitive-same-length-2 t c = search needs
-
--- src/lib.rt:107:1
 primitive-returns-2 : (t : ℕ) → primitive-lts.Need-returns-2 (
   highest-of-reads.Asked,
   highest-of-reads.Learnt,
@@ -1494,18 +635,6 @@ primitive-returns-2 : (t : ℕ) → primitive-lts.Need-returns-2 (
 ) (primitive-at t) primitive.Post
 primitive-returns-2 t c = c .before .before .factors .ensures
 
--- src/lib.rt:107:1
-primitive-same-length-3 : (t : ℕ) → primitive-lts.Need-same-length-3 (
-  highest-of-reads.Asked,
-  highest-of-reads.Learnt,
-  step-below t,
-  step.Post,
-  factors-below t,
-  factors.Post,
-) (primitive-at t) primitive.Post
-primitive-same-length-3 t c = search needs
-
--- src/lib.rt:107:1
 primitive-returns-3 : (t : ℕ) → primitive-lts.Need-returns-3 (
   highest-of-reads.Asked,
   highest-of-reads.Learnt,
@@ -1518,18 +647,6 @@ primitive-returns-3 t c = let s = c .before .before .before .before .before .bef
     let m : ℕ = s .e + 1 + (s .d + 1) - (s .e + 1) in
     subst (HighestOf (s .n) (midOf (s .e + 1) m (s .w .now))) (c .before .p .given .1) (c .before .before .before .highest-of .ensures)
 
--- src/lib.rt:107:1
-primitive-same-length-4 : (t : ℕ) → primitive-lts.Need-same-length-4 (
-  highest-of-reads.Asked,
-  highest-of-reads.Learnt,
-  step-below t,
-  step.Post,
-  factors-below t,
-  factors.Post,
-) (primitive-at t) primitive.Post
-primitive-same-length-4 t c = search needs
-
--- src/lib.rt:107:1
 primitive-returns-4 : (t : ℕ) → primitive-lts.Need-returns-4 (
   highest-of-reads.Asked,
   highest-of-reads.Learnt,
@@ -1543,29 +660,6 @@ primitive-returns-4 t c = let s = c .before .before .before .before .before .bef
     absurd (not-all-nilpotent (s .n) (piece (s .w .now) (s .e + 1) (s .d + 1)) (c .before .before .before .before .before .before .pre .1 .0 .two) (c .before .before .before .before .before .before .pre .1 .1)
     (lent (AllNilpotents (s .n)) (s .e + 1) (s .d + 1) m (s .w .now) (omega arith) (subst (HighestOf (s .n) (midOf (s .e + 1) m (s .w .now))) (c .enum-told .given .1) (c .before .before .highest-of .ensures))))
 
--- src/lib.rt:75:13
-reversed-add-l : (t : ℕ) → reversed-lts.Need-add-l (
-  copy-pair-reversed-reads.Asked,
-  copy-pair-reversed-reads.Learnt,
-  step-below t,
-  step.Post,
-  times-sign-reads.Asked,
-  times-sign-reads.Learnt,
-) (reversed-at t) reversed.Post
-reversed-add-l t c = search needs
-
--- src/lib.rt:76:13
-reversed-add-m : (t : ℕ) → reversed-lts.Need-add-m (
-  copy-pair-reversed-reads.Asked,
-  copy-pair-reversed-reads.Learnt,
-  step-below t,
-  step.Post,
-  times-sign-reads.Asked,
-  times-sign-reads.Learnt,
-) (reversed-at t) reversed.Post
-reversed-add-m t c = search needs
-
--- src/lib.rt:77:5
 reversed-copy-pair-reversed-requires : (t : ℕ) → reversed-lts.Need-copy-pair-reversed-requires (
   copy-pair-reversed-reads.Asked,
   copy-pair-reversed-reads.Learnt,
@@ -1576,62 +670,6 @@ reversed-copy-pair-reversed-requires : (t : ℕ) → reversed-lts.Need-copy-pair
 ) (reversed-at t) reversed.Post
 reversed-copy-pair-reversed-requires t c κs = part-fits (c .before .before .args .n) (c .before .before .args .a) (c .before .before .args .d) (c .before .before .args .b) (c .before .before .args .e) (c .before .before .args .s) (c .before .before .args .w .now) (c .before .before .pre .1 .0)
 
--- src/lib.rt:78:18
-reversed-mul-step : (t : ℕ) → reversed-lts.Need-mul-step (
-  copy-pair-reversed-reads.Asked,
-  copy-pair-reversed-reads.Learnt,
-  step-below t,
-  step.Post,
-  times-sign-reads.Asked,
-  times-sign-reads.Learnt,
-) (reversed-at t) reversed.Post
-reversed-mul-step t c = search needs
-
--- src/lib.rt:78:18
-reversed-sub-step : (t : ℕ) → reversed-lts.Need-sub-step (
-  copy-pair-reversed-reads.Asked,
-  copy-pair-reversed-reads.Learnt,
-  step-below t,
-  step.Post,
-  times-sign-reads.Asked,
-  times-sign-reads.Learnt,
-) (reversed-at t) reversed.Post
-reversed-sub-step t c = search needs
-
--- src/lib.rt:78:18
-reversed-part-step-start : (t : ℕ) → reversed-lts.Need-part-step-start (
-  copy-pair-reversed-reads.Asked,
-  copy-pair-reversed-reads.Learnt,
-  step-below t,
-  step.Post,
-  times-sign-reads.Asked,
-  times-sign-reads.Learnt,
-) (reversed-at t) reversed.Post
-reversed-part-step-start t c = search needs
-
--- src/lib.rt:78:18
-reversed-part-step-end : (t : ℕ) → reversed-lts.Need-part-step-end (
-  copy-pair-reversed-reads.Asked,
-  copy-pair-reversed-reads.Learnt,
-  step-below t,
-  step.Post,
-  times-sign-reads.Asked,
-  times-sign-reads.Learnt,
-) (reversed-at t) reversed.Post
-reversed-part-step-end t c = search needs
-
--- src/lib.rt:78:46
-reversed-add-step : (t : ℕ) → reversed-lts.Need-add-step (
-  copy-pair-reversed-reads.Asked,
-  copy-pair-reversed-reads.Learnt,
-  step-below t,
-  step.Post,
-  times-sign-reads.Asked,
-  times-sign-reads.Learnt,
-) (reversed-at t) reversed.Post
-reversed-add-step t c = search needs
-
--- src/lib.rt:78:9
 reversed-step-requires : (t : ℕ) → reversed-lts.Need-step-requires (
   copy-pair-reversed-reads.Asked,
   copy-pair-reversed-reads.Learnt,
@@ -1642,7 +680,6 @@ reversed-step-requires : (t : ℕ) → reversed-lts.Need-step-requires (
 ) (reversed-at t) reversed.Post
 reversed-step-requires t c κs = (omega (arith, c .before .before .before .before .before .before .pre .0), reversed-asked (c .before .before .before .before .before .before .args .n) (c .before .before .before .before .before .before .args .a) (c .before .before .before .before .before .before .args .d) (c .before .before .before .before .before .before .args .b) (c .before .before .before .before .before .before .args .e) (c .before .before .before .before .before .before .args .s) (c .before .before .before .before .before .before .args .w .now) (c .before .before .before .copy-pair-reversed .last .0) (c .before .before .before .before .before .before .pre .1 .0) (c .before .before .before .copy-pair-reversed .ensures) (c .before .before .before .before .before .before .args .i) (c .before .before .before .before .before .before .pre .1 .1 .0) (c .before .before .before .before .before .before .pre .1 .1 .1))
 
--- src/lib.rt:79:5
 reversed-times-sign-requires : (t : ℕ) → reversed-lts.Need-times-sign-requires (
   copy-pair-reversed-reads.Asked,
   copy-pair-reversed-reads.Learnt,
@@ -1653,18 +690,6 @@ reversed-times-sign-requires : (t : ℕ) → reversed-lts.Need-times-sign-requir
 ) (reversed-at t) reversed.Post
 reversed-times-sign-requires t c κs = record { x = resultant (c .before .before .before .before .before .before .before .before .before .args .n) (piece (onward (c .before .before .before .before .before .before .copy-pair-reversed .last .0) (c .before .before .before .before .before .before .before .before .before .args .s)) 0 (c .before .before .before .before .before .before .before .before .before .args .d + 1)) (piece (onward (c .before .before .before .before .before .before .copy-pair-reversed .last .0) (c .before .before .before .before .before .before .before .before .before .args .s)) (c .before .before .before .before .before .before .before .before .before .args .d + 1) (c .before .before .before .before .before .before .before .before .before .args .e + 1)); is = c .before .before .step .ensures }
 
--- src/lib.rt:71:1
-reversed-same-length : (t : ℕ) → reversed-lts.Need-same-length (
-  copy-pair-reversed-reads.Asked,
-  copy-pair-reversed-reads.Learnt,
-  step-below t,
-  step.Post,
-  times-sign-reads.Asked,
-  times-sign-reads.Learnt,
-) (reversed-at t) reversed.Post
-reversed-same-length t c = search needs
-
--- src/lib.rt:71:1
 reversed-returns : (t : ℕ) → reversed-lts.Need-returns (
   copy-pair-reversed-reads.Asked,
   copy-pair-reversed-reads.Learnt,
@@ -1675,46 +700,6 @@ reversed-returns : (t : ℕ) → reversed-lts.Need-returns (
 ) (reversed-at t) reversed.Post
 reversed-returns t c = followed (c .times-sign .ensures) (c .before .before .before .step .ensures) (reversed-sign (c .before .before .before .before .before .before .before .before .before .before .args .n) (c .before .before .before .before .before .before .before .before .before .before .args .a) (c .before .before .before .before .before .before .before .before .before .before .args .d) (c .before .before .before .before .before .before .before .before .before .before .args .b) (c .before .before .before .before .before .before .before .before .before .before .args .e) (c .before .before .before .before .before .before .before .before .before .before .args .s) (c .before .before .before .before .before .before .before .before .before .before .args .w .now) (c .before .before .before .before .before .before .before .copy-pair-reversed .last .0) (c .before .before .before .before .before .before .before .before .before .before .pre .1 .0) (c .before .before .before .before .before .before .before .copy-pair-reversed .ensures))
 
--- src/lib.rt:87:18
-step-add-lead : (t : ℕ) → step-lts.Need-add-lead (
-  divide-reads.Asked,
-  divide-reads.Learnt,
-  euclid-below t,
-  euclid.Post,
-  power-reads.Asked,
-  power-reads.Learnt,
-  times-reads.Asked,
-  times-reads.Learnt,
-) (step-at t) step.Post
-step-add-lead t c = search needs
-
--- src/lib.rt:87:16
-step-mul-lead : (t : ℕ) → step-lts.Need-mul-lead (
-  divide-reads.Asked,
-  divide-reads.Learnt,
-  euclid-below t,
-  euclid.Post,
-  power-reads.Asked,
-  power-reads.Learnt,
-  times-reads.Asked,
-  times-reads.Learnt,
-) (step-at t) step.Post
-step-mul-lead t c = search needs
-
--- src/lib.rt:87:16
-step-slice-read-lead : (t : ℕ) → step-lts.Need-slice-read-lead (
-  divide-reads.Asked,
-  divide-reads.Learnt,
-  euclid-below t,
-  euclid.Post,
-  power-reads.Asked,
-  power-reads.Learnt,
-  times-reads.Asked,
-  times-reads.Learnt,
-) (step-at t) step.Post
-step-slice-read-lead t c = search needs
-
--- src/lib.rt:88:5
 step-divide-requires : (t : ℕ) → step-lts.Need-divide-requires (
   divide-reads.Asked,
   divide-reads.Learnt,
@@ -1728,20 +713,6 @@ step-divide-requires : (t : ℕ) → step-lts.Need-divide-requires (
 step-divide-requires t c κs = let s = c .before .before .before .args in
     divide-asked (s .n) (s .a) (s .d) (s .b) (s .e) (s .s) (s .i) (s .w .now) (c .before .before .before .pre .1)
 
--- src/lib.rt:89:29
-step-sub-euclid : (t : ℕ) → step-lts.Need-sub-euclid (
-  divide-reads.Asked,
-  divide-reads.Learnt,
-  euclid-below t,
-  euclid.Post,
-  power-reads.Asked,
-  power-reads.Learnt,
-  times-reads.Asked,
-  times-reads.Learnt,
-) (step-at t) step.Post
-step-sub-euclid t c = search needs
-
--- src/lib.rt:89:9
 step-euclid-requires : (t : ℕ) → step-lts.Need-euclid-requires (
   divide-reads.Asked,
   divide-reads.Learnt,
@@ -1756,72 +727,6 @@ step-euclid-requires t c κs = let s = c .before .before .before .before .before
     let dv = c .before .before .before .before .before .before .before .pre .1 in
     (omega (arith, c .before .before .before .before .before .before .before .pre .0, dv .one), next-asked (s .n) (s .a) (s .d) (s .b) (s .e) (s .s) (s .i) (s .w .now) (c .before .before .before .divide .last .0) dv (c .before .before .before .divide .ensures))
 
--- src/lib.rt:90:58
-step-add-power : (t : ℕ) → step-lts.Need-add-power (
-  divide-reads.Asked,
-  divide-reads.Learnt,
-  euclid-below t,
-  euclid.Post,
-  power-reads.Asked,
-  power-reads.Learnt,
-  times-reads.Asked,
-  times-reads.Learnt,
-) (step-at t) step.Post
-step-add-power t c = search needs
-
--- src/lib.rt:90:58
-step-sub-power : (t : ℕ) → step-lts.Need-sub-power (
-  divide-reads.Asked,
-  divide-reads.Learnt,
-  euclid-below t,
-  euclid.Post,
-  power-reads.Asked,
-  power-reads.Learnt,
-  times-reads.Asked,
-  times-reads.Learnt,
-) (step-at t) step.Post
-step-sub-power t c = search needs
-
--- src/lib.rt:90:31
-step-power-requires : (t : ℕ) → step-lts.Need-power-requires (
-  divide-reads.Asked,
-  divide-reads.Learnt,
-  euclid-below t,
-  euclid.Post,
-  power-reads.Asked,
-  power-reads.Learnt,
-  times-reads.Asked,
-  times-reads.Learnt,
-) (step-at t) step.Post
-step-power-requires t c κs = search needs
-
--- src/lib.rt:90:5
-step-times-requires : (t : ℕ) → step-lts.Need-times-requires (
-  divide-reads.Asked,
-  divide-reads.Learnt,
-  euclid-below t,
-  euclid.Post,
-  power-reads.Asked,
-  power-reads.Learnt,
-  times-reads.Asked,
-  times-reads.Learnt,
-) (step-at t) step.Post
-step-times-requires t c κs = search needs
-
--- src/lib.rt:83:1
-step-same-length : (t : ℕ) → step-lts.Need-same-length (
-  divide-reads.Asked,
-  divide-reads.Learnt,
-  euclid-below t,
-  euclid.Post,
-  power-reads.Asked,
-  power-reads.Learnt,
-  times-reads.Asked,
-  times-reads.Learnt,
-) (step-at t) step.Post
-step-same-length t c = search needs
-
--- src/lib.rt:83:1
 step-returns : (t : ℕ) → step-lts.Need-returns (
   divide-reads.Asked,
   divide-reads.Learnt,
@@ -1836,34 +741,6 @@ step-returns t c = let s = c .before .before .before .before .before .before .be
     followed (c .times .ensures) (c .before .before .before .before .euclid .ensures .0)
     (times-next (s .n) (s .a) (s .d) (s .b) (s .e) (s .s) (s .i) (s .w .now) (c .before .before .before .before .before .before .before .before .divide .last .0) (c .before .before .before .before .before .before .before .before .before .before .before .before .pre .1) (c .before .before .before .before .before .before .before .before .divide .ensures) (c .before .power .result) (c .before .power .ensures))
 
--- src/lib.rt:166:33
-unit-part-mul-cofactor : (t : ℕ) → unit-part-lts.Need-mul-cofactor (
-  cofactor-reads.Asked,
-  cofactor-reads.Learnt,
-  reversed-below t,
-  reversed.Post,
-) (unit-part-at t) unit-part.Post
-unit-part-mul-cofactor t c = search needs
-
--- src/lib.rt:166:33
-unit-part-slice-read-cofactor : (t : ℕ) → unit-part-lts.Need-slice-read-cofactor (
-  cofactor-reads.Asked,
-  cofactor-reads.Learnt,
-  reversed-below t,
-  reversed.Post,
-) (unit-part-at t) unit-part.Post
-unit-part-slice-read-cofactor t c = search needs
-
--- src/lib.rt:166:9
-unit-part-cofactor-requires : (t : ℕ) → unit-part-lts.Need-cofactor-requires (
-  cofactor-reads.Asked,
-  cofactor-reads.Learnt,
-  reversed-below t,
-  reversed.Post,
-) (unit-part-at t) unit-part.Post
-unit-part-cofactor-requires t c κs = search needs
-
--- src/lib.rt:167:5
 unit-part-reversed-requires : (t : ℕ) → unit-part-lts.Need-reversed-requires (
   cofactor-reads.Asked,
   cofactor-reads.Learnt,
@@ -1873,16 +750,6 @@ unit-part-reversed-requires : (t : ℕ) → unit-part-lts.Need-reversed-requires
 unit-part-reversed-requires t c κs = let s = c .before .before .before .before .args in
     (omega (arith, c .before .before .before .before .pre .0), (c .before .before .before .before .pre .1 .0, (c .before .before .before .before .pre .1 .1 .0, unit-inverse (s .n) (getD (s .w .now) (s .a) 0) (c .before .cofactor .result .g) (c .before .cofactor .result .s) (c .before .before .before .before .pre .1 .1 .1) (c .before .cofactor .ensures))))
 
--- src/lib.rt:162:1
-unit-part-same-length : (t : ℕ) → unit-part-lts.Need-same-length (
-  cofactor-reads.Asked,
-  cofactor-reads.Learnt,
-  reversed-below t,
-  reversed.Post,
-) (unit-part-at t) unit-part.Post
-unit-part-same-length t c = search needs
-
--- src/lib.rt:162:1
 unit-part-returns : (t : ℕ) → unit-part-lts.Need-returns (
   cofactor-reads.Asked,
   cofactor-reads.Learnt,
@@ -1920,14 +787,14 @@ pub +by-content+dropped+euclid+factors+from-below+monic-part+primitive+reversed+
     (by-content-at t)
     by-content.Post
     (by-content-clear-content-requires t)
-    (by-content-same-length t)
+    (λ c. search needs)
     (by-content-returns t)
     (by-content-div-primitive t)
     (by-content-primitive-requires t)
     (by-content-lifted-requires t)
-    (by-content-power-requires t)
-    (by-content-times-requires t)
-    (by-content-same-length-2 t)
+    (λ c κs. search needs)
+    (λ c κs. search needs)
+    (λ c. search needs)
     (by-content-returns-2 t))
     (λ t. dropped-lts.spec (
       euclid-below t,
@@ -1939,14 +806,14 @@ pub +by-content+dropped+euclid+factors+from-below+monic-part+primitive+reversed+
     )
     (dropped-at t)
     dropped.Post
-    (dropped-add-c t)
-    (dropped-mul-c t)
-    (dropped-slice-read-c t)
-    (dropped-sub-euclid t)
+    (λ c. search needs)
+    (λ c. search needs)
+    (λ c. search needs)
+    (λ c. search needs)
     (dropped-euclid-requires t)
-    (dropped-times-requires t)
+    (λ c κs. search needs)
     (dropped-times-sign-requires t)
-    (dropped-same-length t)
+    (λ c. search needs)
     (dropped-returns t))
     (λ t. euclid-lts.spec (
       power-reads.Asked,
@@ -1962,20 +829,20 @@ pub +by-content+dropped+euclid+factors+from-below+monic-part+primitive+reversed+
     )
     (euclid-at t)
     euclid.Post
-    (euclid-add-lead t)
-    (euclid-mul-lead t)
-    (euclid-slice-read-lead t)
-    (euclid-power-requires t)
+    (λ c. search needs)
+    (λ c. search needs)
+    (λ c. search needs)
+    (λ c κs. search needs)
     (euclid-returns t)
     (euclid-dropped-requires t)
-    (euclid-same-length t)
+    (λ c. search needs)
     (euclid-returns-2 t)
-    (euclid-cofactor-requires t)
+    (λ c κs. search needs)
     (euclid-step-requires t)
-    (euclid-same-length-2 t)
+    (λ c. search needs)
     (euclid-returns-3 t)
     (euclid-from-below-requires t)
-    (euclid-same-length-3 t)
+    (λ c. search needs)
     (euclid-returns-4 t))
     (λ t. factors-lts.spec (
       unit-times-monic-reads.Asked,
@@ -1989,27 +856,27 @@ pub +by-content+dropped+euclid+factors+from-below+monic-part+primitive+reversed+
     )
     (factors-at t)
     factors.Post
-    (factors-add-a t)
-    (factors-add-l t)
-    (factors-add-h t)
-    (factors-add-v t)
-    (factors-add-v-2 t)
-    (factors-add-u t)
-    (factors-add-x t)
-    (factors-mul-unit-times-monic t)
-    (factors-sub-unit-times-monic t)
-    (factors-part-unit-times-monic-start t)
-    (factors-part-unit-times-monic-end t)
+    (λ c. search needs)
+    (λ c. search needs)
+    (λ c. search needs)
+    (λ c. search needs)
+    (λ c. search needs)
+    (λ c. search needs)
+    (λ c. search needs)
+    (λ c. search needs)
+    (λ c. search needs)
+    (λ c. search needs)
+    (λ c. search needs)
     (factors-unit-times-monic-requires t)
     (factors-monic-part-requires t)
-    (factors-enum-known-y t)
-    (factors-sub-unit-part t)
+    (λ c. search needs)
+    (λ c. search needs)
     (factors-unit-part-requires t)
-    (factors-times-requires t)
-    (factors-enum-known-p t)
-    (factors-same-length t)
+    (λ c κs. search needs)
+    (λ c. search needs)
+    (λ c. search needs)
     (factors-returns t)
-    (factors-same-length-2 t)
+    (λ c. search needs)
     (factors-returns-2 t))
     (λ t. from-below-lts.spec (
       cofactor-reads.Asked,
@@ -2023,21 +890,21 @@ pub +by-content+dropped+euclid+factors+from-below+monic-part+primitive+reversed+
     )
     (from-below-at t)
     from-below.Post
-    (from-below-mul-cofactor t)
-    (from-below-slice-read-cofactor t)
-    (from-below-cofactor-requires t)
+    (λ c. search needs)
+    (λ c. search needs)
+    (λ c κs. search needs)
     (from-below-reversed-requires t)
-    (from-below-same-length t)
+    (λ c. search needs)
     (from-below-returns t)
-    (from-below-add-copy-pair t)
-    (from-below-add-copy-pair-2 t)
+    (λ c. search needs)
+    (λ c. search needs)
     (from-below-copy-pair-requires t)
-    (from-below-mul-by-content t)
-    (from-below-sub-by-content t)
-    (from-below-part-by-content-start t)
-    (from-below-part-by-content-end t)
+    (λ c. search needs)
+    (λ c. search needs)
+    (λ c. search needs)
+    (λ c. search needs)
     (from-below-by-content-requires t)
-    (from-below-same-length-2 t)
+    (λ c. search needs)
     (from-below-returns-2 t))
     (λ t. monic-part-lts.spec (
       copy-pair-reads.Asked,
@@ -2048,16 +915,16 @@ pub +by-content+dropped+euclid+factors+from-below+monic-part+primitive+reversed+
     (monic-part-at t)
     monic-part.Post
     (monic-part-returns t)
-    (monic-part-add-l t)
-    (monic-part-add-m t)
+    (λ c. search needs)
+    (λ c. search needs)
     (monic-part-copy-pair-requires t)
-    (monic-part-mul-step t)
-    (monic-part-sub-step t)
-    (monic-part-part-step-start t)
-    (monic-part-part-step-end t)
-    (monic-part-add-step t)
+    (λ c. search needs)
+    (λ c. search needs)
+    (λ c. search needs)
+    (λ c. search needs)
+    (λ c. search needs)
     (monic-part-step-requires t)
-    (monic-part-same-length t)
+    (λ c. search needs)
     (monic-part-returns-2 t))
     (λ t. primitive-lts.spec (
       highest-of-reads.Asked,
@@ -2069,26 +936,26 @@ pub +by-content+dropped+euclid+factors+from-below+monic-part+primitive+reversed+
     )
     (primitive-at t)
     primitive.Post
-    (primitive-add-a t)
-    (primitive-add-s t)
-    (primitive-add-s-2 t)
-    (primitive-mul-highest-of t)
-    (primitive-sub-highest-of t)
-    (primitive-part-highest-of-start t)
-    (primitive-part-highest-of-end t)
-    (primitive-highest-of-requires t)
-    (primitive-enum-known-t t)
+    (λ c. search needs)
+    (λ c. search needs)
+    (λ c. search needs)
+    (λ c. search needs)
+    (λ c. search needs)
+    (λ c. search needs)
+    (λ c. search needs)
+    (λ c κs. search needs)
+    (λ c. search needs)
     (primitive-step-requires t)
-    (primitive-same-length t)
+    (λ c. search needs)
     (primitive-returns t)
     (primitive-factors-requires t)
-    (primitive-enum-known-p t)
-    (primitive-enum-told t)
-    (primitive-same-length-2 t)
+    (λ c. search needs)
+    (λ c. search needs)
+    (λ c. search needs)
     (primitive-returns-2 t)
-    (primitive-same-length-3 t)
+    (λ c. search needs)
     (primitive-returns-3 t)
-    (primitive-same-length-4 t)
+    (λ c. search needs)
     (primitive-returns-4 t))
     (λ t. reversed-lts.spec (
       copy-pair-reversed-reads.Asked,
@@ -2100,17 +967,17 @@ pub +by-content+dropped+euclid+factors+from-below+monic-part+primitive+reversed+
     )
     (reversed-at t)
     reversed.Post
-    (reversed-add-l t)
-    (reversed-add-m t)
+    (λ c. search needs)
+    (λ c. search needs)
     (reversed-copy-pair-reversed-requires t)
-    (reversed-mul-step t)
-    (reversed-sub-step t)
-    (reversed-part-step-start t)
-    (reversed-part-step-end t)
-    (reversed-add-step t)
+    (λ c. search needs)
+    (λ c. search needs)
+    (λ c. search needs)
+    (λ c. search needs)
+    (λ c. search needs)
     (reversed-step-requires t)
     (reversed-times-sign-requires t)
-    (reversed-same-length t)
+    (λ c. search needs)
     (reversed-returns t))
     (λ t. step-lts.spec (
       divide-reads.Asked,
@@ -2124,25 +991,25 @@ pub +by-content+dropped+euclid+factors+from-below+monic-part+primitive+reversed+
     )
     (step-at t)
     step.Post
-    (step-add-lead t)
-    (step-mul-lead t)
-    (step-slice-read-lead t)
+    (λ c. search needs)
+    (λ c. search needs)
+    (λ c. search needs)
     (step-divide-requires t)
-    (step-sub-euclid t)
+    (λ c. search needs)
     (step-euclid-requires t)
-    (step-add-power t)
-    (step-sub-power t)
-    (step-power-requires t)
-    (step-times-requires t)
-    (step-same-length t)
+    (λ c. search needs)
+    (λ c. search needs)
+    (λ c κs. search needs)
+    (λ c κs. search needs)
+    (λ c. search needs)
     (step-returns t))
     λ t. unit-part-lts.spec
     (cofactor-reads.Asked, cofactor-reads.Learnt, reversed-below t, reversed.Post)
     (unit-part-at t)
     unit-part.Post
-    (unit-part-mul-cofactor t)
-    (unit-part-slice-read-cofactor t)
-    (unit-part-cofactor-requires t)
+    (λ c. search needs)
+    (λ c. search needs)
+    (λ c κs. search needs)
     (unit-part-reversed-requires t)
-    (unit-part-same-length t)
+    (λ c. search needs)
     (unit-part-returns t)
