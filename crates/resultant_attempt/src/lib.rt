@@ -59,16 +59,25 @@ fn from_below(w: &mut [u32], n: u32, a: usize, d: usize, b: usize, e: usize, s: 
     requires { ⌜ (Placed n a d b e s (now w)) × (1 ≤ d) ⌝ }
     ensures { λ r. ⌜ ValueOrSplit n (resultant n (piece (now (w .entry)) a (d + 1)) (piece (now (w .entry)) b (e + 1))) r ⌝ }
 {
-    let x = bezout::cofactor(n, w[a]);
-    if x.g == 1 {
-        return reversed(w, n, a, d, b, e, s, x.s);
+    let y = bezout::cofactor(n, w[a]);
+    if y.g == 1 {
+        return reversed(w, n, a, d, b, e, s, y.s);
     }
     resultant_steps::copy_pair(w, b, e + 1, a, d + 1, s);
     by_content(&mut w[s..], n, d, e)
 }
 
 // The same, where the constant of f has the inverse i: both are reversed, which brings it to the lead.
-fn reversed(w: &mut [u32], n: u32, a: usize, d: usize, b: usize, e: usize, s: usize, i: u32) -> Attempt
+fn reversed(
+    w: &mut [u32],
+    n: u32,
+    a: usize,
+    d: usize,
+    b: usize,
+    e: usize,
+    s: usize,
+    i: u32,
+) -> Attempt
     requires { ⌜ (Part n a d b e s (now w)) × ((1 ≤ d) × ((i * getD (now w) a 0) % n ≡ 1 % n)) ⌝ }
     ensures { λ r. ⌜ ValueOrSplit n (resultant n (piece (now (w .entry)) a (d + 1)) (piece (now (w .entry)) b (e + 1))) r ⌝ }
 {

@@ -4,7 +4,7 @@ use Rattle.windows.specs.Window.{piece}
 use borrow.Rule.Slice.PartMut.{midOf, putMid}
 use Rattle.resultant_steps.proofs.SideBySide.{onward}
 use Rattle.resultant_steps.proofs.Contents.{content-positive, content-whole, content-times}
-use Rattle.resultant_steps.proofs.Turned.{followed}
+use Rattle.resultant_steps.proofs.Turned.{followed, answer-follows}
 use Rattle.resultant_steps.specs.AttemptAnswers.{ValueOrSplit}
 use Rattle.residue.specs.declared.Attempt.{Attempt}
 use Rattle.window_factor.specs.Factors.{HighestOf, LeadingUnit, AllNilpotents}
@@ -286,7 +286,8 @@ dropped-times-sign-requires : (t : ℕ) → dropped-lts.Need-times-sign-requires
   times-sign-reads.Asked,
   times-sign-reads.Learnt,
 ) (dropped-at t) dropped.Post
-dropped-times-sign-requires t c κs = let s = c .before .before .before .before .before .before .before .args in record { x = (getD (s .w .now) (s .b + s .e) 0 * resultant (s .n) (piece (s .w .now) (s .a) (s .d - 1 + 1)) (piece (s .w .now) (s .b) (s .e + 1))) % s .n; is = c .times .ensures .at (resultant (s .n) (piece (s .w .now) (s .a) (s .d - 1 + 1)) (piece (s .w .now) (s .b) (s .e + 1))) (c .before .before .before .euclid .ensures .0) }
+dropped-times-sign-requires t c κs = let s = c .before .before .before .before .before .before .before .args in
+    answer-follows (c .times .ensures) (record { x = resultant (s .n) (piece (s .w .now) (s .a) (s .d - 1 + 1)) (piece (s .w .now) (s .b) (s .e + 1)); is = c .before .before .before .euclid .ensures .0 })
 
 dropped-returns : (t : ℕ) → dropped-lts.Need-returns (
   euclid-below t,
