@@ -7,18 +7,22 @@
 use mathlib.Core.Path.{_≡_, refl, sym, ap, ap₂, subst, _∙_}
 use mathlib.Core.List.{List}
 use mathlib.Core.Logic.{⊎-elim}
-use Prim.Native.Nat.{ℕ, zero, suc, _+_, _-_, _*_, _%_, _≤_, _<_}
+use Prim.Native.Nat.{ℕ, zero, suc, _+_, _-_, _*_, _%_, _^_, _≤_, _<_}
 use native.Mathlib.Omega.{arith}
 use native.Mathlib.Nat.{mod-lt, mod-mod, mod-eq-of-lt, mul-mod-right, zero-mod, add-zero, zero-add, mul-zero, add-assoc, eq-or-lt-of-le}
 use lib.ListN.{length, getD}
 use Rattle.definitions.specs.Polynomials.{coef, convolve}
+use Rattle.definitions.specs.Resultants.{resultant}
 use Rattle.numbers.specs.Congruence.{Cong, c-refl, c-sym, c-trans, c-eq, c-add, c-mul, c-mod, ring}
+use Rattle.theory.specs.ResultantLaws.{signed}
 use Rattle.windows.specs.Window.{piece, Around, Apart, Below, behind}
-use Rattle.windows.proofs.Leaf.{lt-or-le, piece-at, piece-over, piece-same, apart-at}
+use Rattle.windows.proofs.Leaf.{lt-or-le, piece-at, piece-over, piece-length, piece-same, apart-at}
 use Rattle.window_division.proofs.Turns.{spot, risen, risen-at, risen-low, convolve-spot}
 use Rattle.window_combining.specs.Combined.{combination}
+use Rattle.resultant_turns.specs.RunLaws.{run-turn, run-step, run-drop}
+use Rattle.resultant_turns.specs.TurnLaws.{Turned, pair-law-at, zero-law-at}
 use Rattle.cofactor_euclid.specs.Combinations.{Row, Mixture, row-mixed, row-same, two, convolve-two}
-use Rattle.cofactor_euclid.specs.Rows.{turned, paired, RowsWritten, first, second, rest, Standing, Placed, Combined, Stepped}
+use Rattle.cofactor_euclid.specs.Rows.{turned, paired, RowsWritten, first, second, rest, left, Standing, Placed, Combined, Led}
 
 -- ---- rows that are kept
 
@@ -279,6 +283,19 @@ behind-is F (suc k) b = ap F (less k)
     less : (k : ℕ) → k ≡ suc k - 1
     less k = omega arith
 
+lower-at : (n h z a d b : ℕ) (w : List ℕ) (q : ℕ) → Placed n h z a d b (d + 1) w
+    → q ≡ (getD w (a + d) 0 * getD w (b + d) 0 + (n - getD w (b + (d + 1)) 0) * getD w (a + (d - 1)) 0 + 0 * 0) % n
+    → Cong n (q + getD w (b + (d + 1)) 0 * getD w (a + (d - 1)) 0) (getD w (a + d) 0 * getD w (b + d) 0)
+lower-at n h z a d b w q pl hq =
+    c-trans (c-add (c-is hq) (c-refl {a = getD w (b + (d + 1)) 0 * getD w (a + (d - 1)) 0}))
+    (c-trans (c-eq (sums (getD w (a + d) 0 * getD w (b + d) 0) ((n - getD w (b + (d + 1)) 0) * getD w (a + (d - 1)) 0)
+    (getD w (b + (d + 1)) 0 * getD w (a + (d - 1)) 0)))
+    (c-trans (c-add (c-refl {a = getD w (a + d) 0 * getD w (b + d) 0}) (opposite n (getD w (b + (d + 1)) 0) (getD w (a + (d - 1)) 0)
+    (native.Mathlib.Nat.le-of-lt (pl .row-b .below .at (d + 1) (omega (arith, pl .high)))))) (c-eq (add-zero _))))
+  where
+    sums : (x y z : ℕ) → x + y + 0 * 0 + z ≡ x + (z + y)
+    sums x y z = omega arith
+
 module _ (n h z a d b : ℕ) (w w' : List ℕ) (s p q : ℕ) (pl : Placed n h z a d b (d + 1) w) (one : 1 ≤ d)
     (hs : s ≡ (getD w (a + d) 0 * getD w (a + d) 0) % n) (hp : p ≡ (getD w (a + d) 0 * getD w (b + (d + 1)) 0) % n)
     (hq : q ≡ (getD w (a + d) 0 * getD w (b + d) 0 + (n - getD w (b + (d + 1)) 0) * getD w (a + (d - 1)) 0 + 0 * 0) % n)
@@ -294,17 +311,6 @@ module _ (n h z a d b : ℕ) (w w' : List ℕ) (s p q : ℕ) (pl : Placed n h z 
 
   Z-over : (k : ℕ) → d ≤ k → Z k ≡ 0
   Z-over k g = piece-over w' b (d - 1 + 1) k (omega arith)
-
-  lower : Cong n (q + getD w (b + (d + 1)) 0 * getD w (a + (d - 1)) 0) (getD w (a + d) 0 * getD w (b + d) 0)
-  lower =
-      c-trans (c-add (c-is hq) (c-refl {a = getD w (b + (d + 1)) 0 * getD w (a + (d - 1)) 0}))
-      (c-trans (c-eq (sums (getD w (a + d) 0 * getD w (b + d) 0) ((n - getD w (b + (d + 1)) 0) * getD w (a + (d - 1)) 0)
-      (getD w (b + (d + 1)) 0 * getD w (a + (d - 1)) 0)))
-      (c-trans (c-add (c-refl {a = getD w (a + d) 0 * getD w (b + d) 0}) (opposite n (getD w (b + (d + 1)) 0) (getD w (a + (d - 1)) 0)
-      (native.Mathlib.Nat.le-of-lt (pl .row-b .below .at (d + 1) (omega (arith, pl .high)))))) (c-eq (add-zero _))))
-    where
-      sums : (x y z : ℕ) → x + y + 0 * 0 + z ≡ x + (z + y)
-      sums x y z = omega arith
 
   pair-rest-at : Mixture n s (two (n - q) (n - p)) X Y Z
   pair-rest-at = record {
@@ -331,7 +337,7 @@ module _ (n h z a d b : ℕ) (w w' : List ℕ) (s p q : ℕ) (pl : Placed n h z 
           (out d (getD w (b + d) 0) (getD w (a + (d - 1)) 0) (getD w (a + d) 0) (omega arith) (piece-at w b (d + 1 + 1) d (omega arith))
           (behind-is X d one ∙ piece-at w a (d + 1) (d - 1) (omega arith)) (piece-at w a (d + 1) d (omega arith))
           (next-out n (getD w (a + d) 0) (getD w (b + (d + 1)) 0) (getD w (a + (d - 1)) 0) (getD w (b + d) 0) s p q
-          (below-mod _ (pl .pos) hp) (below-mod _ (pl .pos) hq) (c-is hs) (c-is hp) lower))
+          (below-mod _ (pl .pos) hp) (below-mod _ (pl .pos) hq) (c-is hs) (c-is hp) (lower-at n h z a d b w q pl hq)))
 
       at-next : (k : ℕ) → k ≡ d + 1 → Z k % n ≡ (s * Y k + convolve (two (n - q) (n - p)) X k) % n
       at-next k e = subst (λ (k : ℕ). Z k % n ≡ (s * Y k + convolve (two (n - q) (n - p)) X k) % n) (sym e)
@@ -395,31 +401,50 @@ module _ (n h z a d b e i x : ℕ) (w w' : List ℕ) (pl : Placed n h z a d b e 
 turned-round : {a l b m : ℕ} → Apart a l b m → Apart b m a l
 turned-round free = record { ok = λ i j p q e. free .ok j i q p (sym e) }
 
+-- rows exchanged; x^d times the resultant before is x times the one after
 pub swapped : (n h z a d b e l : ℕ) (q : ℕ → ℕ) (w w' : List ℕ) → Placed n h z a d b e w → 1 ≤ d → MixedRow n h z d l q a b w w'
-    → Mixture n l q (rest d a w) (rest e b w) (rest (d - 1) b w') → Stepped n h z a d b e w b (d - 1) a d w'
-swapped n h z a d b e l q w w' pl one mx re = record {
+    → Mixture n l q (rest d a w) (rest e b w) (rest (d - 1) b w')
+    → (x : ℕ) → Cong n (x ^ d * left n a d b e w) (x * resultant n (piece w' b (d - 1 + 1)) (piece w a (d + 1)))
+    → (s r t k s' : ℕ) → k ≡ (r * x) % n → s' ≡ (s * k) % n → Led n h z a d b e s r t w b (d - 1) a d s' k t w'
+swapped n h z a d b e l q w w' pl one mx re x law s r t k s' hk hs = record {
   placed = record {
     pos = pl .pos;
     near = omega arith;
     high = omega (arith, pl .near, pl .high);
     short = omega (arith, pl .short);
     most = pl .most;
-    row-a = record { inside = omega (arith, pl .row-b .inside, mx .around .same); below = mx .below; first-ends = mx .first-ends; second-ends = mx .second-ends };
+    row-a = record {
+      inside = omega (arith, pl .row-b .inside, mx .around .same);
+      below = mx .below;
+      first-ends = mx .first-ends;
+      second-ends = mx .second-ends;
+    };
     row-b = standing-kept n h z e b a (d - 1) w w' (pl .apart) (mx .around) (omega (arith, pl .near)) (pl .row-a);
     apart = turned-round (pl .apart);
   };
   same = mx .around .same;
-  less = omega (arith, pl .near);
+  degree = λ _. one;
   rows = λ f g c. record {
     row-a = row-mixed n (pl .pos) f g l q (first h a w) (second h a w) (rest d a w) (first h b w) (second h b w) (rest e b w)
         (first h b w') (second h b w') (rest (d - 1) b w') (c .row-a) (c .row-b) (mx .mixed-first) (mx .mixed-second) re;
     row-b = row-kept n h a b d f g w w' (pl .apart) (mx .around) (pl .row-a .inside) (omega (arith, pl .near, pl .high)) (c .row-a);
   };
+  run = λ R₀ u. run-step x s' k (left n b (d - 1) a d w') (d - 1) next u
+      (subst (λ (v : List ℕ). Cong n (x ^ d * left n a d b e w) (x * resultant n (piece w' b (d - 1 + 1)) v)) (sym kept) law) (c-is hk) (c-is hs);
 }
+  where
+    next : d ≡ suc (d - 1)
+    next = omega arith
 
-pub stayed : (n h z a d b e l : ℕ) (q : ℕ → ℕ) (w w' : List ℕ) → Placed n h z a d b e w → d < e → MixedRow n h z d l q a b w w'
-    → Mixture n l q (rest d a w) (rest e b w) (rest (e - 1) b w') → Stepped n h z a d b e w a d b (e - 1) w'
-stayed n h z a d b e l q w w' pl lt mx re = record {
+    kept : piece w' a (d + 1) ≡ piece w a (d + 1)
+    kept = rest-kept h a b d w w' (pl .apart) (mx .around) (pl .row-a .inside) (omega (arith, pl .near, pl .high))
+
+-- rows as they were; l^d times the resultant before is l times the one after
+pub stayed : (n h z a d b e l : ℕ) (q : ℕ → ℕ) (w w' : List ℕ) → Placed n h z a d b e w → 1 ≤ d → d < e → MixedRow n h z d l q a b w w'
+    → Mixture n l q (rest d a w) (rest e b w) (rest (e - 1) b w')
+    → Cong n (l ^ d * left n a d b e w) (l * resultant n (piece w a (d + 1)) (piece w' b (e - 1 + 1)))
+    → (s r t k : ℕ) → k ≡ (r * l) % n → Led n h z a d b e s r t w a d b (e - 1) s k t w'
+stayed n h z a d b e l q w w' pl one lt mx re law s r t k hk = record {
   placed = record {
     pos = pl .pos;
     near = omega arith;
@@ -427,20 +452,32 @@ stayed n h z a d b e l q w w' pl lt mx re = record {
     short = pl .short;
     most = pl .most;
     row-a = standing-kept n h z e b a (e - 1) w w' (pl .apart) (mx .around) (omega arith) (pl .row-a);
-    row-b = record { inside = omega (arith, pl .row-b .inside, mx .around .same); below = mx .below; first-ends = mx .first-ends; second-ends = mx .second-ends };
+    row-b = record {
+      inside = omega (arith, pl .row-b .inside, mx .around .same);
+      below = mx .below;
+      first-ends = mx .first-ends;
+      second-ends = mx .second-ends;
+    };
     apart = pl .apart;
   };
   same = mx .around .same;
-  less = omega arith;
+  degree = λ _. omega arith;
   rows = λ f g c. record {
     row-a = row-kept n h a b d f g w w' (pl .apart) (mx .around) (pl .row-a .inside) (omega (arith, pl .near, pl .high)) (c .row-a);
     row-b = row-mixed n (pl .pos) f g l q (first h a w) (second h a w) (rest d a w) (first h b w) (second h b w) (rest e b w)
         (first h b w') (second h b w') (rest (e - 1) b w') (c .row-a) (c .row-b) (mx .mixed-first) (mx .mixed-second) re;
   };
+  run = λ R₀ u. run-turn l k (left n a d b (e - 1) w') u
+      (subst (λ (v : List ℕ). Cong n (l ^ d * left n a d b e w) (l * resultant n v (piece w' b (e - 1 + 1)))) (sym kept) law) (c-is hk);
 }
+  where
+    kept : piece w' a (d + 1) ≡ piece w a (d + 1)
+    kept = rest-kept h a b d w w' (pl .apart) (mx .around) (pl .row-a .inside) (omega (arith, pl .near, pl .high))
 
-pub dropped : (n h z a d b e : ℕ) (w : List ℕ) → Placed n h z a d b e w → 1 ≤ d → getD w (a + d) 0 ≡ 0 → Stepped n h z a d b e w a (d - 1) b e w
-dropped n h z a d b e w pl one nil = record {
+pub dropped : (n h z a d b e : ℕ) (w : List ℕ) → Placed n h z a d b e w → 1 ≤ d → getD w (a + d) 0 ≡ 0
+    → (y : ℕ) → y ≡ signed n e (getD w (b + e) 0) → (s r t t' s' : ℕ) → t' ≡ (t * y) % n → s' ≡ (s * r) % n
+    → Led n h z a d b e s r t w a (d - 1) b e s' r t' w
+dropped n h z a d b e w pl one nil y hy s r t t' s' ht hs = record {
   placed = record {
     pos = pl .pos;
     near = omega (arith, pl .near);
@@ -452,16 +489,108 @@ dropped n h z a d b e w pl one nil = record {
     apart = pl .apart;
   };
   same = refl;
-  less = omega arith;
+  degree = λ i. i;
   rows = λ f g c. record {
     row-a = row-same (λ k. refl) (λ k. refl) (λ k. shorter k) (c .row-a);
     row-b = c .row-b;
   };
+  run = λ R₀ u. run-drop y s' t' (left n a (d - 1) b e w) (d - 1) next u law (c-is ht) (c-is hs);
 }
   where
+    next : d ≡ suc (d - 1)
+    next = omega arith
+
+    more : d - 1 + 1 ≡ d
+    more = omega arith
+
     shorter : (k : ℕ) → rest (d - 1) a w k ≡ rest d a w k
     shorter k =
         ⊎-elim (λ g. piece-at w a (d - 1 + 1) k (omega arith) ∙ sym (piece-at w a (d + 1) k (omega arith)))
         (λ g. piece-over w a (d - 1 + 1) k (omega arith) ∙ sym (⊎-elim
-        (λ u. piece-at w a (d + 1) k (omega arith) ∙ ap (λ (v : ℕ). getD w (a + v) 0) (sym u) ∙ nil) (λ u. piece-over w a (d + 1) k (omega arith)) (eq-or-lt-of-le g)))
+        (λ u. piece-at w a (d + 1) k (omega arith) ∙ ap (λ (v : ℕ). getD w (a + v) 0) (sym u) ∙ nil)
+        (λ u. piece-over w a (d + 1) k (omega arith)) (eq-or-lt-of-le g)))
         (lt-or-le k d)
+
+    lead : coef (piece w b (e + 1)) e ≡ getD w (b + e) 0
+    lead = piece-at w b (e + 1) e (omega arith)
+
+    law : Cong n (left n a d b e w) (y * left n a (d - 1) b e w)
+    law = subst (λ (v : ℕ). Cong n (left n a d b e w) (v * left n a (d - 1) b e w)) (ap (signed n e) lead ∙ sym hy)
+        (zero-law-at n d e (piece w a (d + 1)) (piece w a (d - 1 + 1)) (piece w b (e + 1)) (pl .pos) one
+        (piece-length w a (d + 1) (omega (arith, pl .row-a .inside, pl .near, pl .high)))
+        (piece-length w a (d - 1 + 1) (omega (arith, pl .row-a .inside, pl .near, pl .high)) ∙ more)
+        (piece-length w b (e + 1) (omega (arith, pl .row-b .inside, pl .high))) (λ k. sym (shorter k))
+        (subst (λ (v : ℕ). v < n) (sym lead) (pl .row-b .below .at e (omega (arith, pl .high)))))
+
+-- ---- the resultants of the remainders
+
+-- what was taken is given back
+give-two : (n v x y p q u : ℕ) → p ≤ n → q ≤ n → Cong n u (v + ((n - p) * x + (n - q) * y)) → Cong n (u + p * x + q * y) v
+give-two n v x y p q u lp lq h =
+    c-trans (c-add (c-add h (c-refl {a = p * x})) (c-refl {a = q * y}))
+    (c-trans (c-eq (six v ((n - p) * x) ((n - q) * y) (p * x) (q * y)))
+    (c-trans (c-add (c-refl {a = v}) (c-add (opposite n p x lp) (opposite n q y lq))) (c-eq (add-zero v))))
+  where
+    six : (v a b c d : ℕ) → v + (a + b) + c + d ≡ v + (c + a + (d + b))
+    six v a b c d = omega arith
+
+give-one : (n v x c u : ℕ) → c ≤ n → Cong n u (v + (n - c) * x) → Cong n (c * x + u) v
+give-one n v x c u lc h =
+    c-trans (c-add (c-refl {a = c * x}) h)
+    (c-trans (c-eq (three (c * x) v ((n - c) * x))) (c-trans (c-add (c-refl {a = v}) (opposite n c x lc)) (c-eq (add-zero v))))
+  where
+    three : (a b c : ℕ) → a + (b + c) ≡ b + (a + c)
+    three a b c = omega arith
+
+pub pair-resultant : (n h z a d b : ℕ) (w w' : List ℕ) (s p q : ℕ) → Placed n h z a d b (d + 1) w → 1 ≤ d → length w' ≡ length w
+    → s ≡ (getD w (a + d) 0 * getD w (a + d) 0) % n → p ≡ (getD w (a + d) 0 * getD w (b + (d + 1)) 0) % n
+    → q ≡ (getD w (a + d) 0 * getD w (b + d) 0 + (n - getD w (b + (d + 1)) 0) * getD w (a + (d - 1)) 0 + 0 * 0) % n
+    → Mixture n s (two (n - q) (n - p)) (rest d a w) (rest (d + 1) b w) (rest (d - 1) b w')
+    → Cong n (s ^ d * left n a d b (d + 1) w) (s * resultant n (piece w' b (d - 1 + 1)) (piece w a (d + 1)))
+pair-resultant n h z a d b w w' s p q pl one same hs hp hq mx =
+    pair-law-at n d s p q (piece w a (d + 1)) (piece w b (d + 1 + 1)) (piece w' b (d - 1 + 1)) (pl .pos) one (record {
+      first = piece-length w a (d + 1) (omega (arith, pl .row-a .inside, pl .high));
+      second = piece-length w b (d + 1 + 1) (omega (arith, pl .row-b .inside, pl .high));
+      third = piece-length w' b (d - 1 + 1) (omega (arith, pl .row-b .inside, pl .high)) ∙ more;
+      square = c-trans (c-is hs) (c-eq (sym (ap₂ (λ (u v : ℕ). u * v) f-lead f-lead)));
+      upper = c-trans (c-is hp) (c-eq (sym (ap₂ (λ (u v : ℕ). u * v) f-lead g-lead)));
+      lower = c-trans (c-add (c-refl {a = q}) (c-eq (ap₂ (λ (u v : ℕ). u * v) g-lead (piece-at w a (d + 1) (d - 1) (omega arith)))))
+          (c-trans (lower-at n h z a d b w q pl hq) (c-eq (sym (ap₂ (λ (u v : ℕ). u * v) f-lead (piece-at w b (d + 1 + 1) d (omega arith))))));
+      at = λ i l. give-two n (s * rest (d + 1) b w i) (behind (rest d a w) i) (rest d a w i) p q (rest (d - 1) b w' i)
+          (below-mod _ (pl .pos) hp) (below-mod _ (pl .pos) hq)
+          (c-trans (record { same = mx .at i }) (c-eq (ap (λ (v : ℕ). s * rest (d + 1) b w i + v) (convolve-two (n - q) (n - p) (rest d a w) i))));
+    })
+  where
+    more : d - 1 + 1 ≡ d
+    more = omega arith
+
+    f-lead : coef (piece w a (d + 1)) d ≡ getD w (a + d) 0
+    f-lead = piece-at w a (d + 1) d (omega arith)
+
+    g-lead : coef (piece w b (d + 1 + 1)) (d + 1) ≡ getD w (b + (d + 1)) 0
+    g-lead = piece-at w b (d + 1 + 1) (d + 1) (omega arith)
+
+pub turn-turned : (n h z a d b i x : ℕ) (w w' : List ℕ) → Placed n h z a d b (d + i) w → 1 ≤ d → length w' ≡ length w → x + 1 ≡ d + i
+    → Mixture n (getD w (a + d) 0) (spot i (n - getD w (b + (d + i)) 0)) (rest d a w) (rest (d + i) b w) (rest x b w')
+    → Turned n d i (piece w a (d + 1)) (piece w b (d + i + 1)) (piece w' b (x + 1))
+turn-turned n h z a d b i x w w' pl one same more mx = record {
+  first = piece-length w a (d + 1) (omega (arith, pl .row-a .inside, pl .high));
+  second = piece-length w b (d + i + 1) (omega (arith, pl .row-b .inside, pl .high));
+  third = piece-length w' b (x + 1) (omega (arith, pl .row-b .inside, pl .high)) ∙ more;
+  low = λ k l. c-trans (record { same = mx .at k })
+      (c-eq (ap₂ (λ (u v : ℕ). u * rest (d + i) b w k + v) (sym f-lead)
+      (convolve-spot i (n - getD w (b + (d + i)) 0) (rest d a w) k ∙ ap (λ (v : ℕ). (n - getD w (b + (d + i)) 0) * v) (risen-low i (rest d a w) k l)
+      ∙ mul-zero (n - getD w (b + (d + i)) 0)) ∙ add-zero _));
+  mid = λ j l. c-trans (c-eq (ap (λ (v : ℕ). v * rest d a w j + rest x b w' (i + j)) g-lead))
+      (give-one n (coef (piece w a (d + 1)) d * rest (d + i) b w (i + j)) (rest d a w j) (getD w (b + (d + i)) 0) (rest x b w' (i + j))
+      (native.Mathlib.Nat.le-of-lt (pl .row-b .below .at (d + i) (omega (arith, pl .high))))
+      (c-trans (record { same = mx .at (i + j) }) (c-eq (ap₂ (λ (u v : ℕ). u * rest (d + i) b w (i + j) + v) (sym f-lead)
+      (convolve-spot i (n - getD w (b + (d + i)) 0) (rest d a w) (i + j)
+      ∙ ap (λ (v : ℕ). (n - getD w (b + (d + i)) 0) * v) (risen-at i (rest d a w) (i + j) j refl))))));
+}
+  where
+    f-lead : coef (piece w a (d + 1)) d ≡ getD w (a + d) 0
+    f-lead = piece-at w a (d + 1) d (omega arith)
+
+    g-lead : coef (piece w b (d + i + 1)) (d + i) ≡ getD w (b + (d + i)) 0
+    g-lead = piece-at w b (d + i + 1) (d + i) (omega arith)
