@@ -2,8 +2,11 @@
 --
 --   MixedRow                     the row at b after a step: l times itself and q times the row at a
 --   pair-mixed, turn-mixed       from what the loops wrote
---   pair-rest, turn-rest         the remainders, whose leading words go out
+--   pair-rest-at, turn-rest      the remainders, whose leading words go out
 --   swapped, stayed, dropped     the step: rows exchanged; as they were; a zero leading word dropped
+--   pair-resultant, turn-turned  the resultants of the remainders
+--   pair-stepped, last-stepped, turn-stepped, drop-stepped    what each step leads to
+--   led-self, led-trans          steps one after the other
 use mathlib.Core.Path.{_≡_, refl, sym, ap, ap₂, subst, _∙_}
 use mathlib.Core.List.{List}
 use mathlib.Core.Logic.{⊎-elim}
@@ -20,9 +23,9 @@ use Rattle.windows.proofs.Leaf.{lt-or-le, piece-at, piece-over, piece-length, p
 use Rattle.window_division.proofs.Turns.{spot, risen, risen-at, risen-low, convolve-spot}
 use Rattle.window_combining.specs.Combined.{combination}
 use Rattle.resultant_turns.specs.RunLaws.{run-turn, run-step, run-drop}
-use Rattle.resultant_turns.specs.TurnLaws.{Turned, pair-law-at, zero-law-at}
+use Rattle.resultant_turns.specs.TurnLaws.{Turned, turn-law-at, last-law-at, pair-law-at, zero-law-at}
 use Rattle.cofactor_euclid.specs.Combinations.{Row, Mixture, row-mixed, row-same, two, convolve-two}
-use Rattle.cofactor_euclid.specs.Rows.{turned, paired, RowsWritten, first, second, rest, left, Standing, Placed, Combined, Led}
+use Rattle.cofactor_euclid.specs.Rows.{turned, paired, RowsAsked, RowsWritten, first, second, rest, left, Standing, Placed, Combined, Led}
 
 -- ---- rows that are kept
 
@@ -353,15 +356,6 @@ module _ (n h z a d b : ℕ) (w w' : List ℕ) (s p q : ℕ) (pl : Placed n h z 
           (behind-is X k (omega arith) ∙ piece-over w a (d + 1) (k - 1) (omega arith)) (piece-over w a (d + 1) k (omega arith)) (Z-over k (omega arith))
           ∙ ap (λ (x : ℕ). (s * Y k + x) % n) (sym (convolve-two (n - q) (n - p) X k))
 
-pub pair-rest : (n h z a d b e : ℕ) (w w' : List ℕ) (s p q : ℕ) → Placed n h z a d b e w → 1 ≤ d → e ≡ d + 1
-    → s ≡ (getD w (a + d) 0 * getD w (a + d) 0) % n → p ≡ (getD w (a + d) 0 * getD w (b + (d + 1)) 0) % n
-    → q ≡ (getD w (a + d) 0 * getD w (b + d) 0 + (n - getD w (b + (d + 1)) 0) * getD w (a + (d - 1)) 0 + 0 * 0) % n
-    → RowsWritten (paired n s (n - p) (n - q) w) h d (h - d) (z - d) a b w w'
-    → Mixture n s (two (n - q) (n - p)) (rest d a w) (rest e b w) (rest (d - 1) b w')
-pair-rest n h z a d b e w w' s p q pl one is hs hp hq rw =
-    subst (λ (x : ℕ). Mixture n s (two (n - q) (n - p)) (rest d a w) (rest x b w) (rest (d - 1) b w')) (sym is)
-    (pair-rest-at n h z a d b w w' s p q (subst (λ (x : ℕ). Placed n h z a d b x w) is pl) one hs hp hq rw)
-
 -- e = d + i, the new remainder of degree x = e - 1
 module _ (n h z a d b e i x : ℕ) (w w' : List ℕ) (pl : Placed n h z a d b e w) (one : 1 ≤ d) (is : e ≡ d + i) (less : e ≡ x + 1)
     (rw : RowsWritten (turned n (getD w (a + d) 0) (n - getD w (b + e) 0) i w) h (i + d) h h a b w w') where
@@ -570,27 +564,138 @@ pair-resultant n h z a d b w w' s p q pl one same hs hp hq mx =
     g-lead : coef (piece w b (d + 1 + 1)) (d + 1) ≡ getD w (b + (d + 1)) 0
     g-lead = piece-at w b (d + 1 + 1) (d + 1) (omega arith)
 
-pub turn-turned : (n h z a d b i x : ℕ) (w w' : List ℕ) → Placed n h z a d b (d + i) w → 1 ≤ d → length w' ≡ length w → x + 1 ≡ d + i
-    → Mixture n (getD w (a + d) 0) (spot i (n - getD w (b + (d + i)) 0)) (rest d a w) (rest (d + i) b w) (rest x b w')
-    → Turned n d i (piece w a (d + 1)) (piece w b (d + i + 1)) (piece w' b (x + 1))
-turn-turned n h z a d b i x w w' pl one same more mx = record {
-  first = piece-length w a (d + 1) (omega (arith, pl .row-a .inside, pl .high));
-  second = piece-length w b (d + i + 1) (omega (arith, pl .row-b .inside, pl .high));
-  third = piece-length w' b (x + 1) (omega (arith, pl .row-b .inside, pl .high)) ∙ more;
+-- e = d + i, and the new remainder is of degree x
+turn-turned : (n h z a d b e i x : ℕ) (w w' : List ℕ) → Placed n h z a d b e w → 1 ≤ d → length w' ≡ length w → e ≡ d + i → e ≡ x + 1
+    → Mixture n (getD w (a + d) 0) (spot i (n - getD w (b + e) 0)) (rest d a w) (rest e b w) (rest x b w')
+    → Turned n d i (piece w a (d + 1)) (piece w b (e + 1)) (piece w' b (x + 1))
+turn-turned n h z a d b e i x w w' pl one same is more mx = record {
+  first = piece-length w a (d + 1) (omega (arith, pl .row-a .inside, pl .high, pl .near));
+  second = piece-length w b (e + 1) (omega (arith, pl .row-b .inside, pl .high)) ∙ ap (λ (v : ℕ). v + 1) is;
+  third = piece-length w' b (x + 1) (omega (arith, pl .row-b .inside, pl .high)) ∙ sym more ∙ is;
   low = λ k l. c-trans (record { same = mx .at k })
-      (c-eq (ap₂ (λ (u v : ℕ). u * rest (d + i) b w k + v) (sym f-lead)
-      (convolve-spot i (n - getD w (b + (d + i)) 0) (rest d a w) k ∙ ap (λ (v : ℕ). (n - getD w (b + (d + i)) 0) * v) (risen-low i (rest d a w) k l)
-      ∙ mul-zero (n - getD w (b + (d + i)) 0)) ∙ add-zero _));
+      (c-eq (ap₂ (λ (u v : ℕ). u * rest e b w k + v) (sym f-lead)
+      (convolve-spot i (n - getD w (b + e) 0) (rest d a w) k ∙ ap (λ (v : ℕ). (n - getD w (b + e) 0) * v) (risen-low i (rest d a w) k l)
+      ∙ mul-zero (n - getD w (b + e) 0)) ∙ add-zero _));
   mid = λ j l. c-trans (c-eq (ap (λ (v : ℕ). v * rest d a w j + rest x b w' (i + j)) g-lead))
-      (give-one n (coef (piece w a (d + 1)) d * rest (d + i) b w (i + j)) (rest d a w j) (getD w (b + (d + i)) 0) (rest x b w' (i + j))
-      (native.Mathlib.Nat.le-of-lt (pl .row-b .below .at (d + i) (omega (arith, pl .high))))
-      (c-trans (record { same = mx .at (i + j) }) (c-eq (ap₂ (λ (u v : ℕ). u * rest (d + i) b w (i + j) + v) (sym f-lead)
-      (convolve-spot i (n - getD w (b + (d + i)) 0) (rest d a w) (i + j)
-      ∙ ap (λ (v : ℕ). (n - getD w (b + (d + i)) 0) * v) (risen-at i (rest d a w) (i + j) j refl))))));
+      (give-one n (coef (piece w a (d + 1)) d * rest e b w (i + j)) (rest d a w j) (getD w (b + e) 0) (rest x b w' (i + j))
+      (native.Mathlib.Nat.le-of-lt (pl .row-b .below .at e (omega (arith, pl .high))))
+      (c-trans (record { same = mx .at (i + j) }) (c-eq (ap₂ (λ (u v : ℕ). u * rest e b w (i + j) + v) (sym f-lead)
+      (convolve-spot i (n - getD w (b + e) 0) (rest d a w) (i + j)
+      ∙ ap (λ (v : ℕ). (n - getD w (b + e) 0) * v) (risen-at i (rest d a w) (i + j) j refl))))));
 }
   where
     f-lead : coef (piece w a (d + 1)) d ≡ getD w (a + d) 0
     f-lead = piece-at w a (d + 1) d (omega arith)
 
-    g-lead : coef (piece w b (d + i + 1)) (d + i) ≡ getD w (b + (d + i)) 0
-    g-lead = piece-at w b (d + i + 1) (d + i) (omega arith)
+    g-lead : coef (piece w b (e + 1)) (d + i) ≡ getD w (b + e) 0
+    g-lead = ap (coef (piece w b (e + 1))) (sym is) ∙ piece-at w b (e + 1) e (omega arith)
+
+-- ---- what each step leads to
+
+pub placed-asked : {n h z a d b e : ℕ} {w : List ℕ} → Placed n h z a d b e w → RowsAsked n h a b w
+placed-asked pl = record { inside-a = pl .row-a .inside; inside-b = pl .row-b .inside; below = pl .row-a .below; apart = pl .apart }
+
+pub placed-below : {n h z a d b e : ℕ} {w : List ℕ} → Placed n h z a d b e w → (k : ℕ) → k ≤ e → getD w (b + k) 0 < n
+placed-below pl k l = pl .row-b .below .at k (omega (arith, pl .high))
+
+pub at-most : {n x : ℕ} (z : ℕ) → 1 ≤ n → x ≡ z % n → x ≤ n
+at-most z pos h = below-mod z pos h
+
+pair-stepped-at : (n h z a d b : ℕ) (w w' : List ℕ) (y p q : ℕ) → Placed n h z a d b (d + 1) w → 1 ≤ d
+    → y ≡ (getD w (a + d) 0 * getD w (a + d) 0) % n → p ≡ (getD w (a + d) 0 * getD w (b + (d + 1)) 0) % n
+    → q ≡ (getD w (a + d) 0 * getD w (b + d) 0 + (n - getD w (b + (d + 1)) 0) * getD w (a + (d - 1)) 0 + 0 * 0) % n
+    → RowsWritten (paired n y (n - p) (n - q) w) h d (h - d) (z - d) a b w w'
+    → (s r t k s' : ℕ) → k ≡ (r * y) % n → s' ≡ (s * k) % n → Led n h z a d b (d + 1) s r t w b (d - 1) a d s' k t w'
+pair-stepped-at n h z a d b w w' y p q pl one hy hp hq rw s r t k s' hk hs =
+    swapped n h z a d b (d + 1) y (two (n - q) (n - p)) w w' pl one (pair-mixed n h z y (n - p) (n - q) a d b (d + 1) w w' pl refl rw)
+    (pair-rest-at n h z a d b w w' y p q pl one hy hp hq rw) y
+    (pair-resultant n h z a d b w w' y p q pl one (rw .around .same) hy hp hq (pair-rest-at n h z a d b w w' y p q pl one hy hp hq rw)) s r t k s' hk hs
+
+pub pair-stepped : (n h z a d b e : ℕ) (w w' : List ℕ) (y p q : ℕ) → Placed n h z a d b e w → 1 ≤ d → e ≡ d + 1
+    → y ≡ (getD w (a + d) 0 * getD w (a + d) 0) % n → p ≡ (getD w (a + d) 0 * getD w (b + (d + 1)) 0) % n
+    → q ≡ (getD w (a + d) 0 * getD w (b + d) 0 + (n - getD w (b + (d + 1)) 0) * getD w (a + (d - 1)) 0 + 0 * 0) % n
+    → RowsWritten (paired n y (n - p) (n - q) w) h d (h - d) (z - d) a b w w'
+    → (s r t k s' : ℕ) → k ≡ (r * y) % n → s' ≡ (s * k) % n
+    → (Led n h z a d b e s r t w b (d - 1) a d s' k t w') × (d - 1 + d < d + e)
+pair-stepped n h z a d b e w w' y p q pl one is hy hp hq rw s r t k s' hk hs = (
+  subst (λ (x : ℕ). Led n h z a d b x s r t w b (d - 1) a d s' k t w') (sym is)
+      (pair-stepped-at n h z a d b w w' y p q (subst (λ (x : ℕ). Placed n h z a d b x w) is pl) one hy hp hq rw s r t k s' hk hs),
+  omega arith,
+)
+
+last-stepped-at : (n h z a d b : ℕ) (w w' : List ℕ) → Placed n h z a d b d w → 1 ≤ d
+    → RowsWritten (turned n (getD w (a + d) 0) (n - getD w (b + d) 0) 0 w) h (0 + d) h h a b w w'
+    → (s r t k s' : ℕ) → k ≡ (r * getD w (a + d) 0) % n → s' ≡ (s * k) % n → Led n h z a d b d s r t w b (d - 1) a d s' k t w'
+last-stepped-at n h z a d b w w' pl one rw s r t k s' hk hs =
+    swapped n h z a d b d (getD w (a + d) 0) (spot 0 (n - getD w (b + d) 0)) w w' pl one
+    (turn-mixed n h z (getD w (a + d) 0) (n - getD w (b + d) 0) 0 a d b d w w' pl none rw) mixed (getD w (a + d) 0)
+    (subst (λ (x : ℕ). Cong n (x ^ d * left n a d b d w) (x * resultant n (piece w' b (d - 1 + 1)) (piece w a (d + 1)))) f-lead
+    (last-law-at n d (piece w a (d + 1)) (piece w b (d + 1)) (piece w' b (d - 1 + 1)) (pl .pos) one
+    (turn-turned n h z a d b d 0 (d - 1) w w' pl one (rw .around .same) none more mixed))) s r t k s' hk hs
+  where
+    none : d ≡ d + 0
+    none = omega arith
+
+    more : d ≡ d - 1 + 1
+    more = omega arith
+
+    f-lead : coef (piece w a (d + 1)) d ≡ getD w (a + d) 0
+    f-lead = piece-at w a (d + 1) d (omega arith)
+
+    mixed : Mixture n (getD w (a + d) 0) (spot 0 (n - getD w (b + d) 0)) (rest d a w) (rest d b w) (rest (d - 1) b w')
+    mixed = turn-rest n h z a d b d 0 (d - 1) w w' pl one none more rw
+
+pub last-stepped : (n h z a d b e : ℕ) (w w' : List ℕ) → Placed n h z a d b e w → 1 ≤ d → e ≡ d
+    → RowsWritten (turned n (getD w (a + d) 0) (n - getD w (b + d) 0) 0 w) h (0 + d) h h a b w w'
+    → (s r t k s' : ℕ) → k ≡ (r * getD w (a + d) 0) % n → s' ≡ (s * k) % n
+    → (Led n h z a d b e s r t w b (d - 1) a d s' k t w') × (d - 1 + d < d + e)
+last-stepped n h z a d b e w w' pl one is rw s r t k s' hk hs = (
+  subst (λ (x : ℕ). Led n h z a d b x s r t w b (d - 1) a d s' k t w') (sym is)
+      (last-stepped-at n h z a d b w w' (subst (λ (x : ℕ). Placed n h z a d b x w) is pl) one rw s r t k s' hk hs),
+  omega arith,
+)
+
+pub turn-stepped : (n h z a d b e : ℕ) (w w' : List ℕ) → Placed n h z a d b e w → 1 ≤ d → d < e
+    → RowsWritten (turned n (getD w (a + d) 0) (n - getD w (b + e) 0) (e - d) w) h (e - d + d) h h a b w w'
+    → (s r t k : ℕ) → k ≡ (r * getD w (a + d) 0) % n → (Led n h z a d b e s r t w a d b (e - 1) s k t w') × (d + (e - 1) < d + e)
+turn-stepped n h z a d b e w w' pl one lt rw s r t k hk = (
+  stayed n h z a d b e (getD w (a + d) 0) (spot (e - d) (n - getD w (b + e) 0)) w w' pl one lt
+      (turn-mixed n h z (getD w (a + d) 0) (n - getD w (b + e) 0) (e - d) a d b e w w' pl is rw) mixed
+      (subst (λ (x : ℕ). Cong n (x ^ d * left n a d b e w) (x * resultant n (piece w a (d + 1)) (piece w' b (e - 1 + 1)))) f-lead
+      (turn-law-at n d (e - d) (piece w a (d + 1)) (piece w b (e + 1)) (piece w' b (e - 1 + 1)) (pl .pos) one
+      (turn-turned n h z a d b e (e - d) (e - 1) w w' pl one (rw .around .same) is more mixed))) s r t k hk,
+  omega arith,
+)
+  where
+    is : e ≡ d + (e - d)
+    is = omega arith
+
+    more : e ≡ e - 1 + 1
+    more = omega arith
+
+    f-lead : coef (piece w a (d + 1)) d ≡ getD w (a + d) 0
+    f-lead = piece-at w a (d + 1) d (omega arith)
+
+    mixed : Mixture n (getD w (a + d) 0) (spot (e - d) (n - getD w (b + e) 0)) (rest d a w) (rest e b w) (rest (e - 1) b w')
+    mixed = turn-rest n h z a d b e (e - d) (e - 1) w w' pl one is more rw
+
+pub drop-stepped : (n h z a d b e : ℕ) (w : List ℕ) → Placed n h z a d b e w → 1 ≤ d → getD w (a + d) 0 ≡ 0
+    → (y : ℕ) → y ≡ signed n e (getD w (b + e) 0) → (s r t t' s' : ℕ) → t' ≡ (t * y) % n → s' ≡ (s * r) % n
+    → (Led n h z a d b e s r t w a (d - 1) b e s' r t' w) × (d - 1 + e < d + e)
+drop-stepped n h z a d b e w pl one nil y hy s r t t' s' ht hs = (dropped n h z a d b e w pl one nil y hy s r t t' s' ht hs, omega arith)
+
+-- ---- steps one after the other
+
+pub led-self : {n h z a d b e s p t : ℕ} {w : List ℕ} → Placed n h z a d b e w → Led n h z a d b e s p t w a d b e s p t w
+led-self pl = record { placed = pl; same = refl; degree = λ i. i; rows = λ f g c. c; run = λ R₀ r. r }
+
+pub led-trans : {n h z a d b e s p t a₁ d₁ b₁ e₁ s₁ p₁ t₁ a₂ d₂ b₂ e₂ s₂ p₂ t₂ : ℕ} {w w₁ w₂ : List ℕ}
+    → Led n h z a d b e s p t w a₁ d₁ b₁ e₁ s₁ p₁ t₁ w₁ → Led n h z a₁ d₁ b₁ e₁ s₁ p₁ t₁ w₁ a₂ d₂ b₂ e₂ s₂ p₂ t₂ w₂
+    → Led n h z a d b e s p t w a₂ d₂ b₂ e₂ s₂ p₂ t₂ w₂
+led-trans x y = record {
+  placed = y .placed;
+  same = y .same ∙ x .same;
+  degree = λ i. y .degree (x .degree i);
+  rows = λ f g c. y .rows f g (x .rows f g c);
+  run = λ R₀ r. y .run R₀ (x .run R₀ r);
+}

@@ -1,9 +1,11 @@
 -- What the loops write in a row: three windows one after the other.
 --
---   turned-written        a turn, from the scaling and the word loop
+--   turned-written, scaled-asked    a turn, from the scaling and the word loop
 --   turned-same, paired-same    words made of words that are kept
 --   rows-written          three windows make a row
---   row-apart, row-below  windows of two rows apart do not meet; their words are residues
+--   asked-window          windows of two rows apart do not meet; the words of the first are residues
+--   asked-after           two rows apart after a change in the second
+--   window-around         a window inside a row
 use mathlib.Core.Path.{_≡_, refl, sym, ap, ap₂, subst, _∙_}
 use mathlib.Core.List.{List}
 use mathlib.Core.Logic.{⊎-elim}
@@ -51,6 +53,19 @@ turned-written n l c src dst i len w w₁ w' free mv wr = record {
         nothing : (x y z : ℕ) → x + 0 * y + z ≡ x + z
         nothing x y z = omega arith
 
+-- what the word loop asks after the scaling
+pub scaled-asked : (n l src dst i len : ℕ) (w w₁ : List ℕ) → ((src + len ≤ length w) × (dst + (i + len) ≤ length w)) × ((Apart src len dst (i + len)) × (Below n src len w))
+    → Moved (mulBy n l) dst dst i w w₁
+    → ((src + len ≤ length w₁) × (dst + i + len ≤ length w₁)) × ((Apart src len (dst + i) len) × (Below n src len w₁))
+scaled-asked n l src dst i len w w₁ k mv = (
+  (omega (arith, k .0 .0, mv .same), omega (arith, k .0 .1, mv .same)),
+  (record { ok = λ x y hx hy e. k .1 .0 .ok x (i + y) hx (omega arith) (omega arith) },
+      record {
+        at = λ x g. subst (λ (v : ℕ). v < n) (sym (apart-at {w = w} {w' = w₁} (k .1 .0)
+            (record { same = mv .same; low = mv .low; high = λ j h. mv .high j (omega arith) }) x g)) (k .1 .1 .at x g);
+      }),
+)
+
 -- ---- words made of words that are kept
 
 risen-same : (i : ℕ) (F G : ℕ → ℕ) (k : ℕ) → ((j : ℕ) → j ≤ k → F j ≡ G j) → risen i F k ≡ risen i G k
@@ -83,14 +98,30 @@ paired-local n l c q = record {
 
 -- ---- three windows
 
-pub row-apart : {a b : ℕ} (h : ℕ) → Apart a (h + h + h) b (h + h + h) → (x l y m : ℕ) → x + l ≤ h + h + h → y + m ≤ h + h + h → Apart (a + x) l (b + y) m
-row-apart {a} {b} h free x l y m p q = record { ok = λ i j hi hj e. free .ok (x + i) (y + j) (omega arith) (omega arith) (omega arith) }
-
-pub row-below : {n a : ℕ} {w : List ℕ} (h : ℕ) → Below n a (h + h + h) w → (x l : ℕ) → x + l ≤ h + h + h → Below n (a + x) l w
-row-below {n} {a} {w} h be x l p = record { at = λ k b. subst (λ (y : ℕ). getD w y 0 < n) (place k) (be .at (x + k) (omega arith)) }
+pub asked-window : (n h a b : ℕ) (w : List ℕ) → RowsAsked n h a b w → (p r x y l m : ℕ) → p ≡ a + x → r ≡ b + y → x + l ≤ h + h + h
+    → y + m ≤ h + h + h → ((p + l ≤ length w) × (r + m ≤ length w)) × ((Apart p l r m) × (Below n p l w))
+asked-window n h a b w k p r x y l m hp hr lx ly = (
+  (omega (arith, k .inside-a), omega (arith, k .inside-b)),
+  (record { ok = λ i j hi hj e. k .apart .ok (x + i) (y + j) (omega arith) (omega arith) (omega arith) },
+      record { at = λ i g. subst (λ (v : ℕ). getD w v 0 < n) (place i) (k .below .at (x + i) (omega arith)) }),
+)
   where
-    place : (k : ℕ) → a + (x + k) ≡ a + x + k
-    place k = omega arith
+    place : (i : ℕ) → a + (x + i) ≡ p + i
+    place i = omega arith
+
+pub asked-after : {n h a b : ℕ} {w w' : List ℕ} → RowsAsked n h a b w → Around b (h + h + h) w w' → RowsAsked n h a b w'
+asked-after {n} {h} {a} {b} {w} {w'} k ar = record {
+  inside-a = omega (arith, k .inside-a, ar .same);
+  inside-b = omega (arith, k .inside-b, ar .same);
+  below = record { at = λ i g. subst (λ (x : ℕ). x < n) (sym (apart-at {w = w} {w' = w'} (k .apart) ar i g)) (k .below .at i g) };
+  apart = k .apart;
+}
+
+pub window-around : {F : ℕ → ℕ} {b r l : ℕ} {w w' : List ℕ} (h y : ℕ) → Written F r l w w' → r ≡ b + y → y + l ≤ h + h + h → Around b (h + h + h) w w'
+window-around h y wr e le = record { same = wr .same; low = λ k g. wr .low k (omega arith); high = λ k g. wr .high k (omega arith) }
+
+pub written-length : {F : ℕ → ℕ} {r : ℕ} {w w' : List ℕ} (l m : ℕ) → l ≡ m → Written F r l w w' → Written F r m w w'
+written-length {F} {r} {w} {w'} l m e wr = subst (λ (x : ℕ). Written F r x w w') e wr
 
 pub rows-written : (F : List ℕ → ℕ → ℕ → ℕ → ℕ) → Local F → (h x y z a b : ℕ) (w w₁ w₂ w₃ : List ℕ) → x ≤ h → y ≤ h → z ≤ h
     → Apart a (h + h + h) b (h + h + h) → Written (F w a b) b x w w₁ → Written (F w₁ (a + h) (b + h)) (b + h) y w₁ w₂
