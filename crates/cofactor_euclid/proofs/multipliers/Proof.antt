@@ -1,3 +1,7 @@
+use Rattle.cofactor_euclid.proofs.Starting.{placed-modulus, finished-modulus}
+use Prim.Native.Nat.{ℕ, _+_, _-_, _*_, _%_, _≤_, _<_}
+use native.Mathlib.Omega.{arith}
+use mathlib.Core.Path.{_≡_, refl, sym, ap, _∙_}
 use borrow.Author.Needs.{needs}
 use Rattle.cofactor_euclid.proofs.multipliers.Statement.{statement}
 use Rattle.cofactor_euclid.proofs.multipliers.Tie as tie
@@ -7,41 +11,32 @@ use Rattle.cofactor_euclid.proofs.finish.Reads as finish-reads
 use Rattle.cofactor_euclid.proofs.start.Reads as start-reads
 use Rattle.reduction.proofs.modulus_of.Reads as modulus-of-reads
 
--- src/lib.rt:228:9
 modulus-of-requires : tie.Need-modulus-of-requires
 modulus-of-requires c κs = search needs
 
--- src/lib.rt:229:5
 start-requires : tie.Need-start-requires
 start-requires c κs = search needs
 
--- src/lib.rt:239:16
 sub-t13 : tie.Need-sub-t13
 sub-t13 c = search needs
 
--- src/lib.rt:240:16
 add-t14 : tie.Need-add-t14
 add-t14 c = search needs
 
--- src/lib.rt:240:16
 add-t15 : tie.Need-add-t15
 add-t15 c = search needs
 
--- src/lib.rt:241:16
 sub-t16 : tie.Need-sub-t16
 sub-t16 c = search needs
 
--- src/lib.rt:232:5
 finish-requires : tie.Need-finish-requires
-finish-requires c κs = ?
+finish-requires c κs = (c .before .before .before .before .before .modulus-of .ensures .0, placed-modulus (sym (c .before .before .before .before .before .modulus-of .ensures .1)) (c .before .before .before .start .ensures .placed))
 
--- src/lib.rt:223:1
 same-length : tie.Need-same-length
 same-length c = search needs
 
--- src/lib.rt:223:1
 returns : tie.Need-returns
-returns c = ?
+returns c = let s = c .before .before .before .before .before .before .before .before .before .before .before .before in let v = s .args in (finished-modulus (v .n) (c .before .before .before .before .before .before .before .before .modulus-of .result .n) (v .f .now) (v .g .now) (c .before .before .before .before .before .before .start .last .0) (c .before .before .finish .last .0) (c .before .before .finish .result) (v .w .now) (c .before .before .before .before .before .before .before .before .modulus-of .ensures .1) (s .pre) (c .before .before .before .before .before .before .start .ensures) (c .before .before .finish .ensures .0) (c .before .before .finish .ensures .1), record { same = c .before .before .finish .ensures .0 .same ∙ c .before .before .before .before .before .before .start .ensures .same })
 
 pub multipliers-spec : {M : Type 1} → statement M
 multipliers-spec =

@@ -1,3 +1,7 @@
+use Rattle.cofactor_euclid.proofs.Starting.{started, second-inside}
+use Prim.Native.Nat.{ℕ, _+_, _-_, _*_, _%_, _≤_, _<_}
+use native.Mathlib.Omega.{arith}
+use mathlib.Core.Path.{_≡_, refl, sym, ap, _∙_}
 use borrow.Author.Needs.{needs}
 use Rattle.cofactor_euclid.proofs.start.Statement.{statement}
 use Rattle.cofactor_euclid.proofs.start.Tie as tie
@@ -6,61 +10,47 @@ use Rattle.cofactor_euclid.proofs.start.Lts as lts
 use Rattle.windows.proofs.clear.Reads as clear-reads
 use Rattle.windows.proofs.load.Reads as load-reads
 
--- src/lib.rt:214:13
 add-b : tie.Need-add-b
 add-b c = search needs
 
--- src/lib.rt:214:13
 add-b-2 : tie.Need-add-b-2
 add-b-2 c = search needs
 
--- src/lib.rt:215:26
 add-clear : tie.Need-add-clear
 add-clear c = search needs
 
--- src/lib.rt:215:5
 clear-requires : tie.Need-clear-requires
 clear-requires c κs = search needs
 
--- src/lib.rt:216:5
 load-requires : tie.Need-load-requires
 load-requires c κs = search needs
 
--- src/lib.rt:217:5
 load-requires-2 : tie.Need-load-requires-2
 load-requires-2 c κs = search needs
 
--- src/lib.rt:218:5
 mul-w : tie.Need-mul-w
 mul-w c = search needs
 
--- src/lib.rt:218:5
 slice-write-w : tie.Need-slice-write-w
 slice-write-w c = search needs
 
--- src/lib.rt:219:12
 add-w : tie.Need-add-w
 add-w c = search needs
 
--- src/lib.rt:219:7
 add-w-2 : tie.Need-add-w-2
 add-w-2 c = search needs
 
--- src/lib.rt:219:5
 mul-w-2 : tie.Need-mul-w-2
 mul-w-2 c = search needs
 
--- src/lib.rt:219:5
 slice-write-w-2 : tie.Need-slice-write-w-2
-slice-write-w-2 c = ?
+slice-write-w-2 c = let s = c .before .before .before .before .before .before .before .before .before .before .before .before .before .before .before in second-inside (s .args .n) (s .args .f .now) (s .args .g .now) (s .args .w .now) (c .before .before .before .before .before .before .before .before .before .before .clear .last .0) (c .before .before .before .before .before .before .load .last .0) (c .before .before .load2 .last .0) (s .pre) (c .before .before .before .before .before .before .before .before .before .before .clear .ensures) (c .before .before .before .before .before .before .load .ensures) (c .before .before .load2 .ensures)
 
--- src/lib.rt:209:1
 same-length : tie.Need-same-length
-same-length c = ?
+same-length c = let s = c .before .before .before .before .before .before .before .before .before .before .before .before .before .before .before in (started (s .args .n) (s .args .f .now) (s .args .g .now) (s .args .w .now) (c .before .before .before .before .before .before .before .before .before .before .clear .last .0) (c .before .before .before .before .before .before .load .last .0) (c .before .before .load2 .last .0) (s .pre) (c .before .before .before .before .before .before .before .before .before .before .clear .ensures) (c .before .before .before .before .before .before .load .ensures) (c .before .before .load2 .ensures)) .same
 
--- src/lib.rt:209:1
 returns : tie.Need-returns
-returns c = ?
+returns c = let s = c .before .before .before .before .before .before .before .before .before .before .before .before .before .before .before in started (s .args .n) (s .args .f .now) (s .args .g .now) (s .args .w .now) (c .before .before .before .before .before .before .before .before .before .before .clear .last .0) (c .before .before .before .before .before .before .load .last .0) (c .before .before .load2 .last .0) (s .pre) (c .before .before .before .before .before .before .before .before .before .before .clear .ensures) (c .before .before .before .before .before .before .load .ensures) (c .before .before .load2 .ensures)
 
 pub start-spec : {M : Type 1} → statement M
 start-spec =
