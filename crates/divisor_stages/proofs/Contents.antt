@@ -23,6 +23,7 @@ use Rattle.window_factor.specs.declared.Highest.{Highest}
 use Rattle.reduced_multipliers.specs.Reductions.{UnitLead, reduced-same, reduced-lead, reduced-none}
 use Rattle.reduced_units.specs.States.{Splitter}
 use Rattle.reduced_units.proofs.Regions.{apart-swap, part-piece}
+pub use Rattle.reduced_clearing.proofs.UnitSteps.{split-splitter}
 use Rattle.divisor_stages.specs.Leads.{LeadAsked, Leading}
 use Rattle.divisor_stages.specs.Stages.{ContentAsked, DivisionAsked, Cleared}
 

@@ -68,65 +68,51 @@ content-stage-claims t = (
 abbrev division-stage-claims : ℕ → division-stage-lts.Claims
 division-stage-claims t = (divide-reads.Asked, divide-reads.Learnt, content-stage-below t, content-stage.Post)
 
--- src/lib.rt:83:40
 content-stage-sub-cofactor : (t : ℕ) → content-stage-lts.Need-sub-cofactor (content-stage-claims t) (content-stage-at t) content-stage.Post
 content-stage-sub-cofactor t c = search needs
 
--- src/lib.rt:83:35
 content-stage-add-cofactor : (t : ℕ) → content-stage-lts.Need-add-cofactor (content-stage-claims t) (content-stage-at t) content-stage.Post
 content-stage-add-cofactor t c = search needs
 
--- src/lib.rt:83:33
 content-stage-mul-cofactor : (t : ℕ) → content-stage-lts.Need-mul-cofactor (content-stage-claims t) (content-stage-at t) content-stage.Post
 content-stage-mul-cofactor t c = search needs
 
--- src/lib.rt:83:33
 content-stage-slice-read-cofactor : (t : ℕ) → content-stage-lts.Need-slice-read-cofactor (content-stage-claims t) (content-stage-at t) content-stage.Post
 content-stage-slice-read-cofactor t c = search needs
 
--- src/lib.rt:83:9
 content-stage-cofactor-requires : (t : ℕ) → content-stage-lts.Need-cofactor-requires (content-stage-claims t) (content-stage-at t) content-stage.Post
 content-stage-cofactor-requires t c κs = search needs
 
--- src/lib.rt:85:46
 content-stage-sub-division-stage : (t : ℕ) → content-stage-lts.Need-sub-division-stage (content-stage-claims t) (content-stage-at t) content-stage.Post
 content-stage-sub-division-stage t c = search needs
 
--- src/lib.rt:85:9
 content-stage-division-stage-requires : (t : ℕ) → content-stage-lts.Need-division-stage-requires (content-stage-claims t) (content-stage-at t) content-stage.Post
 content-stage-division-stage-requires t c κs =
     let s = c .before .before .before .before .before .before in
     let st = s .pre .1 in
     (omega (arith, s .pre .0, st .one), unit-asked _ _ _ _ _ _ _ _ st (c .before .before .before .cofactor .ensures) (c .before .if1 .taken))
 
--- src/lib.rt:85:9
 content-stage-same-length : (t : ℕ) → content-stage-lts.Need-same-length (content-stage-claims t) (content-stage-at t) content-stage.Post
 content-stage-same-length t c = search needs
 
--- src/lib.rt:85:9
 content-stage-returns : (t : ℕ) → content-stage-lts.Need-returns (content-stage-claims t) (content-stage-at t) content-stage.Post
 content-stage-returns t c =
     let s = c .before .before .before .before .before .before .before .before .before in
     let e = c .before .before .division-stage .ensures in
     (unit-answer _ _ _ _ _ _ _ _ (s .pre .1) (c .before .before .before .before .before .before .cofactor .ensures) (c .before .before .before .before .if1 .taken) (c .before .before .division-stage .result) (e .0), e .1)
 
--- src/lib.rt:87:11
 content-stage-clear-contents-requires : (t : ℕ) → content-stage-lts.Need-clear-contents-requires (content-stage-claims t) (content-stage-at t) content-stage.Post
 content-stage-clear-contents-requires t c κs = search needs
 
--- src/lib.rt:88:24
 content-stage-enum-known-y : (t : ℕ) → content-stage-lts.Need-enum-known-y (content-stage-claims t) (content-stage-at t) content-stage.Post
 content-stage-enum-known-y t c = search needs
 
--- src/lib.rt:89:25
 content-stage-enum-known-p : (t : ℕ) → content-stage-lts.Need-enum-known-p (content-stage-claims t) (content-stage-at t) content-stage.Post
 content-stage-enum-known-p t c = search needs
 
--- src/lib.rt:90:24
 content-stage-enum-known-c : (t : ℕ) → content-stage-lts.Need-enum-known-c (content-stage-claims t) (content-stage-at t) content-stage.Post
 content-stage-enum-known-c t c = search needs
 
--- src/lib.rt:90:60
 content-stage-div-division-stage : (t : ℕ) → content-stage-lts.Need-div-division-stage (content-stage-claims t) (content-stage-at t) content-stage.Post
 content-stage-div-division-stage t c =
     let s = c .before .before .before .before .before .before .before .before .before .before .before .before .before in
@@ -135,7 +121,6 @@ content-stage-div-division-stage t c =
     let cl = subst (Clears (s .args .n) (s .args .a) (s .args .d) (s .args .b) (s .args .s) (s .args .w .now) (c .before .before .before .before .before .before .clear-contents .last .0)) (v .1) (x .0) in
     cl .positive
 
--- src/lib.rt:90:42
 content-stage-division-stage-requires-2 :
     (t : ℕ) → content-stage-lts.Need-division-stage-requires-2 (content-stage-claims t) (content-stage-at t) content-stage.Post
 content-stage-division-stage-requires-2 t c κs =
@@ -145,11 +130,9 @@ content-stage-division-stage-requires-2 t c κs =
     let cl = subst (Clears (s .args .n) (s .args .a) (s .args .d) (s .args .b) (s .args .s) (s .args .w .now) (c .before .before .before .before .before .before .clear-contents .last .0)) (v .1) (x .0) in
     (omega (arith, s .pre .0, cl .shorter), cl .asked)
 
--- src/lib.rt:91:28
 content-stage-enum-known-y-2 : (t : ℕ) → content-stage-lts.Need-enum-known-y-2 (content-stage-claims t) (content-stage-at t) content-stage.Post
 content-stage-enum-known-y-2 t c = search needs
 
--- src/lib.rt:91:49
 content-stage-mul-t35 : (t : ℕ) → content-stage-lts.Need-mul-t35 (content-stage-claims t) (content-stage-at t) content-stage.Post
 content-stage-mul-t35 t c =
     let s = c .before .before .before .before .before .before .before .before .before .before .before .before .before .before .before .before .before .before .before in
@@ -162,15 +145,12 @@ content-stage-mul-t35 t c =
     let m = cleared-most _ _ _ _ _ _ _ _ _ _ cl _ z in
     record { fits = omega (arith, m, s .fits .n .fits) }
 
--- src/lib.rt:92:29
 content-stage-enum-known-p-2 : (t : ℕ) → content-stage-lts.Need-enum-known-p-2 (content-stage-claims t) (content-stage-at t) content-stage.Post
 content-stage-enum-known-p-2 t c = search needs
 
--- src/lib.rt:78:1
 content-stage-same-length-2 : (t : ℕ) → content-stage-lts.Need-same-length-2 (content-stage-claims t) (content-stage-at t) content-stage.Post
 content-stage-same-length-2 t c = search needs
 
--- src/lib.rt:78:1
 content-stage-returns-2 : (t : ℕ) → content-stage-lts.Need-returns-2 (content-stage-claims t) (content-stage-at t) content-stage.Post
 content-stage-returns-2 t c =
     let s = c .before .before .before .before .before .before .before .before .before .before .before .before in
@@ -179,11 +159,9 @@ content-stage-returns-2 t c =
     let cl = subst (Clears (s .args .n) (s .args .a) (s .args .d) (s .args .b) (s .args .s) (s .args .w .now) (c .before .before .before .before .before .clear-contents .last .0)) (v .1) (x .0) in
     (cl, x .1)
 
--- src/lib.rt:78:1
 content-stage-same-length-3 : (t : ℕ) → content-stage-lts.Need-same-length-3 (content-stage-claims t) (content-stage-at t) content-stage.Post
 content-stage-same-length-3 t c = search needs
 
--- src/lib.rt:78:1
 content-stage-returns-3 : (t : ℕ) → content-stage-lts.Need-returns-3 (content-stage-claims t) (content-stage-at t) content-stage.Post
 content-stage-returns-3 t c =
     let s = c .before .before .before .before .before .before .before .before .before .before .before .before in
@@ -192,11 +170,9 @@ content-stage-returns-3 t c =
     let cl = subst (Clears (s .args .n) (s .args .a) (s .args .d) (s .args .b) (s .args .s) (s .args .w .now) (c .before .before .before .before .before .clear-contents .last .0)) (v .1) (x .0) in
     (cl, x .1)
 
--- src/lib.rt:78:1
 content-stage-same-length-4 : (t : ℕ) → content-stage-lts.Need-same-length-4 (content-stage-claims t) (content-stage-at t) content-stage.Post
 content-stage-same-length-4 t c = search needs
 
--- src/lib.rt:78:1
 content-stage-returns-4 : (t : ℕ) → content-stage-lts.Need-returns-4 (content-stage-claims t) (content-stage-at t) content-stage.Post
 content-stage-returns-4 t c =
     let s = c .before .before .before .before .before .before .before .before .before .before .before .before .before .before .before .before .before .before .before in
@@ -208,11 +184,9 @@ content-stage-returns-4 t c =
     let z = subst (DivisorOrSplit (s .args .n / v .0 .0) (piece (c .before .before .before .before .before .before .before .before .before .before .before .before .clear-contents .last .0) (s .args .a) (s .args .d + 1)) (piece (c .before .before .before .before .before .before .before .before .before .before .before .before .clear-contents .last .0) (s .args .b) (v .0 .1 .0 + 1))) (r .1) (y .0) in
     (cl .constants _ z, record { same = y .1 .same ∙ x .1 .same })
 
--- src/lib.rt:78:1
 content-stage-same-length-5 : (t : ℕ) → content-stage-lts.Need-same-length-5 (content-stage-claims t) (content-stage-at t) content-stage.Post
 content-stage-same-length-5 t c = search needs
 
--- src/lib.rt:78:1
 content-stage-returns-5 : (t : ℕ) → content-stage-lts.Need-returns-5 (content-stage-claims t) (content-stage-at t) content-stage.Post
 content-stage-returns-5 t c =
     let s = c .before .before .before .before .before .before .before .before .before .before .before .before .before .before .before .before .before .before .before in
@@ -224,12 +198,10 @@ content-stage-returns-5 t c =
     let z = subst (DivisorOrSplit (s .args .n / v .0 .0) (piece (c .before .before .before .before .before .before .before .before .before .before .before .before .clear-contents .last .0) (s .args .a) (s .args .d + 1)) (piece (c .before .before .before .before .before .before .before .before .before .before .before .before .clear-contents .last .0) (s .args .b) (v .0 .1 .0 + 1))) (r .1) (y .0) in
     (cleared-splitter _ _ _ _ _ _ _ _ _ _ cl _ _ z, record { same = y .1 .same ∙ x .1 .same })
 
--- src/lib.rt:104:9
 division-stage-returns : (t : ℕ) → division-stage-lts.Need-returns (division-stage-claims t) (division-stage-at t) division-stage.Post
 division-stage-returns t c =
     (constant-reduced _ _ _ _ _ _ _ _ (c .before .before .pre .1) (c .if1 .taken), record { same = refl })
 
--- src/lib.rt:106:5
 division-stage-divide-requires : (t : ℕ) → division-stage-lts.Need-divide-requires (division-stage-claims t) (division-stage-at t) division-stage.Post
 division-stage-divide-requires t c κs =
     let s = c .before .before .before in
@@ -239,17 +211,14 @@ division-stage-divide-requires t c κs =
       (division-pair _ _ _ _ _ _ _ _ da, da .inverse),
     )
 
--- src/lib.rt:107:5
 division-stage-content-stage-requires : (t : ℕ) → division-stage-lts.Need-content-stage-requires (division-stage-claims t) (division-stage-at t) division-stage.Post
 division-stage-content-stage-requires t c κs =
     let s = c .before .before .before .before .before .before .before in
     (omega (arith, s .pre .0), next-asked _ _ _ _ _ _ _ _ (s .pre .1) (pos-of-ne-zero (c .before .before .before .before .before .if1 .left)) _ (c .before .before .before .divide .ensures))
 
--- src/lib.rt:98:1
 division-stage-same-length : (t : ℕ) → division-stage-lts.Need-same-length (division-stage-claims t) (division-stage-at t) division-stage.Post
 division-stage-same-length t c = search needs
 
--- src/lib.rt:98:1
 division-stage-returns-2 : (t : ℕ) → division-stage-lts.Need-returns-2 (division-stage-claims t) (division-stage-at t) division-stage.Post
 division-stage-returns-2 t c =
     let s = c .before .before .before .before .before .before .before .before .before .before in
