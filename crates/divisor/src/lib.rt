@@ -6,10 +6,12 @@
 //   longer    the larger of two numbers of words
 //   arrange   both polynomials over their common content
 //   half      the attempt where the first polynomial gets a leading unit
-//   attempt   both halves in turn
+//   general   both halves in turn
+//   attempt   D = 1 where that shows at once; else the general way
+//   joined    D modulo a product of two coprime factors
 //   run       D; a split of n is worked on each factor, and the answers are multiplied
 ghost use mathlib.Core.Path.{_≡_};
-ghost use Prim.Native.Nat.{max, _≤_};
+ghost use Prim.Native.Nat.{max, _*_, _<_, _≤_};
 ghost use Rattle.definitions.specs.Resultants.{Reduced};
 ghost use Rattle.windows.specs.Window.{Scratch};
 ghost use Rattle.divisor.specs.Sizes.{DivisorSizes};
@@ -66,8 +68,8 @@ fn half(w: &mut [u32], n: u32, c: u32, f: &[u32], g: &[u32]) -> Trial
     }
 }
 
-// D of f and g, or n as a product of two coprime factors.
-fn attempt(w: &mut [u32], n: u32, f: &[u32], g: &[u32]) -> Attempt
+// D of f and g, or n as a product of two coprime factors, by contents, leading units and divisions.
+fn general(w: &mut [u32], n: u32, f: &[u32], g: &[u32]) -> Attempt
     requires { ⌜ (2 ≤ n) × DivisorSizes (now f) (now g) (now w) ⌝ }
     ensures { λ r. ⌜ Attempted n (now (f .entry)) (now (g .entry)) r ⌝ }
     ensures { λ _. ⌜ Scratch (now (w .entry)) (now (w .exit)) ⌝ }
@@ -92,6 +94,26 @@ fn attempt(w: &mut [u32], n: u32, f: &[u32], g: &[u32]) -> Attempt
     }
 }
 
+// The same; where Euclid without inverses ends in a unit, D is 1 and nothing else is to know.
+fn attempt(w: &mut [u32], n: u32, f: &[u32], g: &[u32]) -> Attempt
+    requires { ⌜ (2 ≤ n) × DivisorSizes (now f) (now g) (now w) ⌝ }
+    ensures { λ r. ⌜ Attempted n (now (f .entry)) (now (g .entry)) r ⌝ }
+    ensures { λ _. ⌜ Scratch (now (w .entry)) (now (w .exit)) ⌝ }
+{
+    if coprime_test::shows_coprime(w, n, f, g) {
+        return Attempt::Value(1);
+    }
+    general(w, n, f, g)
+}
+
+// D modulo a product of two coprime factors, from D modulo each of them.
+fn joined(a: u32, b: u32) -> u32
+    requires { ⌜ a * b < 4294967296 ⌝ }
+    ensures { λ r. ⌜ r ≡ a * b ⌝ }
+{
+    a * b
+}
+
 // "each of the two factors is worked as a modulus of its own": D is the product of the two. The words of f and g may be any; they count
 // modulo n.
 pub fn run(w: &mut [u32], n: u32, f: &[u32], g: &[u32]) -> u32
@@ -104,7 +126,7 @@ pub fn run(w: &mut [u32], n: u32, f: &[u32], g: &[u32]) -> u32
         Attempt::Splits(p, q) => {
             let a = run(w, p, f, g);
             let b = run(w, q, f, g);
-            a * b
+            joined(a, b)
         }
     }
 }

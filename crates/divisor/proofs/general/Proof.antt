@@ -7,8 +7,8 @@ use Rattle.divisor.specs.Sizes.{sizes-turned}
 use Rattle.divisor.specs.Attempts.{TrialAnswers}
 use Rattle.divisor.proofs.Halves.{none-reduced, parted-attempted, sizes-same}
 use borrow.Author.Needs.{needs}
-use Rattle.divisor.proofs.attempt.Statement.{statement}
-use Rattle.divisor.proofs.attempt.Tie as tie
+use Rattle.divisor.proofs.general.Statement.{statement}
+use Rattle.divisor.proofs.general.Tie as tie
 
 returns : tie.Need-returns
 returns c =
@@ -83,8 +83,8 @@ returns-6 c =
     let y = subst (TrialAnswers (s .args .n) (c .before .before .before .before .before .before .before .before .before .before .before .before .before .before .before .common-content .result) (s .args .f .now) (s .args .g .now)) (c .before .before .before .before .before .before .enum-told .given .1) (c .before .before .before .before .before .before .before .before .before .before .half .ensures .0) in
     (absurd (common-primitive _ _ _ _ (s .pre .0) (cc .0) (c .before .before .before .before .before .before .before .before .before .before .before .before .if1 .left) y x), record { same = e .1 .same ∙ c .before .before .before .before .before .before .before .before .before .before .half .ensures .1 .same ∙ cc .1 .same })
 
-pub attempt-spec : {M : Type 1} → statement M
-attempt-spec =
+pub general-spec : {M : Type 1} → statement M
+general-spec =
     tie.close
     (tie.spec
     (λ c κs. search needs)
