@@ -3,11 +3,11 @@
 --   Run n S P A d R₀ R    S P^d R₀ is P A R modulo n: P the product of the powers of leads taken so far, S that of the P's at each degree, A what zero leads gave
 --   run-start, run-step, run-turn, run-drop
 --   run-end               d = 0 and S a unit: the value
-use mathlib.Core.Path.{_≡_, refl, sym, ap, ap₂, _∙_}
-use Prim.Native.Nat.{ℕ, zero, suc, _+_, _-_, _*_, _%_, _^_, _≤_, _<_}
+use mathlib.Core.Path.{_≡_, refl, sym, ap, _∙_}
+use Prim.Native.Nat.{ℕ, zero, suc, _-_, _*_, _^_}
 use native.Mathlib.Omega.{arith}
 use native.Mathlib.Nat.{mul-one, one-mul, pow-zero, pow-suc, pow-succ'}
-use Rattle.numbers.specs.Congruence.{Cong, c-refl, c-sym, c-trans, c-eq, c-add, c-mul, c-mod, c-pow, ring}
+use Rattle.numbers.specs.Congruence.{Cong, c-refl, c-sym, c-trans, c-eq, c-mul, c-pow, ring}
 use Rattle.resultant_turns.specs.TurnLaws.{mul-pow}
 
 pub record Run (n S P A d R₀ R : ℕ) : Type 0 where

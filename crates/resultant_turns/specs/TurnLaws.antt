@@ -10,8 +10,8 @@ use mathlib.Core.List.{List, [], _∷_}
 use mathlib.Core.Logic.{⊎-elim}
 use Prim.Native.Nat.{ℕ, zero, suc, pred, _+_, _-_, _*_, _%_, _^_, _≤_, _<_}
 use native.Mathlib.Omega.{arith}
-use native.Mathlib.Nat.{add-zero, zero-add, zero-mul, mul-zero, mul-comm, mul-one, one-mul, pow-suc, pow-zero, eq-or-lt-of-le, mul-mod-right, zero-mod, mod-mod}
-use lib.ListN.{length}
+use native.Mathlib.Nat.{add-zero, zero-add, zero-mul, mul-zero, mul-comm, one-mul, pow-suc, pow-zero, eq-or-lt-of-le, mul-mod-right, zero-mod}
+use lib.ListN.{length, getD}
 use Rattle.definitions.specs.Polynomials.{coef, deg, convolve, tabulate, constant, Multiplied, Divided}
 use Rattle.definitions.specs.Resultants.{resultant, Reached}
 use Rattle.numbers.specs.Congruence.{Cong, c-refl, c-sym, c-trans, c-eq, c-add, c-mul, c-mod, c-cancel, ring}
@@ -20,8 +20,8 @@ use Rattle.theory.specs.ReachedLaws.{reached-cong}
 use Rattle.theory.specs.ReachedSteps.{coef-whole, coef-beyond, convolve-constant}
 use Rattle.theory.specs.ReducedLaws.{unit-down, rest-up, flip}
 use Rattle.theory.specs.ResultantLaws.{signed, resultant-scale-second, resultant-add, resultant-drop-first, resultant-drop-second, resultant-swap}
-use Rattle.windows.specs.Window.{behind}
-use Rattle.windows.proofs.Leaf.{lt-or-le}
+use Rattle.windows.specs.Window.{piece, behind}
+use Rattle.windows.proofs.Leaf.{lt-or-le, piece-at, piece-over}
 use Rattle.window_division.proofs.Turns.{spot, spot-off, risen, risen-at, risen-low, convolve-spot}
 use Rattle.resultant_turns.specs.Degrees.{deg-of, resultant-lt}
 use Rattle.resultant_turns.specs.Signs.{sign-first, sign-second}
@@ -356,6 +356,21 @@ signed-times n (suc k) c R l =
       where
         split : n ≡ n - v + v
         split = omega arith
+
+pub zero-law-is : (n d e : ℕ) (f f' g : List ℕ) → 1 ≤ n → 1 ≤ d → length f ≡ d + 1 → length f' ≡ d → length g ≡ e + 1
+    → ((k : ℕ) → coef f k ≡ coef f' k) → resultant n f g ≡ signed n e ((coef g e * resultant n f' g) % n)
+zero-law-is zero d e f f' g pos one lf lf' lg h = absurd (omega arith)
+zero-law-is (suc m) d e f f' g pos one lf lf' lg h = zero-law m d e f f' g one lf lf' lg h
+
+-- the words of f in a buffer, and those without the last, which is 0
+pub dropped-words : (w : List ℕ) (a d : ℕ) → 1 ≤ d → getD w (a + d) 0 ≡ 0 → (k : ℕ) → coef (piece w a (d + 1)) k ≡ coef (piece w a (d - 1 + 1)) k
+dropped-words w a d one z k = ⊎-elim
+    (λ h. piece-at w a (d + 1) k (omega arith) ∙ sym (piece-at w a (d - 1 + 1) k (omega arith)))
+    (λ h. ⊎-elim
+    (λ q. ap (coef (piece w a (d + 1))) (sym q) ∙ piece-at w a (d + 1) d (omega arith) ∙ z ∙ sym (piece-over w a (d - 1 + 1) k (omega arith)))
+    (λ q. piece-over w a (d + 1) k (omega arith) ∙ sym (piece-over w a (d - 1 + 1) k (omega arith)))
+    (eq-or-lt-of-le h))
+    (lt-or-le k d)
 
 pub zero-law-at : (n d e : ℕ) (f f' g : List ℕ) → 1 ≤ n → 1 ≤ d → length f ≡ d + 1 → length f' ≡ d → length g ≡ e + 1 → ((k : ℕ) → coef f k ≡ coef f' k)
     → coef g e < n → Cong n (resultant n f g) (signed n e (coef g e) * resultant n f' g)
