@@ -1,5 +1,5 @@
-// Whether Euclid without inverses shows that D of two polynomials is 1: the last constant, which they combine to, is a unit. That it shows
-// nothing is not told of a pair whose D is greater alone; the caller goes on.
+// Whether Euclid without inverses shows that D of two polynomials is 1: the last constant, which they combine to, is a unit. Where it
+// shows nothing, D may be 1 or greater.
 //
 //   f, g   the sent words, which count modulo n; l and m are their numbers
 //   w      the working window: f from 0 on and g after it
@@ -11,7 +11,8 @@ ghost use lib.ListN.{length};
 ghost use Rattle.windows.specs.Window.{Scratch};
 ghost use Rattle.coprime_test.specs.Shown.{TestSizes, Shown};
 
-// The product of the primes up to 23. Modulo a prime as small as these a leading word is 0 so often that the last constant seldom is a unit.
+// The product of the primes up to 23. Modulo a prime as small as these some leading word is 0 so often that the last constant is
+// seldom a unit.
 const SMALL_PRIMES: u32 = 223092870;
 
 fn ordered(w: &mut [u32], n: u32, f: &[u32], g: &[u32]) -> bool

@@ -1,5 +1,5 @@
-// Euclid's algorithm for the reduced resultant D alone, without multipliers. A has a leading unit; the content of B comes out as a factor of
-// D and of the modulus, a unit factor of B does not matter, and A may be replaced by what it leaves on division by B.
+// Euclid's algorithm for the reduced resultant D alone, without multipliers. A has a leading unit; the content of B comes out as a
+// factor of D and of the modulus, a unit factor of B does not matter, and A may be replaced by what it leaves on division by B.
 //
 //   w, n   the buffer and the modulus
 //   a, d   the place and the degree of A
@@ -95,7 +95,16 @@ fn content_stage(w: &mut [u32], n: u32, a: usize, d: usize, b: usize, s: usize) 
 }
 
 // D of A, of degree d, and B, of degree k at most d, whose leading word has the inverse i.
-pub fn division_stage(w: &mut [u32], n: u32, a: usize, d: usize, b: usize, k: usize, i: u32, s: usize) -> Attempt
+pub fn division_stage(
+    w: &mut [u32],
+    n: u32,
+    a: usize,
+    d: usize,
+    b: usize,
+    k: usize,
+    i: u32,
+    s: usize,
+) -> Attempt
     requires { ⌜ DivisionAsked n a d b k i s (now w) ⌝ }
     ensures { λ r. ⌜ DivisorOrSplit n (piece (now (w .entry)) a (d + 1)) (piece (now (w .entry)) b (k + 1)) r ⌝ }
     ensures { λ _. ⌜ Scratch (now (w .entry)) (now (w .exit)) ⌝ }

@@ -141,8 +141,15 @@ fn serve(kind: u32, n: u32, words: &[u32], d: usize, work: &mut [u32]) -> Answer
     divisor_service::divisor(n, f, g, work)
 }
 
-// Serves the job of the first count words, and leaves zeros in their place: "the users keep … working words never".
-fn serve_once(kind: u32, n: u32, words: &mut [u32], count: usize, d: usize, work: &mut [u32]) -> Answer
+// Serves the job of the first count words, and leaves zeros in the place of all.
+fn serve_once(
+    kind: u32,
+    n: u32,
+    words: &mut [u32],
+    count: usize,
+    d: usize,
+    work: &mut [u32],
+) -> Answer
     requires { ⌜ ServeAsked kind d count (now words) (now work) ⌝ }
     ensures { λ r. ⌜ Served kind n (take (d + 1) (take count (now (words .entry)))) (drop (d + 1) (take count (now (words .entry))))
         (r .status) (r .value) (now (work .entry)) (now (work .exit)) ⌝ }
