@@ -4,7 +4,7 @@ use mathlib.Core.List.{List}
 use mathlib.Core.Logic.{⊎-elim}
 use Prim.Native.Nat.{ℕ, zero, suc, _+_, _-_, _*_, _/_, _%_, _≤_, _<_, _∣_}
 use native.Mathlib.Omega.{arith}
-use native.Mathlib.Nat.{mod-lt, mod-mod, mul-zero, mul-one, mul-comm, mul-le-mul-left, mul-div-cancel', pos-of-dvd-of-pos, dvd-trans, dvd-mul-left, mul-dvd-mul-left, le-of-dvd, mod-eq-zero-of-dvd, dvd-zero}
+use native.Mathlib.Nat.{mod-lt, mod-mod, mod-eq-of-lt, div-one, mul-zero, mul-one, mul-comm, mul-le-mul-left, mul-div-cancel', pos-of-dvd-of-pos, dvd-trans, dvd-mul-left, mul-dvd-mul-left, le-of-dvd, mod-eq-zero-of-dvd, dvd-zero}
 use lib.ListN.{length, getD, take, drop}
 use Rattle.definitions.specs.Residues.{IsUnit, IsNilpotent}
 use Rattle.definitions.specs.Polynomials.{coef}
@@ -25,7 +25,7 @@ use Rattle.reduced_units.specs.States.{Splitter}
 use Rattle.reduced_units.proofs.Regions.{apart-swap, part-piece}
 pub use Rattle.reduced_clearing.proofs.UnitSteps.{split-splitter}
 use Rattle.divisor_stages.specs.Leads.{LeadAsked, Leading}
-use Rattle.divisor_stages.specs.Stages.{ContentAsked, DivisionAsked, Cleared}
+use Rattle.divisor_stages.specs.Stages.{TakeAsked, ContentTaken, ContentAsked, DivisionAsked, Cleared}
 
 -- what is told of a part of the buffer is told of the polynomial there
 pub highest-told : (n b m l : ℕ) (w : List ℕ) (r r' : Highest) → l ≡ m → r ≡ r' → HighestOf n (take l (drop b w)) r → HighestOf n (piece w b m) r'
@@ -42,6 +42,22 @@ splitter-dvd n m p q d x = record {
   above₁ = x .above₁;
   above₂ = x .above₂;
   coprime = x .coprime;
+}
+
+-- the content 1, and another
+pub nothing-taken : (n c a d b : ℕ) (w : List ℕ) → TakeAsked n c a d b w → c ≡ 1 → ContentTaken n c a d b w w
+nothing-taken n c a d b w ta e = record {
+  same = refl;
+  first = λ k h. sym (ap (λ (x : ℕ). getD w (a + k) 0 % x) (ap (λ (x : ℕ). n / x) e ∙ div-one n) ∙ mod-eq-of-lt (ta .below .at k h));
+  second = λ k h. sym (ap (λ (x : ℕ). getD w (b + k) 0 / x) e ∙ div-one (getD w (b + k) 0));
+}
+
+pub taken : (n c a d b : ℕ) (w w₁ w₂ : List ℕ) → TakeAsked n c a d b w → Moved (quotient-by c) b b d w w₁
+    → Moved (reduced-by (n / c)) a a (d + 1) w₁ w₂ → ContentTaken n c a d b w w₂
+taken n c a d b w w₁ w₂ ta dv rd = record {
+  same = rd .same ∙ dv .same;
+  first = λ k h. rd .mid k h ∙ ap (λ (x : ℕ). x % (n / c)) (apart-at (ta .apart) (moved-around dv) k h);
+  second = λ k h. apart-at (apart-swap (ta .apart)) (moved-around rd) k h ∙ dv .mid k h;
 }
 
 module _ (n a d b s : ℕ) (w : List ℕ) (st : ContentAsked n a d b s w) where
@@ -88,22 +104,29 @@ module _ (n a d b s : ℕ) (w : List ℕ) (st : ContentAsked n a d b s w) where
         go (suc zero) e = absurd (ne (sym (e ∙ mul-one c)))
         go (suc (suc r)) e = omega arith
 
-    module _ (ne : c ≡ n → ⊥) (w₁ w₂ : List ℕ) (dv : Moved (quotient-by c) b b d w w₁) (rd : Moved (reduced-by (n / c)) a a (d + 1) w₁ w₂) where
+    pub take-asked : (c ≡ n → ⊥) → TakeAsked n c a d b w
+    take-asked ne = record {
+      positive = content-positive;
+      quotient = omega (arith, content-above ne);
+      first = omega (arith, long, st .first);
+      second = omega (arith, long, st .second);
+      below = st .below-first;
+      apart = st .apart;
+    }
+
+    module _ (ne : c ≡ n → ⊥) (w₂ : List ℕ) (tk : ContentTaken n c a d b w w₂) where
       above : 2 ≤ n / c
       above = content-above ne
 
-      apart : Apart b d a (d + 1)
-      apart = apart-swap (st .apart)
-
       pub content-length : length w₂ ≡ length w
-      content-length = rd .same ∙ dv .same
+      content-length = tk .same
 
       -- word k of A and of B
       word-a : (k : ℕ) → k < d + 1 → getD w₂ (a + k) 0 ≡ getD w (a + k) 0 % (n / c)
-      word-a k h = rd .mid k h ∙ ap (λ (x : ℕ). x % (n / c)) (apart-at (st .apart) (moved-around dv) k h)
+      word-a = tk .first
 
       word-b : (k : ℕ) → k < d → getD w₂ (b + k) 0 ≡ getD w (b + k) 0 / c
-      word-b k h = apart-at apart (moved-around rd) k h ∙ dv .mid k h
+      word-b = tk .second
 
       -- B is c times what it is now
       times-c : (k : ℕ) → coef (piece w b d) k ≡ c * coef (piece w₂ b d) k

@@ -2,6 +2,7 @@
 --
 --   ContentAsked       A has a leading unit and B has d words
 --   DivisionAsked      B has degree k, at most d, and the inverse of its leading word is i
+--   TakeAsked, ContentTaken    B over c, and A modulo n / c
 --   DivisorOrSplit     D, or two coprime divisors of n
 --   Clears             D; two coprime divisors of n; or a content c and a B with a leading unit modulo n / c
 use mathlib.Core.Path.{_≡_}
@@ -39,7 +40,21 @@ pub record DivisionAsked (n a d b k i s : ℕ) (w : List ℕ) : Type 0 where
   pub apart : Apart a (d + 1) b (k + 1)
   pub inverse : (i * getD w (b + k) 0) % n ≡ 1 % n
 
--- "It runs from 1 to n and divides n": D of f and g; or two coprime divisors of n
+-- A of degree d, residues, and B of d words; c is a content
+pub record TakeAsked (n c a d b : ℕ) (w : List ℕ) : Type 0 where
+  pub positive : 1 ≤ c
+  pub quotient : 1 ≤ n / c
+  pub first : a + (d + 1) ≤ length w
+  pub second : b + d ≤ length w
+  pub below : Below n a (d + 1) w
+  pub apart : Apart a (d + 1) b d
+
+pub record ContentTaken (n c a d b : ℕ) (w w' : List ℕ) : Type 0 where
+  pub same : length w' ≡ length w
+  pub first : (k : ℕ) → k < d + 1 → getD w' (a + k) 0 ≡ getD w (a + k) 0 % (n / c)
+  pub second : (k : ℕ) → k < d → getD w' (b + k) 0 ≡ getD w (b + k) 0 / c
+
+-- "it is reached exactly when D divides c": D of f and g; or two coprime divisors of n
 abbrev pub DivisorOrSplit : ℕ → List ℕ → List ℕ → Attempt → Type 0
 DivisorOrSplit n f g (Value D) = Reduced n f g D
 DivisorOrSplit n f g (Splits p q) = Splitter n p q

@@ -9,12 +9,13 @@
 //
 //   monic_factor       a polynomial that is a unit polynomial times a monic one: the monic one takes its place
 //   unit_lead          a polynomial with a leading unit in the place of one with the same constants
+//   take_content       the content of B is taken out of it and of the modulus
 //   clear_contents     the content of B, then the unit factor
 //   content_stage, division_stage    the stages that call each other
 ghost use Prim.Native.Nat.{_+_};
 ghost use Rattle.windows.specs.Window.{piece, Scratch};
 ghost use Rattle.divisor_stages.specs.Leads.{LeadAsked, FactorAsked, Leading, LeadAnswer};
-ghost use Rattle.divisor_stages.specs.Stages.{ContentAsked, DivisionAsked, DivisorOrSplit, Clears};
+ghost use Rattle.divisor_stages.specs.Stages.{TakeAsked, ContentTaken, ContentAsked, DivisionAsked, DivisorOrSplit, Clears};
 use residue::Attempt;
 use window_factor::Highest;
 
@@ -55,6 +56,18 @@ pub fn unit_lead(w: &mut [u32], n: u32, b: usize, m: usize, s: usize) -> Highest
     }
 }
 
+// B over its content c, and A modulo n / c. For the content 1 there is nothing to do.
+fn take_content(w: &mut [u32], n: u32, c: u32, a: usize, d: usize, b: usize)
+    requires { ⌜ TakeAsked n c a d b (now w) ⌝ }
+    ensures { λ _. ⌜ ContentTaken n c a d b (now (w .entry)) (now (w .exit)) ⌝ }
+{
+    if c == 1 {
+        return;
+    }
+    windows::divide_words(w, c, b, d);
+    windows::reduce_words(w, n / c, a, d + 1);
+}
+
 // The content of B is taken out of it and of the modulus, then the unit factor of B.
 fn clear_contents(w: &mut [u32], n: u32, a: usize, d: usize, b: usize, s: usize) -> Clearing
     requires { ⌜ ContentAsked n a d b s (now w) ⌝ }
@@ -65,8 +78,7 @@ fn clear_contents(w: &mut [u32], n: u32, a: usize, d: usize, b: usize, s: usize)
     if c == n {
         return Clearing::Done(n);
     }
-    windows::divide_words(w, c, b, d);
-    windows::reduce_words(w, n / c, a, d + 1);
+    take_content(w, n, c, a, d, b);
     match unit_lead(w, n / c, b, d, s) {
         Highest::UnitAt(k, i) => Clearing::Next(c, k, i),
         Highest::Splits(p, q) => Clearing::Parts(p, q),
