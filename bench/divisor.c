@@ -1,11 +1,15 @@
 /* Times of D alone beside the engine's own resultant and reduced resultant, in one run, over pools of different pairs: the pools of
- * engine.c. At the prime each figure is the best of several passes over the pool, in microseconds a call; at composite moduli the pairs are
- * compared one by one. Where two
- * services answer different numbers for D, or a call is refused, the program says which and exits with 1. */
+ * engine.c. At the prime each figure is the best of several passes over the pool, in microseconds a call; at composite moduli the pairs
+ * are compared one by one. Where two services answer different numbers for D, or a call is refused, the program says which and exits
+ * with 1. Build and run: make -C bench */
 #include <stdio.h>
 #include <stdlib.h>
 #include <time.h>
 #include "../include/jingcobu.h"
+
+/* as in the header, where it stands there already */
+jingcobu_answer jingcobu_divisor(uint32_t n, const uint32_t *f, size_t f_len, const uint32_t *g, size_t g_len, uint32_t *work,
+                                 size_t work_len);
 
 #define POOL 100
 #define PASSES 15
@@ -78,7 +82,7 @@ static void compare(uint32_t n, int d)
     }
 }
 
-/* the best pass over the pool, in microseconds a call */
+/* a pass over the pool, in microseconds a call */
 static double resultants(uint32_t n, int d)
 {
     double t = now();
