@@ -4,7 +4,7 @@ use mathlib.Core.List.{List, []}
 use mathlib.Core.Logic.{⊎-elim}
 use Prim.Native.Nat.{ℕ, zero, suc, max, _+_, _-_, _*_, _/_, _%_, _≤_, _<_, _∣_}
 use native.Mathlib.Omega.{arith}
-use native.Mathlib.Nat.{mod-lt, mod-mod, zero-mod, zero-add, zero-div, mul-one, mul-le-mul, mul-le-mul-left, mul-le-mul-right, mul-div-cancel', dvd-mul-left, mod-eq-zero-of-dvd, mul-mod-right}
+use native.Mathlib.Nat.{mod-lt, mod-mod, zero-mod, zero-add, zero-div, div-one, mul-one, mul-le-mul, mul-le-mul-left, mul-le-mul-right, mul-div-cancel', dvd-mul-left, mod-eq-zero-of-dvd, mul-mod-right}
 use lib.ListN.{length, getD}
 use Rattle.definitions.specs.Residues.{IsNilpotent}
 use Rattle.definitions.specs.Polynomials.{coef}
@@ -26,6 +26,14 @@ use Rattle.divisor.specs.Sizes.{DivisorSizes}
 use Rattle.divisor.specs.Attempts.{ArrangeAsked, Padded, HalfAsked, Attempted}
 
 -- ---- both polynomials in the buffer
+
+pub over-one : (c len : ℕ) (w : List ℕ) → c ≡ 1 → Moved (quotient-by c) 0 0 len w w
+over-one c len w e = record {
+  same = refl;
+  low = λ k h. refl;
+  mid = λ i h. sym (ap (λ (x : ℕ). getD w (0 + i) 0 / x) e ∙ div-one (getD w (0 + i) 0));
+  high = λ k h. refl;
+}
 
 module _ (n c m : ℕ) (f g w w₁ w₂ w₃ w₄ : List ℕ) (ar : ArrangeAsked n c f g w) (is-m : m ≡ max (length f) (length g))
     (cl : Moved zeroed 0 0 (2 * m) w w₁) (lg : Loaded n 0 g w₁ w₂) (lf : Loaded n m f w₂ w₃) (dv : Moved (quotient-by c) 0 0 (2 * m) w₃ w₄) where

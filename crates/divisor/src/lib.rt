@@ -4,6 +4,7 @@
 //   w      the working window: g over c from 0 on, f over c from m on, m words each, zeros above; room from 2 m on
 //
 //   longer    the larger of two numbers of words
+//   over      words over a content
 //   arrange   both polynomials over their common content
 //   half      the attempt where the first polynomial gets a leading unit
 //   general   both halves in turn
@@ -13,7 +14,8 @@
 ghost use mathlib.Core.Path.{_≡_};
 ghost use Prim.Native.Nat.{max, _*_, _<_, _≤_};
 ghost use Rattle.definitions.specs.Resultants.{Reduced};
-ghost use Rattle.windows.specs.Window.{Scratch};
+ghost use lib.ListN.{length};
+ghost use Rattle.windows.specs.Window.{Moved, quotient-by, Scratch};
 ghost use Rattle.divisor.specs.Sizes.{DivisorSizes};
 ghost use Rattle.divisor.specs.Attempts.{ArrangeAsked, Padded, HalfAsked, TrialAnswers, Attempted};
 use reduced_attempt::Trial;
@@ -29,6 +31,17 @@ fn longer(a: usize, b: usize) -> usize
     a
 }
 
+// The first len words over c. Over 1 there is nothing to do.
+fn over(w: &mut [u32], c: u32, len: usize)
+    requires { ⌜ (1 ≤ c) × (len ≤ length (now w)) ⌝ }
+    ensures { λ _. ⌜ Moved (quotient-by c) 0 0 len (now (w .entry)) (now (w .exit)) ⌝ }
+{
+    if c == 1 {
+        return;
+    }
+    windows::divide_words(w, c, 0, len);
+}
+
 // The words of g over c, and then those of f, each followed by zeros up to as many as the longer one has. Answers that number.
 fn arrange(w: &mut [u32], n: u32, c: u32, f: &[u32], g: &[u32]) -> usize
     requires { ⌜ ArrangeAsked n c (now f) (now g) (now w) ⌝ }
@@ -38,7 +51,7 @@ fn arrange(w: &mut [u32], n: u32, c: u32, f: &[u32], g: &[u32]) -> usize
     windows::clear(w, 0, 2 * m);
     windows::load(w, 0, g, n);
     windows::load(w, m, f, n);
-    windows::divide_words(w, c, 0, 2 * m);
+    over(w, c, 2 * m);
     m
 }
 
