@@ -1,9 +1,9 @@
 // Drawn pairs of polynomials, against another program's numbers (tools/draw_vectors.py).
 //
 // Reads frames of kind 01, one a line, and writes for each the resultant and the reduced resultant, or a line that says what went
-// wrong; what it writes is held to the other program's numbers, both of them in every line. It tries both services on the words of
-// the frame, checks that the cofactors combine f and g to D, that the words beyond L are unchanged and that the working words are
-// zero, and, where d + e is at most 8, that the plain evaluator answers the same.
+// wrong; what it writes is held to the other program's numbers, both of them in every line. It tries the services on the words of
+// the frame, that for D alone too, and checks that the cofactors combine f and g to D, that the words beyond L are unchanged, that the
+// working words are zero, and, where d + e is at most 8, that the plain evaluator answers the same.
 use hexadecimal::Reading;
 use libc::STDIN_FILENO;
 use libc::STDOUT_FILENO;
@@ -277,6 +277,40 @@ fn try_reduced(
     }
 }
 
+// D alone: the service without cofactors answers d too.
+fn try_divisor(n: u32, f: &[u32], g: &[u32], d: u32, work: &mut [u32]) -> Tried {
+    fill(work, 0, MARK);
+    let a = divisor_service::divisor(n, f, g, work);
+    if a.status != 0 {
+        return Tried::Wrong(9);
+    }
+    if !all_are(work, 0, 0) {
+        return Tried::Wrong(10);
+    }
+    if a.value != d {
+        return Tried::Wrong(11);
+    }
+    Tried::Value(d)
+}
+
+// D with its cofactors, and D alone.
+fn try_both(
+    n: u32,
+    f: &[u32],
+    g: &[u32],
+    l: usize,
+    u: &mut [u32],
+    v: &mut [u32],
+    work: &mut [u32],
+) -> Tried
+    requires { ⌜ 1 ≤ n ⌝ }
+{
+    match try_reduced(n, f, g, l, u, v, work) {
+        Tried::Value(d) => try_divisor(n, f, g, d, work),
+        Tried::Wrong(place) => Tried::Wrong(place),
+    }
+}
+
 // Eight digits.
 fn write_word(x: u32) {
     let mut out = io::buffer();
@@ -310,7 +344,7 @@ fn finish_pair(r: u32, j: Job, f: &[u32], g: &[u32], u: &mut [u32], v: &mut [u32
     requires { ⌜ (1 ≤ j .n) × (j .larger ≤ 48) ⌝ }
 {
     let l = cofactor_words(j.n, j.larger);
-    match try_reduced(j.n, f, g, l, u, v, work) {
+    match try_both(j.n, f, g, l, u, v, work) {
         Tried::Value(d) => {
             write_numbers(r, d);
         }
