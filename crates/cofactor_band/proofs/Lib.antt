@@ -1,2 +1,4 @@
 pub mod Cells
 pub mod TwoRows
+pub mod Columns
+pub mod Moments

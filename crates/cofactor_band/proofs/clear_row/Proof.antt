@@ -1,3 +1,5 @@
+use Rattle.cofactor_band.proofs.TwoRows.{cleared-same, cleared-none, cleared-after}
+use Rattle.cofactor_band.proofs.Columns.{pair-asked}
 use borrow.Author.Needs.{needs}
 use Rattle.cofactor_band.proofs.clear_row.Statement.{statement}
 use Rattle.cofactor_band.proofs.clear_row.Tie as tie
@@ -8,7 +10,7 @@ use Rattle.cofactor_band.proofs.subtract_multiple.Reads as subtract-mul
 
 -- src/lib.rt:81:9
 returns : tie.Need-returns
-returns c = ?
+returns c = cleared-same (c .if1 .taken)
 
 -- src/lib.rt:83:10
 mul-if2 : tie.Need-mul-if2
@@ -24,7 +26,7 @@ slice-read-if2 c = search needs
 
 -- src/lib.rt:84:9
 returns-2 : tie.Need-returns-2
-returns-2 c = ?
+returns-2 c = cleared-none (c .if2 .taken)
 
 -- src/lib.rt:86:5
 subtract-multiple-requires : tie.Need-subtract-multiple-requires
@@ -32,7 +34,9 @@ subtract-multiple-requires c κs = search needs
 
 -- src/lib.rt:87:5
 euclid-requires : tie.Need-euclid-requires
-euclid-requires c κs = ?
+euclid-requires c κs = let p = c .before .before .before .before .before .before .before .before .before .pre in
+    let k = c .before .before .before .subtract-multiple .ensures in
+    (pair-asked p (c .before .before .before .before .before .before .before .if1 .left) (k .same), k .heads (p .heads))
 
 -- src/lib.rt:76:1
 same-length : tie.Need-same-length
@@ -40,7 +44,7 @@ same-length c = search needs
 
 -- src/lib.rt:76:1
 returns-3 : tie.Need-returns-3
-returns-3 c = ?
+returns-3 c = cleared-after (c .before .before .before .before .before .before .subtract-multiple .ensures) (c .before .before .euclid .ensures)
 
 pub clear-row-spec : {M : Type 1} → statement M
 clear-row-spec =

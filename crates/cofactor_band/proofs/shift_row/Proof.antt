@@ -1,3 +1,5 @@
+use mathlib.Core.Path.{refl}
+use Rattle.cofactor_band.proofs.Columns.{row-shifted}
 use borrow.Author.Needs.{needs}
 use Rattle.cofactor_band.proofs.shift_row.Statement.{statement}
 use Rattle.cofactor_band.proofs.shift_row.Tie as tie
@@ -43,7 +45,7 @@ same-length c = search needs
 
 -- src/lib.rt:150:1
 returns : tie.Need-returns
-returns c = ?
+returns c = row-shifted _ _ _ _ _ (c .before .before .before .before .before .pre) refl (c .before .before .copy .ensures)
 
 pub shift-row-spec : {M : Type 1} → statement M
 shift-row-spec =
