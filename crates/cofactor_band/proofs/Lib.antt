@@ -1,4 +1,5 @@
 pub mod Cells
 pub mod TwoRows
-pub mod Columns
+pub mod Clearing
 pub mod Moments
+pub mod Turns

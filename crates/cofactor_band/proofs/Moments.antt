@@ -141,7 +141,11 @@ module _ (n : ℕ) (f g : List ℕ) (b d e : ℕ) (two : 2 ≤ n) (shape : Shape
 
   pub entering-both : (l p q x : ℕ) (w₀ w₁ w₂ : List ℕ) → l + suc q ≡ d → l + suc p ≡ e → RowEntered l f 49 p w₀ w₁
       → RowEntered (suc l) g 97 q w₁ w₂ → Band n f g b d e 0 l (suc p) (suc q) x w₀ → Band n f g b d e 1 (suc (suc l)) p q (signed n p x) w₂
-  entering-both l p q x w₀ w₁ w₂ hd he F G t = go n two (t .live) (t .factor)
+  entering-both l p q x w₀ w₁ w₂ hd he F G t = record {
+    live = live n two (t .live) (t .factor);
+    below = second-below (suc l) q w₁ w₂ (omega arith) G (first-below l p w₀ w₁ (omega arith) F (t .below));
+    factor = small n two (t .factor);
+  }
     where
       low : (at len : ℕ) → at + len ≤ 145 → (i c : ℕ) → i < l → window at len w₂ i c ≡ window at len w₀ i c
       low at len fit i c y =
@@ -161,23 +165,16 @@ module _ (n : ℕ) (f g : List ℕ) (b d e : ℕ) (two : 2 ≤ n) (shape : Shape
             other = λ c. sym (mid 97 d fit-y c) ∙ a .other c;
           }
 
-      below : (i c : ℕ) → window 0 b w₂ i c < n
-      below = second-below (suc l) q w₁ w₂ (omega arith) G (first-below l p w₀ w₁ (omega arith) F (t .below))
+      live : (n : ℕ) → 2 ≤ n → LiveWords (pred n) f g 0 l (suc p) (suc q) x (window 0 b w₀) (window 49 e w₀) (window 97 d w₀) → x < n
+          → LiveWords (pred n) f g 1 (suc (suc l)) p q (signed n p x) (window 0 b w₂) (window 49 e w₂) (window 97 d w₂)
+      live zero h u y = absurd (omega arith)
+      live (suc m) h u y =
+          words-enter-both m f g (hd ∙ sym (deg-of f d lf)) (he ∙ sym (deg-of g e lg)) y
+          (low 0 b fit-w) (low 49 e fit-x) (low 97 d fit-y) first (second-row (suc l) q w₁ w₂ (omega arith) G) u
 
-      go : (m : ℕ) → 2 ≤ m → LiveWords (pred m) f g 0 l (suc p) (suc q) x (window 0 b w₀) (window 49 e w₀) (window 97 d w₀) → x < n
-          → Band n f g b d e 1 (suc (suc l)) p q (signed n p x) w₂
-      go m h u y = record { live = live n two (t .live) (t .factor); below = below; factor = small n two (t .factor) }
-        where
-          live : (n : ℕ) → 2 ≤ n → LiveWords (pred n) f g 0 l (suc p) (suc q) x (window 0 b w₀) (window 49 e w₀) (window 97 d w₀) → x < n
-              → LiveWords (pred n) f g 1 (suc (suc l)) p q (signed n p x) (window 0 b w₂) (window 49 e w₂) (window 97 d w₂)
-          live zero h u y = absurd (omega arith)
-          live (suc m) h u y =
-              words-enter-both m f g (hd ∙ sym (deg-of f d lf)) (he ∙ sym (deg-of g e lg)) y
-              (low 0 b fit-w) (low 49 e fit-x) (low 97 d fit-y) first (second-row (suc l) q w₁ w₂ (omega arith) G) u
-
-          small : (n : ℕ) → 2 ≤ n → x < n → signed n p x < n
-          small zero h y = absurd (omega arith)
-          small (suc m) h y = signed-below m p x y
+      small : (n : ℕ) → 2 ≤ n → x < n → signed n p x < n
+      small zero h y = absurd (omega arith)
+      small (suc m) h y = signed-below m p x y
 
   pub entering-first : (l p x : ℕ) (w₀ w₁ : List ℕ) → p < e → l ≡ d → RowEntered l f 49 p w₀ w₁
       → Band n f g b d e 0 l (suc p) 0 x w₀ → Band n f g b d e 1 (suc l) p 0 x w₁
@@ -247,7 +244,7 @@ module _ {l b : ℕ} {w w' : List ℕ} (most : b ≤ 49) (some : 1 ≤ b) (s : S
       go (no h) = subst (λ (z : ℕ). z < n) (sym (window-same 0 b w w' r r (omega arith) (λ j t. s .others r j (omega arith) t) c)) (old r c)
 
 -- the first word of a row by its window
-head-word : (b : ℕ) (w : List ℕ) (r : ℕ) → 1 ≤ b → window 0 b w r 0 ≡ getD w (145 * r) 0
+pub head-word : (b : ℕ) (w : List ℕ) (r : ℕ) → 1 ≤ b → window 0 b w r 0 ≡ getD w (145 * r) 0
 head-word b w r h = word-at b w r 0 h ∙ sym (head-cell w r)
 
 module _ (n : ℕ) (f g : List ℕ) (b d e l p q x : ℕ) (w : List ℕ) (pos : 1 ≤ n) (shape : Shape b d e)

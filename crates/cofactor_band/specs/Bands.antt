@@ -12,7 +12,10 @@
 --   ColumnAsked, ColumnCleared       all rows but one have 0 in the first column
 --   from-top, EnterAsked, RowEntered      a row that comes in
 --   ShiftAsked, RowShifted, Shifted       each row one column on
---   Moment                      what the loop over the columns keeps
+--   LeaveAsked, RowLeft         the row with the column's only word leaves
+--   ComeAsked, CameIn           the rows of a column come in
+--   Moment, StepAsked           what the loop over the columns keeps, and asks
+--   Scaled, CofactorsAsked, ResultantCofactors      the answer
 --
 -- Letters: f, g are the polynomials, d, e their degrees; b is the breadth, the larger degree and 1; i, k, r are rows, t is the row with the
 -- pivot; l is the number of live rows, p and q those of the rows of f and g still to come in; w is the buffer before a step, w' after it.
@@ -22,6 +25,7 @@ use mathlib.Core.List.{List}
 use Prim.Native.Nat.{ℕ, suc, pred, _+_, _*_, _-_, _%_, _<_, _≤_}
 use lib.ListN.{length, getD}
 use Rattle.definitions.specs.Polynomials.{coef, deg, Residues}
+use Rattle.definitions.specs.Resultants.{resultant, Combination}
 use Rattle.windows.specs.Window.{piece}
 use Rattle.cofactor_rows.specs.LiveWords.{LiveWords}
 
@@ -157,20 +161,77 @@ pub record ShiftAsked (l b : ℕ) (w : List ℕ) : Type 0 where
   pub most : b ≤ 49
   pub room : 7250 ≤ length w
 
--- ---- the loop over the columns
-
--- s is 1 once the rows of column j are in, and 0 before; what is left are the rows and columns from j on
-pub record Moment (n : ℕ) (f g : List ℕ) (b d e s j l x : ℕ) (w : List ℕ) : Type 0 where
-  pub band : Band n f g b d e s l (e - (j + s)) (d - (j + s)) x w
-  pub count : l + (e - (j + s)) + (d - (j + s)) + j ≡ d + e
+pub record LeaveAsked (n b t l x : ℕ) (w : List ℕ) : Type 0 where
+  pub modulus : 1 ≤ n
+  pub row : t ≤ l
+  pub rows : l < 50
+  pub some : 1 ≤ b
+  pub most : b ≤ 49
+  pub factor : x < n
   pub room : 7250 ≤ length w
 
--- what a step of the loop asks
-pub record StepAsked (n : ℕ) (f g : List ℕ) (b d e j : ℕ) : Type 0 where
+-- of l + 1 rows the row t, which has the column's only word, leaves; y is the new factor
+pub record RowLeft (n b t l x : ℕ) (w w' : List ℕ) (y : ℕ) : Type 0 where
+  pub band : (f g : List ℕ) (d e p q : ℕ) → Shape b d e → ((r : ℕ) → r < suc l → r ≢ t → getD w (145 * r) 0 ≡ 0)
+      → Band n f g b d e 1 (suc l) p q x w → Band n f g b d e 0 l p q y w'
+
+-- ---- the loop over the columns
+
+-- what coming in asks: column j is next, l rows are live
+pub record ComeAsked (n : ℕ) (f g : List ℕ) (d e j l x : ℕ) (w : List ℕ) : Type 0 where
+  pub modulus : 2 ≤ n
+  pub first : length f ≡ d + 1
+  pub second : length g ≡ e + 1
+  pub most-first : d ≤ 48
+  pub most-second : e ≤ 48
+  pub count : l + (e - j) + (d - j) + j ≡ d + e
+  pub factor : x < n
+  pub room : 7250 ≤ length w
+
+-- the rows that begin at column j are in: l' rows with the factor x'
+pub record CameIn (n : ℕ) (f g : List ℕ) (d e j l x : ℕ) (w : List ℕ) (l' x' : ℕ) (w' : List ℕ) : Type 0 where
+  pub count : l' + (e - (j + 1)) + (d - (j + 1)) + j ≡ d + e
+  pub band : (b : ℕ) → Shape b d e → Residues n f → Residues n g → Band n f g b d e 0 l (e - j) (d - j) x w
+      → Band n f g b d e 1 l' (e - (j + 1)) (d - (j + 1)) x' w'
+
+-- column j is next, and what is left are the rows and columns from j on
+pub record Moment (n : ℕ) (f g : List ℕ) (b d e j l x : ℕ) (w : List ℕ) : Type 0 where
+  pub band : Band n f g b d e 0 l (e - j) (d - j) x w
+  pub count : l + (e - j) + (d - j) + j ≡ d + e
+
+-- what the loop asks of f and g
+pub record StepAsked (n : ℕ) (f g : List ℕ) (b d e : ℕ) : Type 0 where
   pub modulus : 2 ≤ n
   pub shape : Shape b d e
   pub first : length f ≡ d + 1
   pub second : length g ≡ e + 1
   pub residues-f : Residues n f
   pub residues-g : Residues n g
-  pub column : j < d + e
+  pub some : 1 ≤ d + e
+
+-- ---- the answer
+
+-- u is x times the words of w from a place on
+pub record Scaled (n x at : ℕ) (w u u' : List ℕ) : Type 0 where
+  pub same : length u' ≡ length u
+  pub word : (k : ℕ) → k < length u → getD u' k 0 ≡ (x * getD w (at + k) 0) % n
+
+pub record CofactorsAsked (n : ℕ) (f g u v w : List ℕ) : Type 0 where
+  pub modulus : 2 ≤ n
+  pub some-f : 1 ≤ length f
+  pub few-f : length f ≤ 49
+  pub some-g : 1 ≤ length g
+  pub few-g : length g ≤ 49
+  pub residues-f : Residues n f
+  pub residues-g : Residues n g
+  pub degrees : 3 ≤ length f + length g
+  pub first : length u + 1 ≡ length g
+  pub second : length v + 1 ≡ length f
+  pub room : 7250 ≤ length w
+
+-- "u of e words and v of d words with uf + vg equal to the resultant modulo n" (02, W1)
+pub record ResultantCofactors (n : ℕ) (f g u v : List ℕ) (x : ℕ) : Type 0 where
+  pub value : x ≡ resultant n f g
+  pub first : Residues n u
+  pub second : Residues n v
+  pub combination : Combination n f g u v x

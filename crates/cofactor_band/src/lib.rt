@@ -9,15 +9,25 @@
 //   pivot                                    the row to begin with
 //   put_reversed, enter, come_in             rows that come in
 //   shift_row, shift_rows, leave             the row with the column's only word leaves
-//   column                                   one turn of the loop
+//   column, columns                          a turn of the loop over the columns, and the loop
+//   scale_into, cofactors                    the last row times the factor: the cofactors
 ghost use mathlib.Core.Path.{_≡_};
 ghost use mathlib.Core.Logic.{_⊎_, _≢_};
 ghost use Prim.Native.Nat.{_+_, _-_, _*_, _%_, _<_, _≤_};
 ghost use lib.ListN.{length, getD};
-ghost use Rattle.windows.specs.Window.{Written};
+ghost use Rattle.theory.specs.ResultantLaws.{signed};
+ghost use Rattle.windows.specs.Window.{Written, Scratch};
 ghost use Rattle.cofactor_band.specs.Bands.{PairAsked, HeadsBelow, RowAdded, RowReduced, KeepsTwo, RowCleared};
 ghost use Rattle.cofactor_band.specs.Bands.{RowAsked, ColumnAsked, ColumnCleared};
 ghost use Rattle.cofactor_band.specs.Bands.{from-top, EnterAsked, RowEntered, ShiftAsked, RowShifted, Shifted};
+ghost use Rattle.cofactor_band.specs.Bands.{LeaveAsked, RowLeft, ComeAsked, CameIn, Moment, StepAsked};
+ghost use Rattle.cofactor_band.specs.Bands.{Scaled, CofactorsAsked, ResultantCofactors};
+
+// How many rows are live, and the factor that the rows which left make, with its sign.
+struct Stage {
+    rows: usize,
+    factor: u32,
+}
 
 // Row k gains c times row i.
 fn add_row(w: &mut [u32], n: u32, c: u32, i: usize, k: usize, b: usize, d: usize, e: usize)
@@ -166,4 +176,127 @@ fn shift_rows(w: &mut [u32], l: usize, b: usize)
         shift_row(w, i, b);
         i += 1;
     }
+}
+
+// x with the sign (-1)^k.
+fn with_sign(n: u32, k: usize, x: u32) -> u32
+    requires { ⌜ x < n ⌝ }
+    ensures { λ r. ⌜ r ≡ signed n k x ⌝ }
+{
+    if k % 2 == 0 {
+        return x;
+    }
+    arithmetic::negate(n, x)
+}
+
+// The rows that begin at column j: x^(e - 1 - j) f below the l live rows, and below it x^(d - 1 - j) g, which passes the rows of f that are
+// still to come.
+fn come_in(w: &mut [u32], n: u32, f: &[u32], g: &[u32], d: usize, e: usize, j: usize, l: usize, x: u32) -> Stage
+    requires { ⌜ ComeAsked n (now f) (now g) d e j l x (now w) ⌝ }
+    ensures { λ r. ⌜ CameIn n (now (f .entry)) (now (g .entry)) d e j l x (now (w .entry)) (r .rows) (r .factor) (now (w .exit)) ⌝ }
+{
+    if j < e {
+        enter(w, l, f, 49, e - 1 - j);
+        if j < d {
+            enter(w, l + 1, g, 97, d - 1 - j);
+            return Stage { rows: l + 2, factor: with_sign(n, e - 1 - j, x) };
+        }
+        return Stage { rows: l + 1, factor: x };
+    }
+    if j < d {
+        enter(w, l, g, 97, d - 1 - j);
+        return Stage { rows: l + 1, factor: x };
+    }
+    Stage { rows: l, factor: x }
+}
+
+// Of l + 1 rows row t leaves, and row l takes its place; the others are one column on. Its word becomes a factor, with the sign of the
+// exchange and that of the last row.
+fn leave(w: &mut [u32], n: u32, t: usize, l: usize, b: usize, x: u32) -> u32
+    requires { ⌜ LeaveAsked n b t l x (now w) ⌝ }
+    ensures { λ r. ⌜ RowLeft n b t l x (now (w .entry)) (now (w .exit)) r ⌝ }
+{
+    let y = w[145 * t];
+    if t == l {
+        shift_rows(w, l, b);
+        return with_sign(n, l, arithmetic::mul_mod(n, x, y));
+    }
+    windows::copy(w, 145 * l, 145 * t, 145);
+    shift_rows(w, l, b);
+    let z = arithmetic::negate(n, x);
+    with_sign(n, l, arithmetic::mul_mod(n, z, y))
+}
+
+// Column j.
+fn column(w: &mut [u32], n: u32, f: &[u32], g: &[u32], b: usize, d: usize, e: usize, j: usize, l: usize, x: u32) -> Stage
+    requires { ⌜ (j < d + e) × (7250 ≤ length (now w)) ⌝ }
+    requires { ⌜ StepAsked n (now f) (now g) b d e ⌝ }
+    requires { ⌜ Moment n (now f) (now g) b d e j l x (now w) ⌝ }
+    ensures { λ r. ⌜ Moment n (now (f .entry)) (now (g .entry)) b d e (j + 1) (r .rows) (r .factor) (now (w .exit)) ⌝ }
+{
+    let s = come_in(w, n, f, g, d, e, j, l, x);
+    let m = s.rows;
+    let t = pivot(w, n, m);
+    let p = clear_column(w, n, t, m, b, d, e);
+    let y = leave(w, n, p, m - 1, b, s.factor);
+    Stage { rows: m - 1, factor: y }
+}
+
+// All columns but the last.
+fn columns(w: &mut [u32], n: u32, f: &[u32], g: &[u32], b: usize, d: usize, e: usize) -> Stage
+    requires { ⌜ 7250 ≤ length (now w) ⌝ }
+    requires { ⌜ StepAsked n (now f) (now g) b d e ⌝ }
+    ensures { λ r. ⌜ Moment n (now (f .entry)) (now (g .entry)) b d e (d + e - 1) (r .rows) (r .factor) (now (w .exit)) ⌝ }
+{
+    windows::wipe(w);
+    let mut j: usize = 0;
+    let mut l: usize = 0;
+    let mut x: u32 = 1;
+    while j + 1 < d + e {
+        let s = column(w, n, f, g, b, d, e, j, l, x);
+        l = s.rows;
+        x = s.factor;
+        j += 1;
+    }
+    Stage { rows: l, factor: x }
+}
+
+// u[k] = x * w[at + k], for each word of u.
+fn scale_into(u: &mut [u32], w: &[u32], n: u32, x: u32, at: usize)
+    requires { ⌜ (1 ≤ n) × (at + length (now u) ≤ length (now w)) ⌝ }
+    ensures { λ _. ⌜ Scaled n x at (now (w .entry)) (now (u .entry)) (now (u .exit)) ⌝ }
+{
+    let mut k: usize = 0;
+    while k < u.len() {
+        u[k] = arithmetic::mul_mod(n, x, w[at + k]);
+        k += 1;
+    }
+}
+
+// The larger of d and e, and 1.
+fn breadth(d: usize, e: usize) -> usize
+    requires { ⌜ (d ≤ 48) × (e ≤ 48) ⌝ }
+    ensures { λ r. ⌜ (d < r) × ((e < r) × (r ≤ 49)) ⌝ }
+{
+    if d < e {
+        return e + 1;
+    }
+    d + 1
+}
+
+// The resultant of f and g, with its cofactors in u and v. The last row is one word and its multipliers.
+pub fn cofactors(u: &mut [u32], v: &mut [u32], w: &mut [u32], n: u32, f: &[u32], g: &[u32]) -> u32
+    requires { ⌜ CofactorsAsked n (now f) (now g) (now u) (now v) (now w) ⌝ }
+    ensures { λ r. ⌜ ResultantCofactors n (now (f .entry)) (now (g .entry)) (now (u .exit)) (now (v .exit)) r ⌝ }
+    ensures { λ _. ⌜ Scratch (now (w .entry)) (now (w .exit)) ⌝ }
+{
+    let d = f.len() - 1;
+    let e = g.len() - 1;
+    let b = breadth(d, e);
+    let s = columns(w, n, f, g, b, d, e);
+    let t = come_in(w, n, f, g, d, e, d + e - 1, s.rows, s.factor);
+    let x = t.factor;
+    scale_into(u, w, n, x, 49);
+    scale_into(v, w, n, x, 97);
+    arithmetic::mul_mod(n, x, w[0])
 }

@@ -2,7 +2,7 @@ use borrow.Author.Needs.{needs}
 use native.Mathlib.Omega.{arith}
 use Prim.Native.Nat.{_≤_, _-_}
 use Rattle.cofactor_band.specs.Bands.{ColumnCleared}
-use Rattle.cofactor_band.proofs.Columns.{clearing-start, clearing-next, row-asked, clearing-end}
+use Rattle.cofactor_band.proofs.Clearing.{clearing-start, clearing-next, row-asked, clearing-end}
 use Rattle.cofactor_band.proofs.clear_column.Statement.{statement}
 use Rattle.cofactor_band.proofs.clear_column.Tie as tie
 use Rattle.cofactor_band.proofs.clear_column.Reads as reads

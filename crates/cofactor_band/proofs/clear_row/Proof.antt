@@ -1,5 +1,5 @@
 use Rattle.cofactor_band.proofs.TwoRows.{cleared-same, cleared-none, cleared-after}
-use Rattle.cofactor_band.proofs.Columns.{pair-asked}
+use Rattle.cofactor_band.proofs.Clearing.{pair-asked}
 use borrow.Author.Needs.{needs}
 use Rattle.cofactor_band.proofs.clear_row.Statement.{statement}
 use Rattle.cofactor_band.proofs.clear_row.Tie as tie

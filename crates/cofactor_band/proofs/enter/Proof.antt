@@ -1,6 +1,6 @@
 use mathlib.Core.Path.{refl, _∙_}
 use lib.ListN.{length-set}
-use Rattle.cofactor_band.proofs.Columns.{entered}
+use Rattle.cofactor_band.proofs.Clearing.{entered}
 use borrow.Author.Needs.{needs}
 use Rattle.cofactor_band.proofs.enter.Statement.{statement}
 use Rattle.cofactor_band.proofs.enter.Tie as tie

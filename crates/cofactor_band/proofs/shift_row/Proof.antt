@@ -1,5 +1,5 @@
 use mathlib.Core.Path.{refl}
-use Rattle.cofactor_band.proofs.Columns.{row-shifted}
+use Rattle.cofactor_band.proofs.Clearing.{row-shifted}
 use borrow.Author.Needs.{needs}
 use Rattle.cofactor_band.proofs.shift_row.Statement.{statement}
 use Rattle.cofactor_band.proofs.shift_row.Tie as tie

@@ -2,7 +2,7 @@ use borrow.Author.Needs.{needs}
 use native.Mathlib.Omega.{arith}
 use Prim.Native.Nat.{_≤_, _-_}
 use Rattle.cofactor_band.specs.Bands.{Shifted}
-use Rattle.cofactor_band.proofs.Columns.{shifted-none, shifted-next, shifted-end, shift-asked}
+use Rattle.cofactor_band.proofs.Clearing.{shifted-none, shifted-next, shifted-end, shift-asked}
 use Rattle.cofactor_band.proofs.shift_rows.Statement.{statement}
 use Rattle.cofactor_band.proofs.shift_rows.Tie as tie
 use Rattle.cofactor_band.proofs.shift_rows.Reads as reads
