@@ -3,19 +3,10 @@
 //
 // A line for each modulus and pair of degrees: n, d, e, how many pairs there are, 1 where some went wrong and else 0, and a number made of all
 // values in turn. Where there are more than 300,000 pairs, only those are tried whose g has the constant 0 or 1.
-ghost use Prim.Native.Nat.{_+_, _≤_};
-ghost use mathlib.Core.Path.{_≡_};
-ghost use lib.ListN.{length};
+ghost use Prim.Native.Nat.{_≤_};
 
 // What stands in the lent words before a call.
 const MARK: u32 = 2882400001;
-
-// The working words. The contract gives only the length.
-fn working_room() -> [u32; 8192]
-    ensures { λ r. ⌜ 8192 ≡ length r ⌝ }
-{
-    [0; 8192]
-}
 
 // Digit k of i in base n.
 fn digit(i: u32, n: u32, k: usize) -> u32
@@ -100,21 +91,13 @@ struct Tried {
 
 // One pair of degrees d and e.
 fn call(n: u32, f: &[u32], g: &[u32], d: usize, e: usize, work: &mut [u32]) -> Tried
-    requires { ⌜ (1 ≤ n) × (8192 ≤ length (now work)) ⌝ }
+    requires { ⌜ 1 ≤ n ⌝ }
 {
     let mut u = [MARK; 4];
     let mut v = [MARK; 4];
-    work[0] = MARK;
-    work[8191] = MARK;
     let a: refusals::Answer = cofactor_service::resultant_cofactors(n, f, g, &mut u, &mut v, work);
     let value = a.value;
     if a.status != 0 {
-        return Tried { right: false, value };
-    }
-    if work[0] != 0 {
-        return Tried { right: false, value };
-    }
-    if work[8191] != 0 {
         return Tried { right: false, value };
     }
     if !all_are(&u, e, MARK) {
@@ -131,8 +114,7 @@ fn call(n: u32, f: &[u32], g: &[u32], d: usize, e: usize, work: &mut [u32]) -> T
 
 // Pair i of degrees d and e: its words are the digits of i in base n, those of f first, and the constant of g last.
 fn pair(n: u32, d: usize, e: usize, i: u32, work: &mut [u32]) -> Tried
-    requires { ⌜ (1 ≤ n) × (8192 ≤ length (now work)) ⌝ }
-    requires { ⌜ (d ≤ 2) × (e ≤ 2) ⌝ }
+    requires { ⌜ (1 ≤ n) × ((d ≤ 2) × (e ≤ 2)) ⌝ }
 {
     let f = [digit(i, n, 0), digit(i, n, 1), digit(i, n, 2)];
     let g = [digit(i, n, d + e + 1), digit(i, n, d + 1), digit(i, n, d + 2)];
@@ -149,8 +131,7 @@ fn next_number(x: u32) {
 }
 
 fn block(n: u32, d: u32, e: u32, count: u32, work: &mut [u32])
-    requires { ⌜ (1 ≤ n) × (8192 ≤ length (now work)) ⌝ }
-    requires { ⌜ (d ≤ 2) × (e ≤ 2) ⌝ }
+    requires { ⌜ (1 ≤ n) × ((d ≤ 2) × (e ≤ 2)) ⌝ }
 {
     let mut wrong: u32 = 0;
     let mut sum: u32 = 0;
@@ -172,9 +153,7 @@ fn block(n: u32, d: u32, e: u32, count: u32, work: &mut [u32])
     io::write_all(1, &[b'\n']);
 }
 
-fn blocks(work: &mut [u32])
-    requires { ⌜ 8192 ≤ length (now work) ⌝ }
-{
+fn blocks(work: &mut [u32]) {
     block(4, 0, 1, 64, work);
     block(4, 0, 2, 256, work);
     block(4, 1, 0, 64, work);
@@ -218,6 +197,6 @@ fn blocks(work: &mut [u32])
 }
 
 fn main() {
-    let mut work = working_room();
+    let mut work = [MARK; 8192];
     blocks(&mut work);
 }
