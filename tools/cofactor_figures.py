@@ -57,7 +57,7 @@ def pairs(n, d, e, count):
 
 if sys.argv[1:] == ["blocks"]:
     for block in blocks():
-        print("    block(%d, %d, %d, %d, work);" % block)
+        print("    block(%d, %d, %d, %d);" % block)
     sys.exit()
 for d in range(3):
     for e in range(3):

@@ -14,18 +14,13 @@ use native.Mathlib.Omega.{arith}
 use lib.ListN.{length, getD}
 use Rattle.definitions.specs.Polynomials.{coef, deg, Residues}
 use Rattle.theory.specs.ResultantLaws.{signed}
+use Rattle.resultant_turns.specs.Degrees.{deg-of}
 use Rattle.windows.specs.Window.{Moved, second}
 use Rattle.cofactor_rows.specs.LiveWords.{LiveWords}
 use Rattle.cofactor_rows.specs.WordSteps.{Entered, signed-below, words-enter-both, words-enter-first, words-enter-second, words-enter-none, words-leave-last, words-leave}
 use Rattle.cofactor_band.specs.Bands.{cell, window, from-top, Shape, Band, RowEntered, Shifted}
 use Rattle.cofactor_band.proofs.Cells.{window-at, window-over, moved-in, moved-other}
 use Rattle.cofactor_band.proofs.TwoRows.{head-cell}
-
-pub deg-of : (f : List ℕ) (d : ℕ) → length f ≡ d + 1 → deg f ≡ d
-deg-of f d h = ap pred (h ∙ one d)
-  where
-    one : (d : ℕ) → d + 1 ≡ suc d
-    one d = omega arith
 
 pub band-cast : {n : ℕ} {f g : List ℕ} {b d e s l l' p p' q q' x : ℕ} {w : List ℕ} → l ≡ l' → p ≡ p' → q ≡ q'
     → Band n f g b d e s l p q x w → Band n f g b d e s l' p' q' x w

@@ -17,6 +17,7 @@ use borrow.Author.Count.{below-more}
 use Rattle.definitions.specs.Polynomials.{coef, deg, Residues}
 use Rattle.definitions.specs.Resultants.{resultant, Combination}
 use Rattle.theory.specs.ResultantLaws.{signed}
+use Rattle.resultant_turns.specs.Degrees.{deg-of}
 use Rattle.windows.specs.Window.{Moved, second, piece}
 use Rattle.windows.proofs.Leaf.{piece-at, piece-over}
 use Rattle.cofactor_rows.specs.LiveWords.{LiveWords, words-value, words-answer}
@@ -25,7 +26,7 @@ use Rattle.cofactor_band.specs.Bands.{cell, window, Shape, Band, HeadsBe
 use Rattle.cofactor_band.specs.Bands.{LeaveAsked, RowLeft, ComeAsked, CameIn, Moment, StepAsked, Scaled, CofactorsAsked, ResultantCofactors}
 use Rattle.cofactor_band.proofs.Cells.{window-at, window-over}
 use Rattle.cofactor_band.proofs.TwoRows.{head-cell}
-use Rattle.cofactor_band.proofs.Moments.{deg-of, band-cast, head-word, entering-both, entering-first, entering-second, entering-none, leaving-last, leaving-other}
+use Rattle.cofactor_band.proofs.Moments.{band-cast, head-word, entering-both, entering-first, entering-second, entering-none, leaving-last, leaving-other}
 
 module _ {n : ℕ} {f g : List ℕ} {d e j l x : ℕ} {w : List ℕ} (a : ComeAsked n f g d e j l x w) where
   both-first : j < e → j < d → l + suc (d - 1 - j) ≡ d

@@ -179,7 +179,7 @@ fn shift_rows(w: &mut [u32], l: usize, b: usize)
 }
 
 // x with the sign (-1)^k.
-fn with_sign(n: u32, k: usize, x: u32) -> u32
+pub fn with_sign(n: u32, k: usize, x: u32) -> u32
     requires { ⌜ x < n ⌝ }
     ensures { λ r. ⌜ r ≡ signed n k x ⌝ }
 {
@@ -262,7 +262,7 @@ fn columns(w: &mut [u32], n: u32, f: &[u32], g: &[u32], b: usize, d: usize, e: u
 }
 
 // u[k] = x * w[at + k], for each word of u.
-fn scale_into(u: &mut [u32], w: &[u32], n: u32, x: u32, at: usize)
+pub fn scale_into(u: &mut [u32], w: &[u32], n: u32, x: u32, at: usize)
     requires { ⌜ (1 ≤ n) × (at + length (now u) ≤ length (now w)) ⌝ }
     ensures { λ _. ⌜ Scaled n x at (now (w .entry)) (now (u .entry)) (now (u .exit)) ⌝ }
 {

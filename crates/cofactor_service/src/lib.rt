@@ -60,6 +60,6 @@ pub fn resultant_cofactors(
     }
     let d = f.len() - 1;
     let e = g.len() - 1;
-    let value = cofactor_band::cofactors(&mut u[0..e], &mut v[0..d], work, n, f, g);
+    let value = cofactor_quick::cofactors(&mut u[0..e], &mut v[0..d], work, n, f, g);
     answered(value, work)
 }

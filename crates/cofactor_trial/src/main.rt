@@ -130,7 +130,8 @@ fn next_number(x: u32) {
     number(x);
 }
 
-fn block(n: u32, d: u32, e: u32, count: u32, work: &mut [u32])
+// The pairs of one modulus and two degrees.
+fn tally(n: u32, d: u32, e: u32, count: u32, work: &mut [u32])
     requires { ⌜ (1 ≤ n) × ((d ≤ 2) × (e ≤ 2)) ⌝ }
 {
     let mut wrong: u32 = 0;
@@ -153,50 +154,52 @@ fn block(n: u32, d: u32, e: u32, count: u32, work: &mut [u32])
     io::write_all(1, &[b'\n']);
 }
 
-fn blocks(work: &mut [u32]) {
-    block(4, 0, 1, 64, work);
-    block(4, 0, 2, 256, work);
-    block(4, 1, 0, 64, work);
-    block(4, 1, 1, 256, work);
-    block(4, 1, 2, 1024, work);
-    block(4, 2, 0, 256, work);
-    block(4, 2, 1, 1024, work);
-    block(4, 2, 2, 4096, work);
-    block(6, 0, 1, 216, work);
-    block(6, 0, 2, 1296, work);
-    block(6, 1, 0, 216, work);
-    block(6, 1, 1, 1296, work);
-    block(6, 1, 2, 7776, work);
-    block(6, 2, 0, 1296, work);
-    block(6, 2, 1, 7776, work);
-    block(6, 2, 2, 46656, work);
-    block(8, 0, 1, 512, work);
-    block(8, 0, 2, 4096, work);
-    block(8, 1, 0, 512, work);
-    block(8, 1, 1, 4096, work);
-    block(8, 1, 2, 32768, work);
-    block(8, 2, 0, 4096, work);
-    block(8, 2, 1, 32768, work);
-    block(8, 2, 2, 262144, work);
-    block(9, 0, 1, 729, work);
-    block(9, 0, 2, 6561, work);
-    block(9, 1, 0, 729, work);
-    block(9, 1, 1, 6561, work);
-    block(9, 1, 2, 59049, work);
-    block(9, 2, 0, 6561, work);
-    block(9, 2, 1, 59049, work);
-    block(9, 2, 2, 118098, work);
-    block(12, 0, 1, 1728, work);
-    block(12, 0, 2, 20736, work);
-    block(12, 1, 0, 1728, work);
-    block(12, 1, 1, 20736, work);
-    block(12, 1, 2, 248832, work);
-    block(12, 2, 0, 20736, work);
-    block(12, 2, 1, 248832, work);
-    block(12, 2, 2, 497664, work);
+fn block(n: u32, d: u32, e: u32, count: u32)
+    requires { ⌜ (1 ≤ n) × ((d ≤ 2) × (e ≤ 2)) ⌝ }
+{
+    let mut work = [MARK; 8192];
+    tally(n, d, e, count, &mut work);
 }
 
 fn main() {
-    let mut work = [MARK; 8192];
-    blocks(&mut work);
+    block(4, 0, 1, 64);
+    block(4, 0, 2, 256);
+    block(4, 1, 0, 64);
+    block(4, 1, 1, 256);
+    block(4, 1, 2, 1024);
+    block(4, 2, 0, 256);
+    block(4, 2, 1, 1024);
+    block(4, 2, 2, 4096);
+    block(6, 0, 1, 216);
+    block(6, 0, 2, 1296);
+    block(6, 1, 0, 216);
+    block(6, 1, 1, 1296);
+    block(6, 1, 2, 7776);
+    block(6, 2, 0, 1296);
+    block(6, 2, 1, 7776);
+    block(6, 2, 2, 46656);
+    block(8, 0, 1, 512);
+    block(8, 0, 2, 4096);
+    block(8, 1, 0, 512);
+    block(8, 1, 1, 4096);
+    block(8, 1, 2, 32768);
+    block(8, 2, 0, 4096);
+    block(8, 2, 1, 32768);
+    block(8, 2, 2, 262144);
+    block(9, 0, 1, 729);
+    block(9, 0, 2, 6561);
+    block(9, 1, 0, 729);
+    block(9, 1, 1, 6561);
+    block(9, 1, 2, 59049);
+    block(9, 2, 0, 6561);
+    block(9, 2, 1, 59049);
+    block(9, 2, 2, 118098);
+    block(12, 0, 1, 1728);
+    block(12, 0, 2, 20736);
+    block(12, 1, 0, 1728);
+    block(12, 1, 1, 20736);
+    block(12, 1, 2, 248832);
+    block(12, 2, 0, 20736);
+    block(12, 2, 1, 248832);
+    block(12, 2, 2, 497664);
 }

@@ -71,7 +71,7 @@ pub fn run(u: &mut [u32], v: &mut [u32], w: &mut [u32], n: u32, f: &[u32], g: &[
         (now (u .exit)) (now (v .exit)) r ⌝ }
     ensures { λ _. ⌜ Scratch (now (w .entry)) (now (w .exit)) ⌝ }
 {
-    match reduced_attempt::attempt(u, v, w, n, f, g) {
+    match reduced_quick::attempt(u, v, w, n, f, g) {
         Attempt::Value(d) => d,
         Attempt::Splits(p, q) => {
             let a = run(u, v, w, p, f, g);

@@ -20,7 +20,7 @@ use Rattle.theory.specs.ResultantLaws.{resultant-divide, resultant-const-first}
 use Rattle.windows.specs.Window.{piece}
 use Rattle.windows.proofs.Leaf.{piece-at, piece-length, piece-same, apart-at}
 use Rattle.window_division.specs.Remainders.{Pair, Remainder}
-use Rattle.resultant_steps.proofs.Degrees.{deg-of}
+use Rattle.resultant_turns.specs.Degrees.{deg-of}
 use Rattle.numbers.specs.Divisors.{GcdCofactor}
 use Rattle.resultant_attempt.specs.Rooms.{room-next}
 use Rattle.resultant_attempt.specs.Stages.{Placed, Divisor}

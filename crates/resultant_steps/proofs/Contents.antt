@@ -22,7 +22,7 @@ use borrow.Rule.Slice.PartMut.{midOf}
 use Rattle.windows.specs.Window.{piece, Moved, quotient-by, reduced-by, Below, Content}
 use Rattle.windows.proofs.Leaf.{lt-or-le, piece-at, piece-length}
 use Rattle.resultant_steps.specs.Layouts.{Primitive, ContentCleared}
-use Rattle.resultant_steps.proofs.Degrees.{deg-of}
+use Rattle.resultant_turns.specs.Degrees.{deg-of}
 
 -- ---- numbers
 

@@ -8,7 +8,7 @@ use native.Mathlib.Nat.{mod-lt, le-of-dvd}
 use Rattle.theory.specs.ResultantLaws.{signed}
 use Rattle.resultant_steps.specs.AttemptAnswers.{ValueOrSplit, Follows}
 use Rattle.residue.specs.declared.Attempt.{Attempt}
-use Rattle.resultant_steps.proofs.Signs.{signed-lt}
+use Rattle.resultant_turns.specs.Signs.{signed-lt}
 
 pub value-times : (n c v r : ℕ) → 1 ≤ n → r ≡ (c * v) % n → (x : ℕ) → (v ≡ x) × (v < n) → (r ≡ (c * x) % n) × (r < n)
 value-times n c v r l h x a = (h ∙ ap (λ (y : ℕ). (c * y) % n) (a .0), subst (λ (y : ℕ). y < n) (sym h) (mod-lt (c * v) l))

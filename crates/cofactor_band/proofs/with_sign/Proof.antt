@@ -1,6 +1,6 @@
 use native.Mathlib.Omega.{arith}
 use mathlib.Core.Path.{sym, _∙_}
-use Rattle.resultant_steps.proofs.Signs.{signed-even, signed-odd}
+use Rattle.resultant_turns.specs.Signs.{signed-even, signed-odd}
 use borrow.Author.Needs.{needs}
 use Rattle.cofactor_band.proofs.with_sign.Statement.{statement}
 use Rattle.cofactor_band.proofs.with_sign.Tie as tie

@@ -2,10 +2,10 @@ use borrow.Author.Needs.{needs}
 use Prim.Native.Nat.{_-_}
 use mathlib.Core.Path.{_≡_}
 use lib.ListN.{length}
-use Rattle.cofactor_trial.proofs.block.Statement.{statement}
-use Rattle.cofactor_trial.proofs.block.Tie as tie
-use Rattle.cofactor_trial.proofs.block.Reads as reads
-use Rattle.cofactor_trial.proofs.block.Lts as lts
+use Rattle.cofactor_trial.proofs.tally.Statement.{statement}
+use Rattle.cofactor_trial.proofs.tally.Tie as tie
+use Rattle.cofactor_trial.proofs.tally.Reads as reads
+use Rattle.cofactor_trial.proofs.tally.Lts as lts
 use Rattle.arithmetic.proofs.mul_add_mod.Reads as mul-add-mod-reads
 use Rattle.cofactor_trial.proofs.next_number.Reads as next-number-reads
 use Rattle.cofactor_trial.proofs.number.Reads as number-reads
@@ -82,8 +82,8 @@ same-length c = search needs
 returns : tie.Need-returns Inv-loop μ-loop
 returns c = search needs
 
-pub block-spec : {M : Type 1} → statement M
-block-spec =
+pub tally-spec : {M : Type 1} → statement M
+tally-spec =
     tie.close
     (tie.spec
     Inv-loop

@@ -1,0 +1,4 @@
+pub mod Degrees
+pub mod Signs
+pub mod TurnLaws
+pub mod RunLaws
