@@ -178,8 +178,13 @@ module _ {n b d e i k : ℕ} {w₀ w₁ w₂ : List ℕ} (before : Turning n b d
   pub turn-falls : {w₃ : List ℕ} → RowReduced n b d e k i w₂ w₃ → 1 ≤ getD w₁ (145 * k) 0 → 1 ≤ getD w₂ (145 * i) 0
       → getD w₃ (145 * k) 0 < getD w₁ (145 * k) 0
   turn-falls {w₃} t p q =
-      omega (arith, t .remainder, first .remainder, mod-lt (getD w₂ (145 * k) 0) {m = getD w₂ (145 * i) 0} q,
-      mod-lt (getD w₁ (145 * i) 0) {m = getD w₁ (145 * k) 0} p)
+      omega (
+        arith,
+        t .remainder,
+        first .remainder,
+        mod-lt (getD w₂ (145 * k) 0) {m = getD w₂ (145 * i) 0} q,
+        mod-lt (getD w₁ (145 * i) 0) {m = getD w₁ (145 * k) 0} p,
+      )
 
   pub turn-ends : getD w₂ (145 * i) 0 ≡ 0 → RowCleared n b d e i k k w₀ w₂
   turn-ends z = record { keeps = half; pivot = inr refl; zero = λ r. elim [ inl h ↦ λ y. ap (λ (x : ℕ). getD w₂ (145 * x) 0) h ∙ z | inr h ↦ λ y. absurd (y h) ] }

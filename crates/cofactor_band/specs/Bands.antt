@@ -1,6 +1,6 @@
--- The live rows of Sylvester's matrix in the lent buffer, and what the steps on them ask and promise. Row r has the 145 words from 145 r on:
--- b words of the row at the columns that are left, at 49 its multiplier of f, of e words, and at 97 that of g, of d words. There are at
--- most 49 rows, so 7105 words are enough.
+-- The live rows of Sylvester's matrix in the lent buffer, and what the steps on them ask and promise. Row r has the 145 words from 145 r
+-- on: b words of the row at the columns that are left, at 49 its multiplier of f, of e words, and at 97 that of g, of d words. There are
+-- at most 49 rows, so 7105 words are enough; 7250 are asked for, room for 50 rows.
 --
 --   cell w r j                  word j of row r
 --   window o len w r c          word c of the len words from place o of row r on, 0 beyond

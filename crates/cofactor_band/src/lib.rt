@@ -191,7 +191,17 @@ pub fn with_sign(n: u32, k: usize, x: u32) -> u32
 
 // The rows that begin at column j: x^(e - 1 - j) f below the l live rows, and below it x^(d - 1 - j) g, which passes the rows of f that are
 // still to come.
-fn come_in(w: &mut [u32], n: u32, f: &[u32], g: &[u32], d: usize, e: usize, j: usize, l: usize, x: u32) -> Stage
+fn come_in(
+    w: &mut [u32],
+    n: u32,
+    f: &[u32],
+    g: &[u32],
+    d: usize,
+    e: usize,
+    j: usize,
+    l: usize,
+    x: u32,
+) -> Stage
     requires { ⌜ ComeAsked n (now f) (now g) d e j l x (now w) ⌝ }
     ensures { λ r. ⌜ CameIn n (now (f .entry)) (now (g .entry)) d e j l x (now (w .entry)) (r .rows) (r .factor) (now (w .exit)) ⌝ }
 {
@@ -199,13 +209,22 @@ fn come_in(w: &mut [u32], n: u32, f: &[u32], g: &[u32], d: usize, e: usize, j: u
         enter(w, l, f, 49, e - 1 - j);
         if j < d {
             enter(w, l + 1, g, 97, d - 1 - j);
-            return Stage { rows: l + 2, factor: with_sign(n, e - 1 - j, x) };
+            return Stage {
+                rows: l + 2,
+                factor: with_sign(n, e - 1 - j, x),
+            };
         }
-        return Stage { rows: l + 1, factor: x };
+        return Stage {
+            rows: l + 1,
+            factor: x,
+        };
     }
     if j < d {
         enter(w, l, g, 97, d - 1 - j);
-        return Stage { rows: l + 1, factor: x };
+        return Stage {
+            rows: l + 1,
+            factor: x,
+        };
     }
     Stage { rows: l, factor: x }
 }
@@ -228,7 +247,18 @@ fn leave(w: &mut [u32], n: u32, t: usize, l: usize, b: usize, x: u32) -> u32
 }
 
 // Column j.
-fn column(w: &mut [u32], n: u32, f: &[u32], g: &[u32], b: usize, d: usize, e: usize, j: usize, l: usize, x: u32) -> Stage
+fn column(
+    w: &mut [u32],
+    n: u32,
+    f: &[u32],
+    g: &[u32],
+    b: usize,
+    d: usize,
+    e: usize,
+    j: usize,
+    l: usize,
+    x: u32,
+) -> Stage
     requires { ⌜ (j < d + e) × (7250 ≤ length (now w)) ⌝ }
     requires { ⌜ StepAsked n (now f) (now g) b d e ⌝ }
     requires { ⌜ Moment n (now f) (now g) b d e j l x (now w) ⌝ }
@@ -239,7 +269,10 @@ fn column(w: &mut [u32], n: u32, f: &[u32], g: &[u32], b: usize, d: usize, e: us
     let t = pivot(w, n, m);
     let p = clear_column(w, n, t, m, b, d, e);
     let y = leave(w, n, p, m - 1, b, s.factor);
-    Stage { rows: m - 1, factor: y }
+    Stage {
+        rows: m - 1,
+        factor: y,
+    }
 }
 
 // All columns but the last.

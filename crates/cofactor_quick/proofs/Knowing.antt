@@ -98,7 +98,6 @@ run-asked a l = record { modulus = a .modulus; some = a .some-f; order = l; room
 
 module _ {n k : ℕ} {f g u v w : List ℕ} (a : CofactorsAsked n f g u v w) (order : length f ≤ length g) {x : State} {w' : List ℕ}
     (m : Multipliers n f g x w') where
-
   deg-g : deg g ≡ length g - 1
   deg-g = deg-of g (length g - 1) (omega (arith, a .some-g))
 

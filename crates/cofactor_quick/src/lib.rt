@@ -24,7 +24,15 @@ fn factor(n: u32, i: u32, p: u32, t: u32, c: u32, k: usize) -> u32
 }
 
 // The resultant with the sign (-1)^k, and its cofactors with that sign; n where s is no unit.
-fn ordered(u: &mut [u32], v: &mut [u32], w: &mut [u32], n: u32, f: &[u32], g: &[u32], k: usize) -> u32
+fn ordered(
+    u: &mut [u32],
+    v: &mut [u32],
+    w: &mut [u32],
+    n: u32,
+    f: &[u32],
+    g: &[u32],
+    k: usize,
+) -> u32
     requires { ⌜ CofactorsAsked n (now f) (now g) (now u) (now v) (now w) ⌝ }
     requires { ⌜ length (now f) ≤ length (now g) ⌝ }
     ensures { λ r. ⌜ QuickTried n k (now (f .entry)) (now (g .entry)) (now (u .exit)) (now (v .exit)) r ⌝ }

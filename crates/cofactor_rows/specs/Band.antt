@@ -1,6 +1,6 @@
 -- Sylvester's matrix brought to triangular form column by column, with only the live rows kept. What a loop over the columns keeps has
--- two parts. Of the determinant (Stage): the resultant is x times the determinant of what is left, that is the live rows above the rows of f
--- and g that have not come in. Of the rows (Row): each live row is u f + v g, its words at the columns that are left.
+-- two parts. Of the determinant (Stage): the resultant is x times the determinant of what is left, that is the live rows above the rows
+-- of f and g that have not come in. Of the rows (Row): each live row is u f + v g, its words at the columns that are left.
 --
 --   left l a p A q B       the determinant of l live rows a above p rows of A above q rows of B
 --   left-form              it is an alternating form of the live rows: a multiple of a row added to a row (add-row) and the exchange of
@@ -8,9 +8,9 @@
 --   come-first, come-second    the next row of A, of B, comes in below the live rows; the second passes the p rows of A
 --   column-done            the first live row has the only word of the column that is not 0
 --   Stage s l a p q x      the resultant is x times what is left; s is 1 once the column's rows are in, and 0 before
---   stage-start, stage-in-both, stage-in-first, stage-in-second, stage-in-none, stage-add, stage-turn, stage-done, stage-end
+--   stage-start, stage-in-both, stage-in-first, stage-in-second, stage-in-none, stage-add, stage-swap, stage-done, stage-end
 --   Row n w u v            the row w, n columns wide, is u f + v g
---   row-first, row-second, row-add, row-next, row-combines, row-answer
+--   row-first, row-second, row-add, row-next, row-combines
 --
 -- Letters: f, g are series, the constant first, of degrees d and e; F and G are they with the leading coefficient first; l is the number of
 -- live rows, p and q the numbers of the rows of f and of g that have not come in; c is a column, k a place of a product.
@@ -21,7 +21,6 @@ use Prim.Native.Nat.{ℕ, zero, suc, _<_, _≤_, _+_ as _+ℕ_, _-_ as _-ℕ_}
 use native.Mathlib.Decide.{decLt, ℕ-discrete}
 use native.Mathlib.Omega.{arith}
 use Rattle.algebra.specs.Block.{corner}
-use Rattle.algebra.specs.Cofactors.{Cofactors}
 use Rattle.algebra.specs.Determinant.{det, det-cong}
 use Rattle.algebra.specs.Form.{Form, det-form}
 use Rattle.algebra.specs.Index.{ins}
@@ -79,7 +78,8 @@ module _ {R : Type 0} (𝓡 : CRing R) where
 
   -- no row of B is left: B does not count
   pub second-empty : (l p : ℕ) (a A B B′ : ℕ → ℕ → R) → left l a p A 0 B ≡ left l a p A 0 B′
-  second-empty l p a A B B′ = det-cong 𝓡 (up l (up p 0)) _ _ (λ r c x y. rows-cong c l (up p 0) a (stack p A B) a (stack p A B′) (λ i t. refl)
+  second-empty l p a A B B′ = det-cong 𝓡 (up l (up p 0)) _ _
+      (λ r c x y. rows-cong c l (up p 0) a (stack p A B) a (stack p A B′) (λ i t. refl)
       (λ i t. rows-cong c p 0 A B A B′ (λ i t. refl) (λ i t. absurd (omega arith)) i t) r x)
 
   -- the first live row has the only word of the first column that may be other than 0
@@ -151,7 +151,9 @@ module _ {R : Type 0} (𝓡 : CRing R) where
     stage-in-second {l} {q} {a} {x} s = record { value = s .value ∙ ap (λ y. x * y) (come-second l 0 q a (of-first 0) (of-second 0)) }
 
     pub stage-in-none : {l : ℕ} {a : ℕ → ℕ → R} {x : R} → Stage 0 l a 0 0 x → Stage 1 l a 0 0 x
-    stage-in-none {l} {a} {x} s = record { value = s .value ∙ ap (λ y. x * y) (second-empty l 0 a (of-first 0) (of-second 0) (of-second 1)) }
+    stage-in-none {l} {a} {x} s = record {
+      value = s .value ∙ ap (λ y. x * y) (second-empty l 0 a (of-first 0) (of-second 0) (of-second 1));
+    }
 
     -- y times the live row i is added to the live row k
     pub stage-add : {s l p q : ℕ} {x : R} (a b : ℕ → ℕ → R) (i k : ℕ) (y : R) → i < l → k < l → i ≢ k
@@ -172,33 +174,6 @@ module _ {R : Type 0} (𝓡 : CRing R) where
       where
         turn : (x y w : R) → w ≡ - y → x * y ≡ (- x) * w
         turn x y w h = sym (ap (λ v. (- x) * v) h ∙ neg-mul 𝓡 x (- y) ∙ ap (λ v. - v) (mul-neg 𝓡 x y) ∙ neg-neg 𝓡 (x * y))
-
-    -- one step of Euclid's on the rows i and k: row i becomes row k, and row k becomes row i plus y times row k; x changes its sign
-    pub stage-turn : {s l p q : ℕ} {x : R} (a b : ℕ → ℕ → R) (i k : ℕ) (y : R) → i < l → k < l → i ≢ k
-        → ((c : ℕ) → c < up l (up p q) → b i c ≡ a k c) → ((c : ℕ) → c < up l (up p q) → b k c ≡ y * a k c + a i c)
-        → ((r c : ℕ) → r < l → c < up l (up p q) → r ≢ i → r ≢ k → b r c ≡ a r c)
-        → Stage s l a p q x → Stage s l b p q (- x)
-    stage-turn {s} {l} {p} {q} {x} a b i k y hi hk z new other old t =
-        stage-add m b i k y hi hk z
-        (λ c l. other c l ∙ ap₂ (λ v w. y * v + w) (sym (first c)) (sym (second c)))
-        (λ r c u v w. rest r c u v w (ℕ-discrete r i))
-        (stage-swap a m i k hi hk z (λ c l. first c) (λ c l. second c) (λ r c u v w w′. third r c w w′) t)
-      where
-        m : ℕ → ℕ → R
-        m = put 𝓡 i (a k) (put 𝓡 k (a i) a)
-
-        first : (c : ℕ) → m i c ≡ a k c
-        first c = ap (λ (v : ℕ → R). v c) (put-same 𝓡 i (a k) (put 𝓡 k (a i) a))
-
-        second : (c : ℕ) → m k c ≡ a i c
-        second c = ap (λ (v : ℕ → R). v c) (put-other 𝓡 i (a k) (put 𝓡 k (a i) a) k (λ w. z (sym w)) ∙ put-same 𝓡 k (a i) a)
-
-        third : (r c : ℕ) → r ≢ i → r ≢ k → m r c ≡ a r c
-        third r c w w′ = ap (λ (v : ℕ → R). v c) (put-other 𝓡 i (a k) (put 𝓡 k (a i) a) r w ∙ put-other 𝓡 k (a i) a r w′)
-
-        rest : (r c : ℕ) → r < l → c < up l (up p q) → r ≢ k → Dec (r ≡ i) → b r c ≡ m r c
-        rest r c u v w (yes h) = ap (λ (j : ℕ). b j c) h ∙ new c v ∙ sym (first c) ∙ ap (λ (j : ℕ). m j c) (sym h)
-        rest r c u v w (no h) = old r c u v h w ∙ sym (third r c h w)
 
     -- the column is cleared below the first live row, which is not needed again
     pub stage-done : {l p q : ℕ} {x : R} (a : ℕ → ℕ → R) → ((i : ℕ) → i < l → a (suc i) 0 ≡ 𝟘) → Stage 1 (suc l) a p q x
@@ -267,15 +242,6 @@ module _ {R : Type 0} (𝓡 : CRing R) where
         go : (k : ℕ) → x * (conv 𝓡 u f k + conv 𝓡 v g k) ≡ const 𝓡 (Rs 𝓡 d e f g) k
         go zero = ap (λ y. x * y) (sym (r .at 0 0 (omega arith))) ∙ sym h
         go (suc k) = ap (λ y. x * y) (r .above (suc k) (omega arith)) ∙ mul-zero 𝓡 x
-
-    pub row-answer : {w u v : ℕ → R} (x : R) → Row 1 w u v → Rs 𝓡 d e f g ≡ x * w 0 → Cofactors 𝓡 d e f g (Rs 𝓡 d e f g)
-    row-answer {w} {u} {v} x r h = record {
-      u = λ k. x * u k;
-      v = λ k. x * v k;
-      short-u = record { out = λ k l. ap (λ y. x * y) (r .short-u .out k l) ∙ mul-zero 𝓡 x };
-      short-v = record { out = λ k l. ap (λ y. x * y) (r .short-v .out k l) ∙ mul-zero 𝓡 x };
-      eq = row-combines x r h;
-    }
 
   -- f and g exchanged
   pub row-flip : {d e n : ℕ} {f g w u v : ℕ → R} → Row d e f g n w u v → Row e d g f n w v u

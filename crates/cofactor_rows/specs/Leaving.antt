@@ -38,7 +38,8 @@ module _ {R : Type 0} (𝓡 : CRing R) where
   row-out l p q t a A B h za zA zB =
       ap (λ (b : ℕ → ℕ → R). left 𝓡 (suc l) b p A q B) (sym (ins-eta t a))
       ∙ rise 𝓡 (left-form 𝓡 (suc l) p q A B) t h (a t) (λ r. a (skip t r))
-      ∙ ap (sgn 𝓡 t) (column-done 𝓡 l p q (ins 0 (a t) (λ r. a (skip t r))) A B (λ i b. za (skip t i) (skip-lt t i l b) (skip-ne t i)) zA zB)
+      ∙ ap (sgn 𝓡 t) (column-done 𝓡 l p q (ins 0 (a t) (λ r. a (skip t r))) A B
+      (λ i b. za (skip t i) (skip-lt t i l b) (skip-ne t i)) zA zB)
       ∙ sym (sgn-mul 𝓡 t (a t 0) _)
 
   module _ (d e : ℕ) (f g : ℕ → R) where

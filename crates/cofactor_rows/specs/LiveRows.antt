@@ -1,13 +1,11 @@
--- the invariant of the loop over Sylvester's columns, of the determinant and of the rows at once, and one law for each of its steps. Only
+-- The invariant of the loop over Sylvester's columns, of the determinant and of the rows at once, and one law for each of its steps. Only
 -- the live rows are kept, each as its words W at the columns left and its multipliers X and Y.
 --
 --   Live s l p q x W X Y     the resultant is x times the determinant of what is left, and live row i is X i f + Y i g
 --   live-start, live-in-both, live-in-first, live-in-second, live-in-none    the first column; the column's rows come in
---   Added, Swapped, Turned   a multiple of a row added to a row; two rows exchanged; both at once, a step of Euclid's
---   live-add, live-swap, live-turn     the same of W, X and Y together
---   live-done                the column is cleared: the first live row goes, its word becomes a factor of x
---   live-value, live-combines, live-last    one row and one column: the resultant is x times its word, and its multipliers times x are the
---                            cofactors
+--   Added, Swapped           a multiple of a row added to a row; two rows exchanged
+--   live-add, live-swap      the same of W, X and Y together
+--   live-value, live-combines    one row and one column: the resultant is x times its word, and its multipliers times x are the cofactors
 --
 -- Letters: d, e are the degrees of f and g, the constant first; l is the number of live rows, p and q those of the rows of f and g still to
 -- come in; s is 1 once the column's rows are in, and 0 before; i, k, r are live rows, c a column or a place.
@@ -16,7 +14,6 @@ use mathlib.Core.Logic.{_≢_}
 use Prim.Native.Nat.{ℕ, zero, suc, _<_, _≤_, _+_ as _+ℕ_}
 use native.Mathlib.Decide.{ℕ-discrete}
 use native.Mathlib.Omega.{arith}
-use Rattle.algebra.specs.Cofactors.{Cofactors}
 use Rattle.algebra.specs.Resultant.{shift}
 use Rattle.algebra.specs.Reverse.{rv}
 use Rattle.algebra.specs.Ring.{CRing, mul-one}
@@ -24,7 +21,8 @@ use Rattle.algebra.specs.SentLaws.{Rs}
 use Rattle.algebra.specs.Series.{conv, const}
 use Rattle.algebra.specs.Stack.{up, up-is, stack}
 use Rattle.algebra.specs.Sum.{sgn}
-use Rattle.cofactor_rows.specs.Band.{snoc, Stage, stage-start, stage-in-both, stage-in-first, stage-in-second, stage-in-none, stage-add, stage-swap, stage-turn, stage-done, stage-end, Row, row-first, row-second, row-add, row-next, row-combines, row-answer}
+use Rattle.cofactor_rows.specs.Band.{snoc, Stage, stage-start, stage-in-both, stage-in-first, stage-in-second, stage-in-none}
+use Rattle.cofactor_rows.specs.Band.{stage-add, stage-swap, stage-done, stage-end, Row, row-first, row-second, row-add, row-combines}
 
 -- what holds of l rows and of one more holds of l + 1
 snoc-all : {A B C : Type 0} (P : A → B → C → Type 0) (l : ℕ) (a : ℕ → A) (b : ℕ → B) (c : ℕ → C) (x : A) (y : B) (z : C)
@@ -49,12 +47,6 @@ module _ {R : Type 0} (𝓡 : CRing R) where
   pub record Swapped (i k : ℕ) (T T′ : ℕ → ℕ → R) : Type 0 where
     pub first : (c : ℕ) → T′ i c ≡ T k c
     pub second : (c : ℕ) → T′ k c ≡ T i c
-    pub old : (r c : ℕ) → r ≢ i → r ≢ k → T′ r c ≡ T r c
-
-  -- row i becomes row k, and row k becomes row i plus y times row k
-  pub record Turned (i k : ℕ) (y : R) (T T′ : ℕ → ℕ → R) : Type 0 where
-    pub first : (c : ℕ) → T′ i c ≡ T k c
-    pub second : (c : ℕ) → T′ k c ≡ y * T k c + T i c
     pub old : (r c : ℕ) → r ≢ i → r ≢ k → T′ r c ≡ T r c
 
   module _ (d e : ℕ) (f g : ℕ → R) where
@@ -157,31 +149,6 @@ module _ {R : Type 0} (𝓡 : CRing R) where
             (same-row (w .second) (u .second) (v .second) (t .row i hi))
         go r h (no a) (no b) = same-row (λ c. w .old r c a b) (λ c. u .old r c a b) (λ c. v .old r c a b) (t .row r h)
 
-    pub live-turn : {s l p q : ℕ} {x : R} {W X Y W′ X′ Y′ : ℕ → ℕ → R} (i k : ℕ) (y : R) → i < l → k < l → i ≢ k → Turned i k y W W′
-        → Turned i k y X X′ → Turned i k y Y Y′ → Live s l p q x W X Y → Live s l p q (- x) W′ X′ Y′
-    live-turn {s} {l} {p} {q} {x} {W} {X} {Y} {W′} {X′} {Y′} i k y hi hk z w u v t = record {
-      stage = stage-turn 𝓡 d e f g W W′ i k y hi hk z (λ c b. w .first c) (λ c b. w .second c) (λ r c a b h h′. w .old r c h h′) (t .stage);
-      row = λ r h. go r h (ℕ-discrete r i) (ℕ-discrete r k);
-    }
-      where
-        go : (r : ℕ) → r < l → Dec (r ≡ i) → Dec (r ≡ k) → Row 𝓡 d e f g (l +ℕ p +ℕ q) (W′ r) (X′ r) (Y′ r)
-        go r h (yes a) b = subst (λ (j : ℕ). Row 𝓡 d e f g (l +ℕ p +ℕ q) (W′ j) (X′ j) (Y′ j)) (sym a)
-            (same-row (w .first) (u .first) (v .first) (t .row k hk))
-        go r h (no a) (yes b) = subst (λ (j : ℕ). Row 𝓡 d e f g (l +ℕ p +ℕ q) (W′ j) (X′ j) (Y′ j)) (sym b)
-            (same-row (w .second) (u .second) (v .second) (row-add 𝓡 d e f g y (t .row k hk) (t .row i hi)))
-        go r h (no a) (no b) = same-row (λ c. w .old r c a b) (λ c. u .old r c a b) (λ c. v .old r c a b) (t .row r h)
-
-    pub live-done : {l p q : ℕ} {x : R} {W X Y : ℕ → ℕ → R} → ((i : ℕ) → i < l → W (suc i) 0 ≡ 𝟘) → Live 1 (suc l) p q x W X Y
-        → Live 0 l p q (x * W 0 0) (λ i c. W (suc i) (suc c)) (λ i. X (suc i)) (λ i. Y (suc i))
-    live-done {l} {p} {q} {x} {W} {X} {Y} z t = record {
-      stage = stage-done 𝓡 d e f g W z (t .stage);
-      row = λ i h. row-next 𝓡 d e f g (subst (λ (k : ℕ). Row 𝓡 d e f g k (W (suc i)) (X (suc i)) (Y (suc i))) same (t .row (suc i) (omega arith)))
-          (z i h);
-    }
-      where
-        same : suc l +ℕ p +ℕ q ≡ suc (l +ℕ p +ℕ q)
-        same = omega arith
-
     -- the last column
     pub live-value : {x : R} {W X Y : ℕ → ℕ → R} → Live 1 1 0 0 x W X Y → Rs 𝓡 d e f g ≡ x * W 0 0
     live-value t = stage-end 𝓡 d e f g (stage-done 𝓡 d e f g _ (λ i l. absurd (omega arith)) (t .stage))
@@ -189,6 +156,3 @@ module _ {R : Type 0} (𝓡 : CRing R) where
     pub live-combines : {x : R} {W X Y : ℕ → ℕ → R} → Live 1 1 0 0 x W X Y
         → (k : ℕ) → conv 𝓡 (λ k. x * X 0 k) f k + conv 𝓡 (λ k. x * Y 0 k) g k ≡ const 𝓡 (Rs 𝓡 d e f g) k
     live-combines {x} t = row-combines 𝓡 d e f g x (t .row 0 (omega arith)) (live-value t)
-
-    pub live-last : {x : R} {W X Y : ℕ → ℕ → R} → Live 1 1 0 0 x W X Y → Cofactors 𝓡 d e f g (Rs 𝓡 d e f g)
-    live-last {x} {W} {X} {Y} t = row-answer 𝓡 d e f g x (t .row 0 (omega arith)) (live-value t)

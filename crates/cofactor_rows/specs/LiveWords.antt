@@ -28,7 +28,8 @@ module _ (m : ℕ) where
     pub rows : Live (Res-ring m) (deg f) (deg g) (words m f) (words m g) s l p q (toRes m x)
         (λ i c. toRes m (W i c)) (λ i c. toRes m (X i c)) (λ i c. toRes m (Y i c))
 
-  pub words-value : (f g : List ℕ) (x : ℕ) (W X Y : ℕ → ℕ → ℕ) → LiveWords f g 1 1 0 0 x W X Y → resultant (suc m) f g ≡ (x *ℕ W 0 0) % suc m
+  pub words-value : (f g : List ℕ) (x : ℕ) (W X Y : ℕ → ℕ → ℕ) → LiveWords f g 1 1 0 0 x W X Y
+      → resultant (suc m) f g ≡ (x *ℕ W 0 0) % suc m
   words-value f g x W X Y t =
       resultant-is m f g ∙ ap (λ (z : Res m). z .0) (live-value (Res-ring m) (deg f) (deg g) (words m f) (words m g) (t .rows))
       ∙ sym (mul-mod x (W 0 0) (suc m))

@@ -82,9 +82,11 @@ module _ (m : ℕ) where
   signed-res k x l =
       Fin·val-path (signed-is m k (toRes m x) ∙ ap (signed (suc m) k) (mod-eq-of-lt l) ∙ sym (mod-eq-of-lt (signed-below k x l)))
 
-  signed-product : (k x y : ℕ) → sgn (Res-ring m) k (Res-ring m .mul (toRes m x) (toRes m y)) ≡ toRes m (signed (suc m) k ((x *ℕ y) % suc m))
+  signed-product : (k x y : ℕ)
+      → sgn (Res-ring m) k (Res-ring m .mul (toRes m x) (toRes m y)) ≡ toRes m (signed (suc m) k ((x *ℕ y) % suc m))
   signed-product k x y =
-      ap (sgn (Res-ring m) k) (sym (reduce-hom m .h-mul (pos x) (pos y)) ∙ Fin·val-path (sym (mod-eq-of-lt (mod-lt (x *ℕ y) (zero-lt-suc m)))))
+      ap (sgn (Res-ring m) k) (sym (reduce-hom m .h-mul (pos x) (pos y))
+      ∙ Fin·val-path (sym (mod-eq-of-lt (mod-lt (x *ℕ y) (zero-lt-suc m)))))
       ∙ signed-res k ((x *ℕ y) % suc m) (mod-lt _ (zero-lt-suc m))
 
   negated : (x : ℕ) → x < suc m → Res-ring m .neg (toRes m x) ≡ toRes m ((suc m -ℕ x) % suc m)
@@ -123,7 +125,8 @@ module _ (m : ℕ) where
         → AddedWords i k y X X′ → AddedWords i k y Y Y′ → LiveWords m f g s l p q x W X Y → LiveWords m f g s l p q x W′ X′ Y′
     words-add i k y hi hk z w u v t =
         record {
-          rows = live-add (Res-ring m) (deg f) (deg g) (words m f) (words m g) i k (toRes m y) hi hk z (added w) (added u) (added v) (t .rows);
+          rows = live-add (Res-ring m) (deg f) (deg g) (words m f) (words m g) i k (toRes m y) hi hk z
+              (added w) (added u) (added v) (t .rows);
         }
 
     kept : {l : ℕ} {W W′ : ℕ → ℕ → ℕ} → ((i c : ℕ) → i < l → W′ i c ≡ W i c) → (i c : ℕ) → i < l → toRes m (W′ i c) ≡ toRes m (W i c)

@@ -46,7 +46,6 @@ module _ (n : ℕ) (f g : List ℕ) (lu lv l : ℕ) (s : ℕ) (e : s ≡ first-r
         (subst (λ (i : ℕ). t ≡ first-refusal (later i (deg g))) (deg-is f)
         (subst (λ (i : ℕ). t ≡ first-refusal (later (length f - 1) i)) (deg-is g) h))
 
-
     pub both-constant : length f - 1 + (length g - 1) < 1 → 9 ≡ cofactor-status narrow n f g lu lv l
     unfolding later
     both-constant h = found 9 (too-short 8 (length f - 1 + (length g - 1)) 1
@@ -139,7 +138,7 @@ module _ (n : ℕ) (f g u v work : List ℕ) (s : ℕ) (e : s ≡ cofactor-statu
           let lu = length-take-le m u (omega (arith, first-fits)) in
           let lv = length-take-le k v (omega (arith, second-fits)) in
           let total : 1 ≤ length f - 1 + (length g - 1) =
-              subst (λ (i : ℕ). 1 ≤ i) (sym (ap₂ _+_ (deg-is f) (deg-is g))) (p .1 .1 .1 .1 .1 .0) in
+          subst (λ (i : ℕ). 1 ≤ i) (sym (ap₂ _+_ (deg-is f) (deg-is g))) (p .1 .1 .1 .1 .1 .0) in
           record {
             modulus = p .0 .least;
             some-f = p .1 .0 .some;
@@ -159,9 +158,9 @@ module _ (n : ℕ) (f g u v work : List ℕ) (s : ℕ) (e : s ≡ cofactor-statu
           → CofactorAnswer narrow n f g u (x ++ postOf 0 m u) v (y ++ postOf 0 k v) work work' value status
       done {x} {y} {work'} {r} lx ly c ew value status i =
           let p = held n m (deg g) u x (em ∙ deg-is g) (passed .1 .1 .1 .1 .1 .1 .0)
-              (lx ∙ length-take-le m u (omega (arith, first-fits)) ∙ em ∙ deg-is g) (c .first) in
+          (lx ∙ length-take-le m u (omega (arith, first-fits)) ∙ em ∙ deg-is g) (c .first) in
           let q = held n k (deg f) v y (ek ∙ deg-is f) (passed .1 .1 .1 .1 .1 .1 .1 .0)
-              (ly ∙ length-take-le k v (omega (arith, second-fits)) ∙ ek ∙ deg-is f) (c .second) in
+          (ly ∙ length-take-le k v (omega (arith, second-fits)) ∙ ek ∙ deg-is f) (c .second) in
           record {
             status-is = i .1 ∙ sym z ∙ e;
             value-is = answered-value status (resultant n f g) value (i .1) (i .0 ∙ c .value);

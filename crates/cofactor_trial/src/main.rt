@@ -1,8 +1,8 @@
 // A trial of the cofactors of the resultant on all pairs of degrees 0 to 2 over five small moduli. The expected output is made by
 // tools/cofactor_figures.py, which knows the resultants by formulas. The cofactors are multiplied out.
 //
-// A line for each modulus and pair of degrees: n, d, e, how many pairs there are, 1 where some went wrong and else 0, and a number made of all
-// values in turn. Where there are more than 300,000 pairs, only those are tried whose g has the constant 0 or 1.
+// A line for each modulus and pair of degrees: n, d, e, how many pairs there are, 1 where some went wrong and else 0, and a number made
+// of all values in turn. Where there are more than 300,000 pairs, only those are tried whose g has the constant 0 or 1.
 ghost use Prim.Native.Nat.{_≤_};
 
 // What stands in the lent words before a call.
@@ -98,13 +98,22 @@ fn call(n: u32, f: &[u32], g: &[u32], d: usize, e: usize, work: &mut [u32]) -> T
     let a: refusals::Answer = cofactor_service::resultant_cofactors(n, f, g, &mut u, &mut v, work);
     let value = a.value;
     if a.status != 0 {
-        return Tried { right: false, value };
+        return Tried {
+            right: false,
+            value,
+        };
     }
     if !all_are(&u, e, MARK) {
-        return Tried { right: false, value };
+        return Tried {
+            right: false,
+            value,
+        };
     }
     if !all_are(&v, d, MARK) {
-        return Tried { right: false, value };
+        return Tried {
+            right: false,
+            value,
+        };
     }
     Tried {
         right: combines(n, f, g, &u, &v, d, e, value),
@@ -117,7 +126,11 @@ fn pair(n: u32, d: usize, e: usize, i: u32, work: &mut [u32]) -> Tried
     requires { ⌜ (1 ≤ n) × ((d ≤ 2) × (e ≤ 2)) ⌝ }
 {
     let f = [digit(i, n, 0), digit(i, n, 1), digit(i, n, 2)];
-    let g = [digit(i, n, d + e + 1), digit(i, n, d + 1), digit(i, n, d + 2)];
+    let g = [
+        digit(i, n, d + e + 1),
+        digit(i, n, d + 1),
+        digit(i, n, d + 2),
+    ];
     call(n, &f[0..d + 1], &g[0..e + 1], d, e, work)
 }
 

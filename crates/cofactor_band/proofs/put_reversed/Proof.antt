@@ -8,8 +8,6 @@ use Rattle.windows.proofs.Leaf.{written-none, written-step}
 use Rattle.cofactor_band.specs.Bands.{from-top}
 use Rattle.cofactor_band.proofs.put_reversed.Statement.{statement}
 use Rattle.cofactor_band.proofs.put_reversed.Tie as tie
-use Rattle.cofactor_band.proofs.put_reversed.Reads as reads
-use Rattle.cofactor_band.proofs.put_reversed.Lts as lts
 
 abbrev Inv-loop : tie.InvT-loop
 Inv-loop w₀ at h j₀ w j = (j ≤ length h) × Written (from-top h) at j w₀ w
@@ -17,55 +15,12 @@ Inv-loop w₀ at h j₀ w j = (j ≤ length h) × Written (from-top h) at j w₀
 abbrev μ-loop : tie.MeasureT-loop
 μ-loop w₀ at h j₀ w j = length h - j
 
--- src/lib.rt:132:5
 loop-holds : tie.Need-loop-holds Inv-loop μ-loop
 loop-holds c = (omega arith, written-none _ _ _)
 
--- src/lib.rt:133:23
-sub-w : tie.Need-sub-w Inv-loop μ-loop
-sub-w c = search needs
-
--- src/lib.rt:133:23
-sub-w-2 : tie.Need-sub-w-2 Inv-loop μ-loop
-sub-w-2 c = search needs
-
--- src/lib.rt:133:21
-mul-w : tie.Need-mul-w Inv-loop μ-loop
-mul-w c = search needs
-
--- src/lib.rt:133:21
-shared-slice-read-w : tie.Need-shared-slice-read-w Inv-loop μ-loop
-shared-slice-read-w c = search needs
-
--- src/lib.rt:133:11
-add-w : tie.Need-add-w Inv-loop μ-loop
-add-w c = search needs
-
--- src/lib.rt:133:9
-mul-w-2 : tie.Need-mul-w-2 Inv-loop μ-loop
-mul-w-2 c = search needs
-
--- src/lib.rt:133:9
-slice-write-w : tie.Need-slice-write-w Inv-loop μ-loop
-slice-write-w c = search needs
-
--- src/lib.rt:134:9
-add-j : tie.Need-add-j Inv-loop μ-loop
-add-j c = search needs
-
--- src/lib.rt:132:5
-loop-less : tie.Need-loop-less Inv-loop μ-loop
-loop-less c = search needs
-
--- src/lib.rt:132:5
 loop-again : tie.Need-loop-again Inv-loop μ-loop
 loop-again c = (omega arith, written-step (c .before .before .loop .inv .1) (omega arith) refl)
 
--- src/lib.rt:127:1
-same-length : tie.Need-same-length Inv-loop μ-loop
-same-length c = search needs
-
--- src/lib.rt:127:1
 returns : tie.Need-returns Inv-loop μ-loop
 returns c = let e : c .before .loop .j ≡ length (c .before .before .args .h .now) = omega arith in rw e at (c .before .loop .inv .1)
 
@@ -76,15 +31,15 @@ put-reversed-spec =
     Inv-loop
     μ-loop
     loop-holds
-    sub-w
-    sub-w-2
-    mul-w
-    shared-slice-read-w
-    add-w
-    mul-w-2
-    slice-write-w
-    add-j
-    loop-less
+    (λ c. search needs)
+    (λ c. search needs)
+    (λ c. search needs)
+    (λ c. search needs)
+    (λ c. search needs)
+    (λ c. search needs)
+    (λ c. search needs)
+    (λ c. search needs)
+    (λ c. search needs)
     loop-again
-    same-length
+    (λ c. search needs)
     returns)
