@@ -11,16 +11,16 @@ use native.Mathlib.Nat.{mod-lt, mod-mod, add-zero, zero-add, eq-or-lt-of-le, pow
 use lib.ListN.{length, getD, set, length-set}
 use lib.Seq.{getD-set-same, getD-set-other}
 use Rattle.definitions.specs.Polynomials.{coef, deg, convolve, constant}
-use Rattle.definitions.specs.Resultants.{resultant, Combination}
-use Rattle.numbers.specs.Congruence.{Cong, c-refl, c-sym, c-trans, c-eq, c-mul, c-mod}
+use Rattle.definitions.specs.Resultants.{resultant}
+use Rattle.numbers.specs.Congruence.{Cong, c-refl, c-trans, c-eq, c-mul, c-mod}
 use Rattle.theory.specs.ReachedSteps.{coef-beyond, convolve-constant}
 use Rattle.theory.specs.ResultantLaws.{resultant-cong, resultant-const-first}
-use Rattle.windows.specs.Window.{piece, Moved, zeroed, Loaded, Below, Apart}
+use Rattle.windows.specs.Window.{piece, Moved, zeroed, Loaded}
 use Rattle.windows.proofs.Leaf.{lt-or-le, piece-at, piece-over, piece-length}
 use Rattle.resultant_turns.specs.Degrees.{deg-of}
 use Rattle.resultant_turns.specs.RunLaws.{Run, run-start}
 use Rattle.cofactor_euclid.specs.Combinations.{Row}
-use Rattle.cofactor_euclid.specs.Rows.{first, second, rest, left, Standing, Placed, Combined, Led, Asked, Started, Multipliers}
+use Rattle.cofactor_euclid.specs.Rows.{first, second, rest, left, Placed, Led, Asked, Started, Multipliers}
 use Rattle.cofactor_euclid.specs.declared.State.{State}
 
 module _ (n : ℕ) (f g w w₁ w₂ w₃ : List ℕ) (k : Asked n f g w) (mv : Moved zeroed 0 0 (length g + length g + length g + (length g + length g + length g)) w w₁)
@@ -244,7 +244,7 @@ constant-first (suc m) pos f g h = resultant-const-first m f g h
 
 pub finished : (n : ℕ) (f g w v : List ℕ) (y : State) (w₀ : List ℕ) → Asked n f g w₀ → Started n f g w₀ w
     → Led n (length g) (length f) 0 (length f - 1) (length g + length g + length g) (length g - 1) 1 1 1 w (y .a) (y .d) (y .b) (y .e) (y .s) (y .p)
-        (y .t) v
+    (y .t) v
     → y .d ≡ 0 → Multipliers n f g y v
 finished n f g w v y w₀ k st led z = record {
   inside = led .placed .row-a .inside;
@@ -298,7 +298,7 @@ placed-modulus {n} {N} {h} {z} {a} {d} {b} {e} {w} q pl = subst (λ (x : ℕ). P
 
 pub finished-modulus : (n N : ℕ) (f g w v : List ℕ) (y : State) (w₀ : List ℕ) → N ≡ n → Asked n f g w₀ → Started n f g w₀ w
     → Led N (length g) (length f) 0 (length f - 1) (length g + length g + length g) (length g - 1) 1 1 1 w (y .a) (y .d) (y .b) (y .e) (y .s) (y .p)
-        (y .t) v
+    (y .t) v
     → y .d ≡ 0 → Multipliers n f g y v
 finished-modulus n N f g w v y w₀ q k st led z = finished n f g w v y w₀ k st
     (subst (λ (x : ℕ). Led x (length g) (length f) 0 (length f - 1) (length g + length g + length g) (length g - 1) 1 1 1 w (y .a) (y .d) (y .b) (y .e)

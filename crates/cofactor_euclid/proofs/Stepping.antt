@@ -12,7 +12,7 @@ use mathlib.Core.List.{List}
 use mathlib.Core.Logic.{⊎-elim}
 use Prim.Native.Nat.{ℕ, zero, suc, _+_, _-_, _*_, _%_, _^_, _≤_, _<_}
 use native.Mathlib.Omega.{arith}
-use native.Mathlib.Nat.{mod-lt, mod-mod, mod-eq-of-lt, mul-mod-right, zero-mod, add-zero, zero-add, mul-zero, add-assoc, eq-or-lt-of-le}
+use native.Mathlib.Nat.{mod-lt, mod-mod, mul-mod-right, zero-mod, add-zero, mul-zero, add-assoc, eq-or-lt-of-le}
 use lib.ListN.{length, getD}
 use Rattle.definitions.specs.Polynomials.{coef, convolve}
 use Rattle.definitions.specs.Resultants.{resultant}
@@ -25,7 +25,7 @@ use Rattle.window_combining.specs.Combined.{combination}
 use Rattle.resultant_turns.specs.RunLaws.{run-turn, run-step, run-drop}
 use Rattle.resultant_turns.specs.TurnLaws.{Turned, turn-law-at, last-law-at, pair-law-at, zero-law-at}
 use Rattle.cofactor_euclid.specs.Combinations.{Row, Mixture, row-mixed, row-same, two, convolve-two}
-use Rattle.cofactor_euclid.specs.Rows.{turned, paired, RowsAsked, RowsWritten, first, second, rest, left, Standing, Placed, Combined, Led}
+use Rattle.cofactor_euclid.specs.Rows.{turned, paired, RowsAsked, RowsWritten, first, second, rest, left, Standing, Placed, Led}
 
 -- ---- rows that are kept
 

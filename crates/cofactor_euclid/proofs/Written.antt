@@ -14,7 +14,7 @@ use native.Mathlib.Omega.{arith}
 use native.Mathlib.Nat.{mul-zero, add-zero}
 use lib.ListN.{length, getD}
 use Rattle.windows.specs.Window.{Moved, mulBy, Written, Around, Apart, Below, behind}
-use Rattle.windows.proofs.Leaf.{lt-or-le, apart-at, around-at}
+use Rattle.windows.proofs.Leaf.{lt-or-le, apart-at}
 use Rattle.window_division.proofs.Turns.{risen, risen-at, risen-low}
 use Rattle.window_combining.specs.Combined.{combination}
 use Rattle.cofactor_euclid.specs.Rows.{turned, paired, RowsAsked, RowsWritten}
@@ -59,11 +59,13 @@ pub scaled-asked : (n l src dst i len : ℕ) (w w₁ : List ℕ) → ((src + len
     → ((src + len ≤ length w₁) × (dst + i + len ≤ length w₁)) × ((Apart src len (dst + i) len) × (Below n src len w₁))
 scaled-asked n l src dst i len w w₁ k mv = (
   (omega (arith, k .0 .0, mv .same), omega (arith, k .0 .1, mv .same)),
-  (record { ok = λ x y hx hy e. k .1 .0 .ok x (i + y) hx (omega arith) (omega arith) },
-      record {
-        at = λ x g. subst (λ (v : ℕ). v < n) (sym (apart-at {w = w} {w' = w₁} (k .1 .0)
-            (record { same = mv .same; low = mv .low; high = λ j h. mv .high j (omega arith) }) x g)) (k .1 .1 .at x g);
-      }),
+  (
+    record { ok = λ x y hx hy e. k .1 .0 .ok x (i + y) hx (omega arith) (omega arith) },
+    record {
+      at = λ x g. subst (λ (v : ℕ). v < n) (sym (apart-at {w = w} {w' = w₁} (k .1 .0)
+          (record { same = mv .same; low = mv .low; high = λ j h. mv .high j (omega arith) }) x g)) (k .1 .1 .at x g);
+    },
+  ),
 )
 
 -- ---- words made of words that are kept
@@ -102,8 +104,10 @@ pub asked-window : (n h a b : ℕ) (w : List ℕ) → RowsAsked n h a b w → (p
     → y + m ≤ h + h + h → ((p + l ≤ length w) × (r + m ≤ length w)) × ((Apart p l r m) × (Below n p l w))
 asked-window n h a b w k p r x y l m hp hr lx ly = (
   (omega (arith, k .inside-a), omega (arith, k .inside-b)),
-  (record { ok = λ i j hi hj e. k .apart .ok (x + i) (y + j) (omega arith) (omega arith) (omega arith) },
-      record { at = λ i g. subst (λ (v : ℕ). getD w v 0 < n) (place i) (k .below .at (x + i) (omega arith)) }),
+  (
+    record { ok = λ i j hi hj e. k .apart .ok (x + i) (y + j) (omega arith) (omega arith) (omega arith) },
+    record { at = λ i g. subst (λ (v : ℕ). getD w v 0 < n) (place i) (k .below .at (x + i) (omega arith)) },
+  ),
 )
   where
     place : (i : ℕ) → a + (x + i) ≡ p + i

@@ -1,6 +1,7 @@
 -- Combinations of two polynomials, and what becomes of them when a multiple of one is taken from another.
 --
---   combined             the law over any ring: u f + v g = r and u′ f + v′ g = r′ give the same of l times the second and q times the first
+--   combined             the law over any ring: from u f + v g = r and u′ f + v′ g = r′, the same of l times the second and q times
+--                        the first
 --   Row n f g u v r      u f + v g = r modulo n
 --   Mixture n l q x y z  z = l y + q x modulo n
 --   row-mixed            mixtures of two rows with the same l and q are a row
@@ -50,13 +51,15 @@ module _ (m : ℕ) where
   residues x k = toRes m (x k)
 
   row-is : (f g : List ℕ) (u v r : ℕ → ℕ) → Row (suc m) f g u v r
-      → (λ (k : ℕ). Res-ring m .add (conv (Res-ring m) (residues u) (words m f) k) (conv (Res-ring m) (residues v) (words m g) k)) ≡ residues r
+      → (λ (k : ℕ). Res-ring m .add (conv (Res-ring m) (residues u) (words m f) k) (conv (Res-ring m) (residues v) (words m g) k))
+      ≡ residues r
   row-is f g u v r h = fun-ext (λ k.
       sym (ap₂ (Res-ring m .add) (convolve-is m u (coef f) k) (convolve-is m v (coef g) k))
       ∙ sym (reduce-hom m .h-add (pos (convolve u (coef f) k)) (pos (convolve v (coef g) k))) ∙ Fin·val-path (h .at k))
 
   is-row : (f g : List ℕ) (u v r : ℕ → ℕ)
-      → (λ (k : ℕ). Res-ring m .add (conv (Res-ring m) (residues u) (words m f) k) (conv (Res-ring m) (residues v) (words m g) k)) ≡ residues r
+      → (λ (k : ℕ). Res-ring m .add (conv (Res-ring m) (residues u) (words m f) k) (conv (Res-ring m) (residues v) (words m g) k))
+      ≡ residues r
       → Row (suc m) f g u v r
   is-row f g u v r h = record {
     at = λ k. ap (λ (x : Res m). x .0)
@@ -66,7 +69,7 @@ module _ (m : ℕ) where
 
   mixture-is : (l : ℕ) (q x y z : ℕ → ℕ) → Mixture (suc m) l q x y z
       → residues z ≡ (λ (k : ℕ). Res-ring m .add (conv (Res-ring m) (const (Res-ring m) (toRes m l)) (residues y) k)
-          (conv (Res-ring m) (residues q) (residues x) k))
+      (conv (Res-ring m) (residues q) (residues x) k))
   mixture-is l q x y z h = fun-ext (λ k.
       Fin·val-path (h .at k) ∙ reduce-hom m .h-add (pos (l *ℕ y k)) (pos (convolve q x k))
       ∙ ap₂ (Res-ring m .add) (reduce-hom m .h-mul (pos l) (pos (y k)) ∙ sym (conv-const (Res-ring m) (toRes m l) (residues y) k))

@@ -17,7 +17,7 @@ use Prim.Native.Nat.{ℕ, _+_, _-_, _*_, _%_, _^_, _<_, _≤_}
 use lib.ListN.{length, getD}
 use Rattle.definitions.specs.Polynomials.{coef, deg}
 use Rattle.definitions.specs.Resultants.{resultant, Combination}
-use Rattle.windows.specs.Window.{piece, Around, Apart, Below, behind}
+use Rattle.windows.specs.Window.{piece, Around, Apart, Below}
 use Rattle.window_division.proofs.Turns.{risen}
 use Rattle.window_combining.specs.Combined.{combination}
 use Rattle.resultant_turns.specs.RunLaws.{Run}

@@ -11,7 +11,7 @@
 //   start                    the rows of f and of g
 //   multipliers              the whole run
 ghost use mathlib.Core.Path.{_≡_};
-ghost use Prim.Native.Nat.{ℕ, _+_, _-_, _*_, _%_, _<_, _≤_};
+ghost use Prim.Native.Nat.{_+_, _-_, _*_, _%_, _<_, _≤_};
 ghost use lib.ListN.{length};
 ghost use Rattle.theory.specs.ResultantLaws.{signed};
 ghost use Rattle.windows.specs.Window.{Written, Apart, Below, Scratch};
@@ -33,7 +33,16 @@ pub struct State {
 }
 
 // w[dst + k] = l * w[dst + k] + c * w[src + k - i], for k < i + len; below i there is nothing to add.
-fn turn_window(w: &mut [u32], m: Modulus, l: u32, c: u32, src: usize, dst: usize, i: usize, len: usize)
+fn turn_window(
+    w: &mut [u32],
+    m: Modulus,
+    l: u32,
+    c: u32,
+    src: usize,
+    dst: usize,
+    i: usize,
+    len: usize,
+)
     requires { ⌜ Ready m ⌝ }
     requires { ⌜ (src + len ≤ length (now w)) × (dst + (i + len) ≤ length (now w)) ⌝ }
     requires { ⌜ (Apart src len dst (i + len)) × (Below (m .n) src len (now w)) ⌝ }
@@ -44,7 +53,17 @@ fn turn_window(w: &mut [u32], m: Modulus, l: u32, c: u32, src: usize, dst: usize
 }
 
 // The same in the three windows of a row: d words of the remainder from place i on, and all of the multipliers.
-fn turn_rows(w: &mut [u32], m: Modulus, l: u32, c: u32, a: usize, b: usize, h: usize, i: usize, d: usize)
+fn turn_rows(
+    w: &mut [u32],
+    m: Modulus,
+    l: u32,
+    c: u32,
+    a: usize,
+    b: usize,
+    h: usize,
+    i: usize,
+    d: usize,
+)
     requires { ⌜ Ready m ⌝ }
     requires { ⌜ (RowsAsked (m .n) h a b (now w)) × (i + d ≤ h) ⌝ }
     ensures { λ _. ⌜ RowsWritten (turned (m .n) l c i (now (w .entry))) h (i + d) h h a b (now (w .entry)) (now (w .exit)) ⌝ }
@@ -56,7 +75,18 @@ fn turn_rows(w: &mut [u32], m: Modulus, l: u32, c: u32, a: usize, b: usize, h: u
 
 // The words at b times l, with c times those at a one place higher, and q times those at a: d words of the remainder, and those words
 // of the multipliers that there are.
-fn pair_rows(w: &mut [u32], m: Modulus, l: u32, c: u32, q: u32, a: usize, b: usize, h: usize, z: usize, d: usize)
+fn pair_rows(
+    w: &mut [u32],
+    m: Modulus,
+    l: u32,
+    c: u32,
+    q: u32,
+    a: usize,
+    b: usize,
+    h: usize,
+    z: usize,
+    d: usize,
+)
     requires { ⌜ Ready m ⌝ }
     requires { ⌜ (RowsAsked (m .n) h a b (now w)) × ((d ≤ z) × (z ≤ h)) ⌝ }
     ensures { λ _. ⌜ RowsWritten (paired (m .n) l c q (now (w .entry))) h d (h - d) (z - d) a b (now (w .entry)) (now (w .exit)) ⌝ }

@@ -1,35 +1,34 @@
 -- The quick attempt: the words put, and D = 1 from a constant that is a unit.
 --
 --   Putting, putting-start, putting-step, putting-end    the loop that writes a cofactor
---   ordered-asked       what Euclid without inverses asks
 --   certified-quick     multipliers of a unit, times its inverse, are cofactors of D = 1
 --   tried-flip          f and g exchanged
 --   tried-true, tried-false, attempted-from    what each answer says
 --   quick-asked, quick-swapped    what the quick attempt asks, from what an attempt asks; f and g exchanged
-use mathlib.Core.Path.{_≡_, refl, sym, ap, ap₂, subst, _∙_, fun-ext}
+use mathlib.Core.Path.{_≡_, refl, sym, ap, subst, _∙_}
 use mathlib.Core.List.{List}
 use mathlib.Core.Logic.{⊎-elim}
 use mathlib.Core.Bool.{Bool, true, false}
-use Prim.Native.Nat.{ℕ, zero, suc, max, _+_, _-_, _*_, _%_, _≤_, _<_, _∣_}
+use Prim.Native.Nat.{ℕ, zero, suc, max, _+_, _-_, _*_, _%_, _≤_, _<_}
 use native.Mathlib.Omega.{arith}
-use native.Mathlib.Nat.{mod-lt, mul-zero, mul-one, zero-mod, one-dvd, mul-le-mul}
+use native.Mathlib.Nat.{mod-lt, mul-zero, zero-mod, one-dvd, mul-le-mul}
 use lib.ListN.{length, getD, set, replicate, length-set, length-replicate}
 use lib.Seq.{getD-set-same, getD-set-other}
 use Rattle.definitions.specs.Residues.{K}
 use Rattle.definitions.specs.Polynomials.{coef, convolve, constant, L}
-use Rattle.definitions.specs.Resultants.{Reached, Reduced, Combination}
+use Rattle.definitions.specs.Resultants.{Combination}
 use Rattle.numbers.specs.Congruence.{Cong, c-refl, c-trans, c-eq, c-add, c-mul, c-mod}
 use Rattle.numbers.specs.Logarithm.{K-positive}
 use Rattle.theory.specs.ReachedLaws.{reduced-from}
 use Rattle.theory.specs.ReachedSteps.{convolve-mod, convolve-scale-left, constant-scale}
 use Rattle.windows.specs.Window.{piece, Scratch}
-use Rattle.windows.proofs.Leaf.{lt-or-le, piece-at, piece-over, piece-length}
-use Rattle.cofactor_euclid.specs.Rows.{Asked, Multipliers}
+use Rattle.windows.proofs.Leaf.{lt-or-le, piece-at, piece-over}
+use Rattle.cofactor_euclid.specs.Rows.{Multipliers}
 use Rattle.cofactor_euclid.specs.declared.State.{State}
 use Rattle.residue.specs.declared.Attempt.{Attempt}
 use Rattle.reduced_cofactors.specs.Cofactors.{Certified}
 use Rattle.reduced_quotients.proofs.Divisions.{zeros-at}
-use Rattle.reduced_attempt.specs.Attempts.{AttemptAsked, Attempted, attempt-room}
+use Rattle.reduced_attempt.specs.Attempts.{AttemptAsked, Attempted}
 use Rattle.reduced_attempt.proofs.Whole.{certified-flip}
 use Rattle.reduced_quick.specs.Quick.{Put, QuickAsked, Tried}
 
@@ -79,14 +78,6 @@ putting-end n c at j len w x u₀ u h e p = record {
 
 max-right : (a b : ℕ) → a ≤ b → max (a - 1) (b - 1) ≡ b - 1
 max-right a b l = omega arith
-
-pub ordered-asked : {n : ℕ} {f g u v w : List ℕ} → QuickAsked n f g u v w → length f ≤ length g → Asked n f g w
-ordered-asked {n} {f} {g} k l = record {
-  modulus = k .modulus;
-  some = k .some-f;
-  order = l;
-  room = omega (arith, k .room, k .some-g, max-right (length f) (length g) l);
-}
 
 -- a row of words fits where L do
 pub long : (n a b : ℕ) → 2 ≤ n → 1 ≤ b → a ≤ b → b ≤ L n (a - 1) (b - 1)

@@ -6,7 +6,6 @@
 //   ordered    the quick attempt where f is not the longer of the two
 //   quick      the quick attempt
 //   attempt    both attempts, the quick one first
-ghost use mathlib.Core.Path.{_≡_};
 ghost use Prim.Native.Nat.{_+_, _≤_};
 ghost use lib.ListN.{length};
 ghost use Rattle.windows.specs.Window.{Scratch};

@@ -22,10 +22,10 @@ ghost use Rattle.reduction.specs.Moduli.{Ready};
 ghost use Rattle.resultant_pseudo.specs.Standing.{Placed, PlacedState, LedTo, Stepped, Finished, Descended, TriedAnswer, Answers};
 use reduction::Modulus;
 
-// "if every lead was a unit, one inverse and the value"; otherwise the general attempt has to try.
+// "if every lead was a unit, one inverse and the value"; otherwise a product of leading words that is no unit.
 pub enum Tried {
     Value(u32),
-    NotUnit,
+    NotUnit(u32),
 }
 
 // f of degree d at a, g of degree e at b. p is the product of the powers of leading words taken so far, s that of the p's at each degree,
@@ -223,7 +223,7 @@ fn value_of(w: &[u32], m: Modulus, y: State) -> Tried
     let n = m.n;
     let i = bezout::cofactor(n, y.s);
     if i.g != 1 {
-        return Tried::NotUnit;
+        return Tried::NotUnit(y.s);
     }
     let k = y.a;
     let c = arithmetic::power(n, w[k], y.e);
@@ -255,7 +255,7 @@ pub fn attempt(w: &mut [u32], n: u32, a: usize, d: usize, b: usize, e: usize) ->
     );
     if 16 <= x.d {
         if bezout::gcd(n, x.s) != 1 {
-            return Tried::NotUnit;
+            return Tried::NotUnit(x.s);
         }
     }
     let y = finish(w, m, x);

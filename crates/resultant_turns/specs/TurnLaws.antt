@@ -5,13 +5,21 @@
 --   last-law    a turn at e = d: l^d Res(f, g) is l Res(r, f)
 --   pair-law    two turns at e = d + 1: x^d Res(f, g) is x Res(r, f), x = l^2
 --   zero-law    a zero leading word: y Res(f', g), y the leading word of g with the sign (-1)^e
+--   turn-law-at, last-law-at, pair-law-at, zero-law-at, zero-law-is    the laws for any n from 1 on
+--   dropped-words         a piece of a buffer and the piece without its last word, which is 0
+--   Within n f g f' g'    every constant that f' and g' combine to, f and g combine to
+--   turn-within, last-within, pair-within, zero-within    so it is through every step, whatever the leading words are
+--   itself                a constant is reached by itself and any other
+--
+-- Letters: l is the leading word of f, c that of g; g', r, h are what turns leave of g; C is a constant.
 use mathlib.Core.Path.{_≡_, refl, sym, ap, ap₂, subst, _∙_, fun-ext}
 use mathlib.Core.List.{List, [], _∷_}
 use mathlib.Core.Logic.{⊎-elim}
 use Prim.Native.Nat.{ℕ, zero, suc, pred, _+_, _-_, _*_, _%_, _^_, _≤_, _<_}
 use native.Mathlib.Omega.{arith}
-use native.Mathlib.Nat.{add-zero, zero-add, zero-mul, mul-zero, mul-comm, mul-one, one-mul, pow-suc, pow-zero, eq-or-lt-of-le, mul-mod-right, zero-mod, mod-mod}
-use lib.ListN.{length}
+use native.Mathlib.Nat.{add-zero, zero-add, zero-mul, mul-zero, mul-comm, one-mul, pow-suc, pow-zero, eq-or-lt-of-le, mul-mod-right}
+use native.Mathlib.Nat.{zero-mod}
+use lib.ListN.{length, getD}
 use Rattle.definitions.specs.Polynomials.{coef, deg, convolve, tabulate, constant, Multiplied, Divided}
 use Rattle.definitions.specs.Resultants.{resultant, Reached}
 use Rattle.numbers.specs.Congruence.{Cong, c-refl, c-sym, c-trans, c-eq, c-add, c-mul, c-mod, c-cancel, ring}
@@ -19,9 +27,10 @@ use Rattle.theory.specs.Words.{length-tabulate}
 use Rattle.theory.specs.ReachedLaws.{reached-cong}
 use Rattle.theory.specs.ReachedSteps.{coef-whole, coef-beyond, convolve-constant}
 use Rattle.theory.specs.ReducedLaws.{unit-down, rest-up, flip}
-use Rattle.theory.specs.ResultantLaws.{signed, resultant-scale-second, resultant-add, resultant-drop-first, resultant-drop-second, resultant-swap}
-use Rattle.windows.specs.Window.{behind}
-use Rattle.windows.proofs.Leaf.{lt-or-le}
+use Rattle.theory.specs.ResultantLaws.{signed, resultant-scale-second, resultant-add, resultant-drop-first, resultant-drop-second}
+use Rattle.theory.specs.ResultantLaws.{resultant-swap}
+use Rattle.windows.specs.Window.{piece, behind}
+use Rattle.windows.proofs.Leaf.{lt-or-le, piece-at, piece-over}
 use Rattle.window_division.proofs.Turns.{spot, spot-off, risen, risen-at, risen-low, convolve-spot}
 use Rattle.resultant_turns.specs.Degrees.{deg-of, resultant-lt}
 use Rattle.resultant_turns.specs.Signs.{sign-first, sign-second}
@@ -54,7 +63,8 @@ module _ (m d s : ℕ) (f g g' : List ℕ) (one : 1 ≤ d) (t : Turned (suc m) d
 
   G-at : (k : ℕ) → coef G k ≡ coef f d * coef g k
   unfolding G
-  G-at k = coef-whole (suc (d + s)) (λ k. coef f d * coef g k) (λ i h. ap (λ (x : ℕ). coef f d * x) (coef-beyond g i (omega (arith, t .second))) ∙ mul-zero (coef f d)) k
+  G-at k = coef-whole (suc (d + s)) (λ k. coef f d * coef g k) (λ i h. ap (λ (x : ℕ). coef f d * x) (coef-beyond g i (omega
+      (arith, t .second))) ∙ mul-zero (coef f d)) k
 
   G'-at : (k : ℕ) → coef G' k ≡ coef g' k
   unfolding G'
@@ -68,12 +78,14 @@ module _ (m d s : ℕ) (f g g' : List ℕ) (one : 1 ≤ d) (t : Turned (suc m) d
   turned-at : (k : ℕ) → Cong (suc m) (c * risen s (coef f) k + coef g' k) (l * coef g k)
   turned-at k =
       ⊎-elim
-      (λ h. c-trans (c-eq (ap (λ (x : ℕ). c * x + coef g' k) (risen-low s (coef f) k h) ∙ ap (λ (x : ℕ). x + coef g' k) (mul-zero c) ∙ zero-add (coef g' k))) (t .low k h))
+      (λ h. c-trans (c-eq (ap (λ (x : ℕ). c * x + coef g' k) (risen-low s (coef f) k h) ∙ ap (λ (x : ℕ). x + coef g' k) (mul-zero c)
+      ∙ zero-add (coef g' k))) (t .low k h))
       (λ h. within (k - s) (omega arith))
       (lt-or-le k s)
     where
       top : (i : ℕ) → k ≡ s + i → d ≤ i → (c * coef f i ≡ l * coef g k) → Cong (suc m) (c * risen s (coef f) k + coef g' k) (l * coef g k)
-      top i q h e = c-eq (ap₂ (λ (x y : ℕ). c * x + y) (risen-at s (coef f) k i q) (coef-beyond g' k (omega (arith, t .third))) ∙ add-zero _ ∙ e)
+      top i q h e = c-eq (ap₂ (λ (x y : ℕ). c * x + y) (risen-at s (coef f) k i q) (coef-beyond g' k (omega (arith, t .third)))
+          ∙ add-zero _ ∙ e)
 
       within : (i : ℕ) → k ≡ s + i → Cong (suc m) (c * risen s (coef f) k + coef g' k) (l * coef g k)
       within i q =
@@ -82,7 +94,8 @@ module _ (m d s : ℕ) (f g g' : List ℕ) (one : 1 ≤ d) (t : Turned (suc m) d
           (c-trans (c-eq (ap (λ (x : ℕ). c * x + coef g' (s + i)) (risen-at s (coef f) (s + i) i refl))) (t .mid i h)))
           (λ h. ⊎-elim
           (λ e. top i q h (ap (λ (x : ℕ). c * coef f x) (sym e) ∙ mul-comm c l ∙ ap (λ (x : ℕ). l * coef g x) (place e)))
-          (λ e. top i q h (ap (λ (x : ℕ). c * x) (coef-beyond f i (omega (arith, t .first))) ∙ mul-zero c ∙ sym (ap (λ (x : ℕ). l * x) (coef-beyond g k (omega (arith, t .second))) ∙ mul-zero l)))
+          (λ e. top i q h (ap (λ (x : ℕ). c * x) (coef-beyond f i (omega (arith, t .first))) ∙ mul-zero c
+          ∙ sym (ap (λ (x : ℕ). l * x) (coef-beyond g k (omega (arith, t .second))) ∙ mul-zero l)))
           (eq-or-lt-of-le h))
           (lt-or-le i d)
         where
@@ -96,14 +109,16 @@ module _ (m d s : ℕ) (f g g' : List ℕ) (one : 1 ≤ d) (t : Turned (suc m) d
         same = sym (resultant-scale-second m l f G g (ap pred (length-tabulate (suc (d + s)) (λ k. coef f d * coef g k)) ∙ sym dg)
             (record { at = λ k. ap (λ (x : ℕ). x % suc m) (G-at k) }) ∙ ap (λ (x : ℕ). (l ^ x * resultant (suc m) f g) % suc m) df)
             ∙ resultant-add m s f G' G Q (ap pred (length-tabulate (suc s) (spot s c)))
-            (ap pred (length-tabulate (suc (d + s)) (coef g')) ∙ sum) (ap pred (length-tabulate (suc (d + s)) (λ k. coef f d * coef g k)) ∙ sum)
+            (ap pred (length-tabulate (suc (d + s)) (coef g'))
+            ∙ sum) (ap pred (length-tabulate (suc (d + s)) (λ k. coef f d * coef g k)) ∙ sum)
             (record {
               at = λ k.
                   ap₂ (λ (u : ℕ → ℕ) (x : ℕ). (convolve u (coef f) k + x) % suc m) Q-is (G'-at k)
                   ∙ ap (λ (x : ℕ). (x + coef g' k) % suc m) (convolve-spot s c (coef f) k)
                   ∙ turned-at k .same ∙ ap (λ (x : ℕ). x % suc m) (sym (G-at k));
             })
-            ∙ resultant-drop-second m f G' g' (ap pred (length-tabulate (suc (d + s)) (coef g')) ∙ less) (λ k. ap (λ (x : ℕ). x % suc m) (G'-at k))
+            ∙ resultant-drop-second m f G' g' (ap pred (length-tabulate (suc (d + s)) (coef g'))
+            ∙ less) (λ k. ap (λ (x : ℕ). x % suc m) (G'-at k))
             ∙ ap (λ (x : ℕ). (coef f x * resultant (suc m) f g') % suc m) df;
       }
     where
@@ -186,7 +201,8 @@ last-law m d f g r one t =
 
 pub mul-pow : (a b k : ℕ) → (a * b) ^ k ≡ a ^ k * b ^ k
 mul-pow a b zero = pow-zero (a * b) ∙ sym (ap₂ (λ (x y : ℕ). x * y) (pow-zero a) (pow-zero b))
-mul-pow a b (suc k) = pow-suc (a * b) k ∙ ap (λ (x : ℕ). x * (a * b)) (mul-pow a b k) ∙ four (a ^ k) (b ^ k) ∙ sym (ap₂ (λ (x y : ℕ). x * y) (pow-suc a k) (pow-suc b k))
+mul-pow a b (suc k) = pow-suc (a * b) k ∙ ap (λ (x : ℕ). x * (a * b)) (mul-pow a b k) ∙ four (a ^ k) (b ^ k)
+    ∙ sym (ap₂ (λ (x y : ℕ). x * y) (pow-suc a k) (pow-suc b k))
   where
     four : (x y : ℕ) → x * y * (a * b) ≡ x * a * (y * b)
     four x y = simp ring
@@ -214,7 +230,10 @@ module _ (m d x p q : ℕ) (f g r : List ℕ) (one : 1 ≤ d) (t : TurnedTwice (
   whole k =
       let y : ℕ = coef g (d + 1) * behind (coef f) k in
       let z : ℕ = coef f d * coef g k in
-      c-trans (c-eq (split y z)) (c-trans (c-add (c-refl {a = z}) (record { same = mul-mod-right (suc m) y ∙ sym (zero-mod (suc m)) })) (c-eq (add-zero z)))
+      c-trans (c-eq (split y z)) (c-trans (c-add (c-refl {a = z}) (record {
+        same = mul-mod-right (suc m) y
+            ∙ sym (zero-mod (suc m));
+      })) (c-eq (add-zero z)))
     where
       split : (y z : ℕ) → y + (z + m * y) ≡ z + suc m * y
       split y z = omega arith
@@ -271,7 +290,8 @@ module _ (m d x p q : ℕ) (f g r : List ℕ) (one : 1 ≤ d) (t : TurnedTwice (
     third = t .third ∙ sym (add-zero d);
     low = λ k b. absurd (omega arith);
     mid = λ i b. subst (λ (z : ℕ). Cong (suc m) (coef h (d + 0) * coef f i + coef r z) (coef f d * coef h z)) (sym (zero-add i))
-        (c-trans (c-add (c-mul (c-trans (c-eq (ap (coef h) (add-zero d) ∙ h-at d (omega arith))) lead) (c-refl {a = coef f i})) (c-refl {a = coef r i}))
+        (c-trans (c-add (c-mul (c-trans (c-eq (ap (coef h) (add-zero d)
+        ∙ h-at d (omega arith))) lead) (c-refl {a = coef f i})) (c-refl {a = coef r i}))
         (c-trans (word i b) (c-mul (c-refl {a = coef f d}) (c-eq (sym (h-at i (omega arith)))))));
   }
     where
@@ -307,10 +327,12 @@ module _ (m d x p q : ℕ) (f g r : List ℕ) (one : 1 ≤ d) (t : TurnedTwice (
 
 -- ---- a zero leading word
 
-pub zero-law : (m d e : ℕ) (f f' g : List ℕ) → 1 ≤ d → length f ≡ d + 1 → length f' ≡ d → length g ≡ e + 1 → ((k : ℕ) → coef f k ≡ coef f' k)
+pub zero-law : (m d e : ℕ) (f f' g : List ℕ) → 1 ≤ d → length f ≡ d + 1 → length f' ≡ d → length g ≡ e + 1 → ((k : ℕ)
+    → coef f k ≡ coef f' k)
     → resultant (suc m) f g ≡ signed (suc m) e ((coef g e * resultant (suc m) f' g) % suc m)
 zero-law m d e f f' g one lf lf' lg h =
-    resultant-drop-first m f f' g (deg-of f d lf ∙ next ∙ ap suc (sym (deg-of f' (d - 1) (lf' ∙ more)))) (λ k. ap (λ (x : ℕ). x % suc m) (h k))
+    resultant-drop-first m f f' g (deg-of f d lf ∙ next ∙ ap suc (sym (deg-of f' (d - 1) (lf'
+    ∙ more)))) (λ k. ap (λ (x : ℕ). x % suc m) (h k))
     ∙ ap (λ (x : ℕ). signed (suc m) x ((coef g x * resultant (suc m) f' g) % suc m)) (deg-of g e lg)
   where
     more : d ≡ d - 1 + 1
@@ -321,15 +343,18 @@ zero-law m d e f f' g one lf lf' lg h =
 
 -- ---- the laws for n at least 1
 
-pub turn-law-at : (n d s : ℕ) (f g g' : List ℕ) → 1 ≤ n → 1 ≤ d → Turned n d s f g g' → Cong n (coef f d ^ d * resultant n f g) (coef f d * resultant n f g')
+pub turn-law-at : (n d s : ℕ) (f g g' : List ℕ) → 1 ≤ n → 1 ≤ d → Turned n d s f g g'
+    → Cong n (coef f d ^ d * resultant n f g) (coef f d * resultant n f g')
 turn-law-at zero d s f g g' pos one t = absurd (omega arith)
 turn-law-at (suc m) d s f g g' pos one t = turn-law m d s f g g' one t
 
-pub last-law-at : (n d : ℕ) (f g r : List ℕ) → 1 ≤ n → 1 ≤ d → Turned n d 0 f g r → Cong n (coef f d ^ d * resultant n f g) (coef f d * resultant n r f)
+pub last-law-at : (n d : ℕ) (f g r : List ℕ) → 1 ≤ n → 1 ≤ d → Turned n d 0 f g r
+    → Cong n (coef f d ^ d * resultant n f g) (coef f d * resultant n r f)
 last-law-at zero d f g r pos one t = absurd (omega arith)
 last-law-at (suc m) d f g r pos one t = last-law m d f g r one t
 
-pub pair-law-at : (n d x p q : ℕ) (f g r : List ℕ) → 1 ≤ n → 1 ≤ d → TurnedTwice n d x p q f g r → Cong n (x ^ d * resultant n f g) (x * resultant n r f)
+pub pair-law-at : (n d x p q : ℕ) (f g r : List ℕ) → 1 ≤ n → 1 ≤ d → TurnedTwice n d x p q f g r
+    → Cong n (x ^ d * resultant n f g) (x * resultant n r f)
 pair-law-at zero d x p q f g r pos one t = absurd (omega arith)
 pair-law-at (suc m) d x p q f g r pos one t = pair-law m d x p q f g r one t
 
@@ -339,7 +364,8 @@ signed-times n zero c R l = c-mod (c * R)
 signed-times n (suc k) c R l =
     let u : ℕ = signed n k ((c * R) % n) in
     let v : ℕ = signed n k c in
-    let lu : u < n = Rattle.resultant_turns.specs.Signs.signed-lt n k ((c * R) % n) (native.Mathlib.Nat.mod-lt (c * R) (omega arith)) in
+    let lu : u < n = Rattle.resultant_turns.specs.Signs.signed-lt n k ((c * R) % n) (native.Mathlib.Nat.mod-lt (c * R)
+    (omega arith)) in
     let lv : v < n = Rattle.resultant_turns.specs.Signs.signed-lt n k c l in
     c-cancel u (omega arith)
     (c-trans (c-add (c-mod (n - u)) (c-refl {a = u}))
@@ -357,7 +383,25 @@ signed-times n (suc k) c R l =
         split : n ≡ n - v + v
         split = omega arith
 
-pub zero-law-at : (n d e : ℕ) (f f' g : List ℕ) → 1 ≤ n → 1 ≤ d → length f ≡ d + 1 → length f' ≡ d → length g ≡ e + 1 → ((k : ℕ) → coef f k ≡ coef f' k)
+pub zero-law-is : (n d e : ℕ) (f f' g : List ℕ) → 1 ≤ n → 1 ≤ d → length f ≡ d + 1 → length f' ≡ d → length g ≡ e + 1
+    → ((k : ℕ) → coef f k ≡ coef f' k) → resultant n f g ≡ signed n e ((coef g e * resultant n f' g) % n)
+zero-law-is zero d e f f' g pos one lf lf' lg h = absurd (omega arith)
+zero-law-is (suc m) d e f f' g pos one lf lf' lg h = zero-law m d e f f' g one lf lf' lg h
+
+-- the words of f in a buffer, and those without the last, which is 0
+pub dropped-words : (w : List ℕ) (a d : ℕ) → 1 ≤ d → getD w (a + d) 0 ≡ 0 → (k : ℕ)
+    → coef (piece w a (d + 1)) k ≡ coef (piece w a (d - 1 + 1)) k
+dropped-words w a d one z k = ⊎-elim
+    (λ h. piece-at w a (d + 1) k (omega arith) ∙ sym (piece-at w a (d - 1 + 1) k (omega arith)))
+    (λ h. ⊎-elim
+    (λ q. ap (coef (piece w a (d + 1))) (sym q) ∙ piece-at w a (d + 1) d (omega arith) ∙ z
+    ∙ sym (piece-over w a (d - 1 + 1) k (omega arith)))
+    (λ q. piece-over w a (d + 1) k (omega arith) ∙ sym (piece-over w a (d - 1 + 1) k (omega arith)))
+    (eq-or-lt-of-le h))
+    (lt-or-le k d)
+
+pub zero-law-at : (n d e : ℕ) (f f' g : List ℕ) → 1 ≤ n → 1 ≤ d → length f ≡ d + 1 → length f' ≡ d → length g ≡ e + 1 → ((k : ℕ)
+    → coef f k ≡ coef f' k)
     → coef g e < n → Cong n (resultant n f g) (signed n e (coef g e) * resultant n f' g)
 zero-law-at zero d e f f' g pos one lf lf' lg h b = absurd (omega arith)
 zero-law-at (suc m) d e f f' g pos one lf lf' lg h b =

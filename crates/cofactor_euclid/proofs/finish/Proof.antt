@@ -1,14 +1,9 @@
 use Rattle.cofactor_euclid.specs.Rows.{LedTo}
 use Rattle.cofactor_euclid.proofs.Stepping.{led-self, led-trans}
-use Prim.Native.Nat.{ℕ, _+_, _-_, _*_, _%_, _≤_, _<_}
+use Prim.Native.Nat.{_+_}
 use native.Mathlib.Omega.{arith}
-use native.Mathlib.Nat.{le-of-lt}
-use mathlib.Core.Path.{_≡_, refl, sym, ap, _∙_}
 use Rattle.cofactor_euclid.proofs.finish.Statement.{statement}
 use Rattle.cofactor_euclid.proofs.finish.Tie as tie
-use Rattle.cofactor_euclid.proofs.finish.Reads as reads
-use Rattle.cofactor_euclid.proofs.finish.Lts as lts
-use Rattle.cofactor_euclid.proofs.step.Reads as step-reads
 
 abbrev Inv-loop : tie.InvT-loop
 Inv-loop w₀ m h z y₀ w y = LedTo (m .n) h z y₀ w₀ y w

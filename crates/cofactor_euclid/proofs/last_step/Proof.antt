@@ -1,51 +1,15 @@
-use Rattle.cofactor_euclid.proofs.Stepping.{placed-asked, placed-below, at-most, pair-stepped, last-stepped, turn-stepped, drop-stepped}
-use Prim.Native.Nat.{ℕ, _+_, _-_, _*_, _%_, _≤_, _<_}
+use Rattle.cofactor_euclid.proofs.Stepping.{placed-asked, placed-below, last-stepped}
 use native.Mathlib.Omega.{arith}
 use native.Mathlib.Nat.{le-of-lt}
-use mathlib.Core.Path.{_≡_, refl, sym, ap, _∙_}
 use borrow.Author.Needs.{needs}
 use Rattle.cofactor_euclid.proofs.last_step.Statement.{statement}
 use Rattle.cofactor_euclid.proofs.last_step.Tie as tie
-use Rattle.cofactor_euclid.proofs.last_step.Reads as reads
-use Rattle.cofactor_euclid.proofs.last_step.Lts as lts
-use Rattle.cofactor_euclid.proofs.turn_rows.Reads as turn-rows-reads
-use Rattle.reduction.proofs.product.Reads as product-reads
-
-add-l : tie.Need-add-l
-add-l c = search needs
-
-mul-l : tie.Need-mul-l
-mul-l c = search needs
-
-slice-read-l : tie.Need-slice-read-l
-slice-read-l c = search needs
-
-add-c : tie.Need-add-c
-add-c c = search needs
-
-mul-c : tie.Need-mul-c
-mul-c c = search needs
-
-slice-read-c : tie.Need-slice-read-c
-slice-read-c c = search needs
 
 sub-turn-rows : tie.Need-sub-turn-rows
 sub-turn-rows c = let s = c .before .before .before .before in le-of-lt (placed-below (s .pre .1 .0) (s .args .x .d) (s .pre .1 .0 .near))
 
 turn-rows-requires : tie.Need-turn-rows-requires
 turn-rows-requires c κs = let s = c .before .before .before .before in (s .pre .0, (placed-asked (s .pre .1 .0), omega (arith, s .pre .1 .0 .near, s .pre .1 .0 .high)))
-
-product-requires : tie.Need-product-requires
-product-requires c κs = search needs
-
-product-requires-2 : tie.Need-product-requires-2
-product-requires-2 c κs = search needs
-
-sub-t14 : tie.Need-sub-t14
-sub-t14 c = search needs
-
-same-length : tie.Need-same-length
-same-length c = search needs
 
 returns : tie.Need-returns
 returns c = let s = c .before .before .before .before .before .before .before .before .before in let v = s .args in last-stepped (v .m .n) (v .h) (v .z) (v .x .a) (v .x .d) (v .x .b) (v .x .e) (v .w .now) (c .before .before .before .before .turn-rows .last .0) (s .pre .1 .0) (s .pre .1 .1 .0) (s .pre .1 .1 .1) (c .before .before .before .before .turn-rows .ensures) (v .x .s) (v .x .p) (v .x .t) _ _ (c .before .product .ensures) (c .product2 .ensures)
@@ -54,16 +18,16 @@ pub last-step-spec : {M : Type 1} → statement M
 last-step-spec =
     tie.close
     (tie.spec
-    add-l
-    mul-l
-    slice-read-l
-    add-c
-    mul-c
-    slice-read-c
+    (λ c. search needs)
+    (λ c. search needs)
+    (λ c. search needs)
+    (λ c. search needs)
+    (λ c. search needs)
+    (λ c. search needs)
     sub-turn-rows
     turn-rows-requires
-    product-requires
-    product-requires-2
-    sub-t14
-    same-length
+    (λ c κs. search needs)
+    (λ c κs. search needs)
+    (λ c. search needs)
+    (λ c. search needs)
     returns)

@@ -1,52 +1,21 @@
-use Rattle.cofactor_euclid.proofs.Written.{asked-window, asked-after, window-around, written-length, rows-written, turned-local, paired-local}
-use Prim.Native.Nat.{ℕ, _+_, _-_, _*_, _%_, _≤_, _<_}
+use Rattle.cofactor_euclid.proofs.Written.{asked-window, asked-after, window-around, written-length, rows-written, turned-local}
+use Prim.Native.Nat.{ℕ, _+_, _-_}
 use native.Mathlib.Omega.{arith}
-use native.Mathlib.Nat.{le-of-lt}
-use mathlib.Core.Path.{_≡_, refl, sym, ap, _∙_}
+use mathlib.Core.Path.{refl}
 use mathlib.Core.List.{List}
-use Rattle.cofactor_euclid.specs.Rows.{paired, turned}
+use Rattle.cofactor_euclid.specs.Rows.{turned}
 use borrow.Author.Needs.{needs}
 use Rattle.cofactor_euclid.proofs.turn_rows.Statement.{statement}
 use Rattle.cofactor_euclid.proofs.turn_rows.Tie as tie
-use Rattle.cofactor_euclid.proofs.turn_rows.Reads as reads
-use Rattle.cofactor_euclid.proofs.turn_rows.Lts as lts
-use Rattle.cofactor_euclid.proofs.turn_window.Reads as turn-window-reads
 
 turn-window-requires : tie.Need-turn-window-requires
 turn-window-requires c κs = let s = c .before .before in (s .pre .0, asked-window (s .args .m .n) (s .args .h) (s .args .a) (s .args .b) (s .args .w .now) (s .pre .1 .0) (s .args .a) (s .args .b) 0 0 (s .args .d) (s .args .i + s .args .d) (omega arith) (omega arith) (omega arith) (omega arith))
 
-add-turn-window : tie.Need-add-turn-window
-add-turn-window c = search needs
-
-add-turn-window-2 : tie.Need-add-turn-window-2
-add-turn-window-2 c = search needs
-
-sub-turn-window : tie.Need-sub-turn-window
-sub-turn-window c = search needs
-
 turn-window-requires-2 : tie.Need-turn-window-requires-2
 turn-window-requires-2 c κs = let s = c .before .before .before .before .before .before in (s .pre .0, asked-window (s .args .m .n) (s .args .h) (s .args .a) (s .args .b) (c .before .before .before .turn-window .last .0) (asked-after (s .pre .1 .0) (window-around (s .args .h) 0 (c .before .before .before .turn-window .ensures) (omega arith) (omega arith))) (s .args .a + s .args .h) (s .args .b + s .args .h) (s .args .h) (s .args .h) (s .args .h - s .args .i) (s .args .i + (s .args .h - s .args .i)) refl refl (omega arith) (omega arith))
 
-add-turn-window-3 : tie.Need-add-turn-window-3
-add-turn-window-3 c = search needs
-
-add-turn-window-4 : tie.Need-add-turn-window-4
-add-turn-window-4 c = search needs
-
-add-turn-window-5 : tie.Need-add-turn-window-5
-add-turn-window-5 c = search needs
-
-add-turn-window-6 : tie.Need-add-turn-window-6
-add-turn-window-6 c = search needs
-
-sub-turn-window-2 : tie.Need-sub-turn-window-2
-sub-turn-window-2 c = search needs
-
 turn-window-requires-3 : tie.Need-turn-window-requires-3
 turn-window-requires-3 c κs = let s = c .before .before .before .before .before .before .before .before .before .before in (s .pre .0, asked-window (s .args .m .n) (s .args .h) (s .args .a) (s .args .b) (c .before .before .before .turn-window2 .last .0) (asked-after (asked-after (s .pre .1 .0) (window-around (s .args .h) 0 (c .before .before .before .before .before .before .before .turn-window .ensures) (omega arith) (omega arith))) (window-around (s .args .h) (s .args .h) (c .before .before .before .turn-window2 .ensures) refl (omega arith))) (s .args .a + (s .args .h + s .args .h)) (s .args .b + (s .args .h + s .args .h)) (s .args .h + s .args .h) (s .args .h + s .args .h) (s .args .h - s .args .i) (s .args .i + (s .args .h - s .args .i)) refl refl (omega arith) (omega arith))
-
-same-length : tie.Need-same-length
-same-length c = search needs
 
 returns : tie.Need-returns
 returns c = let s = c .before .before .before .before .before .before .before .before .before .before .before .before .before in let v = s .args in rows-written (λ (w : List ℕ). turned (v .m .n) (v .l) (v .c) (v .i) w) (turned-local (v .m .n) (v .l) (v .c) (v .i)) (v .h) (v .i + v .d) (v .h) (v .h) (v .a) (v .b) (v .w .now) (c .before .before .before .before .before .before .before .before .before .before .turn-window .last .0) (c .before .before .before .before .before .before .turn-window2 .last .0) (c .before .before .turn-window3 .last .0) (omega arith) (omega arith) (omega arith) (s .pre .1 .0 .apart) (c .before .before .before .before .before .before .before .before .before .before .turn-window .ensures) (written-length (v .i + (v .h - v .i)) (v .h) (omega arith) (c .before .before .before .before .before .before .turn-window2 .ensures)) (written-length (v .i + (v .h - v .i)) (v .h) (omega arith) (c .before .before .turn-window3 .ensures))
@@ -56,15 +25,15 @@ turn-rows-spec =
     tie.close
     (tie.spec
     turn-window-requires
-    add-turn-window
-    add-turn-window-2
-    sub-turn-window
+    (λ c. search needs)
+    (λ c. search needs)
+    (λ c. search needs)
     turn-window-requires-2
-    add-turn-window-3
-    add-turn-window-4
-    add-turn-window-5
-    add-turn-window-6
-    sub-turn-window-2
+    (λ c. search needs)
+    (λ c. search needs)
+    (λ c. search needs)
+    (λ c. search needs)
+    (λ c. search needs)
     turn-window-requires-3
-    same-length
+    (λ c. search needs)
     returns)

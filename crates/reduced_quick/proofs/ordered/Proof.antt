@@ -1,39 +1,9 @@
 use Rattle.reduced_quick.proofs.Trying.{place-fits}
-use Rattle.reduced_quick.proofs.Trying.{ordered-asked, inside-first, inside-second, long-enough, certified-at}
-use Prim.Native.Nat.{ℕ, _+_, _-_, _*_, _%_, _≤_, _<_}
+use Rattle.reduced_quick.proofs.Trying.{inside-first, inside-second, long-enough, certified-at}
 use native.Mathlib.Omega.{arith}
-use mathlib.Core.Path.{_≡_, refl, sym, ap, _∙_}
-use lib.ListN.{length}
 use borrow.Author.Needs.{needs}
 use Rattle.reduced_quick.proofs.ordered.Statement.{statement}
 use Rattle.reduced_quick.proofs.ordered.Tie as tie
-use Rattle.reduced_quick.proofs.ordered.Reads as reads
-use Rattle.reduced_quick.proofs.ordered.Lts as lts
-use Rattle.bezout.proofs.cofactor.Reads as cofactor-reads
-use Rattle.cofactor_euclid.proofs.multipliers.Reads as multipliers-reads
-use Rattle.reduced_quick.proofs.put.Reads as put-reads
-use Rattle.reduction.proofs.modulus_of.Reads as modulus-of-reads
-
-multipliers-requires : tie.Need-multipliers-requires
-multipliers-requires c κs = search needs
-
-mul-cofactor : tie.Need-mul-cofactor
-mul-cofactor c = search needs
-
-slice-read-cofactor : tie.Need-slice-read-cofactor
-slice-read-cofactor c = search needs
-
-cofactor-requires : tie.Need-cofactor-requires
-cofactor-requires c κs = search needs
-
-same-length : tie.Need-same-length
-same-length c = search needs
-
-returns : tie.Need-returns
-returns c = search needs
-
-modulus-of-requires : tie.Need-modulus-of-requires
-modulus-of-requires c κs = search needs
 
 add-put : tie.Need-add-put
 add-put c = record { fits = place-fits (c .before .before .before .before .before .before .before .before .before .multipliers .ensures .0) (c .before .before .before .before .before .before .before .before .before .multipliers .ensures .1) (c .before .before .before .before .before .before .before .before .before .before .before .before .before .before .before .before .good .1 .1 .0 .0) }
@@ -50,15 +20,6 @@ add-put-3 c = let s = c .before .before .before .before .before .before .before 
 put-requires-2 : tie.Need-put-requires-2
 put-requires-2 c κs = let s = c .before .before .before .before .before .before .before .before .before .before .before .before .before .before .before .before .before .before .before .before .before in (c .before .before .before .before .before .before .before .modulus-of .ensures .0, (inside-second (c .before .before .before .before .before .before .before .before .before .before .before .before .before .before .multipliers .ensures .0), long-enough (s .pre .0) (s .pre .1) (s .pre .0 .second)))
 
-same-length-2 : tie.Need-same-length-2
-same-length-2 c = search needs
-
-same-length-3 : tie.Need-same-length-3
-same-length-3 c = search needs
-
-same-length-4 : tie.Need-same-length-4
-same-length-4 c = search needs
-
 returns-2 : tie.Need-returns-2
 returns-2 c = let s = c .before .before .before .before .before .before .before .before .before .before .before .before .before .before .before .before .before .before .before .before .before .before .before .before in let a = s .args in (certified-at (a .n) (c .before .before .before .before .before .before .before .before .before .before .modulus-of .result .n) (a .f .now) (a .g .now) (a .u .now) (a .v .now) (a .w .now) (c .before .before .before .before .before .before .before .put .last .0) (c .before .before .put2 .last .0) (c .before .before .before .before .before .before .before .before .before .before .before .before .before .before .before .before .before .multipliers .result) (c .before .before .before .before .before .before .before .before .before .before .before .before .before .before .before .before .before .multipliers .last .0) (c .before .before .before .before .before .before .before .before .before .before .before .before .before .cofactor .result .g) (c .before .before .before .before .before .before .before .before .before .before .before .before .before .cofactor .result .s) (c .before .before .before .before .before .before .before .before .before .before .modulus-of .ensures .1) (s .pre .0) (s .pre .1) (c .before .before .before .before .before .before .before .before .before .before .before .before .before .before .before .before .before .multipliers .ensures .0) (c .before .before .before .before .before .before .before .before .before .before .before .if1 .left) (c .before .before .before .before .before .before .before .before .before .before .before .before .before .cofactor .ensures .bezout) (c .before .before .before .before .before .before .before .put .ensures) (c .before .before .put2 .ensures), c .before .before .before .before .before .before .before .before .before .before .before .before .before .before .before .before .before .multipliers .ensures .1)
 
@@ -66,19 +27,19 @@ pub ordered-spec : {M : Type 1} → statement M
 ordered-spec =
     tie.close
     (tie.spec
-    multipliers-requires
-    mul-cofactor
-    slice-read-cofactor
-    cofactor-requires
-    same-length
-    returns
-    modulus-of-requires
+    (λ c κs. search needs)
+    (λ c. search needs)
+    (λ c. search needs)
+    (λ c κs. search needs)
+    (λ c. search needs)
+    (λ c. search needs)
+    (λ c κs. search needs)
     add-put
     put-requires
     add-put-2
     add-put-3
     put-requires-2
-    same-length-2
-    same-length-3
-    same-length-4
+    (λ c. search needs)
+    (λ c. search needs)
+    (λ c. search needs)
     returns-2)

@@ -1,8 +1,7 @@
 use Rattle.resultant_pseudo.specs.Standing.{LedTo}
 use Rattle.resultant_pseudo.proofs.Stepping.{led-self, led-trans}
-use Prim.Native.Nat.{ℕ, _+_}
+use Prim.Native.Nat.{_+_}
 use native.Mathlib.Omega.{arith}
-use mathlib.Core.Path.{_≡_}
 use Rattle.resultant_pseudo.proofs.finish.Statement.{statement}
 use Rattle.resultant_pseudo.proofs.finish.Tie as tie
 
