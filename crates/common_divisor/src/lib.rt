@@ -1,0 +1,86 @@
+// What two polynomials have in common modulo m, where they combine to no constant but 0. The modulus may shrink to any divisor above 1:
+// a leading word that is no unit has a common divisor with m, and vanishes modulo it.
+//
+//   w, m   the buffer and the modulus
+//   a, d   the place and the degree of f; b, e those of g
+//   x, y   the words of f and of g
+//
+//   strip     leading words that are no units vanish modulo a divisor of m
+//   step      one division
+//   euclid    the last divisor
+//   search    both are zero, or have a divisor of degree 1 or more
+//   monic     a polynomial with its leading word made 1
+ghost use Prim.Native.Nat.{_+_, _≤_};
+ghost use lib.ListN.{length};
+ghost use Rattle.windows.specs.Window.{piece, Scratch};
+ghost use Rattle.common_divisor.specs.Searches.{Stripped, StepAsked, Stepped, EuclidAsked, CommonIn};
+ghost use Rattle.common_divisor.specs.Searches.{SearchAsked, GroundIn, MonicAsked, MonicOf};
+
+// The words left of a polynomial, and the modulus.
+struct Lead {
+    m: u32,
+    len: usize,
+}
+
+// A divisor modulo m: its place and its degree.
+pub struct Found {
+    pub m: u32,
+    pub at: usize,
+    pub degree: usize,
+}
+
+// "both polynomials are zero modulo m, or a monic w of degree at least 1 divides both modulo m"
+pub enum Ground {
+    Zero(u32),
+    Common(Found),
+}
+
+// The words of the polynomial of len words at a, up to one that is a unit modulo a divisor of m for which those above it vanish.
+fn strip(w: &[u32], m: u32, a: usize, len: usize) -> Lead
+    requires { ⌜ (2 ≤ m) × (a + len ≤ length (now w)) ⌝ }
+    ensures { λ r. ⌜ Stripped m (piece (now (w .entry)) a len) (r .m) (r .len) ⌝ }
+{
+    let mut c = m;
+    let mut l = len;
+    while 0 < l {
+        let g = bezout::gcd(w[a + (l - 1)], c);
+        if g == 1 {
+            return Lead { m: c, len: l };
+        }
+        c = g;
+        l -= 1;
+    }
+    Lead { m: c, len: 0 }
+}
+
+// The remainder of f by g stands at the place of f.
+fn step(w: &mut [u32], m: u32, a: usize, d: usize, b: usize, e: usize)
+    requires { ⌜ StepAsked m a d b e (now w) ⌝ }
+    ensures { λ _. ⌜ Stepped m a d b e (now (w .entry)) (now (w .exit)) ⌝ }
+{
+    windows::reduce_words(w, m, a, d + 1);
+    windows::reduce_words(w, m, b, e + 1);
+    let i = bezout::cofactor(m, w[b + e]);
+    window_division::divide(w, m, b, e, a, d, i.s);
+}
+
+// Euclid's algorithm for f of degree d at a and g of l words at b. Where nothing is left of g, f divides both; it is no constant, because
+// only zero is reached.
+fn euclid(w: &mut [u32], m: u32, a: usize, d: usize, b: usize, l: usize) -> Found
+    requires { ⌜ EuclidAsked m a d b l (now w) ⌝ }
+    ensures { λ r. ⌜ CommonIn m d (piece (now (w .entry)) a (d + 1)) (piece (now (w .entry)) b l) (now (w .exit)) r ⌝ }
+    ensures { λ _. ⌜ Scratch (now (w .entry)) (now (w .exit)) ⌝ }
+{
+    let s = strip(w, m, b, l);
+    let c = s.m;
+    let k = s.len;
+    if k == 0 {
+        return Found {
+            m: c,
+            at: a,
+            degree: d,
+        };
+    }
+    step(w, c, a, d, b, k - 1);
+    euclid(w, c, b, k - 1, a, k - 1)
+}
