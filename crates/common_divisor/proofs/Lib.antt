@@ -1,3 +1,5 @@
 pub mod Strips
 pub mod Steps
 pub mod Turns
+pub mod Starts
+pub mod Scaled

@@ -84,3 +84,34 @@ fn euclid(w: &mut [u32], m: u32, a: usize, d: usize, b: usize, l: usize) -> Foun
     step(w, c, a, d, b, k - 1);
     euclid(w, c, b, k - 1, a, k - 1)
 }
+
+// The ground for f of x words at 0 and g of y words after it. The one with more words left is divided by the other.
+pub fn search(w: &mut [u32], m: u32, x: usize, y: usize) -> Ground
+    requires { ⌜ SearchAsked m x y (now w) ⌝ }
+    ensures { λ r. ⌜ GroundIn m (piece (now (w .entry)) 0 x) (piece (now (w .entry)) x y) (now (w .exit)) r ⌝ }
+    ensures { λ _. ⌜ Scratch (now (w .entry)) (now (w .exit)) ⌝ }
+{
+    let s = strip(w, m, 0, x);
+    let k = s.len;
+    let t = strip(w, s.m, x, y);
+    let c = t.m;
+    let l = t.len;
+    if k < l {
+        return Ground::Common(euclid(w, c, x, l - 1, 0, k));
+    }
+    if k == 0 {
+        return Ground::Zero(c);
+    }
+    Ground::Common(euclid(w, c, 0, k - 1, x, l))
+}
+
+// The polynomial of degree t at a, times the inverse of its leading word: "a monic w … written out … zeros above it".
+pub fn monic(out: &mut [u32], w: &[u32], m: u32, a: usize, t: usize)
+    requires { ⌜ MonicAsked m a t (now out) (now w) ⌝ }
+    ensures { λ _. ⌜ MonicOf m a t (now (w .entry)) (now (out .entry)) (now (out .exit)) ⌝ }
+{
+    windows::wipe(out);
+    windows::load(out, 0, &w[a..a + (t + 1)], m);
+    let i = bezout::cofactor(m, w[a + t]);
+    windows::scale(out, m, i.s, 0, 0, t + 1);
+}
