@@ -1,0 +1,2 @@
+pub mod WhyService
+pub mod Asked

@@ -1,0 +1,58 @@
+// Why two polynomials are not coprime, as a service (02, W4): from any words and lengths an answer, or a numbered refusal.
+//
+//   common    the second ground: the divisor that was found is written out
+//   ground    what is said of f and g, whose reduced resultant is d
+ghost use mathlib.Core.Path.{_≡_};
+ghost use lib.ListN.{length};
+ghost use Rattle.windows.specs.Window.{Scratch};
+ghost use Rattle.why_service.specs.WhyService.{GroundHolds};
+ghost use Rattle.why_service.specs.Asked.{GroundAsked};
+use common_divisor::Ground;
+
+// The ground's number: 0 coprime, 1 both are zero modulo m, 2 a polynomial of that degree divides both modulo m. What says nothing is 0.
+#[repr(C)]
+pub struct Reason {
+    pub ground: u32,
+    pub m: u32,
+    pub degree: u32,
+    pub status: u32,
+}
+
+// "coprime", or one of the two grounds, modulo d. The 49 words of w are the divisor, or zeros.
+fn ground(w: &mut [u32], work: &mut [u32], d: u32, f: &[u32], g: &[u32]) -> Reason
+    requires { ⌜ GroundAsked d (now f) (now g) (now w) (now work) ⌝ }
+    ensures { λ r. ⌜ GroundHolds (r .ground) d d (now (f .entry)) (now (g .entry)) (now (w .exit)) (r .m) (r .degree) ⌝ }
+    ensures { λ r. ⌜ (r .status ≡ 0) × Scratch (now (work .entry)) (now (work .exit)) ⌝ }
+{
+    windows::wipe(w);
+    if d == 1 {
+        return Reason {
+            ground: 0,
+            m: 0,
+            degree: 0,
+            status: 0,
+        };
+    }
+    let x = f.len();
+    let y = g.len();
+    windows::load(work, 0, f, d);
+    windows::load(work, x, g, d);
+    match common_divisor::search(work, d, x, y) {
+        Ground::Zero(m) => Reason {
+            ground: 1,
+            m,
+            degree: 0,
+            status: 0,
+        },
+        Ground::Common(h) => {
+            let t = h.degree;
+            common_divisor::monic(w, work, h.m, h.at, t);
+            Reason {
+                ground: 2,
+                m: h.m,
+                degree: t as u32,
+                status: 0,
+            }
+        }
+    }
+}
