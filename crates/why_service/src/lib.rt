@@ -1,6 +1,5 @@
 // Why two polynomials are not coprime, as a service (02, W4): from any words and lengths an answer, or a numbered refusal.
 //
-//   common    the second ground: the divisor that was found is written out
 //   ground    what is said of f and g, whose reduced resultant is d
 ghost use mathlib.Core.Path.{_≡_};
 ghost use lib.ListN.{length};

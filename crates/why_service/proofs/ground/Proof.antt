@@ -1,3 +1,12 @@
+use Rattle.why_service.proofs.Grounds.{wiped-long}
+use Rattle.windows.specs.Window.{piece}
+use Rattle.common_divisor.specs.Searches.{GroundIn}
+use Rattle.common_divisor.specs.declared.Ground.{Ground}
+use lib.ListN.{length}
+use native.Mathlib.Omega.{arith}
+use mathlib.Core.Path.{_∙_}
+use Rattle.why_service.proofs.Grounds.{coprime, search-asked, both-zero, monic-asked, common-divisor}
+use mathlib.Core.Path.{refl, subst}
 use borrow.Author.Needs.{needs}
 use Rattle.why_service.proofs.ground.Statement.{statement}
 use Rattle.why_service.proofs.ground.Tie as tie
@@ -18,7 +27,8 @@ same-length c = search needs
 
 -- src/lib.rt:29:9
 returns : tie.Need-returns
-returns c = ?
+returns c = let q = c .before .before .before .before .before .before .before .before .before .pre in
+    (coprime (c .before .before .before .before .before .before .before .before .before .args .d) (c .before .before .before .wipe .last .0) (c .before .before .before .before .before .before .before .before .before .args .w .now) (q .words) (c .before .before .before .wipe .ensures) (c .if1 .taken), (refl, record { same = refl }))
 
 -- src/lib.rt:38:5
 load-requires : tie.Need-load-requires
@@ -30,7 +40,8 @@ load-requires-2 c κs = search needs
 
 -- src/lib.rt:40:11
 search-requires : tie.Need-search-requires
-search-requires c κs = ?
+search-requires c κs = let s = c .before .before .before .before .before .before .before .before .before .before .before .before .before .before .before .before .before .before .args in
+    search-asked (s .d) (s .f .now) (s .g .now) (s .w .now) (s .work .now) (c .before .before .before .before .before .before .before .load .last .0) (c .before .before .before .load2 .last .0) (c .before .before .before .before .before .before .before .before .before .before .before .before .before .before .before .before .before .before .pre) (c .before .before .before .before .before .before .before .load .ensures) (c .before .before .before .load2 .ensures) (c .before .before .before .before .before .before .before .before .before .if1 .left)
 
 -- src/lib.rt:41:22
 enum-known-m : tie.Need-enum-known-m
@@ -42,11 +53,24 @@ enum-known-h c = search needs
 
 -- src/lib.rt:49:13
 monic-requires : tie.Need-monic-requires
-monic-requires c κs = ?
+monic-requires c κs = let s = c .before .before .before .before .before .before .before .before .before .before .before .before .before .before .before .before .before .before .before .before .before .before .before .before .before .before .args in
+    let q = c .before .before .before .before .before .before .before .before .before .before .before .before .before .before .before .before .before .before .before .before .before .before .before .before .before .before .pre in
+    let f = s .f .now in
+    let g = s .g .now in
+    let w2 = c .before .before .before .before .before .before .before .before .before .before .before .load2 .last .0 in
+    let w3 = c .before .before .before .before .before .before .before .search .last .0 in
+    let x = subst (λ (y : Ground). GroundIn (s .d) (piece w2 0 (length f)) (piece w2 (length f) (length g)) w3 y) (c .before .before .before .h .given .1) (c .before .before .before .before .before .before .before .search .ensures .0) in
+    monic-asked (s .d) f g (s .w .now) (s .work .now) (c .before .before .before .before .before .before .before .before .before .before .before .before .before .before .before .load .last .0) w2 q (c .before .before .before .before .before .before .before .before .before .before .before .before .before .before .before .load .ensures) (c .before .before .before .before .before .before .before .before .before .before .before .load2 .ensures) (c .before .before .before .h .given .0 .0) w3 (c .before .before .before .before .before .before .before .before .before .before .before .before .before .before .before .before .before .before .before .before .wipe .last .0) (wiped-long _ (s .w .now) (c .before .before .before .before .before .before .before .before .before .before .before .before .before .before .before .before .before .before .before .before .wipe .ensures) (q .words)) x
 
 -- src/lib.rt:53:25
 cast-t28 : tie.Need-cast-t28
-cast-t28 c = ?
+cast-t28 c = let s = c .before .before .before .before .before .before .before .before .before .before .before .before .before .before .before .before .before .before .before .before .before .before .before .before .before .before .before .before .before .args in
+    let f = s .f .now in
+    let g = s .g .now in
+    let w2 = c .before .before .before .before .before .before .before .before .before .before .before .before .before .before .load2 .last .0 in
+    let w3 = c .before .before .before .before .before .before .before .before .before .before .search .last .0 in
+    let x = subst (λ (y : Ground). GroundIn (s .d) (piece w2 0 (length f)) (piece w2 (length f) (length g)) w3 y) (c .before .before .before .before .before .before .h .given .1) (c .before .before .before .before .before .before .before .before .before .before .search .ensures .0) in
+    record { fits = omega (arith, x .few) }
 
 -- src/lib.rt:22:1
 same-length-2 : tie.Need-same-length-2
@@ -58,7 +82,14 @@ same-length-3 c = search needs
 
 -- src/lib.rt:22:1
 returns-2 : tie.Need-returns-2
-returns-2 c = ?
+returns-2 c = let s = c .before .before .before .before .before .before .before .before .before .before .before .before .before .before .before .before .before .before .before .before .before .before .before .before .args in
+    let q = c .before .before .before .before .before .before .before .before .before .before .before .before .before .before .before .before .before .before .before .before .before .before .before .before .pre in
+    let f = s .f .now in
+    let g = s .g .now in
+    let w2 = c .before .before .before .before .before .before .before .before .before .load2 .last .0 in
+    let w3 = c .before .before .before .before .before .search .last .0 in
+    let x = subst (λ (y : Ground). GroundIn (s .d) (piece w2 0 (length f)) (piece w2 (length f) (length g)) w3 y) (c .before .m .given .1) (c .before .before .before .before .before .search .ensures .0) in
+    (both-zero (s .d) f g (s .w .now) (s .work .now) (c .before .before .before .before .before .before .before .before .before .before .before .before .before .load .last .0) w2 q (c .before .before .before .before .before .before .before .before .before .before .before .before .before .load .ensures) (c .before .before .before .before .before .before .before .before .before .load2 .ensures) (c .before .m .given .0 .0) (c .before .before .before .before .before .before .before .before .before .before .before .before .before .before .before .before .before .before .wipe .last .0) (c .before .before .before .before .before .before .before .before .before .before .before .before .before .before .before .before .before .before .wipe .ensures) x, (refl, record { same = c .before .before .before .before .before .search .ensures .1 .same ∙ c .before .before .before .before .before .before .before .before .before .load2 .ensures .same ∙ c .before .before .before .before .before .before .before .before .before .before .before .before .before .load .ensures .same }))
 
 -- src/lib.rt:22:1
 same-length-4 : tie.Need-same-length-4
@@ -70,7 +101,14 @@ same-length-5 c = search needs
 
 -- src/lib.rt:22:1
 returns-3 : tie.Need-returns-3
-returns-3 c = ?
+returns-3 c = let s = c .before .before .before .before .before .before .before .before .before .before .before .before .before .before .before .before .before .before .before .before .before .before .before .before .before .before .before .before .before .args in
+    let q = c .before .before .before .before .before .before .before .before .before .before .before .before .before .before .before .before .before .before .before .before .before .before .before .before .before .before .before .before .before .pre in
+    let f = s .f .now in
+    let g = s .g .now in
+    let w2 = c .before .before .before .before .before .before .before .before .before .before .before .before .before .before .load2 .last .0 in
+    let w3 = c .before .before .before .before .before .before .before .before .before .before .search .last .0 in
+    let x = subst (λ (y : Ground). GroundIn (s .d) (piece w2 0 (length f)) (piece w2 (length f) (length g)) w3 y) (c .before .before .before .before .before .before .h .given .1) (c .before .before .before .before .before .before .before .before .before .before .search .ensures .0) in
+    (common-divisor (s .d) f g (s .w .now) (s .work .now) (c .before .before .before .before .before .before .before .before .before .before .before .before .before .before .before .before .before .before .load .last .0) w2 q (c .before .before .before .before .before .before .before .before .before .before .before .before .before .before .before .before .before .before .load .ensures) (c .before .before .before .before .before .before .before .before .before .before .before .before .before .before .load2 .ensures) (c .before .before .before .before .before .before .h .given .0 .0) w3 (c .before .before .before .before .before .before .before .before .before .before .before .before .before .before .before .before .before .before .before .before .before .before .before .wipe .last .0) (wiped-long _ (s .w .now) (c .before .before .before .before .before .before .before .before .before .before .before .before .before .before .before .before .before .before .before .before .before .before .before .wipe .ensures) (q .words)) x (c .before .before .monic .last .0) (c .before .before .monic .ensures), (refl, record { same = c .before .before .before .before .before .before .before .before .before .before .search .ensures .1 .same ∙ c .before .before .before .before .before .before .before .before .before .before .before .before .before .before .load2 .ensures .same ∙ c .before .before .before .before .before .before .before .before .before .before .before .before .before .before .before .before .before .before .load .ensures .same }))
 
 pub ground-spec : {M : Type 1} → statement M
 ground-spec =
