@@ -1,10 +1,11 @@
 // Why two polynomials are not coprime, as a service (02, W4): from any words and lengths an answer, or a numbered refusal.
 //
 //   ground    what is said of f and g, whose reduced resultant is d
+//   why       the service
 ghost use mathlib.Core.Path.{_≡_};
-ghost use lib.ListN.{length};
 ghost use Rattle.windows.specs.Window.{Scratch};
-ghost use Rattle.why_service.specs.WhyService.{GroundHolds};
+ghost use Rattle.refusals.specs.Refusals.{narrow};
+ghost use Rattle.why_service.specs.WhyService.{GroundHolds, WhyAnswer};
 ghost use Rattle.why_service.specs.Asked.{GroundAsked};
 use common_divisor::Ground;
 
@@ -54,4 +55,40 @@ fn ground(w: &mut [u32], work: &mut [u32], d: u32, f: &[u32], g: &[u32]) -> Reas
             }
         }
     }
+}
+
+// "A user who sees D above 1 wants the cause."
+pub fn why(n: u32, f: &[u32], g: &[u32], w: &mut [u32], work: &mut [u32]) -> Reason
+    ensures { λ r. ⌜ WhyAnswer narrow n (now (f .entry)) (now (g .entry)) (now (w .entry)) (now (w .exit)) (now (work .entry))
+        (now (work .exit)) (r .ground) (r .m) (r .degree) (r .status) ⌝ }
+{
+    let status = refusals::refusal_two(n, f, g);
+    if status != 0 {
+        return Reason {
+            ground: 0,
+            m: 0,
+            degree: 0,
+            status,
+        };
+    }
+    if w.len() < 49 {
+        return Reason {
+            ground: 0,
+            m: 0,
+            degree: 0,
+            status: 6,
+        };
+    }
+    if work.len() < 8192 {
+        return Reason {
+            ground: 0,
+            m: 0,
+            degree: 0,
+            status: 7,
+        };
+    }
+    let d = divisor::run(work, n, f, g);
+    let r = ground(&mut w[0..49], work, d, f, g);
+    windows::wipe(work);
+    r
 }
