@@ -1,2 +1,3 @@
 pub mod WhyService
 pub mod Asked
+pub mod WhyLaws
