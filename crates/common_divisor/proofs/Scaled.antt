@@ -1,15 +1,14 @@
 -- A polynomial is loaded into a wiped buffer and multiplied by the inverse of its leading word.
 --
 --   scaled    what is left in the buffer
-use mathlib.Core.Path.{_≡_, refl, sym, ap, subst, _∙_}
+use mathlib.Core.Path.{_≡_, sym, ap, _∙_}
 use mathlib.Core.List.{List}
 use mathlib.Core.Logic.{⊎-elim}
-use Prim.Native.Nat.{ℕ, _+_, _-_, _*_, _%_, _<_, _≤_}
+use Prim.Native.Nat.{ℕ, _+_, _*_, _%_, _<_, _≤_}
 use native.Mathlib.Nat.{mod-eq-of-lt, zero-add}
 use native.Mathlib.Omega.{arith}
 use lib.ListN.{length, getD, replicate, getD-replicate, length-replicate, List·getD-eq-default}
 use borrow.Rule.Slice.PartMut.{midOf}
-use Rattle.definitions.specs.Polynomials.{coef}
 use Rattle.numbers.specs.Congruence.{c-refl, c-mul, c-mod}
 use Rattle.numbers.specs.Divisors.{GcdCofactor}
 use Rattle.numbers.specs.Units.{gcd-of-coprime, coprime-of-unit}

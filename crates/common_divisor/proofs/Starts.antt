@@ -4,12 +4,12 @@
 --   asked, found        what Euclid's algorithm asks, and what its answer says of f and g
 --   ready-first, ready-second, both-zero    f longer, g longer, and nothing left of both
 --   flipped             the two exchanged
-use mathlib.Core.Path.{_≡_, refl, sym, ap, subst, _∙_}
+use mathlib.Core.Path.{_≡_, refl, sym, subst}
 use mathlib.Core.List.{List}
 use Prim.Native.Nat.{ℕ, _+_, _-_, _%_, _<_, _≤_, _∣_}
 use native.Mathlib.Nat.{dvd-trans}
 use native.Mathlib.Omega.{arith}
-use lib.ListN.{length, getD}
+use lib.ListN.{length}
 use Rattle.definitions.specs.Residues.{IsUnit}
 use Rattle.definitions.specs.Polynomials.{coef}
 use Rattle.numbers.specs.Congruence.{c-dvd}
@@ -18,7 +18,7 @@ use Rattle.windows.specs.Window.{piece, Apart}
 use Rattle.windows.proofs.Leaf.{piece-at, piece-length}
 use Rattle.common_divisor.specs.Common.{OnlyZero}
 use Rattle.common_divisor.specs.CommonLaws.{only-zero-dvd, only-zero-cong, only-zero-flip, divides-cong}
-use Rattle.common_divisor.specs.Searches.{Stripped, EuclidAsked, CommonIn, SearchAsked, ZeroIn}
+use Rattle.common_divisor.specs.Searches.{Stripped, EuclidAsked, CommonIn, StartAsked, ZeroIn}
 use Rattle.common_divisor.specs.declared.Found.{Found}
 use Rattle.common_divisor.proofs.Turns.{shorter}
 
@@ -87,7 +87,7 @@ flipped x = record {
   second = x .first;
 }
 
-module _ (m x y : ℕ) (w : List ℕ) (q : SearchAsked m x y w) (c₁ k c l : ℕ) (s : Stripped m (piece w 0 x) c₁ k) (t : Stripped c₁ (piece w x y) c l) where
+module _ (m x y : ℕ) (w : List ℕ) (q : StartAsked m x y w) (c₁ k c l : ℕ) (s : Stripped m (piece w 0 x) c₁ k) (t : Stripped c₁ (piece w x y) c l) where
   few-k : k ≤ x
   few-k = subst (λ (z : ℕ). k ≤ z) (piece-length w 0 x (omega (arith, q .room))) (s .few)
 

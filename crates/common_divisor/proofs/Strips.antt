@@ -6,7 +6,7 @@
 use mathlib.Core.Path.{_≡_, sym, ap, subst, _∙_}
 use mathlib.Core.List.{List}
 use mathlib.Core.Logic.{⊎-elim}
-use Prim.Native.Nat.{ℕ, zero, suc, _+_, _-_, _<_, _≤_, _∣_}
+use Prim.Native.Nat.{ℕ, zero, _+_, _-_, _<_, _≤_, _∣_}
 use native.Mathlib.Nat.{dvd-trans, dvd-zero, dvd-refl, pos-of-dvd-of-pos}
 use native.Mathlib.Omega.{arith}
 use lib.ListN.{length, getD}

@@ -4,18 +4,18 @@
 --   step-asked     what the division asks
 --   next-asked     what the next turn asks
 --   next-found     what divides g and the remainder divides f and g
-use mathlib.Core.Path.{_≡_, refl, sym, ap, ap₂, subst, _∙_}
+use mathlib.Core.Path.{_≡_, refl, sym, ap, subst, _∙_}
 use mathlib.Core.List.{List}
 use mathlib.Core.Logic.{⊎-elim}
-use Prim.Native.Nat.{ℕ, zero, suc, _+_, _-_, _*_, _%_, _<_, _≤_, _∣_}
+use Prim.Native.Nat.{ℕ, zero, _+_, _-_, _%_, _<_, _≤_, _∣_}
 use native.Mathlib.Nat.{zero-mod, one-mul, dvd-trans}
 use native.Mathlib.Omega.{arith}
-use lib.ListN.{length, getD}
+use lib.ListN.{getD}
 use Rattle.definitions.specs.Residues.{IsUnit}
 use Rattle.definitions.specs.Polynomials.{coef}
 use Rattle.numbers.specs.Congruence.{c-dvd, c-zero}
 use Rattle.numbers.specs.Units.{unit-dvd}
-use Rattle.windows.specs.Window.{piece, Apart}
+use Rattle.windows.specs.Window.{piece}
 use Rattle.windows.proofs.Leaf.{piece-at, piece-over, piece-length, lt-or-le}
 use Rattle.common_divisor.specs.Common.{DividesModulo, OnlyZero}
 use Rattle.common_divisor.specs.CommonLaws.{only-zero-dvd, only-zero-cong, only-zero-flip, only-zero-rest, not-constant}

@@ -3,9 +3,8 @@
 --   DividesModulo m h f    h divides f modulo m: a quotient exists
 --   ZeroModulo m f         every coefficient of f is a multiple of m
 --   OnlyZero m f g         f and g combine to no constant but 0 modulo m
-use mathlib.Core.Path.{_≡_}
 use mathlib.Core.List.{List}
-use Prim.Native.Nat.{ℕ, _%_, _∣_}
+use Prim.Native.Nat.{ℕ, _∣_}
 use Rattle.definitions.specs.Polynomials.{coef, Multiplied}
 use Rattle.definitions.specs.Resultants.{Reached}
 

@@ -4,36 +4,36 @@
 --   only-zero-dvd           and so modulo a divisor of the modulus
 --   only-zero-cong, only-zero-flip, only-zero-rest    words count modulo m; exchanged; f = q g + r
 --   not-constant            a unit constant cannot come up where only zero is reached
---   divides-self, divides-zero, divides-trans, divides-rest    divisors of f = q g + r
---   divided-dvd, divided-exchanged    a division modulo a divisor of m
+--   divides-trans, divides-rest            what divides a divisor; what divides g and r divides f = q g + r
+--   divides-constant, divides-zero, divides-cong    constant multiples, zero, and words modulo m
+--   divided-dvd             a division modulo a divisor of m
 --
--- Letters: m and M are moduli, m less than or equal to M; h is a divisor; q and r are quotient and remainder; C is a constant.
+-- Letters: m and M are moduli, m a divisor of M; h is a divisor; q and r are quotient and remainder; c and D are constants.
 use mathlib.Core.Path.{_≡_, refl, sym, _∙_, ap, ap₂, fun-ext, subst}
 use mathlib.Core.List.{List, [], _∷_}
 use Prim.Native.Nat.{ℕ, zero, suc, _<_, _≤_, _%_, _/_, _∣_, _+_, _-_, _*_}
-use native.Mathlib.Decide.{Fin·val-path}
-use native.Mathlib.Nat.{mod-eq-of-lt, zero-lt-suc, zero-div, dvd-refl, dvd-mul-right, dvd-of-mod-eq-zero, dvd-trans, mod-eq-zero-of-dvd}
-use native.Mathlib.Nat.{mul-div-cancel', mul-pos, dvd-of-mul-dvd-mul-left, dvd-sub, eq-one-of-dvd-one, mul-mod-right}
+use native.Mathlib.Nat.{mod-eq-of-lt, zero-div, dvd-refl, dvd-mul-right}
+use native.Mathlib.Nat.{mul-div-cancel', dvd-of-mul-dvd-mul-left, eq-one-of-dvd-one}
 use native.Mathlib.Omega.{arith}
 use lib.ListN.{length}
 use lib.IntN.{pos}
 use Rattle.definitions.specs.Checks.{convolve-beyond}
 use Rattle.definitions.specs.Residues.{IsUnit}
-use Rattle.definitions.specs.Polynomials.{coef, convolve, constant, tabulate, Multiplied, Divided}
-use Rattle.definitions.specs.Resultants.{Combination, Reached, Reduced}
-use Rattle.algebra.specs.Ideal.{Combines}
+use Rattle.definitions.specs.Polynomials.{coef, convolve, constant, tabulate, Divided}
+use Rattle.definitions.specs.Resultants.{Reached, Reduced}
 use Rattle.algebra.specs.Normaliser.{quote, by-ring}
 use Rattle.algebra.specs.Reduction.{reduce-hom}
 use Rattle.algebra.specs.Residues.{Res, toRes, Res-ring}
 use Rattle.algebra.specs.Ring.{CRing}
-use Rattle.algebra.specs.Series.{series, conv, conv-comm, conv-const, Finite, Short, const, fin-add, fin-mul, fin-neg, fin-const}
-use Rattle.numbers.specs.Congruence.{Cong, c-refl, c-trans, c-eq, c-add, c-mul, c-dvd, dvd-c, c-zero}
+use Rattle.algebra.specs.Series.{series, conv-comm, conv-const, Finite, const, fin-add, fin-mul, fin-neg}
+use Rattle.numbers.specs.Congruence.{c-refl, c-trans, c-eq, c-add, c-mul, c-dvd, dvd-c, c-zero}
 use Rattle.numbers.specs.Units.{inverse-times}
 use Rattle.theory.specs.ReachedLaws.{words-finite, words-spell, spell, to-ring, from-ring, only-any, all-any, reached-cong}
 use Rattle.theory.specs.ReducedLaws.{rest-up, flip}
-use Rattle.theory.specs.ReachedSteps.{lift-mod, constant-scale, convolve-mod, convolve-constant, convolve-scale-left, coef-whole, coef-beyond}
+use Rattle.theory.specs.ReachedSteps.{lift-mod, constant-scale, convolve-mod, convolve-constant, convolve-scale-left}
+use Rattle.theory.specs.ReachedSteps.{coef-whole, coef-beyond}
 use Rattle.theory.specs.Words.{words, convolve-is, divided-is, multiplied-is}
-use Rattle.common_divisor.specs.Common.{DividesModulo, ZeroModulo, OnlyZero}
+use Rattle.common_divisor.specs.Common.{DividesModulo, OnlyZero}
 
 -- ---- only zero
 
@@ -74,7 +74,8 @@ module _ (m : ℕ) (D c : ℕ) (f g : List ℕ) (least : 1 ≤ D) (known : Reach
   part k = (sum k + rest k) / D
 
   whole : (k : ℕ) → D * part k ≡ sum k + rest k
-  whole k = mul-div-cancel' D (dvd-c (c-trans (c-add (record { same = x .combination .sum k }) c-refl) (c-trans (c-eq (turn k)) (c-zero (dvd-mul-right D _)))))
+  whole k = mul-div-cancel' D (dvd-c (c-trans (c-add (record { same = x .combination .sum k }) c-refl)
+      (c-trans (c-eq (turn k)) (c-zero (dvd-mul-right D _)))))
     where
       turn : (k : ℕ) → constant c k + rest k ≡ D * constant c k
       turn k = ap (λ y. constant c k + y) (constant-scale (D - 1) c k) ∙ less D (constant c k) least
@@ -86,7 +87,8 @@ module _ (m : ℕ) (D c : ℕ) (f g : List ℕ) (least : 1 ≤ D) (known : Reach
   unfolding size
   beyond zero l = absurd (omega arith)
   beyond (suc k) l =
-      ap (λ y. y / D) (ap₂ _+_ (ap₂ _+_ (convolve-beyond (x .u) f (suc k) (omega arith)) (convolve-beyond (x .v) g (suc k) (omega arith))) nil)
+      ap (λ y. y / D) (ap₂ _+_ (ap₂ _+_ (convolve-beyond (x .u) f (suc k) (omega arith))
+      (convolve-beyond (x .v) g (suc k) (omega arith))) nil)
       ∙ zero-div D
     where
       nil : rest (suc k) ≡ 0
@@ -128,7 +130,8 @@ module _ (m : ℕ) (D c : ℕ) (f g : List ℕ) (least : 1 ≤ D) (known : Reach
             ∙ cancel (λ k. toRes m (sum k)) (const (Res-ring m) (toRes m ((D - 1) * c)));
       })
     where
-      turn : (h a b u v f g : ℕ → Res m) → (h *ₛ a +ₛ (-ₛ u)) *ₛ f +ₛ (h *ₛ b +ₛ (-ₛ v)) *ₛ g ≡ h *ₛ (a *ₛ f +ₛ b *ₛ g) +ₛ (-ₛ (u *ₛ f +ₛ v *ₛ g))
+      turn : (h a b u v f g : ℕ → Res m) → (h *ₛ a +ₛ (-ₛ u)) *ₛ f +ₛ (h *ₛ b +ₛ (-ₛ v)) *ₛ g ≡
+          h *ₛ (a *ₛ f +ₛ b *ₛ g) +ₛ (-ₛ (u *ₛ f +ₛ v *ₛ g))
       turn h a b u v f g =
           by-ring (series (Res-ring m)) (h ∷ a ∷ b ∷ u ∷ v ∷ f ∷ g ∷ []) (search quote depth 20) (search quote depth 20) refl
 
@@ -143,7 +146,8 @@ only-zero-of-reduced (suc m) D f g l r = record {
 }
   where
     rest-of : (D c : ℕ) → 1 ≤ D → D ∣ (D - 1) * c → D ∣ c
-    rest-of D c l h = dvd-c (c-trans (c-eq (nought c)) (c-trans (c-add (c-refl {a = c}) (record { same = sym (c-zero h .same) })) (c-trans (c-eq (less D c l)) (c-zero (dvd-mul-right D c)))))
+    rest-of D c l h = dvd-c (c-trans (c-eq (nought c)) (c-trans (c-add (c-refl {a = c}) (record { same = sym (c-zero h .same) }))
+        (c-trans (c-eq (less D c l)) (c-zero (dvd-mul-right D c)))))
       where
         nought : (c : ℕ) → c ≡ c + 0
         nought c = omega arith
@@ -187,7 +191,8 @@ only-zero-dvd m M f g L h z = go m (M / m) (mul-div-cancel' m h)
     go : (m j : ℕ) → m * j ≡ M → OnlyZero m f g
     go zero j e = absurd (omega arith)
     go (suc m) zero e = absurd (omega arith)
-    go (suc m) (suc j) e = only-zero-factor (suc j) (suc m) f g (omega arith) (omega arith) (subst (λ (y : ℕ). OnlyZero y f g) (turn m j e) z)
+    go (suc m) (suc j) e =
+        only-zero-factor (suc j) (suc m) f g (omega arith) (omega arith) (subst (λ (y : ℕ). OnlyZero y f g) (turn m j e) z)
       where
         turn : (m j : ℕ) → suc m * suc j ≡ M → M ≡ suc j * suc m
         turn m j e = omega arith
@@ -219,7 +224,9 @@ not-constant m l f g u above z = go m l (eq-one-of-dvd-one (z .at 1 one))
 
     at : (k : ℕ) → (i * coef f k) % m ≡ constant 1 k % m
     at zero = inverse-times u .same
-    at (suc k) = c-mul (c-refl {a = i}) (record { same = above (suc k) (omega arith) ∙ sym (mod-eq-of-lt (omega arith)) }) .same ∙ ap (λ y. y % m) (none i)
+    at (suc k) =
+        c-mul (c-refl {a = i}) (record { same = above (suc k) (omega arith) ∙ sym (mod-eq-of-lt (omega arith)) }) .same
+        ∙ ap (λ y. y % m) (none i)
       where
         none : (i : ℕ) → i * 0 ≡ 0
         none i = omega arith
@@ -268,7 +275,8 @@ module _ (m : ℕ) where
       turn : (x y h : ℕ → Res m) → x * (y * h) ≡ x * y * h
       turn x y h = by-ring (series (Res-ring m)) (x ∷ y ∷ h ∷ []) (search quote depth 20) (search quote depth 20) refl
 
-  rest-by : (h f g q r : List ℕ) → Divided (suc m) f g q r → DividesModulo (suc m) h g → DividesModulo (suc m) h r → DividesModulo (suc m) h f
+  rest-by : (h f g q r : List ℕ) → Divided (suc m) f g q r → DividesModulo (suc m) h g → DividesModulo (suc m) h r
+      → DividesModulo (suc m) h f
   rest-by h f g q r d a b =
       divides-by h f (words m q * words m (a .quotient) + words m (b .quotient))
       (fin-add (Res-ring m) (fin-mul (Res-ring m) (words-finite m q) (words-finite m (a .quotient))) (words-finite m (b .quotient)))
@@ -284,7 +292,8 @@ divides-trans zero l h g f = absurd (omega arith)
 divides-trans (suc m) l h g f = trans-by m h g f
 
 -- f = q g + r: what divides g and r divides f
-pub divides-rest : (m : ℕ) → 1 ≤ m → (h f g q r : List ℕ) → Divided m f g q r → DividesModulo m h g → DividesModulo m h r → DividesModulo m h f
+pub divides-rest : (m : ℕ) → 1 ≤ m → (h f g q r : List ℕ) → Divided m f g q r → DividesModulo m h g → DividesModulo m h r
+    → DividesModulo m h f
 divides-rest zero l h f g q r = absurd (omega arith)
 divides-rest (suc m) l h f g q r = rest-by m h f g q r
 
@@ -292,7 +301,10 @@ divides-rest (suc m) l h f g q r = rest-by m h f g q r
 pub divides-constant : (m c : ℕ) (h f : List ℕ) → ((k : ℕ) → coef f k % m ≡ (c * coef h k) % m) → DividesModulo m h f
 divides-constant m c h f e = record {
   quotient = c ∷ [];
-  equation = record { at = λ k. e k ∙ ap (λ y. y % m) (sym (ap (λ (a : ℕ → ℕ). convolve a (coef h) k) (fun-ext word) ∙ convolve-constant c (coef h) k)) };
+  equation = record {
+    at = λ k. e k ∙ ap (λ y. y % m)
+        (sym (ap (λ (a : ℕ → ℕ). convolve a (coef h) k) (fun-ext word) ∙ convolve-constant c (coef h) k));
+  };
 }
   where
     word : (k : ℕ) → coef (c ∷ []) k ≡ constant c k
@@ -304,8 +316,8 @@ pub divides-zero : (m : ℕ) (h f : List ℕ) → ((k : ℕ) → coef f k % m �
 divides-zero m h f z = record { quotient = []; equation = record { at = λ k. z k ∙ ap (λ y. y % m) (sym (convolve-none h k)) } }
 
 -- words count modulo m
-pub divides-cong : (m : ℕ) → 1 ≤ m → (h h′ f f′ : List ℕ) → ((k : ℕ) → coef h k % m ≡ coef h′ k % m) → ((k : ℕ) → coef f k % m ≡ coef f′ k % m)
-    → DividesModulo m h f → DividesModulo m h′ f′
+pub divides-cong : (m : ℕ) → 1 ≤ m → (h h′ f f′ : List ℕ) → ((k : ℕ) → coef h k % m ≡ coef h′ k % m)
+    → ((k : ℕ) → coef f k % m ≡ coef f′ k % m) → DividesModulo m h f → DividesModulo m h′ f′
 divides-cong m l h h′ f f′ eh ef d = record {
   quotient = d .quotient;
   equation = record {

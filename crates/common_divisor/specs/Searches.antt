@@ -5,7 +5,8 @@
 --   StepAsked, Stepped         one division, of the polynomial at a by the one at b
 --   EuclidAsked                what the algorithm asks: f of degree d at a, its leading word a unit, and l words at b
 --   CommonIn                   what it promises: a divisor of both, in the buffer
---   SearchAsked, GroundIn      what the search asks and promises
+--   StartAsked, SearchAsked    what the search asks, of polynomials in the buffer and of lent ones
+--   ZeroIn, GroundIn           what it promises
 --   MonicAsked, MonicOf        a polynomial is written out, times the inverse of its leading word
 use mathlib.Core.Path.{_≡_}
 use mathlib.Core.List.{List}
@@ -67,12 +68,20 @@ pub record CommonIn (m d : ℕ) (f g w : List ℕ) (h : Found) : Type 0 where
   pub second : DividesModulo (h .m) (piece w (h .at) (h .degree + 1)) g
 
 -- f of x words at 0 and g of y words after it; only zero is reached
-pub record SearchAsked (m x y : ℕ) (w : List ℕ) : Type 0 where
+pub record StartAsked (m x y : ℕ) (w : List ℕ) : Type 0 where
   pub two : 2 ≤ m
   pub room : x + y ≤ length w
   pub few-x : x ≤ 49
   pub few-y : y ≤ 49
   pub only : OnlyZero m (piece w 0 x) (piece w x y)
+
+-- the same of lent polynomials, and room for both
+pub record SearchAsked (m : ℕ) (f g w : List ℕ) : Type 0 where
+  pub two : 2 ≤ m
+  pub room : length f + length g ≤ length w
+  pub few-f : length f ≤ 49
+  pub few-g : length g ≤ 49
+  pub only : OnlyZero m f g
 
 -- both are zero modulo m', a divisor of m above 1
 pub record ZeroIn (m : ℕ) (f g : List ℕ) (m' : ℕ) : Type 0 where

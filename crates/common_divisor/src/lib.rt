@@ -8,13 +8,14 @@
 //   strip     leading words that are no units vanish modulo a divisor of m
 //   step      one division
 //   euclid    the last divisor
-//   search    both are zero, or have a divisor of degree 1 or more
+//   start     both are zero, or have a divisor of degree 1 or more
+//   search    the same for lent polynomials
 //   monic     a polynomial with its leading word made 1
 ghost use Prim.Native.Nat.{_+_, _≤_};
 ghost use lib.ListN.{length};
 ghost use Rattle.windows.specs.Window.{piece, Scratch};
 ghost use Rattle.common_divisor.specs.Searches.{Stripped, StepAsked, Stepped, EuclidAsked, CommonIn};
-ghost use Rattle.common_divisor.specs.Searches.{SearchAsked, GroundIn, MonicAsked, MonicOf};
+ghost use Rattle.common_divisor.specs.Searches.{StartAsked, SearchAsked, GroundIn, MonicAsked, MonicOf};
 
 // The words left of a polynomial, and the modulus.
 struct Lead {
@@ -86,8 +87,8 @@ fn euclid(w: &mut [u32], m: u32, a: usize, d: usize, b: usize, l: usize) -> Foun
 }
 
 // The ground for f of x words at 0 and g of y words after it. The one with more words left is divided by the other.
-pub fn search(w: &mut [u32], m: u32, x: usize, y: usize) -> Ground
-    requires { ⌜ SearchAsked m x y (now w) ⌝ }
+fn start(w: &mut [u32], m: u32, x: usize, y: usize) -> Ground
+    requires { ⌜ StartAsked m x y (now w) ⌝ }
     ensures { λ r. ⌜ GroundIn m (piece (now (w .entry)) 0 x) (piece (now (w .entry)) x y) (now (w .exit)) r ⌝ }
     ensures { λ _. ⌜ Scratch (now (w .entry)) (now (w .exit)) ⌝ }
 {
@@ -103,6 +104,18 @@ pub fn search(w: &mut [u32], m: u32, x: usize, y: usize) -> Ground
         return Ground::Zero(c);
     }
     Ground::Common(euclid(w, c, 0, k - 1, x, l))
+}
+
+// The ground for f and g, worked in w. A divisor that is found stands there.
+pub fn search(w: &mut [u32], m: u32, f: &[u32], g: &[u32]) -> Ground
+    requires { ⌜ SearchAsked m (now f) (now g) (now w) ⌝ }
+    ensures { λ r. ⌜ GroundIn m (now (f .entry)) (now (g .entry)) (now (w .exit)) r ⌝ }
+    ensures { λ _. ⌜ Scratch (now (w .entry)) (now (w .exit)) ⌝ }
+{
+    let x = f.len();
+    windows::load(w, 0, f, m);
+    windows::load(w, x, g, m);
+    start(w, m, x, g.len())
 }
 
 // The polynomial of degree t at a, times the inverse of its leading word: "a monic w … written out … zeros above it".

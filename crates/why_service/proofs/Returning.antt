@@ -14,13 +14,13 @@ use lib.Seq.{length-take-le}
 use borrow.Rule.Slice.PartMut.{postOf}
 use Rattle.definitions.specs.Resultants.{Reduced}
 use Rattle.windows.specs.Window.{Scratch}
-use Rattle.refusals.specs.Refusals.{narrow, Tested, short, first-refusal, refusals-two, left}
+use Rattle.refusals.specs.Refusals.{narrow, Tested, short, first-refusal, refusals-two}
 use Rattle.refusals.specs.Conditions.{accepted-two}
 use Rattle.refusals.proofs.Statuses.{refused-early, passed-on, too-short, long-enough, left-refused}
 use Rattle.divisor.specs.Sizes.{DivisorSizes, divisor-sizes}
 use Rattle.common_divisor.specs.CommonLaws.{only-zero-of-reduced}
 use Rattle.why_service.specs.Asked.{GroundAsked}
-use Rattle.why_service.specs.WhyService.{NamedDivisor, GroundHolds, HoldsReason, WhyLeft, WhyAnswer}
+use Rattle.why_service.specs.WhyService.{NamedDivisor, GroundHolds, WhyLeft, WhyAnswer}
 
 left-alone : (s n : ℕ) (f g w : List ℕ) → (s ≡ 0 → ⊥) → WhyLeft s n f g w w 0 0 0
 left-alone zero n f g w z = absurd (z refl)

@@ -9,7 +9,7 @@ use mathlib.Core.List.{List, [], _∷_}
 use Prim.Native.Nat.{ℕ, zero, suc, _≤_, _<_, _∣_, _%_}
 use native.Mathlib.Nat.{dvd-zero, dvd-refl, dvd-of-mod-eq-zero, eq-one-of-dvd-one}
 use native.Mathlib.Omega.{arith}
-use lib.ListN.{length, take, replicate}
+use lib.ListN.{take, replicate}
 use Rattle.definitions.specs.Resultants.{Reduced}
 use Rattle.definitions.specs.Polynomials.{coef}
 use Rattle.theory.specs.Computed.{multiplied-by, below-by}
@@ -69,8 +69,8 @@ no-constant n D m f g h x = let z : 1 ≤ 0 = x .some in omega arith
 row-zero : BothZero 10 10 (0 ∷ 0 ∷ []) (0 ∷ []) (replicate 49 0) 10 0
 row-zero = record {
   modulus = record { divides-n = dvd-refl 10; above = omega arith; divides-D = dvd-refl 10 };
-  first = record { at = elim [ | zero ↦ dvd-zero 10 | suc zero ↦ dvd-zero 10 | suc (suc k) ↦ dvd-zero 10 ] };
-  second = record { at = elim [ | zero ↦ dvd-zero 10 | suc k ↦ dvd-zero 10 ] };
+  first = record { at = elim [ zero ↦ dvd-zero 10 | suc zero ↦ dvd-zero 10 | suc (suc k) ↦ dvd-zero 10 ] };
+  second = record { at = elim [ zero ↦ dvd-zero 10 | suc k ↦ dvd-zero 10 ] };
   zeros = refl;
   no-degree = refl;
 }

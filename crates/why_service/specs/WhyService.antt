@@ -9,7 +9,6 @@
 --   WhyAnswer                   all that is promised of a call
 --   why-listed                  each refusal under its condition and no other
 use mathlib.Core.Path.{_≡_}
-use mathlib.Core.Bool.{Bool}
 use mathlib.Core.List.{List, [], _∷_, _++_}
 use Prim.Native.Nat.{ℕ, zero, suc, _≤_, _<_, _∣_}
 use native.Mathlib.Omega.{arith}

@@ -33,11 +33,7 @@ fn ground(w: &mut [u32], work: &mut [u32], d: u32, f: &[u32], g: &[u32]) -> Reas
             status: 0,
         };
     }
-    let x = f.len();
-    let y = g.len();
-    windows::load(work, 0, f, d);
-    windows::load(work, x, g, d);
-    match common_divisor::search(work, d, x, y) {
+    match common_divisor::search(work, d, f, g) {
         Ground::Zero(m) => Reason {
             ground: 1,
             m,

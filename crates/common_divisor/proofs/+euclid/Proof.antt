@@ -22,7 +22,6 @@ euclid-at t = and 1 euclid-kinds.ps (is 1 euclid-kinds.ps μ-euclid t) euclid.Pr
 abbrev euclid-below : ℕ → In 1 euclid-kinds.ps
 euclid-below t = and 1 euclid-kinds.ps (falls 1 euclid-kinds.ps _<_ μ-euclid t) euclid.Pre
 
--- src/lib.rt:74:9
 euclid-strip-requires : (t : ℕ) → euclid-lts.Need-strip-requires (
   strip-reads.Asked,
   strip-reads.Learnt,
@@ -33,7 +32,6 @@ euclid-strip-requires : (t : ℕ) → euclid-lts.Need-strip-requires (
 ) (euclid-at t) euclid.Post
 euclid-strip-requires t c κs = let q = c .before .before .pre .1 in (omega (arith, q .two), omega (arith, q .second))
 
--- src/lib.rt:78:9
 euclid-same-length : (t : ℕ) → euclid-lts.Need-same-length (
   strip-reads.Asked,
   strip-reads.Learnt,
@@ -44,7 +42,6 @@ euclid-same-length : (t : ℕ) → euclid-lts.Need-same-length (
 ) (euclid-at t) euclid.Post
 euclid-same-length t c = search needs
 
--- src/lib.rt:78:9
 euclid-returns : (t : ℕ) → euclid-lts.Need-returns (
   strip-reads.Asked,
   strip-reads.Learnt,
@@ -56,7 +53,6 @@ euclid-returns : (t : ℕ) → euclid-lts.Need-returns (
 euclid-returns t c = let s = c .before .before .before .before .args in
     (last (s .m) (s .a) (s .d) (s .b) (s .l) (s .w .now) (c .before .before .before .before .pre .1) (c .before .strip .result .m) (c .before .strip .result .len) (c .before .strip .ensures) (c .if1 .taken), record { same = refl })
 
--- src/lib.rt:84:25
 euclid-sub-step : (t : ℕ) → euclid-lts.Need-sub-step (
   strip-reads.Asked,
   strip-reads.Learnt,
@@ -67,7 +63,6 @@ euclid-sub-step : (t : ℕ) → euclid-lts.Need-sub-step (
 ) (euclid-at t) euclid.Post
 euclid-sub-step t c = let n = c .before .if1 .left in omega arith
 
--- src/lib.rt:84:5
 euclid-step-requires : (t : ℕ) → euclid-lts.Need-step-requires (
   strip-reads.Asked,
   strip-reads.Learnt,
@@ -79,7 +74,6 @@ euclid-step-requires : (t : ℕ) → euclid-lts.Need-step-requires (
 euclid-step-requires t c κs = let s = c .before .before .before .before .before .args in
     step-asked (s .m) (s .a) (s .d) (s .b) (s .l) (s .w .now) (c .before .before .before .before .before .pre .1) (c .before .before .strip .result .m) (c .before .before .strip .result .len) (c .before .before .strip .ensures) (c .before .if1 .left)
 
--- src/lib.rt:85:21
 euclid-sub-euclid : (t : ℕ) → euclid-lts.Need-sub-euclid (
   strip-reads.Asked,
   strip-reads.Learnt,
@@ -90,7 +84,6 @@ euclid-sub-euclid : (t : ℕ) → euclid-lts.Need-sub-euclid (
 ) (euclid-at t) euclid.Post
 euclid-sub-euclid t c = let n = c .before .before .before .before .before .if1 .left in omega arith
 
--- src/lib.rt:85:31
 euclid-sub-euclid-2 : (t : ℕ) → euclid-lts.Need-sub-euclid-2 (
   strip-reads.Asked,
   strip-reads.Learnt,
@@ -101,7 +94,6 @@ euclid-sub-euclid-2 : (t : ℕ) → euclid-lts.Need-sub-euclid-2 (
 ) (euclid-at t) euclid.Post
 euclid-sub-euclid-2 t c = let n = c .before .before .before .before .before .if1 .left in omega arith
 
--- src/lib.rt:85:5
 euclid-euclid-requires : (t : ℕ) → euclid-lts.Need-euclid-requires (
   strip-reads.Asked,
   strip-reads.Learnt,
@@ -116,7 +108,6 @@ euclid-euclid-requires t c κs = let s = c .before .before .before .before .befo
     let k = few (s .m) (s .a) (s .d) (s .b) (s .l) (s .w .now) q (c .before .before .before .before .before .before .strip .result .m) (c .before .before .before .before .before .before .strip .result .len) (c .before .before .before .before .before .before .strip .ensures) in
     (omega (arith, c .before .before .before .before .before .before .before .before .before .pre .0), next-asked (s .m) (s .a) (s .d) (s .b) (s .l) (s .w .now) q (c .before .before .before .before .before .before .strip .result .m) (c .before .before .before .before .before .before .strip .result .len) (c .before .before .before .before .before .before .strip .ensures) n (c .before .before .before .step .last .0) (c .before .before .before .step .ensures))
 
--- src/lib.rt:69:1
 euclid-same-length-2 : (t : ℕ) → euclid-lts.Need-same-length-2 (
   strip-reads.Asked,
   strip-reads.Learnt,
@@ -127,7 +118,6 @@ euclid-same-length-2 : (t : ℕ) → euclid-lts.Need-same-length-2 (
 ) (euclid-at t) euclid.Post
 euclid-same-length-2 t c = search needs
 
--- src/lib.rt:69:1
 euclid-returns-2 : (t : ℕ) → euclid-lts.Need-returns-2 (
   strip-reads.Asked,
   strip-reads.Learnt,

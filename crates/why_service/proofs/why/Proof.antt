@@ -5,65 +5,25 @@ use lib.ListN.{replicate}
 use borrow.Author.Needs.{needs}
 use Rattle.why_service.proofs.why.Statement.{statement}
 use Rattle.why_service.proofs.why.Tie as tie
-use Rattle.why_service.proofs.why.Reads as reads
-use Rattle.why_service.proofs.why.Lts as lts
-use Rattle.divisor.proofs.run.Reads as run-reads
-use Rattle.refusals.proofs.refusal_two.Reads as refusal-two-reads
-use Rattle.why_service.proofs.ground.Reads as ground-reads
-use Rattle.windows.proofs.wipe.Reads as wipe-reads
 
--- src/lib.rt:65:9
-refusal-two-requires : tie.Need-refusal-two-requires
-refusal-two-requires c κs = search needs
-
--- src/lib.rt:67:9
 returns : tie.Need-returns
 returns c = refused _ _ _ _ _ (c .before .refusal-two .result) (c .before .refusal-two .ensures) (c .if1 .taken)
 
--- src/lib.rt:75:9
 returns-2 : tie.Need-returns-2
 returns-2 c = buffer-short _ _ _ _ _ (c .before .before .refusal-two .result) (c .before .before .refusal-two .ensures) (c .before .if1 .left) (c .if2 .taken)
 
--- src/lib.rt:83:9
 returns-3 : tie.Need-returns-3
 returns-3 c = work-short _ _ _ _ _ (c .before .before .before .refusal-two .result) (c .before .before .before .refusal-two .ensures) (c .before .before .if1 .left) (c .before .if2 .left) (c .if3 .taken)
 
--- src/lib.rt:90:9
 run-requires : tie.Need-run-requires
 run-requires c κs = let s = c .before .before .before .before .before .before .before .before .before .args in
     let e = c .before .before .before .before .refusal-two .ensures in
     (modulus-two (s .n) (s .f .now) (s .g .now) (s .w .now) (s .work .now) _ e (c .before .before .before .if1 .left), sizes (s .n) (s .f .now) (s .g .now) (s .w .now) (s .work .now) _ e (c .before .before .before .if1 .left) (c .before .if3 .left))
 
--- src/lib.rt:91:20
-sub-ground : tie.Need-sub-ground
-sub-ground c = search needs
-
--- src/lib.rt:91:20
-part-ground-start : tie.Need-part-ground-start
-part-ground-start c = search needs
-
--- src/lib.rt:91:20
-part-ground-end : tie.Need-part-ground-end
-part-ground-end c = search needs
-
--- src/lib.rt:91:9
 ground-requires : tie.Need-ground-requires
 ground-requires c κs = let s = c .before .before .before .before .before .before .before .before .before .before .before .before .before .before .args in
     ground-asked (s .n) (s .f .now) (s .g .now) (s .w .now) (s .work .now) _ (c .before .before .before .before .before .before .before .before .before .refusal-two .ensures) (c .before .before .before .before .before .before .before .before .if1 .left) (c .before .before .before .before .before .before .before .if2 .left) (c .before .before .before .before .before .before .if3 .left) (c .before .before .before .before .run .result) (c .before .before .before .before .run .last .0) (c .before .before .before .before .run .ensures .0) (c .before .before .before .before .run .ensures .1)
 
--- src/lib.rt:92:5
-wipe-requires : tie.Need-wipe-requires
-wipe-requires c κs = search needs
-
--- src/lib.rt:61:1
-same-length : tie.Need-same-length
-same-length c = search needs
-
--- src/lib.rt:61:1
-same-length-2 : tie.Need-same-length-2
-same-length-2 c = search needs
-
--- src/lib.rt:61:1
 returns-4 : tie.Need-returns-4
 returns-4 c = let s = c .before .before .before .before .before .before .before .before .before .before .before .before .before .before .before .before .before .before .before .before .before .before .before .args in
     done (s .n) (s .f .now) (s .g .now) (s .w .now) (s .work .now) _ (c .before .before .before .before .before .before .before .before .before .before .before .before .before .before .before .before .before .before .refusal-two .ensures) (c .before .before .before .before .before .before .before .before .before .before .before .before .before .before .before .before .before .if1 .left) (c .before .before .before .before .before .before .before .before .before .before .before .before .before .before .before .before .if2 .left) (c .before .before .before .before .before .before .before .before .before .before .before .before .before .before .before .if3 .left) (c .before .before .before .before .before .before .before .before .before .before .before .before .before .run .result) (c .before .before .before .before .before .before .before .before .ground .last .0) (c .before .before .wipe .last .0) (c .before .before .before .before .before .before .before .before .before .before .before .before .before .run .ensures .0) (c .before .before .before .before .before .before .before .before .ground .kept .0) (c .before .before .wipe .ensures ∙ ap (λ (i : ℕ). replicate i 0) (c .before .before .before .before .before .before .before .before .ground .ensures .1 .1 .same ∙ c .before .before .before .before .before .before .before .before .before .before .before .before .before .run .ensures .1 .same)) (c .before .before .before .before .before .before .before .before .ground .result .ground) (c .before .before .before .before .before .before .before .before .ground .result .m) (c .before .before .before .before .before .before .before .before .ground .result .degree) (c .before .before .before .before .before .before .before .before .ground .result .status) (c .before .before .before .before .before .before .before .before .ground .ensures .0) (c .before .before .before .before .before .before .before .before .ground .ensures .1 .0)
@@ -72,16 +32,16 @@ pub why-spec : {M : Type 1} → statement M
 why-spec =
     tie.close
     (tie.spec
-    refusal-two-requires
+    (λ c κs. search needs)
     returns
     returns-2
     returns-3
     run-requires
-    sub-ground
-    part-ground-start
-    part-ground-end
+    (λ c. search needs)
+    (λ c. search needs)
+    (λ c. search needs)
     ground-requires
-    wipe-requires
-    same-length
-    same-length-2
+    (λ c κs. search needs)
+    (λ c. search needs)
+    (λ c. search needs)
     returns-4)
