@@ -111,44 +111,37 @@ fn mix_words(h: u32, w: &[u32]) -> u32 {
     s
 }
 
-// a + c b, word by word, as far as both go.
-fn add_multiple(m: u32, a: &mut [u32], c: u32, b: &[u32])
+// The words of f modulo m, as far as room goes.
+fn reduce_into(m: u32, f: &[u32], room: &mut [u32])
     requires { ⌜ 1 ≤ m ⌝ }
 {
     let mut i: usize = 0;
-    while i < a.len() {
-        if i >= b.len() {
+    while i < room.len() {
+        if i >= f.len() {
             return;
         }
-        a[i] = arithmetic::mul_add_mod(m, a[i], c, b[i]);
+        room[i] = f[i] % m;
         i += 1;
     }
 }
 
-// The first t words of room are left of its first k, where the t + 1 words of h, with 1 on top, are taken off as often as they can be.
-fn take_off(m: u32, h: &[u32], t: usize, room: &mut [u32], k: usize)
-    requires { ⌜ (1 ≤ m) × ((k ≤ length (now room)) × (t < length (now h))) ⌝ }
-{
-    let mut i = k;
-    while t < i {
-        i -= 1;
-        let c = room[i] % m;
-        add_multiple(m, &mut room[i - t..i + 1], m - c, &h[0..t + 1]);
-    }
-}
-
-// Whether h of degree t, with 1 on top, divides f modulo m.
-fn divides(m: u32, h: &[u32], t: usize, f: &[u32], room: &mut [u32]) -> bool
+// Whether h of degree t divides f modulo m: the division of the engine leaves no remainder.
+fn divides(m: u32, h: &[u32], t: usize, f: &[u32]) -> bool
     requires { ⌜ (1 ≤ m) × (t < length (now h)) ⌝ }
 {
     let k = f.len();
-    if room.len() < k {
+    if 49 < k {
         return false;
     }
-    fill(room, 0, 0);
-    add_multiple(m, room, 1, f);
-    take_off(m, h, t, room, k);
-    all_are(room, 0, 0)
+    let mut room = dividend_room();
+    let mut quotient = dividend_room();
+    let mut rest = dividend_room();
+    reduce_into(m, f, &mut room);
+    let a: refusals::Answer = polynomial_division::division(m, &room[0..k], &h[0..t + 1], &mut quotient, &mut rest);
+    if a.status != 0 {
+        return false;
+    }
+    all_are(&rest, 0, 0)
 }
 
 // A named modulus divides n and is above 1.
@@ -172,7 +165,7 @@ fn true_zero(n: u32, f: &[u32], g: &[u32], m: u32, w: &[u32]) -> bool {
     all_are(w, 0, 0)
 }
 
-fn true_common(n: u32, f: &[u32], g: &[u32], m: u32, t: usize, w: &[u32], room: &mut [u32]) -> bool {
+fn true_common(n: u32, f: &[u32], g: &[u32], m: u32, t: usize, w: &[u32]) -> bool {
     if !true_modulus(n, m) {
         return false;
     }
@@ -188,14 +181,14 @@ fn true_common(n: u32, f: &[u32], g: &[u32], m: u32, t: usize, w: &[u32], room: 
     if !all_are(w, t + 1, 0) {
         return false;
     }
-    if !divides(m, w, t, f, room) {
+    if !divides(m, w, t, f) {
         return false;
     }
-    divides(m, w, t, g, room)
+    divides(m, w, t, g)
 }
 
 // Whether the ground holds; w are the 49 words of the divisor.
-fn true_ground(n: u32, f: &[u32], g: &[u32], r: Reason, w: &[u32], room: &mut [u32]) -> bool {
+fn true_ground(n: u32, f: &[u32], g: &[u32], r: Reason, w: &[u32]) -> bool {
     if r.status != 0 {
         return false;
     }
@@ -211,7 +204,7 @@ fn true_ground(n: u32, f: &[u32], g: &[u32], r: Reason, w: &[u32], room: &mut [u
     if r.ground == 1 {
         return true_zero(n, f, g, r.m, w);
     }
-    true_common(n, f, g, r.m, r.degree as usize, w, room)
+    true_common(n, f, g, r.m, r.degree as usize, w)
 }
 
 // How often each ground was named, a checksum of the answers, and how many are wrong.
@@ -255,13 +248,12 @@ fn with_wrong(t: Tally) -> Tally {
     next
 }
 
-// The rooms of a call: w of 52 words, work of 8200, and room of 49.
-fn tried(t: Tally, n: u32, f: &[u32], g: &[u32], w: &mut [u32], work: &mut [u32], room: &mut [u32]) -> Tally
-    requires { ⌜ 49 ≤ length (now w) ⌝ }
-{
-    let r = why_service::why(n, f, g, w, work);
+// The answer to f and g joins the tally.
+fn tried(t: Tally, n: u32, f: &[u32], g: &[u32], work: &mut [u32]) -> Tally {
+    let mut w = divisor_room();
+    let r = why_service::why(n, f, g, &mut w, work);
     let next = with_answer(t, r, mix_words(0, &w[0..3]));
-    if true_ground(n, f, g, r, &w[0..49], room) {
+    if true_ground(n, f, g, r, &w[0..49]) {
         return next;
     }
     with_wrong(next)
@@ -275,23 +267,40 @@ fn counted(n: u32, t: u32) -> [u32; 3]
 }
 
 // The pair of polynomials i and j, of sent degrees d and e.
-fn one_pair(t: Tally, n: u32, i: u32, d: usize, j: u32, e: usize, w: &mut [u32], work: &mut [u32], room: &mut [u32]) -> Tally
-    requires { ⌜ (2 ≤ n) × ((d ≤ 2) × ((e ≤ 2) × (49 ≤ length (now w)))) ⌝ }
+fn one_pair(t: Tally, n: u32, i: u32, d: u32, j: u32, e: u32, work: &mut [u32]) -> Tally
+    requires { ⌜ (2 ≤ n) × ((d ≤ 2) × (e ≤ 2)) ⌝ }
 {
     let f = counted(n, i);
     let g = counted(n, j);
-    tried(t, n, &f[0..d + 1], &g[0..e + 1], w, work, room)
+    let k = d as usize + 1;
+    let l = e as usize + 1;
+    tried(t, n, &f[0..k], &g[0..l], work)
 }
 
-// Polynomial i of sent degree d with each of the b polynomials of sent degree e.
-fn pairs_with(t: Tally, n: u32, i: u32, d: usize, e: usize, b: u32, w: &mut [u32], work: &mut [u32], room: &mut [u32]) -> Tally
-    requires { ⌜ (2 ≤ n) × ((d ≤ 2) × ((e ≤ 2) × (49 ≤ length (now w)))) ⌝ }
+fn next_drawn(x: u32) -> u32 {
+    arithmetic::mul_add_mod(4294967291, 12345, 1103515245, x)
+}
+
+// Pair k of those where there are b second polynomials, or a drawn one of the b polynomials of degree 2.
+fn pair_at(t: Tally, n: u32, k: u32, d: u32, e: u32, b: u32, drawn: bool, work: &mut [u32]) -> Tally
+    requires { ⌜ (2 ≤ n) × ((d ≤ 2) × ((e ≤ 2) × (1 ≤ b))) ⌝ }
 {
-    let mut s = t;
-    let mut j: u32 = 0;
-    while j < b {
-        s = one_pair(s, n, i, d, j, e, w, work, room);
-        j += 1;
+    if drawn {
+        let x = next_drawn(k);
+        return one_pair(t, n, x % b, d, next_drawn(x) % b, e, work);
+    }
+    one_pair(t, n, k / b, d, k % b, e, work)
+}
+
+// The first of them.
+fn tally_pairs(n: u32, d: u32, e: u32, b: u32, count: u32, drawn: bool, work: &mut [u32]) -> Tally
+    requires { ⌜ (2 ≤ n) × ((d ≤ 2) × ((e ≤ 2) × (1 ≤ b))) ⌝ }
+{
+    let mut s = nothing();
+    let mut k: u32 = 0;
+    while k < count {
+        s = pair_at(s, n, k, d, e, b, drawn, work);
+        k += 1;
     }
     s
 }
@@ -308,114 +317,266 @@ fn write_tally(n: u32, d: u32, e: u32, t: Tally) {
     end_line();
 }
 
-// The line of all pairs of the a polynomials of sent degree d and the b polynomials of sent degree e.
-fn all_pairs(n: u32, d: u32, a: u32, e: u32, b: u32, w: &mut [u32], work: &mut [u32], room: &mut [u32])
-    requires { ⌜ (2 ≤ n) × ((d ≤ 2) × ((e ≤ 2) × (49 ≤ length (now w)))) ⌝ }
+// The line of all count pairs of sent degrees d and e, of which there are b to each first polynomial.
+fn all_pairs(n: u32, d: u32, e: u32, b: u32, count: u32, work: &mut [u32])
+    requires { ⌜ (2 ≤ n) × ((d ≤ 2) × ((e ≤ 2) × (1 ≤ b))) ⌝ }
 {
-    let mut s = nothing();
-    let mut i: u32 = 0;
-    while i < a {
-        s = pairs_with(s, n, i, d as usize, e as usize, b, w, work, room);
-        i += 1;
-    }
-    write_tally(n, d, e, s);
+    write_tally(n, d, e, tally_pairs(n, d, e, b, count, false, work));
 }
 
-// The line of drawn pairs of sent degree 2; c is the number of polynomials of that degree.
-fn drawn_pairs(n: u32, c: u32, w: &mut [u32], work: &mut [u32], room: &mut [u32])
-    requires { ⌜ (2 ≤ n) × ((1 ≤ c) × (49 ≤ length (now w))) ⌝ }
+// The line of 20000 drawn pairs of sent degree 2; there are c polynomials of that degree.
+fn drawn_pairs(n: u32, c: u32, work: &mut [u32])
+    requires { ⌜ (2 ≤ n) × (1 ≤ c) ⌝ }
 {
-    let mut s = nothing();
-    let mut x: u32 = 1;
-    let mut k: u32 = 0;
-    while k < 20000 {
-        let y = arithmetic::mul_add_mod(4294967291, 12345, 1103515245, x);
-        s = one_pair(s, n, x % c, 2, y % c, 2, w, work, room);
-        x = arithmetic::mul_add_mod(4294967291, 12345, 1103515245, y);
-        k += 1;
-    }
-    write_tally(n, 2, 2, s);
+    write_tally(n, 2, 2, tally_pairs(n, 2, 2, c, 20000, true, work));
 }
 
-// There are n, s and c polynomials of sent degree 0, 1 and 2. Pairs with d + e up to 1, 2, 3 and 4.
-fn lines_one(n: u32, s: u32, w: &mut [u32], work: &mut [u32], room: &mut [u32])
-    requires { ⌜ (2 ≤ n) × (49 ≤ length (now w)) ⌝ }
-{
-    all_pairs(n, 0, n, 0, n, w, work, room);
-    all_pairs(n, 0, n, 1, s, w, work, room);
-    all_pairs(n, 1, s, 0, n, w, work, room);
+fn lines_of_four(work: &mut [u32]) {
+    all_pairs(4, 0, 0, 4, 16, work);
+    all_pairs(4, 0, 1, 16, 64, work);
+    all_pairs(4, 1, 0, 4, 64, work);
+    all_pairs(4, 1, 1, 16, 256, work);
+    all_pairs(4, 0, 2, 64, 256, work);
+    all_pairs(4, 2, 0, 4, 256, work);
+    all_pairs(4, 1, 2, 64, 1024, work);
+    all_pairs(4, 2, 1, 16, 1024, work);
+    all_pairs(4, 2, 2, 64, 4096, work);
 }
 
-fn lines_two(n: u32, s: u32, c: u32, w: &mut [u32], work: &mut [u32], room: &mut [u32])
-    requires { ⌜ (2 ≤ n) × (49 ≤ length (now w)) ⌝ }
-{
-    lines_one(n, s, w, work, room);
-    all_pairs(n, 1, s, 1, s, w, work, room);
-    all_pairs(n, 0, n, 2, c, w, work, room);
-    all_pairs(n, 2, c, 0, n, w, work, room);
+fn lines_of_six(work: &mut [u32]) {
+    all_pairs(6, 0, 0, 6, 36, work);
+    all_pairs(6, 0, 1, 36, 216, work);
+    all_pairs(6, 1, 0, 6, 216, work);
+    all_pairs(6, 1, 1, 36, 1296, work);
+    all_pairs(6, 0, 2, 216, 1296, work);
+    all_pairs(6, 2, 0, 6, 1296, work);
+    all_pairs(6, 1, 2, 216, 7776, work);
+    all_pairs(6, 2, 1, 36, 7776, work);
+    all_pairs(6, 2, 2, 216, 46656, work);
 }
 
-fn lines_three(n: u32, s: u32, c: u32, w: &mut [u32], work: &mut [u32], room: &mut [u32])
-    requires { ⌜ (2 ≤ n) × (49 ≤ length (now w)) ⌝ }
-{
-    lines_two(n, s, c, w, work, room);
-    all_pairs(n, 1, s, 2, c, w, work, room);
-    all_pairs(n, 2, c, 1, s, w, work, room);
+fn lines_of_eight(work: &mut [u32]) {
+    all_pairs(8, 0, 0, 8, 64, work);
+    all_pairs(8, 0, 1, 64, 512, work);
+    all_pairs(8, 1, 0, 8, 512, work);
+    all_pairs(8, 1, 1, 64, 4096, work);
+    all_pairs(8, 0, 2, 512, 4096, work);
+    all_pairs(8, 2, 0, 8, 4096, work);
+    all_pairs(8, 1, 2, 512, 32768, work);
+    all_pairs(8, 2, 1, 64, 32768, work);
 }
 
-fn lines_four(n: u32, s: u32, c: u32, w: &mut [u32], work: &mut [u32], room: &mut [u32])
-    requires { ⌜ (2 ≤ n) × (49 ≤ length (now w)) ⌝ }
-{
-    lines_three(n, s, c, w, work, room);
-    all_pairs(n, 2, c, 2, c, w, work, room);
+fn lines_of_nine(work: &mut [u32]) {
+    all_pairs(9, 0, 0, 9, 81, work);
+    all_pairs(9, 0, 1, 81, 729, work);
+    all_pairs(9, 1, 0, 9, 729, work);
+    all_pairs(9, 1, 1, 81, 6561, work);
+    all_pairs(9, 0, 2, 729, 6561, work);
+    all_pairs(9, 2, 0, 9, 6561, work);
+    all_pairs(9, 1, 2, 729, 59049, work);
+    all_pairs(9, 2, 1, 81, 59049, work);
 }
 
-fn small_moduli(w: &mut [u32], work: &mut [u32], room: &mut [u32])
-    requires { ⌜ 49 ≤ length (now w) ⌝ }
-{
-    lines_four(4, 16, 64, w, work, room);
-    lines_four(6, 36, 216, w, work, room);
-    lines_three(8, 64, 512, w, work, room);
-    lines_three(9, 81, 729, w, work, room);
+fn other_lines(work: &mut [u32]) {
+    all_pairs(12, 0, 0, 12, 144, work);
+    all_pairs(12, 0, 1, 144, 1728, work);
+    all_pairs(12, 1, 0, 12, 1728, work);
+    all_pairs(12, 1, 1, 144, 20736, work);
+    all_pairs(12, 0, 2, 1728, 20736, work);
+    all_pairs(12, 2, 0, 12, 20736, work);
+    all_pairs(30, 0, 0, 30, 900, work);
+    all_pairs(30, 0, 1, 900, 27000, work);
+    all_pairs(30, 1, 0, 30, 27000, work);
 }
 
-fn other_moduli(w: &mut [u32], work: &mut [u32], room: &mut [u32])
-    requires { ⌜ 49 ≤ length (now w) ⌝ }
-{
-    lines_two(12, 144, 1728, w, work, room);
-    lines_one(30, 900, w, work, room);
-    drawn_pairs(8, 512, w, work, room);
-    drawn_pairs(9, 729, w, work, room);
-    drawn_pairs(12, 1728, w, work, room);
-    drawn_pairs(30, 27000, w, work, room);
+fn drawn_lines(work: &mut [u32]) {
+    drawn_pairs(8, 512, work);
+    drawn_pairs(9, 729, work);
+    drawn_pairs(12, 1728, work);
+    drawn_pairs(30, 27000, work);
 }
 
-// A full line, from a call with marked words: the words beyond the 49 are to stay, and the working words are to be zero after an answer.
-fn full_line(n: u32, f: &[u32], g: &[u32], w: &mut [u32], work: &mut [u32], room: &mut [u32])
-    requires { ⌜ 49 ≤ length (now w) ⌝ }
-{
-    fill(w, 0, MARK);
-    fill(work, 0, MARK);
-    let r = why_service::why(n, f, g, w, work);
-    number(n as u64);
-    next_number(f.len() as u32);
-    next_number(g.len() as u32);
+fn write_answer(r: Reason, h: u32, rest: u32) {
     next_number(r.status);
     next_number(r.ground);
     next_number(r.m);
     next_number(r.degree);
-    next_number(mix_words(0, w));
-    next_number(mix_words(0, work));
-    if true_ground(n, f, g, r, &w[0..49], room) {
+    next_number(h);
+    next_number(rest);
+}
+
+// A full line, from a call with marked words: the words beyond the 49 are to stay, and the working words are to be zero after an answer.
+fn full_line(n: u32, f: &[u32], g: &[u32], work: &mut [u32]) {
+    let mut w = divisor_room();
+    fill(&mut w, 0, MARK);
+    fill(work, 0, MARK);
+    let r = why_service::why(n, f, g, &mut w, work);
+    number(n as u64);
+    io::write_all(1, &[b' ']);
+    number(f.len() as u64);
+    io::write_all(1, &[b' ']);
+    number(g.len() as u64);
+    write_answer(r, mix_words(0, &w), mix_words(0, work));
+    if true_ground(n, f, g, r, &w[0..49]) {
         io::write_all(1, b" holds");
     }
     end_line();
 }
 
-fn main() {
+// "Pairs with their numbers", in the order of the table.
+fn first_pairs(work: &mut [u32]) {
+    full_line(7, &[1, 1], &[2, 1], work);
+    full_line(12, &[3, 2], &[1, 4], work);
+    full_line(4, &[1, 2], &[3, 2], work);
+    full_line(6, &[2], &[4], work);
+    full_line(9, &[3], &[1, 0, 1], work);
+}
+
+fn last_pairs(work: &mut [u32]) {
+    full_line(5, &[1, 0], &[2, 0], work);
+    full_line(10, &[0, 0], &[0], work);
+    full_line(6, &[5, 0, 1], &[3, 1], work);
+    full_line(4294967295, &[4294967294], &[0, 1], work);
+}
+
+// Refusals 1, 2 and 3, each beside one that comes later in the order.
+fn refused_lines(work: &mut [u32]) {
+    let long: [u32; 50] = [0; 50];
+    full_line(1, &long, &[0], work);
+    full_line(7, &[7], &long, work);
+    full_line(7, &long[0..0], &[7], work);
+    full_line(7, &[0], &[1, 7], work);
+}
+
+// Refusals 6 and 7: the status alone.
+fn short_line(w: &mut [u32], work: &mut [u32]) {
+    let r = why_service::why(6, &[2], &[4], w, work);
+    number(r.status as u64);
+    end_line();
+}
+
+fn short_lines(work: &mut [u32])
+    requires { ⌜ 8192 ≤ length (now work) ⌝ }
+{
     let mut w = divisor_room();
+    short_line(&mut w[0..48], &mut work[0..8191]);
+    short_line(&mut w[0..49], &mut work[0..8191]);
+    short_line(&mut w[0..49], &mut work[0..8192]);
+}
+
+// Reads a character to place k; false at the input's end.
+fn read_to(line: &mut [u8], k: usize) -> bool
+    requires { ⌜ k < length (now line) ⌝ }
+{
+    let got = libc::read(STDIN_FILENO, &mut line[k..k + 1]);
+    got > 0
+}
+
+// The characters up to the next newline, the input's end or the end of the room; answers how many they are.
+fn next_line(line: &mut [u8]) -> usize
+    ensures { λ r. ⌜ r ≤ length (now (line .exit)) ⌝ }
+{
+    let mut k: usize = 0;
+    while k < line.len() {
+        if !read_to(line, k) {
+            return k;
+        }
+        if line[k] == 10 {
+            return k;
+        }
+        k += 1;
+    }
+    k
+}
+
+// The number that count digits from place `at` on spell, 0 where they spell none.
+fn digits(s: &[u8], at: usize, count: usize) -> u32 {
+    if count > 8 {
+        return 0;
+    }
+    if s.len() < count {
+        return 0;
+    }
+    if at > s.len() - count {
+        return 0;
+    }
+    match hexadecimal::number(s, at, count) {
+        Reading::Number(x) => x,
+        Reading::Other => 0,
+    }
+}
+
+// The words of a frame: at most 98.
+fn read_words(s: &[u8], words: &mut [u32]) {
+    let mut i: usize = 0;
+    while i < words.len() {
+        if i > 97 {
+            return;
+        }
+        words[i] = digits(s, 14 + 8 * i, 8);
+        i += 1;
+    }
+}
+
+// The frame s; whether it was one.
+fn try_frame(s: &[u8], words: &mut [u32], work: &mut [u32]) -> bool
+    requires { ⌜ 98 ≤ length (now words) ⌝ }
+{
+    let n = digits(s, 2, 8);
+    if n < 2 {
+        return false;
+    }
+    let d = digits(s, 10, 2) as usize;
+    if d > 48 {
+        return false;
+    }
+    let e = digits(s, 12, 2) as usize;
+    if e > 48 {
+        return false;
+    }
+    read_words(s, words);
+    full_line(n, &words[0..d + 1], &words[d + 1..d + e + 2], work);
+    true
+}
+
+// One line of the input; whether it was a frame.
+fn try_line(line: &mut [u8], words: &mut [u32], work: &mut [u32]) -> bool
+    requires { ⌜ 98 ≤ length (now words) ⌝ }
+{
+    let l = next_line(line);
+    try_frame(&line[0..l], words, work)
+}
+
+// A proved loop has to end, and nothing says that an input does: it counts its turns down from a number that no run uses up.
+fn run(line: &mut [u8], words: &mut [u32], work: &mut [u32])
+    requires { ⌜ 98 ≤ length (now words) ⌝ }
+{
+    let mut turns = u64::MAX;
+    while turns > 0 {
+        if !try_line(line, words, work) {
+            return;
+        }
+        turns -= 1;
+    }
+}
+
+fn all_lines(work: &mut [u32]) {
+    lines_of_four(work);
+    lines_of_six(work);
+    lines_of_eight(work);
+    lines_of_nine(work);
+    other_lines(work);
+    drawn_lines(work);
+}
+
+fn main() {
+    let mut line = io::buffer();
+    let mut words = frame_room();
     let mut work = working_room();
-    let mut room = dividend_room();
-    small_moduli(&mut w, &mut work, &mut room);
-    other_moduli(&mut w, &mut work, &mut room);
+    all_lines(&mut work);
+    first_pairs(&mut work);
+    last_pairs(&mut work);
+    refused_lines(&mut work);
+    short_lines(&mut work);
+    run(&mut line, &mut words, &mut work);
 }
