@@ -62,7 +62,13 @@ pub extern "C" fn jingcobu_reduced_resultant(
 // Why f and g are not coprime: a divisor m of n, and both are zero modulo m, or a monic polynomial in the first 49 words of w divides
 // both modulo m.
 #[no_mangle]
-pub extern "C" fn jingcobu_why(n: u32, f: &[u32], g: &[u32], w: &mut [u32], work: &mut [u32]) -> Reason
+pub extern "C" fn jingcobu_why(
+    n: u32,
+    f: &[u32],
+    g: &[u32],
+    w: &mut [u32],
+    work: &mut [u32],
+) -> Reason
     ensures { λ r. ⌜ WhyAnswer narrow n (now (f .entry)) (now (g .entry)) (now (w .entry)) (now (w .exit)) (now (work .entry))
         (now (work .exit)) (r .ground) (r .m) (r .degree) (r .status) ⌝ }
 {

@@ -127,8 +127,11 @@ fn reduce_into(m: u32, f: &[u32], room: &mut [u32])
 
 // Whether h of degree t divides f modulo m: the division of the engine leaves no remainder.
 fn divides(m: u32, h: &[u32], t: usize, f: &[u32]) -> bool
-    requires { ⌜ (1 ≤ m) × (t < length (now h)) ⌝ }
+    requires { ⌜ t < length (now h) ⌝ }
 {
+    if m < 2 {
+        return false;
+    }
     let k = f.len();
     if 49 < k {
         return false;
@@ -137,7 +140,13 @@ fn divides(m: u32, h: &[u32], t: usize, f: &[u32]) -> bool
     let mut quotient = dividend_room();
     let mut rest = dividend_room();
     reduce_into(m, f, &mut room);
-    let a: refusals::Answer = polynomial_division::division(m, &room[0..k], &h[0..t + 1], &mut quotient, &mut rest);
+    let a: refusals::Answer = polynomial_division::division(
+        m,
+        &room[0..k],
+        &h[0..t + 1],
+        &mut quotient,
+        &mut rest,
+    );
     if a.status != 0 {
         return false;
     }
@@ -331,11 +340,14 @@ fn drawn_pairs(n: u32, c: u32, work: &mut [u32])
     write_tally(n, 2, 2, tally_pairs(n, 2, 2, c, 20000, true, work));
 }
 
-fn lines_of_four(work: &mut [u32]) {
+fn four_low(work: &mut [u32]) {
     all_pairs(4, 0, 0, 4, 16, work);
     all_pairs(4, 0, 1, 16, 64, work);
     all_pairs(4, 1, 0, 4, 64, work);
     all_pairs(4, 1, 1, 16, 256, work);
+}
+
+fn four_high(work: &mut [u32]) {
     all_pairs(4, 0, 2, 64, 256, work);
     all_pairs(4, 2, 0, 4, 256, work);
     all_pairs(4, 1, 2, 64, 1024, work);
@@ -343,11 +355,14 @@ fn lines_of_four(work: &mut [u32]) {
     all_pairs(4, 2, 2, 64, 4096, work);
 }
 
-fn lines_of_six(work: &mut [u32]) {
+fn six_low(work: &mut [u32]) {
     all_pairs(6, 0, 0, 6, 36, work);
     all_pairs(6, 0, 1, 36, 216, work);
     all_pairs(6, 1, 0, 6, 216, work);
     all_pairs(6, 1, 1, 36, 1296, work);
+}
+
+fn six_high(work: &mut [u32]) {
     all_pairs(6, 0, 2, 216, 1296, work);
     all_pairs(6, 2, 0, 6, 1296, work);
     all_pairs(6, 1, 2, 216, 7776, work);
@@ -355,35 +370,47 @@ fn lines_of_six(work: &mut [u32]) {
     all_pairs(6, 2, 2, 216, 46656, work);
 }
 
-fn lines_of_eight(work: &mut [u32]) {
+fn eight_low(work: &mut [u32]) {
     all_pairs(8, 0, 0, 8, 64, work);
     all_pairs(8, 0, 1, 64, 512, work);
     all_pairs(8, 1, 0, 8, 512, work);
     all_pairs(8, 1, 1, 64, 4096, work);
+}
+
+fn eight_high(work: &mut [u32]) {
     all_pairs(8, 0, 2, 512, 4096, work);
     all_pairs(8, 2, 0, 8, 4096, work);
     all_pairs(8, 1, 2, 512, 32768, work);
     all_pairs(8, 2, 1, 64, 32768, work);
 }
 
-fn lines_of_nine(work: &mut [u32]) {
+fn nine_low(work: &mut [u32]) {
     all_pairs(9, 0, 0, 9, 81, work);
     all_pairs(9, 0, 1, 81, 729, work);
     all_pairs(9, 1, 0, 9, 729, work);
     all_pairs(9, 1, 1, 81, 6561, work);
+}
+
+fn nine_high(work: &mut [u32]) {
     all_pairs(9, 0, 2, 729, 6561, work);
     all_pairs(9, 2, 0, 9, 6561, work);
     all_pairs(9, 1, 2, 729, 59049, work);
     all_pairs(9, 2, 1, 81, 59049, work);
 }
 
-fn other_lines(work: &mut [u32]) {
+fn twelve_constants(work: &mut [u32]) {
     all_pairs(12, 0, 0, 12, 144, work);
     all_pairs(12, 0, 1, 144, 1728, work);
     all_pairs(12, 1, 0, 12, 1728, work);
+}
+
+fn twelve_others(work: &mut [u32]) {
     all_pairs(12, 1, 1, 144, 20736, work);
     all_pairs(12, 0, 2, 1728, 20736, work);
     all_pairs(12, 2, 0, 12, 20736, work);
+}
+
+fn lines_of_thirty(work: &mut [u32]) {
     all_pairs(30, 0, 0, 30, 900, work);
     all_pairs(30, 0, 1, 900, 27000, work);
     all_pairs(30, 1, 0, 30, 27000, work);
@@ -448,9 +475,12 @@ fn refused_lines(work: &mut [u32]) {
     full_line(7, &[0], &[1, 7], work);
 }
 
-// Refusals 6 and 7: the status alone.
-fn short_line(w: &mut [u32], work: &mut [u32]) {
-    let r = why_service::why(6, &[2], &[4], w, work);
+// Refusals 6 and 7: the status alone, for k words of w.
+fn short_line(k: usize, work: &mut [u32])
+    requires { ⌜ k ≤ 52 ⌝ }
+{
+    let mut w = divisor_room();
+    let r = why_service::why(6, &[2], &[4], &mut w[0..k], work);
     number(r.status as u64);
     end_line();
 }
@@ -458,10 +488,9 @@ fn short_line(w: &mut [u32], work: &mut [u32]) {
 fn short_lines(work: &mut [u32])
     requires { ⌜ 8192 ≤ length (now work) ⌝ }
 {
-    let mut w = divisor_room();
-    short_line(&mut w[0..48], &mut work[0..8191]);
-    short_line(&mut w[0..49], &mut work[0..8191]);
-    short_line(&mut w[0..49], &mut work[0..8192]);
+    short_line(48, &mut work[0..8191]);
+    short_line(49, &mut work[0..8191]);
+    short_line(49, &mut work[0..8192]);
 }
 
 // Reads a character to place k; false at the input's end.
@@ -560,13 +589,31 @@ fn run(line: &mut [u8], words: &mut [u32], work: &mut [u32])
     }
 }
 
-fn all_lines(work: &mut [u32]) {
-    lines_of_four(work);
-    lines_of_six(work);
-    lines_of_eight(work);
-    lines_of_nine(work);
-    other_lines(work);
+fn first_moduli(work: &mut [u32]) {
+    four_low(work);
+    four_high(work);
+    six_low(work);
+    six_high(work);
+}
+
+fn next_moduli(work: &mut [u32]) {
+    eight_low(work);
+    eight_high(work);
+    nine_low(work);
+    nine_high(work);
+}
+
+fn last_moduli(work: &mut [u32]) {
+    twelve_constants(work);
+    twelve_others(work);
+    lines_of_thirty(work);
     drawn_lines(work);
+}
+
+fn all_lines(work: &mut [u32]) {
+    first_moduli(work);
+    next_moduli(work);
+    last_moduli(work);
 }
 
 fn main() {
