@@ -5,6 +5,7 @@
 //   jingcobu_reduced_resultant    reduced_service::reduced_resultant
 //   jingcobu_divisor              divisor_service::divisor
 //   jingcobu_resultant_cofactors  cofactor_service::resultant_cofactors
+//   jingcobu_why                  why_service::why
 //   jingcobu_product              polynomial_product::product
 //   jingcobu_product_word         polynomial_word::product_word
 //   jingcobu_true_degree          polynomial_degree::true_degree_words
@@ -19,6 +20,7 @@ ghost use Rattle.resultant_service.specs.ResultantService.{ResultantAnswer};
 ghost use Rattle.reduced_service.specs.ReducedService.{ReducedAnswer};
 ghost use Rattle.divisor_service.specs.DivisorService.{DivisorAnswer};
 ghost use Rattle.cofactor_service.specs.CofactorService.{CofactorAnswer};
+ghost use Rattle.why_service.specs.WhyService.{WhyAnswer};
 ghost use Rattle.polynomial_product.specs.ProductService.{ProductAnswer};
 ghost use Rattle.polynomial_degree.specs.DegreeService.{DegreeWordsAnswer};
 ghost use Rattle.polynomial_word.specs.ProductWord.{ProductWordAnswer};
@@ -34,6 +36,7 @@ use polynomial_degree::DegreeAnswer;
 use refusals::Answer;
 use residue_services::GcdAnswer;
 use shares::Plan;
+use why_service::Reason;
 
 // The resultant of f and g modulo n, in the sent degrees.
 #[no_mangle]
@@ -83,6 +86,22 @@ pub extern "C" fn jingcobu_resultant_cofactors(
         (now (v .exit)) (now (work .entry)) (now (work .exit)) (r .value) (r .status) ⌝ }
 {
     cofactor_service::resultant_cofactors(n, f, g, u, v, work)
+}
+
+// Why f and g are not coprime: a divisor m of n, and both are zero modulo m, or a monic polynomial in the first 49 words of w divides
+// both modulo m.
+#[no_mangle]
+pub extern "C" fn jingcobu_why(
+    n: u32,
+    f: &[u32],
+    g: &[u32],
+    w: &mut [u32],
+    work: &mut [u32],
+) -> Reason
+    ensures { λ r. ⌜ WhyAnswer narrow n (now (f .entry)) (now (g .entry)) (now (w .entry)) (now (w .exit)) (now (work .entry))
+        (now (work .exit)) (r .ground) (r .m) (r .degree) (r .status) ⌝ }
+{
+    why_service::why(n, f, g, w, work)
 }
 
 // The product of f and g modulo n, in the first d + e + 1 words of out.
