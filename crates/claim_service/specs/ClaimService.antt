@@ -12,7 +12,7 @@ use mathlib.Core.Bool.{Bool, true, false, cond, not}
 use mathlib.Core.List.{List, [], _∷_, _++_}
 use Prim.Native.Nat.{ℕ, zero, suc, _≤_}
 use native.Mathlib.Omega.{arith}
-use lib.Dec.{ltb, eqb}
+use lib.Dec.{T, ltb, eqb}
 use lib.ListN.{length}
 use borrow.Author.Tests.{eqb-true, eqb-false, ltb-true, ltb-false}
 use Rattle.definitions.specs.Polynomials.{Residues}
@@ -91,7 +91,7 @@ multiplier-fails u = go (length u) (eqb (length u) 0) refl refl
   where
     go : (l : ℕ) (t : Bool) → length u ≡ l → eqb l 0 ≡ t → Fails' (cond t true (ltb 4096 l)) (ServedMultiplier u)
     go l true e h = record {
-      passed = λ z. absurd (eqb-false 1 0 refl (eqb-true 1 0 z));
+      passed = λ z. absurd (subst T z tt);
       failed = λ z m. let a = m .some in let b = eqb-true l 0 h in omega arith;
     }
     go l false e h = record {

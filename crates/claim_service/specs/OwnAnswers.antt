@@ -8,14 +8,14 @@ use mathlib.Core.Path.{_≡_, refl, sym, ap, ap₂, subst, _∙_}
 use mathlib.Core.List.{List, [], _∷_, _++_}
 use Prim.Native.Nat.{ℕ, zero, suc, pred, max, _+_, _*_, _^_, _≤_, _<_}
 use native.Mathlib.Omega.{arith}
-use native.Mathlib.Nat.{mul-le-mul}
+use native.Mathlib.Nat.{mul-le-mul, lt-of-lt-of-le, zero-lt-suc}
 use lib.ListN.{length, take}
 use lib.Seq.{length-take-le}
 use Rattle.definitions.specs.Residues.{K}
 use Rattle.definitions.specs.Polynomials.{deg, L}
 use Rattle.numbers.specs.Logarithm.{K-below}
 use Rattle.refusals.specs.Refusals.{Width}
-use Rattle.refusals.specs.Conditions.{status-zero}
+use Rattle.refusals.specs.Conditions.{Passed, status-zero}
 use Rattle.reduced_service.specs.ReducedService.{reduced-refusals, reduced-conditions, reduced-listed, HoldsCofactor, ReducedAnswer}
 use Rattle.claims.specs.Claims.{Judged}
 use Rattle.claims.specs.ClaimLaws.{judged-once}
@@ -42,7 +42,61 @@ own-multiplier : (n l : ℕ) (b b' : List ℕ) → 1 ≤ l → l ≤ 4096 → l 
 own-multiplier n l b b' some few fits h =
     let e = length-take-le l b' (omega (arith, h .same)) in record { some = omega (arith, e); few = omega (arith, e) }
 
-module _ (W : Width) (narrow-enough : W .bound ≤ 2 ^ 64) (n D : ℕ) (f g u u' v v' work work' : List ℕ)
-    (own : ReducedAnswer W n f g u u' v v' work work' D 0) where
-  own-first : List ℕ
-  own-first = take (L n (deg f) (deg g)) u'
+module _ (W : Width) (fits : W .bound ≤ 2 ^ 64) (n D : ℕ) (f g u u' v v' work work' : List ℕ)
+    (own : ReducedAnswer W n f g u u' v v' work work' D 0) (lent lent' : List ℕ) (room : W .working ≤ length lent) where
+  -- none of the refusals applies
+  own-passed : Passed (claim-conditions W n f g (take (L n (deg f) (deg g)) u') (take (L n (deg f) (deg g)) v') (length lent))
+  own-passed =
+      let l = L n (deg f) (deg g) in
+      let p = status-zero (reduced-refusals W n f g (length u) (length v) (length work))
+      (reduced-conditions W n f g (length u) (length v) (length work)) (reduced-listed W n f g (length u) (length v) (length work)) .0
+      (sym (own .status-is)) in
+      let most = own-length n f g (omega (arith, p .0 .least)) (lt-of-lt-of-le (p .0 .most) fits) (p .1 .0 .few) (p .1 .1 .0 .few) in
+      let fu = p .1 .1 .1 .1 .1 .0 in
+      let fv = p .1 .1 .1 .1 .1 .1 .0 in (
+        p .0,
+        (
+          p .1 .0,
+          (
+            p .1 .1 .0,
+            (
+              own-multiplier n l u u' (zero-lt-suc _) most fu (own .result .first),
+              (
+                own-multiplier n l v v' (zero-lt-suc _) most fv (own .result .second),
+                (
+                  p .1 .1 .1 .0,
+                  (p .1 .1 .1 .1 .0, (own .result .first .residues, (own .result .second .residues, (room, tt)))),
+                ),
+              ),
+            ),
+          ),
+        ),
+      )
+
+  own-judged : Judged 0 n f g D (take (L n (deg f) (deg g)) u') (take (L n (deg f) (deg g)) v')
+  own-judged = (own .result .reduced .divides, (own .result .combination, own .result .reduced))
+
+  -- whoever checks it, on however many working words
+  pub own-accepted : (value status : ℕ)
+      → ClaimAnswer W n f g D (take (L n (deg f) (deg g)) u') (take (L n (deg f) (deg g)) v') lent lent' value status
+      → (value ≡ 0) × (status ≡ 0)
+  own-accepted value status a = (value-zero, zero-here)
+    where
+      zero-here : status ≡ 0
+      zero-here =
+          a .status-is
+          ∙ status-zero (claim-refusals W n f g (take (L n (deg f) (deg g)) u') (take (L n (deg f) (deg g)) v') (length lent))
+          (claim-conditions W n f g (take (L n (deg f) (deg g)) u') (take (L n (deg f) (deg g)) v') (length lent))
+          (claim-listed W n f g (take (L n (deg f) (deg g)) u') (take (L n (deg f) (deg g)) v') (length lent)) .1 own-passed
+
+      value-zero : value ≡ 0
+      value-zero =
+          judged-once value 0 n f g D (take (L n (deg f) (deg g)) u') (take (L n (deg f) (deg g)) v')
+          (subst (λ (s : ℕ). ClaimSaid s value n f g D (take (L n (deg f) (deg g)) u') (take (L n (deg f) (deg g)) v')) zero-here (a .said))
+          own-judged
+
+  pub own-case : (r : Claim)
+      → ClaimCase W n f g D (take (L n (deg f) (deg g)) u') (take (L n (deg f) (deg g)) v') lent lent' r → r ≡ Accepted
+  own-case r c =
+      let z = own-accepted (claim-value r) (claim-number r) (c .answer) in
+      c .case-is ∙ ap₂ told (z .1) (z .0)
