@@ -19,9 +19,10 @@ fn divides(d: u32, n: u32) -> bool
     ensures { λ r. ⌜ Tells r (d ∣ n) ⌝ }
 {
     if d == 0 {
-        return false;
+        false
+    } else {
+        n % d == 0
     }
-    n % d == 0
 }
 
 // The words of the longer of the products u f and v g.

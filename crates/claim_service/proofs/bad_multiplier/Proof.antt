@@ -3,14 +3,10 @@ use borrow.Author.Tests.{eq-eqb, ne-eqb}
 use mathlib.Core.Path.{refl}
 use Rattle.claim_service.proofs.bad_multiplier.Statement.{statement}
 use Rattle.claim_service.proofs.bad_multiplier.Tie as tie
-use Rattle.claim_service.proofs.bad_multiplier.Reads as reads
-use Rattle.claim_service.proofs.bad_multiplier.Lts as lts
 
--- src/lib.rt:29:9
 returns : tie.Need-returns
 returns c = simp (eq-eqb _ _ (c .if1 .taken)) refl
 
--- src/lib.rt:25:1
 returns-2 : tie.Need-returns-2
 returns-2 c = simp (ne-eqb _ _ (c .if1 .left)) refl
 

@@ -5,41 +5,16 @@ use mathlib.Core.Path.{_∙_, ap}
 use borrow.Author.Needs.{needs}
 use Rattle.claim_service.proofs.check_claim.Statement.{statement}
 use Rattle.claim_service.proofs.check_claim.Tie as tie
-use Rattle.claim_service.proofs.check_claim.Reads as reads
-use Rattle.claim_service.proofs.check_claim.Lts as lts
-use Rattle.claim_service.proofs.cleared.Reads as cleared-reads
-use Rattle.claim_service.proofs.refusal_claim.Reads as refusal-claim-reads
-use Rattle.claims.proofs.judge.Reads as judge-reads
 
--- src/lib.rt:127:9
-refusal-claim-requires : tie.Need-refusal-claim-requires
-refusal-claim-requires c κs = search needs
-
--- src/lib.rt:129:9
 returns : tie.Need-returns
 returns c = let a = c .before .before .before .before .before .before .before .args in refused (a .n) (a .f .now) (a .g .now) (a .d) (a .u .now) (a .v .now) (a .work .now) _ (c .before .refusal-claim .ensures) (c .if1 .taken)
 
--- src/lib.rt:131:9
 judge-requires : tie.Need-judge-requires
 judge-requires c κs = let a = c .before .before .before .before .before .before .before .before .args in asked (a .n) (a .f .now) (a .g .now) (a .d) (a .u .now) (a .v .now) (a .work .now) _ (c .before .before .refusal-claim .ensures) (c .before .if1 .left)
 
--- src/lib.rt:132:9
-cleared-requires : tie.Need-cleared-requires
-cleared-requires c κs = search needs
-
--- src/lib.rt:134:9
-same-length : tie.Need-same-length
-same-length c = search needs
-
--- src/lib.rt:134:9
 returns-2 : tie.Need-returns-2
 returns-2 c = let a = c .before .before .before .before .before .before .before .before .before .before .before .before .before .before .before .before .args in let j = c .before .before .before .before .before .before .before .judge in let w = c .before .before .before .cleared in accepted (a .n) (a .f .now) (a .g .now) (a .d) (a .u .now) (a .v .now) (a .work .now) _ (c .before .before .before .before .before .before .before .before .before .before .refusal-claim .ensures) (c .before .before .before .before .before .before .before .before .before .if1 .left) (j .result) (w .result) _ (j .ensures .0) (w .ensures .0) (w .ensures .1 ∙ ap (λ (l : ℕ). replicate l 0) (j .ensures .1 .same)) (c .if2 .taken)
 
--- src/lib.rt:115:1
-same-length-2 : tie.Need-same-length-2
-same-length-2 c = search needs
-
--- src/lib.rt:115:1
 returns-3 : tie.Need-returns-3
 returns-3 c = let a = c .before .before .before .before .before .before .before .before .before .before .before .before .before .before .before .before .args in let j = c .before .before .before .before .before .before .before .judge in let w = c .before .before .before .cleared in failed (a .n) (a .f .now) (a .g .now) (a .d) (a .u .now) (a .v .now) (a .work .now) _ (c .before .before .before .before .before .before .before .before .before .before .refusal-claim .ensures) (c .before .before .before .before .before .before .before .before .before .if1 .left) (j .result) (w .result) _ (j .ensures .0) (w .ensures .0) (w .ensures .1 ∙ ap (λ (l : ℕ). replicate l 0) (j .ensures .1 .same)) (c .if2 .left)
 
@@ -47,11 +22,11 @@ pub check-claim-spec : {M : Type 1} → statement M
 check-claim-spec =
     tie.close
     (tie.spec
-    refusal-claim-requires
+    (λ c κs. search needs)
     returns
     judge-requires
-    cleared-requires
-    same-length
+    (λ c κs. search needs)
+    (λ c. search needs)
     returns-2
-    same-length-2
+    (λ c. search needs)
     returns-3)

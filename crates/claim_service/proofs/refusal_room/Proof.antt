@@ -3,14 +3,10 @@ use borrow.Author.Tests.{lt-ltb, le-ltb}
 use mathlib.Core.Path.{refl}
 use Rattle.claim_service.proofs.refusal_room.Statement.{statement}
 use Rattle.claim_service.proofs.refusal_room.Tie as tie
-use Rattle.claim_service.proofs.refusal_room.Reads as reads
-use Rattle.claim_service.proofs.refusal_room.Lts as lts
 
--- src/lib.rt:80:9
 returns : tie.Need-returns
 returns c = simp (lt-ltb _ _ (c .if1 .taken)) refl
 
--- src/lib.rt:76:1
 returns-2 : tie.Need-returns-2
 returns-2 c = simp (le-ltb _ _ (c .if1 .left)) refl
 
