@@ -1,0 +1,126 @@
+use Prim.Native.Nat.{_+_, _-_, _≤_, _/_}
+use mathlib.Core.Path.{_≡_, refl, subst, _∙_}
+use mathlib.Core.List.{List}
+use Rattle.windows.specs.Window.{Content, piece}
+use Rattle.divisor_stages.specs.Leads.{LeadAnswer}
+use Rattle.divisor_stages.proofs.Contents.{split-splitter, content-told, none-reduced, content-positive, content-dvd, content-above, content-length, lead-asked, content-primitive, content-cleared}
+use native.Mathlib.Omega.{arith}
+use borrow.Author.Needs.{needs}
+use Rattle.divisor_stages.proofs.clear_contents.Statement.{statement}
+use Rattle.divisor_stages.proofs.clear_contents.Tie as tie
+
+returns : tie.Need-returns
+returns c =
+    let s = c .before .before .before .before .before in
+    let z : s .args .b + s .args .d - s .args .b ≡ s .args .d = omega arith in
+    let ct = content-told _ _ _ _ _ _ z (c .before .content .ensures) in
+    let po = content-positive _ _ _ _ _ _ (s .pre) _ ct in
+    (none-reduced _ _ _ _ _ _ (s .pre) (subst (Content (s .args .n) (piece (s .args .w .now) (s .args .b) (s .args .d))) (c .if1 .taken) ct), record { same = refl })
+
+divide-words-requires : tie.Need-divide-words-requires
+divide-words-requires c κs =
+    let s = c .before .before .before .before .before .before in
+    let z : s .args .b + s .args .d - s .args .b ≡ s .args .d = omega arith in
+    let ct = content-told _ _ _ _ _ _ z (c .before .before .content .ensures) in
+    let po = content-positive _ _ _ _ _ _ (s .pre) _ ct in
+    (po, omega (arith, s .pre .second, s .pre .fits))
+
+div-reduce-words : tie.Need-div-reduce-words
+div-reduce-words c =
+    let s = c .before .before .before .before .before .before .before .before .before .before in
+    let z : s .args .b + s .args .d - s .args .b ≡ s .args .d = omega arith in
+    let ct = content-told _ _ _ _ _ _ z (c .before .before .before .before .before .before .content .ensures) in
+    let po = content-positive _ _ _ _ _ _ (s .pre) _ ct in
+    po
+
+reduce-words-requires : tie.Need-reduce-words-requires
+reduce-words-requires c κs =
+    let s = c .before .before .before .before .before .before .before .before .before .before in
+    let z : s .args .b + s .args .d - s .args .b ≡ s .args .d = omega arith in
+    let ct = content-told _ _ _ _ _ _ z (c .before .before .before .before .before .before .content .ensures) in
+    let po = content-positive _ _ _ _ _ _ (s .pre) _ ct in
+    let ab = content-above _ _ _ _ _ _ (s .pre) _ ct (c .before .before .before .before .before .if1 .left) in
+    (omega (arith, ab), omega (arith, s .pre .first, s .pre .fits, c .before .before .before .divide-words .ensures .same))
+
+div-unit-lead : tie.Need-div-unit-lead
+div-unit-lead c =
+    let s = c .before .before .before .before .before .before .before .before .before .before .before .before .before .before in
+    let z : s .args .b + s .args .d - s .args .b ≡ s .args .d = omega arith in
+    let ct = content-told _ _ _ _ _ _ z (c .before .before .before .before .before .before .before .before .before .before .content .ensures) in
+    let po = content-positive _ _ _ _ _ _ (s .pre) _ ct in
+    po
+
+unit-lead-requires : tie.Need-unit-lead-requires
+unit-lead-requires c κs =
+    let s = c .before .before .before .before .before .before .before .before .before .before .before .before .before .before in
+    let z : s .args .b + s .args .d - s .args .b ≡ s .args .d = omega arith in
+    let ct = content-told _ _ _ _ _ _ z (c .before .before .before .before .before .before .before .before .before .before .content .ensures) in
+    let po = content-positive _ _ _ _ _ _ (s .pre) _ ct in
+    lead-asked _ _ _ _ _ _ (s .pre) _ ct (c .before .before .before .before .before .before .before .before .before .if1 .left) _ _ (c .before .before .before .before .before .before .before .divide-words .ensures) (c .before .before .before .reduce-words .ensures)
+
+returns-2 : tie.Need-returns-2
+returns-2 c =
+    let s = c .before .before .before .before .before .before .before .before .before .before .before .before .before .before .before .before .before .before .before .before in
+    let z : s .args .b + s .args .d - s .args .b ≡ s .args .d = omega arith in
+    let ct = content-told _ _ _ _ _ _ z (c .before .before .before .before .before .before .before .before .before .before .before .before .before .before .before .before .content .ensures) in
+    let po = content-positive _ _ _ _ _ _ (s .pre) _ ct in
+    let ne = c .before .before .before .before .before .before .before .before .before .before .before .before .before .before .before .if1 .left in
+    let dv = c .before .before .before .before .before .before .before .before .before .before .before .before .before .divide-words .ensures in
+    let rd = c .before .before .before .before .before .before .before .before .before .reduce-words .ensures in
+    let u = c .before .before .before .before .before .unit-lead .ensures in
+    let x = subst (LeadAnswer (s .args .n / c .before .before .before .before .before .before .before .before .before .before .before .before .before .before .before .before .content .result) (s .args .b) (s .args .d) (s .args .s) (c .before .before .before .before .before .before .before .before .before .reduce-words .last .0) (c .before .before .before .before .before .unit-lead .last .0)) (c .before .k .given .1) (u .0) in
+    (content-cleared _ _ _ _ _ _ (s .pre) _ ct ne _ _ dv rd _ _ _ x, record { same = u .1 .same ∙ content-length _ _ _ _ _ _ (s .pre) _ ct ne _ _ dv rd })
+
+returns-3 : tie.Need-returns-3
+returns-3 c =
+    let s = c .before .before .before .before .before .before .before .before .before .before .before .before .before .before .before .before .before .before .before .before in
+    let z : s .args .b + s .args .d - s .args .b ≡ s .args .d = omega arith in
+    let ct = content-told _ _ _ _ _ _ z (c .before .before .before .before .before .before .before .before .before .before .before .before .before .before .before .before .content .ensures) in
+    let po = content-positive _ _ _ _ _ _ (s .pre) _ ct in
+    let ne = c .before .before .before .before .before .before .before .before .before .before .before .before .before .before .before .if1 .left in
+    let dv = c .before .before .before .before .before .before .before .before .before .before .before .before .before .divide-words .ensures in
+    let rd = c .before .before .before .before .before .before .before .before .before .reduce-words .ensures in
+    let u = c .before .before .before .before .before .unit-lead .ensures in
+    let x = subst (LeadAnswer (s .args .n / c .before .before .before .before .before .before .before .before .before .before .before .before .before .before .before .before .content .result) (s .args .b) (s .args .d) (s .args .s) (c .before .before .before .before .before .before .before .before .before .reduce-words .last .0) (c .before .before .before .before .before .unit-lead .last .0)) (c .before .p .given .1) (u .0) in
+    (split-splitter _ _ _ _ (content-dvd _ _ _ _ _ _ (s .pre) _ ct) x, record { same = u .1 .same ∙ content-length _ _ _ _ _ _ (s .pre) _ ct ne _ _ dv rd })
+
+returns-4 : tie.Need-returns-4
+returns-4 c =
+    let s = c .before .before .before .before .before .before .before .before .before .before .before .before .before .before .before .before .before .before .before in
+    let z : s .args .b + s .args .d - s .args .b ≡ s .args .d = omega arith in
+    let ct = content-told _ _ _ _ _ _ z (c .before .before .before .before .before .before .before .before .before .before .before .before .before .before .before .content .ensures) in
+    let po = content-positive _ _ _ _ _ _ (s .pre) _ ct in
+    let ne = c .before .before .before .before .before .before .before .before .before .before .before .before .before .before .if1 .left in
+    let dv = c .before .before .before .before .before .before .before .before .before .before .before .before .divide-words .ensures in
+    let rd = c .before .before .before .before .before .before .before .before .reduce-words .ensures in
+    let u = c .before .before .before .before .unit-lead .ensures in
+    let x = subst (LeadAnswer (s .args .n / c .before .before .before .before .before .before .before .before .before .before .before .before .before .before .before .content .result) (s .args .b) (s .args .d) (s .args .s) (c .before .before .before .before .before .before .before .before .reduce-words .last .0) (c .before .before .before .before .unit-lead .last .0)) (c .enum-told .given .1) (u .0) in
+    (absurd (content-primitive _ _ _ _ _ _ (s .pre) _ ct ne _ _ dv rd x), record { same = u .1 .same ∙ content-length _ _ _ _ _ _ (s .pre) _ ct ne _ _ dv rd })
+
+pub clear-contents-spec : {M : Type 1} → statement M
+clear-contents-spec =
+    tie.close
+    (tie.spec
+    (λ c. search needs)
+    (λ c. search needs)
+    (λ c. search needs)
+    (λ c. search needs)
+    (λ c. search needs)
+    (λ c κs. search needs)
+    (λ c. search needs)
+    returns
+    divide-words-requires
+    div-reduce-words
+    (λ c. search needs)
+    reduce-words-requires
+    div-unit-lead
+    unit-lead-requires
+    (λ c. search needs)
+    (λ c. search needs)
+    (λ c. search needs)
+    (λ c. search needs)
+    returns-2
+    (λ c. search needs)
+    returns-3
+    (λ c. search needs)
+    returns-4)
