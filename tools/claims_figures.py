@@ -22,7 +22,7 @@ def fill(k, n, x, c):
     return out, x
 
 
-def show(status, value, working=8192):
+def show(status, value):
     counts[status, value] = counts.get((status, value), 0) + 1
     left = 7 if status else 0
     print(status, value, left, left)
@@ -78,7 +78,7 @@ def own(n, seed, a, b, c):
     for claimed in (D, D ^ 1, 0, n, 1, x):
         show(0, named(n, D, claimed, claimed % n == D % n))
     for m in (2, 3, 5):
-        claimed = m * D % 2**32
+        claimed = m * D % (2**32 - 1)
         show(0, named(n, D, claimed, claimed % n == m * D % n))
     for more in (1, n // 2, x):
         for h in (f, g):

@@ -108,11 +108,6 @@ fn put_at(w: &mut [u32], i: usize, x: u32) {
     }
 }
 
-// d times c, as a word.
-fn times(d: u32, c: u32) -> u32 {
-    ((d as u64) * (c as u64) % 4294967296) as u32
-}
-
 // ---- the engine's answers
 
 // Another number in the place of d.
@@ -125,13 +120,13 @@ fn numbers_damaged(n: u32, f: &[u32], g: &[u32], d: u32, u: &[u32], v: &[u32], x
     line(n, f, g, x, u, v, 8192);
 }
 
-// c d, with c u and c v.
+// c d modulo 2^32 - 1, with c u and c v.
 fn multiple(n: u32, f: &[u32], g: &[u32], d: u32, u: [u32; 1489], v: [u32; 1489], c: u32) {
     let mut s = u;
     let mut t = v;
     scale(&mut s, n, c);
     scale(&mut t, n, c);
-    line(n, f, g, times(d, c), &s, &t, 8192);
+    line(n, f, g, arithmetic::mul_mod(4294967295, d, c), &s, &t, 8192);
 }
 
 // x more at place i of u, and at place i of v.
@@ -145,21 +140,23 @@ fn words_damaged(n: u32, f: &[u32], g: &[u32], d: u32, u: [u32; 1489], v: [u32; 
 }
 
 // n at place i of u.
-fn word_over(n: u32, f: &[u32], g: &[u32], d: u32, u: [u32; 1489], v: &[u32], i: usize) {
+fn word_over(n: u32, f: &[u32], g: &[u32], d: u32, u: [u32; 1489], v: [u32; 1489], i: usize) {
     let mut s = u;
     put_at(&mut s, i, n);
-    line(n, f, g, d, &s, v, 8192);
+    line(n, f, g, d, &s, &v, 8192);
 }
 
-fn damaged(n: u32, f: &[u32], g: &[u32], d: u32, u: [u32; 1489], v: [u32; 1489], x: u32) {
-    numbers_damaged(n, f, g, d, &u, &v, x);
+fn multiples(n: u32, f: &[u32], g: &[u32], d: u32, u: [u32; 1489], v: [u32; 1489]) {
     multiple(n, f, g, d, u, v, 2);
     multiple(n, f, g, d, u, v, 3);
     multiple(n, f, g, d, u, v, 5);
+}
+
+fn multipliers_damaged(n: u32, f: &[u32], g: &[u32], d: u32, u: [u32; 1489], v: [u32; 1489], x: u32) {
     words_damaged(n, f, g, d, u, v, 0, 1);
     words_damaged(n, f, g, d, u, v, 1488, n / 2);
     words_damaged(n, f, g, d, u, v, (x % 1489) as usize, x);
-    word_over(n, f, g, d, u, &v, 700);
+    word_over(n, f, g, d, u, v, 700);
 }
 
 fn answered(n: u32, f: &[u32], g: &[u32], x: u32) {
@@ -169,7 +166,9 @@ fn answered(n: u32, f: &[u32], g: &[u32], x: u32) {
     let a: refusals::Answer = reduced_service::reduced_resultant(n, f, g, &mut u, &mut v, &mut work);
     next_number(a.value);
     end_line();
-    damaged(n, f, g, a.value, u, v, x);
+    numbers_damaged(n, f, g, a.value, &u, &v, x);
+    multiples(n, f, g, a.value, u, v);
+    multipliers_damaged(n, f, g, a.value, u, v, x);
 }
 
 // f of a words and g of b, each word c times a drawn one.
@@ -247,7 +246,12 @@ fn long_claims(n: u32, a: u32, m: u32) {
 
 // ---- claims that the engine had no part in
 
-// g = d - u f and v = 1; then with x more at the last word of g.
+fn status_line(s: u32) {
+    number(s);
+    end_line();
+}
+
+// g = d - u f and v = 1; then with x more at the last word of g. The product's own status comes last.
 fn combined(n: u32, f: &[u32], u: &[u32], d: u32, x: u32) {
     let mut g = [0u32; 49];
     let a: refusals::Answer = polynomial_product::product(n, f, u, &mut g);
@@ -259,12 +263,7 @@ fn combined(n: u32, f: &[u32], u: &[u32], d: u32, x: u32) {
     told(n, f, &g, d, u, &[1]);
     add_at(&mut g, n, 48, x);
     told(n, f, &g, d, u, &[1]);
-    next_product(a.status);
-}
-
-fn next_product(s: u32) {
-    number(s);
-    end_line();
+    status_line(a.status);
 }
 
 // f of 24 words, c times drawn ones, and u of 25.
@@ -290,24 +289,24 @@ fn made_modulus(n: u32, seed: u32) {
 
 // ---- refusals
 
+// x, or n in the polynomial with number k where `over` is k.
+fn word_of(over: u32, k: u32, n: u32, x: u32) -> u32 {
+    if over == k {
+        return n;
+    }
+    x
+}
+
 // All words of f and g are 1, all of u and v are 0; the first word of the polynomial with number `over`, from 1 to 4, is n.
 fn refused(n: u32, a: usize, b: usize, words: usize, others: usize, over: u32, working: usize) {
     let mut f = [1u32; 50];
     let mut g = [1u32; 50];
     let mut u = [0u32; 4097];
     let mut v = [0u32; 4097];
-    if over == 1 {
-        f[0] = n;
-    }
-    if over == 2 {
-        g[0] = n;
-    }
-    if over == 3 {
-        u[0] = n;
-    }
-    if over == 4 {
-        v[0] = n;
-    }
+    f[0] = word_of(over, 1, n, 1);
+    g[0] = word_of(over, 2, n, 1);
+    u[0] = word_of(over, 3, n, 0);
+    v[0] = word_of(over, 4, n, 0);
     if 50 < a {
         return;
     }
