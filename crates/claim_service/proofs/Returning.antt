@@ -1,17 +1,18 @@
 -- The promise of `check_claim` at each place where it returns, and what the tests ask. s is the first refusal, k the first of the three
 -- that fails.
-use mathlib.Core.Path.{_≡_, refl, sym, ap, ap₂, subst, _∙_}
+use mathlib.Core.Path.{_≡_, refl, sym, ap₂, subst, _∙_}
 use mathlib.Core.List.{List, [], _∷_, _++_}
 use Prim.Native.Nat.{ℕ, zero, suc, _≤_}
 use native.Mathlib.Omega.{arith}
 use lib.ListN.{length, replicate}
-use Rattle.refusals.specs.Refusals.{narrow, short, first-of, first-refusal, left}
+use Rattle.refusals.specs.Refusals.{narrow, short, first-of, first-refusal}
 use Rattle.refusals.specs.Conditions.{status-zero}
 use Rattle.refusals.proofs.Statuses.{first-append, left-refused}
 use Rattle.claims.specs.Claims.{Judged, ClaimAsked}
 use Rattle.claim_service.specs.declared.Claim.{Claim}
 use Rattle.claim_service.specs.declared.Claim.the-variants.{Accepted, Fails, Refused}
-use Rattle.claim_service.specs.ClaimService.{size-refusals, word-refusals, claim-refusals, claim-status, claim-conditions, claim-listed}
+use Rattle.claim_service.specs.ClaimService.{size-refusals, word-refusals, claim-refusals, claim-status}
+use Rattle.claim_service.specs.ClaimService.{claim-conditions, claim-listed}
 use Rattle.claim_service.specs.ClaimService.{claim-number, claim-value, told, ClaimSaid, ClaimAnswer, ClaimCase}
 
 pub first-zero : (a b : ℕ) → a ≡ 0 → b ≡ first-of a b

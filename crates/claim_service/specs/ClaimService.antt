@@ -7,7 +7,7 @@
 --   ClaimSaid, ClaimAnswer, ClaimCase      all that is promised of a call
 --   claim-listed                           each refusal under its condition and no other
 --   said-exactly                           each case exactly where it is true
-use mathlib.Core.Path.{_≡_, refl, sym, ap, subst, _∙_}
+use mathlib.Core.Path.{_≡_, refl, ap, subst, _∙_}
 use mathlib.Core.Bool.{Bool, true, false, cond, not}
 use mathlib.Core.List.{List, [], _∷_, _++_}
 use Prim.Native.Nat.{ℕ, zero, suc, _≤_}

@@ -4,9 +4,9 @@
 --   own-length       a cofactor has 1 to 4096 words
 --   own-accepted     the answer of the reduced resultant, sent as a claim
 --   own-case         the same for the case told
-use mathlib.Core.Path.{_≡_, refl, sym, ap, ap₂, subst, _∙_}
-use mathlib.Core.List.{List, [], _∷_, _++_}
-use Prim.Native.Nat.{ℕ, zero, suc, pred, max, _+_, _*_, _^_, _≤_, _<_}
+use mathlib.Core.Path.{_≡_, sym, ap₂, subst, _∙_}
+use mathlib.Core.List.{List}
+use Prim.Native.Nat.{ℕ, suc, pred, max, _*_, _^_, _≤_, _<_}
 use native.Mathlib.Omega.{arith}
 use native.Mathlib.Nat.{mul-le-mul, lt-of-lt-of-le, zero-lt-suc}
 use lib.ListN.{length, take}
@@ -21,7 +21,8 @@ use Rattle.claims.specs.Claims.{Judged}
 use Rattle.claims.specs.ClaimLaws.{judged-once}
 use Rattle.claim_service.specs.declared.Claim.{Claim}
 use Rattle.claim_service.specs.declared.Claim.the-variants.{Accepted}
-use Rattle.claim_service.specs.ClaimService.{ServedMultiplier, claim-refusals, claim-conditions, claim-listed, claim-number, claim-value, told}
+use Rattle.claim_service.specs.ClaimService.{ServedMultiplier, claim-refusals, claim-conditions, claim-listed}
+use Rattle.claim_service.specs.ClaimService.{claim-number, claim-value, told}
 use Rattle.claim_service.specs.ClaimService.{ClaimSaid, ClaimAnswer, ClaimCase}
 
 -- K is at most 63 and a degree at most 48

@@ -7,11 +7,11 @@
 //   check_claim                                     the service
 //   check_claim_words                               the same in two words
 ghost use mathlib.Core.Path.{_≡_};
-ghost use mathlib.Core.Bool.{cond};
 ghost use mathlib.Core.List.{[], _∷_};
 ghost use lib.ListN.{length, replicate};
 ghost use Rattle.refusals.specs.Refusals.{narrow, short, first-of, first-refusal};
-ghost use Rattle.claim_service.specs.ClaimService.{bad-multiplier, size-refusals, word-refusals, claim-status, ClaimAnswer, ClaimCase};
+ghost use Rattle.claim_service.specs.ClaimService.{bad-multiplier, size-refusals, word-refusals, claim-status};
+ghost use Rattle.claim_service.specs.ClaimService.{ClaimAnswer, ClaimCase};
 use refusals::Answer;
 
 // Accepted; the number of the first of the three that fails; or the number of the refusal.

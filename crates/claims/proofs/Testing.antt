@@ -7,7 +7,7 @@
 --   wrong-first, wrong-word      a word that is not right
 --   reduced-told                 there is one reduced resultant
 --   fails-first, fails-second, fails-third, all-hold     what is said of a claim
-use mathlib.Core.Path.{_≡_, refl, sym, ap, ap₂, subst, _∙_}
+use mathlib.Core.Path.{_≡_, sym, ap₂, subst, _∙_}
 use mathlib.Core.Bool.{Bool, true, false}
 use mathlib.Core.List.{List}
 use Prim.Native.Nat.{ℕ, zero, suc, _+_, _%_, _<_, _≤_, _∣_}
@@ -21,7 +21,7 @@ use borrow.Author.Count.{below-more}
 use Rattle.definitions.specs.Polynomials.{coef, convolve, constant}
 use Rattle.definitions.specs.Checks.{convolve-beyond}
 use Rattle.definitions.specs.Resultants.{Combination, Reduced}
-use Rattle.numbers.specs.Congruence.{Cong, c-mod, c-add}
+use Rattle.numbers.specs.Congruence.{c-mod, c-add}
 use Rattle.theory.specs.ReachedLaws.{reduced-unique}
 use Rattle.claims.specs.Claims.{Judged, Tells}
 

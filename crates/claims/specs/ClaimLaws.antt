@@ -5,13 +5,13 @@
 --   zero-fails         "0 divides no n"
 --   above-fails        nothing above n divides it: a claim of n or more that passes the first test is n
 --   damaged-…          modulo 8, f = 2 and g = 0, D = 2: claims that fail the first, the second and the third test
-use mathlib.Core.Path.{_≡_, refl, sym, ap, ap₂, subst, _∙_}
+use mathlib.Core.Path.{_≡_, refl, ap, ap₂, subst}
 use mathlib.Core.List.{List, [], _∷_}
-use Prim.Native.Nat.{ℕ, zero, suc, _+_, _*_, _%_, _<_, _≤_, _∣_}
+use Prim.Native.Nat.{ℕ, zero, suc, _+_, _*_, _%_, _<_, _≤_}
 use native.Mathlib.Nat.{le-of-dvd, pos-of-dvd-of-pos, dvd-mul-right, mod-eq-zero-of-dvd}
 use native.Mathlib.Omega.{arith}
 use Rattle.definitions.specs.Checks.{convolve-beyond}
-use Rattle.definitions.specs.Resultants.{Combination, Reached, Reduced}
+use Rattle.definitions.specs.Resultants.{Combination, Reached}
 use Rattle.claims.specs.Claims.{Judged}
 
 pub judged-once : (j k n : ℕ) (f g : List ℕ) (D : ℕ) (u v : List ℕ) → Judged j n f g D u v → Judged k n f g D u v → j ≡ k
@@ -77,6 +77,9 @@ damaged-third = (
   dvd-mul-right 4 2,
   (
     one-word 2,
-    λ r. let e = mod-eq-zero-of-dvd 4 (r .only 2 (omega arith) (record { u = 1 ∷ []; v = 0 ∷ []; combination = one-word 1 })) in absurd (omega arith),
+    λ r.
+        let two : Reached 8 (2 ∷ []) (0 ∷ []) 2 = record { u = 1 ∷ []; v = 0 ∷ []; combination = one-word 1 } in
+        let e = mod-eq-zero-of-dvd 4 (r .only 2 (omega arith) two) in
+        absurd (omega arith),
   ),
 )

@@ -18,11 +18,7 @@ fn divides(d: u32, n: u32) -> bool
     requires { ⌜ 1 ≤ n ⌝ }
     ensures { λ r. ⌜ Tells r (d ∣ n) ⌝ }
 {
-    if d == 0 {
-        false
-    } else {
-        n % d == 0
-    }
+    if d == 0 { false } else { n % d == 0 }
 }
 
 // The words of the longer of the products u f and v g.

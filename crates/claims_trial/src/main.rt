@@ -31,7 +31,15 @@ fn line(n: u32, f: &[u32], g: &[u32], d: u32, u: &[u32], v: &[u32], working: usi
     if 8192 < working {
         return;
     }
-    let a: refusals::Answer = claim_service::check_claim_words(n, f, g, d, u, v, &mut work[0..working]);
+    let a: refusals::Answer = claim_service::check_claim_words(
+        n,
+        f,
+        g,
+        d,
+        u,
+        v,
+        &mut work[0..working],
+    );
     number(a.status);
     next_number(a.value);
     next_number(work[0]);
@@ -130,7 +138,16 @@ fn multiple(n: u32, f: &[u32], g: &[u32], d: u32, u: [u32; 1489], v: [u32; 1489]
 }
 
 // x more at place i of u, and at place i of v.
-fn words_damaged(n: u32, f: &[u32], g: &[u32], d: u32, u: [u32; 1489], v: [u32; 1489], i: usize, x: u32) {
+fn words_damaged(
+    n: u32,
+    f: &[u32],
+    g: &[u32],
+    d: u32,
+    u: [u32; 1489],
+    v: [u32; 1489],
+    i: usize,
+    x: u32,
+) {
     let mut s = u;
     let mut t = v;
     add_at(&mut s, n, i, x);
@@ -152,7 +169,15 @@ fn multiples(n: u32, f: &[u32], g: &[u32], d: u32, u: [u32; 1489], v: [u32; 1489
     multiple(n, f, g, d, u, v, 5);
 }
 
-fn multipliers_damaged(n: u32, f: &[u32], g: &[u32], d: u32, u: [u32; 1489], v: [u32; 1489], x: u32) {
+fn multipliers_damaged(
+    n: u32,
+    f: &[u32],
+    g: &[u32],
+    d: u32,
+    u: [u32; 1489],
+    v: [u32; 1489],
+    x: u32,
+) {
     words_damaged(n, f, g, d, u, v, 0, 1);
     words_damaged(n, f, g, d, u, v, 1488, n / 2);
     words_damaged(n, f, g, d, u, v, (x % 1489) as usize, x);
@@ -163,7 +188,14 @@ fn answered(n: u32, f: &[u32], g: &[u32], x: u32) {
     let mut u = [0u32; 1489];
     let mut v = [0u32; 1489];
     let mut work = [0u32; 8192];
-    let a: refusals::Answer = reduced_service::reduced_resultant(n, f, g, &mut u, &mut v, &mut work);
+    let a: refusals::Answer = reduced_service::reduced_resultant(
+        n,
+        f,
+        g,
+        &mut u,
+        &mut v,
+        &mut work,
+    );
     next_number(a.value);
     end_line();
     numbers_damaged(n, f, g, a.value, &u, &v, x);
@@ -319,7 +351,15 @@ fn refused(n: u32, a: usize, b: usize, words: usize, others: usize, over: u32, w
     if 4097 < others {
         return;
     }
-    line(n, &f[0..a], &g[0..b], 0, &u[0..words], &v[0..others], working);
+    line(
+        n,
+        &f[0..a],
+        &g[0..b],
+        0,
+        &u[0..words],
+        &v[0..others],
+        working,
+    );
 }
 
 fn refusals_in_order() {
