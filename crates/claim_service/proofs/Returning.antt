@@ -56,14 +56,16 @@ module _ (n : ℕ) (f g : List ℕ) (D : ℕ) (u v work : List ℕ) (s : ℕ) (e
         (claim-listed narrow n f g u v (length work)) .0 (sym e ∙ z) in (
           record {
             modulus = p .0 .least;
-            least-f = p .1 .0 .some;
-            most-f = p .1 .0 .few;
-            least-g = p .1 .1 .0 .some;
-            most-g = p .1 .1 .0 .few;
+            lengths = record {
+              least-f = p .1 .0 .some;
+              most-f = p .1 .0 .few;
+              least-g = p .1 .1 .0 .some;
+              most-g = p .1 .1 .0 .few;
+              most-u = p .1 .1 .1 .0 .few;
+              most-v = p .1 .1 .1 .1 .0 .few;
+            };
             residues-f = p .1 .1 .1 .1 .1 .0;
             residues-g = p .1 .1 .1 .1 .1 .1 .0;
-            most-u = p .1 .1 .1 .0 .few;
-            most-v = p .1 .1 .1 .1 .0 .few;
           },
           p .1 .1 .1 .1 .1 .1 .1 .1 .1 .0,
         )

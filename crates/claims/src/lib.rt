@@ -11,7 +11,7 @@ ghost use Rattle.definitions.specs.Polynomials.{coef, convolve, Residues};
 ghost use Rattle.definitions.specs.Resultants.{Combination, Reduced};
 ghost use Rattle.windows.specs.Window.{Scratch};
 ghost use Rattle.divisor.specs.Sizes.{DivisorSizes};
-ghost use Rattle.claims.specs.Claims.{Judged, Tells, ClaimAsked};
+ghost use Rattle.claims.specs.Claims.{Judged, Tells, ClaimLengths, ClaimAsked};
 
 // "0 divides no n"
 fn divides(d: u32, n: u32) -> bool
@@ -23,8 +23,7 @@ fn divides(d: u32, n: u32) -> bool
 
 // The words of the longer of the products u f and v g.
 fn longest(f: &[u32], g: &[u32], u: &[u32], v: &[u32]) -> usize
-    requires { ⌜ (1 ≤ length (now f)) × ((length (now f) ≤ 49) × ((1 ≤ length (now g)) × (length (now g) ≤ 49))) ⌝ }
-    requires { ⌜ (length (now u) ≤ 4096) × (length (now v) ≤ 4096) ⌝ }
+    requires { ⌜ ClaimLengths (now f) (now g) (now u) (now v) ⌝ }
     ensures { λ r. ⌜ (length (now (u .entry)) + length (now (f .entry)) ≤ suc r)
         × (length (now (v .entry)) + length (now (g .entry)) ≤ suc r) ⌝ }
 {

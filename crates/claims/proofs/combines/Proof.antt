@@ -21,7 +21,7 @@ returns : tie.Need-returns Inv-loop μ-loop
 returns c = let s = c .before .before .before .before .before .before in let a = s .args in wrong-first (a .n) (a .f .now) (a .g .now) (a .u .now) (a .v .now) (a .d) _ (c .before .combined-word .ensures) (c .if1 .taken)
 
 longest-requires : tie.Need-longest-requires Inv-loop μ-loop
-longest-requires c κs = let p = c .before .before .before .before .before .before .pre in ((p .least-f, (p .most-f, (p .least-g, p .most-g))), (p .most-u, p .most-v))
+longest-requires c κs = c .before .before .before .before .before .before .pre .lengths
 
 loop-holds : tie.Need-loop-holds Inv-loop μ-loop
 loop-holds c = let s = c .before .before .before .before .before .before .before in let a = s .args in (omega arith, combined-first (a .n) (a .f .now) (a .g .now) (a .u .now) (a .v .now) (a .d) _ (c .before .before .combined-word .ensures) (c .before .if1 .left))
