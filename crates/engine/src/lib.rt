@@ -14,6 +14,7 @@
 //   jingcobu_gcd                  residue_services::gcd_with_cofactors
 //   jingcobu_factors_start, _arrive, _leave, _read    factors::start, arrive, leave, read
 //   jingcobu_shares               shares::shares
+//   jingcobu_check_claim          claim_service::check_claim_words
 ghost use mathlib.Core.Path.{_≡_};
 ghost use Rattle.refusals.specs.Refusals.{narrow};
 ghost use Rattle.resultant_service.specs.ResultantService.{ResultantAnswer};
@@ -30,6 +31,7 @@ ghost use Rattle.text_writer.specs.TextWriter.{WriteAnswer};
 ghost use Rattle.residue_services.specs.Services.{GcdPromised};
 ghost use Rattle.factors.specs.FactorsService.{StartAnswer, ArriveAnswer, LeaveAnswer, ReadingAnswer};
 ghost use Rattle.shares.specs.SharesService.{SharesAnswer};
+ghost use Rattle.claim_service.specs.ClaimService.{ClaimAnswer};
 use factors::Factors;
 use factors::Held;
 use polynomial_degree::DegreeAnswer;
@@ -209,4 +211,21 @@ pub extern "C" fn jingcobu_shares(
     ensures { λ r. ⌜ SharesAnswer frames (waiting1 ∷ waiting2 ∷ waiting3 ∷ waiting4 ∷ []) (r .share) (r .status) ⌝ }
 {
     shares::shares(frames, waiting1, waiting2, waiting3, waiting4)
+}
+
+// Whether d is the reduced resultant of f and g modulo n, with u f + v g = d: 0 accepted, else 1, 2 or 3, what fails first.
+#[no_mangle]
+pub extern "C" fn jingcobu_check_claim(
+    n: u32,
+    f: &[u32],
+    g: &[u32],
+    d: u32,
+    u: &[u32],
+    v: &[u32],
+    work: &mut [u32],
+) -> Answer
+    ensures { λ r. ⌜ ClaimAnswer narrow n (now (f .entry)) (now (g .entry)) d (now (u .entry)) (now (v .entry))
+        (now (work .entry)) (now (work .exit)) (r .value) (r .status) ⌝ }
+{
+    claim_service::check_claim_words(n, f, g, d, u, v, work)
 }
