@@ -8,7 +8,7 @@
 --   grow j x f          x + (X - j) f, one step of Horner's rule
 --   nest r j c          c 0 + (X - j) (c 1 + (X - (j + 1)) (c 2 + …)), r terms; nest-step is a turn of the loop
 --   falling m c         its value at j + m: c 0 + m (c 1 + (m - 1) (c 2 + …))
---   newton              the coefficients
+--   newton-values, newton    the nested form of the differences has the values, and the coefficients
 --
 -- Letters: f is a polynomial of b + 1 terms, y its values, c an array; i, j, m are points, k a pass.
 use mathlib.Core.Path.{_≡_, refl, sym, _∙_, ap, ap₂, fun-ext, subst}
@@ -170,19 +170,22 @@ module _ {R : Type 0} (𝓡 : CRing R) where
         (λ k p. sym (diff-next y k i (omega arith)))
         ∙ newton-at y m (suc i) M (omega arith) l
 
+    -- THE NESTED FORM OF THE DIFFERENCES HAS THE VALUES y at 0, …, b
+    pub newton-values : (y : ℕ → R) (i : ℕ) → i ≤ b → ev 𝓡 (suc b) (num i) (nest (suc b) 0 (λ k. diff inv y k 0)) ≡ y i
+    newton-values y i l = ev-nest (suc b) 0 i i (λ k. diff inv y k 0) (zero-plus i) (omega arith) ∙ newton-at y i 0 i (zero-plus i) l
+      where
+        zero-plus : (i : ℕ) → 0 +ℕ i ≡ i
+        zero-plus i = omega arith
+
     -- NEWTON'S DIFFERENCES GIVE THE COEFFICIENTS
     pub newton : (f : ℕ → R) (y : ℕ → R) → ((i : ℕ) → i ≤ b → ev 𝓡 (suc b) (num i) f ≡ y i)
         → (k : ℕ) → k ≤ b → nest (suc b) 0 (λ k. diff inv y k 0) k ≡ f k
     newton f y h k l = same-values 𝓡 (suc b) num (nest (suc b) 0 (λ k. diff inv y k 0)) f
-        (λ i p. ev-nest (suc b) 0 i i (λ k. diff inv y k 0) (zero-plus i) p ∙ newton-at y i 0 i (zero-plus i) (omega arith)
-        ∙ sym (h i (omega arith)))
+        (λ i p. newton-values y i (omega arith) ∙ sym (h i (omega arith)))
         (λ i j p q. record {
           i = inv (j -ℕ i);
           one = ap (λ x. inv (j -ℕ i) * x) (num-sub i (j -ℕ i) j (omega arith)) ∙ unit (j -ℕ i) (omega arith) (omega arith);
         }) k (omega arith)
-      where
-        zero-plus : (i : ℕ) → 0 +ℕ i ≡ i
-        zero-plus i = omega arith
 
   -- the array after k passes
   pub record Stage (b : ℕ) (inv y : ℕ → R) (k : ℕ) (c : ℕ → R) : Type 0 where

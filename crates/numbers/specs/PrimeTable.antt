@@ -5,6 +5,7 @@
 --   small-units           then 1, …, b are units
 --   UnitDifferences n b   the differences of the points 0, …, b are units modulo n
 --   differences-none, none-differences    which is the same
+--   differences-above     then b is below n
 --   table                 the seventeen primes
 --   table-complete        every prime up to 60 is in it, by a computed test: each number from 2 to 60 is divided by a word of the table
 --   Passed n b            no word of the table up to b divides n
@@ -16,7 +17,7 @@ use mathlib.Core.Path.{_≡_, refl, sym, subst}
 use mathlib.Core.List.{List, [], _∷_}
 use mathlib.Core.Bool.{Bool, true, false, _&&_}
 use Prim.Native.Nat.{ℕ, zero, suc, _-_, _%_, _<_, _≤_, _∣_}
-use native.Mathlib.Decide.{ℕ-discrete}
+use native.Mathlib.Decide.{ℕ-discrete, decLt}
 use native.Mathlib.Nat.{dvd-of-mod-eq-zero, dvd-refl, dvd-trans, le-of-dvd, pos-of-dvd-of-pos}
 use native.Mathlib.Omega.{arith}
 use lib.Dec.{T, eqb, leb, eqb→eq, leb→le}
@@ -60,6 +61,17 @@ differences-none {n} u = record { none = λ p r l d. let big = r .above in no-un
       where
         less : (p : ℕ) → p - 0 ≡ p
         less p = omega arith
+
+-- so the points are residues
+pub differences-above : {n b : ℕ} → 2 ≤ n → UnitDifferences n b → b < n
+differences-above {n} {b} l u = go (decLt b n)
+  where
+    whole : (n : ℕ) → n - 0 ≡ n
+    whole n = omega arith
+
+    go : Dec (b < n) → b < n
+    go (yes h) = h
+    go (no h) = absurd (no-unit l (dvd-refl n) (subst (IsUnit n) (whole n) (u .at 0 n (omega arith) (omega arith))))
 
 -- ---- the table
 

@@ -8,7 +8,6 @@
 --   two-degree           no word beyond B
 --   two-value            at every point z the answer's value is the resultant of the evaluated pair
 --   two-fixed            words with the right values at 0, …, B are the answer
---   two-newton           Newton's differences of the values are the answer
 --   two-constant         with a = b = 0 it is the resultant
 --
 -- Letters: m is n less 1; f of degrees d in y and a in z, g of e and b; z is a point; inv k is the inverse of k.
@@ -28,7 +27,7 @@ use Rattle.definitions.specs.TwoVariables.{group, resultant-two, degree-two}
 use Rattle.algebra.specs.Evaluation.{ev, ev-cong, Value, value-of}
 use Rattle.algebra.specs.Integers.{ℤ-ring}
 use Rattle.algebra.specs.Interpolation.{same-values}
-use Rattle.algebra.specs.Newton.{num, num-sub, nest, diff, newton}
+use Rattle.algebra.specs.Newton.{num, num-sub}
 use Rattle.algebra.specs.Reduction.{reduce, reduce-hom}
 use Rattle.algebra.specs.Residues.{Res, toRes, Res-ring, mul-mod}
 use Rattle.algebra.specs.ResultantMaps.{Rs-cong, series-hom, Rs-hom}
@@ -182,16 +181,6 @@ module _ (m : ℕ) where
       unit-ring : (k : ℕ) → 1 ≤ k → k ≤ degree-two d a e b → Res-ring m .mul (toRes m (inv k)) (num (Res-ring m) k) ≡ toRes m 1
       unit-ring k l h = ap (Res-ring m .mul (toRes m (inv k))) (num-is k)
           ∙ Fin·val-path (sym (mul-mod (inv k) k (suc m)) ∙ ap (λ (x : ℕ). x % suc m) (mul-comm (inv k) k) ∙ unit k l h)
-
-      -- NEWTON'S DIFFERENCES of the values at 0, …, B are the words of the answer
-      pub two-newton : (k : ℕ) → k ≤ degree-two d a e b
-          → nest (Res-ring m) (suc (degree-two d a e b)) 0 (λ k. diff (Res-ring m) (λ k. toRes m (inv k))
-          (λ z. toRes m (resultant (suc m) (evaluated d a f z) (evaluated e b g z))) k 0) k .0
-          ≡ resultant-two (suc m) d a e b f g k
-      two-newton k l =
-          ap (λ (x : Res m). x .0) (newton (Res-ring m) (degree-two d a e b) (λ k. toRes m (inv k)) unit-ring two _
-          (λ i p. ap (λ (x : Res m). ev (Res-ring m) (suc (degree-two d a e b)) x two) (num-is i) ∙ value-ring i) k l)
-          ∙ sym (resultant-two-is d a e b f g k)
 
       -- THE VALUES FIX THE WORDS
       pub two-fixed : (w : ℕ → ℕ) → ((z : ℕ) → z ≤ degree-two d a e b
