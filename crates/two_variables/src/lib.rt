@@ -98,3 +98,27 @@ fn run_at(w: &mut [u32], n: u32, f: &[u32], d: usize, a: usize, g: &[u32], e: us
         }
     }
 }
+
+// "evaluate at 0 to B": word z of out is the resultant of the pair at z.
+fn values(out: &mut [u32], w: &mut [u32], n: u32, f: &[u32], d: usize, a: usize, g: &[u32], e: usize, b: usize, last: usize)
+    requires { ⌜ Prepared n last (now f) d a (now g) e b (now out) (now w) ⌝ }
+    ensures { λ _. ⌜ Written (value-at n (now (f .entry)) d a (now (g .entry)) e b) 0 (last + 1) (now (out .entry)) (now (out .exit)) ⌝ }
+    ensures { λ _. ⌜ Scratch (now (w .entry)) (now (w .exit)) ⌝ }
+{
+    let mut z: usize = 0;
+    while z < last + 1 {
+        out[z] = run_at(w, n, f, d, a, g, e, b, z as u32);
+        z += 1;
+    }
+}
+
+// "then interpolate": the first last + 1 words of out are the resultant in y.
+pub fn resultant_in_y(out: &mut [u32], w: &mut [u32], n: u32, f: &[u32], d: usize, a: usize, g: &[u32], e: usize, b: usize, last: usize)
+    requires { ⌜ Prepared n last (now f) d a (now g) e b (now out) (now w) ⌝ }
+    ensures { λ _. ⌜ Written (resultant-two n d a e b (now (f .entry)) (now (g .entry))) 0 (last + 1)
+        (now (out .entry)) (now (out .exit)) ⌝ }
+    ensures { λ _. ⌜ Scratch (now (w .entry)) (now (w .exit)) ⌝ }
+{
+    values(out, w, n, f, d, a, g, e, b, last);
+    interpolation::interpolate(out, n, last);
+}
