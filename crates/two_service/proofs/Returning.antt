@@ -70,9 +70,16 @@ pub accepted : (n : ℕ) (f : List ℕ) (d a : ℕ) (g : List ℕ) (e b : ℕ) (
     → TwoAccepted n f d a g e b
 accepted n f d a g e b s is z =
     let p = status-zero (two-sent narrow n f d a g e b)
-    (ServedModulus narrow n ∷ ServedShape d a f ∷ ServedShape e b g ∷ Residues n f ∷ Residues n g ∷ [])
-    ((omega arith, modulus-fails narrow n), ((omega arith, shape-fails d a f), ((omega arith, shape-fails e b g),
-    ((omega arith, words-fail n f), ((omega arith, words-fail n g), tt))))) .0 (sym is ∙ z) in
+    (ServedModulus narrow n ∷ ServedShape d a f ∷ ServedShape e b g ∷ Residues n f ∷ Residues n g ∷ []) (
+      (omega arith, modulus-fails narrow n),
+      (
+        (omega arith, shape-fails d a f),
+        (
+          (omega arith, shape-fails e b g),
+          ((omega arith, words-fail n f), ((omega arith, words-fail n g), tt)),
+        ),
+      ),
+    ) .0 (sym is ∙ z) in
     record { modulus = p .0 .least; first = p .1 .0; second = p .1 .1 .0 }
 
 pub record RoomAccepted (n B l m : ℕ) : Type 0 where
@@ -83,9 +90,16 @@ pub record RoomAccepted (n B l m : ℕ) : Type 0 where
 
 pub room-accepted : (n B l m t : ℕ) → t ≡ first-refusal (two-room narrow n B l m) → t ≡ 0 → RoomAccepted n B l m
 room-accepted n B l m t is z =
-    let p = status-zero (two-room narrow n B l m) ((B ≤ 60) ∷ NoSmallPrime n B ∷ (suc B ≤ l) ∷ (8192 ≤ m) ∷ [])
-    ((omega arith, above-fails 60 B), ((omega arith, prime-fails n B), ((omega arith, short-fails l (suc B)),
-    ((omega arith, short-fails m 8192), tt)))) .0 (sym is ∙ z) in
+    let p = status-zero (two-room narrow n B l m) ((B ≤ 60) ∷ NoSmallPrime n B ∷ (suc B ≤ l) ∷ (8192 ≤ m) ∷ []) (
+      (omega arith, above-fails 60 B),
+      (
+        (omega arith, prime-fails n B),
+        (
+          (omega arith, short-fails l (suc B)),
+          ((omega arith, short-fails m 8192), tt),
+        ),
+      ),
+    ) .0 (sym is ∙ z) in
     record { most = p .0; none = p .1 .0; out = p .1 .1 .0; working = p .1 .1 .1 .0 }
 
 -- the length that fits the degrees, as the code has it

@@ -13,7 +13,25 @@ ghost use Rattle.two_service.specs.TwoService.{bad-shape, small-factor, 
 use refusals::Answer;
 
 // "The primes up to 59 stand in a fixed table."
-const PRIMES: [u32; 17] = [2, 3, 5, 7, 11, 13, 17, 19, 23, 29, 31, 37, 41, 43, 47, 53, 59];
+const PRIMES: [u32; 17] = [
+    2,
+    3,
+    5,
+    7,
+    11,
+    13,
+    17,
+    19,
+    23,
+    29,
+    31,
+    37,
+    41,
+    43,
+    47,
+    53,
+    59,
+];
 
 // Whether a degree is above 48, or f is not d + 1 groups of a + 1 words.
 fn bad_shape(f: &[u32], d: usize, a: usize) -> bool
@@ -89,20 +107,39 @@ fn room_refusal(n: u32, last: usize, l: usize, m: usize) -> u32
 }
 
 // "The answer is the resultant in y, a polynomial in z of B + 1 words with B = e times a plus d times b."
-pub fn resultant_two(n: u32, f: &[u32], d: usize, a: usize, g: &[u32], e: usize, b: usize, out: &mut [u32], work: &mut [u32]) -> Answer
+pub fn resultant_two(
+    n: u32,
+    f: &[u32],
+    d: usize,
+    a: usize,
+    g: &[u32],
+    e: usize,
+    b: usize,
+    out: &mut [u32],
+    work: &mut [u32],
+) -> Answer
     ensures { λ r. ⌜ TwoAnswer narrow n (now (f .entry)) d a (now (g .entry)) e b (now (out .entry)) (now (out .exit))
         (now (work .entry)) (now (work .exit)) (r .value) (r .status) ⌝ }
 {
     let s = sent_refusal(n, f, d, a, g, e, b);
     if s != 0 {
-        return Answer { value: 0, status: s };
+        return Answer {
+            value: 0,
+            status: s,
+        };
     }
     let last = e * a + d * b;
     let t = room_refusal(n, last, out.len(), work.len());
     if t != 0 {
-        return Answer { value: 0, status: t };
+        return Answer {
+            value: 0,
+            status: t,
+        };
     }
     two_variables::resultant_in_y(out, work, n, f, d, a, g, e, b, last);
     windows::wipe(work);
-    Answer { value: 0, status: 0 }
+    Answer {
+        value: 0,
+        status: 0,
+    }
 }

@@ -52,7 +52,17 @@ fn evaluate(w: &mut [u32], at: usize, n: u32, f: &[u32], d: usize, a: usize, z: 
 }
 
 // f first.
-fn ordered(w: &mut [u32], n: u32, f: &[u32], d: usize, a: usize, g: &[u32], e: usize, b: usize, z: u32) -> Attempt
+fn ordered(
+    w: &mut [u32],
+    n: u32,
+    f: &[u32],
+    d: usize,
+    a: usize,
+    g: &[u32],
+    e: usize,
+    b: usize,
+    z: u32,
+) -> Attempt
     requires { ⌜ (2 ≤ n) × (PairSizes (now f) d a (now g) e b (now w) × (d ≤ e)) ⌝ }
     ensures { λ r. ⌜ ValueOrSplit n (value-at n (now (f .entry)) d a (now (g .entry)) e b z) r ⌝ }
 {
@@ -63,7 +73,17 @@ fn ordered(w: &mut [u32], n: u32, f: &[u32], d: usize, a: usize, g: &[u32], e: u
 }
 
 // A swap costs the sign (-1)^(d e).
-fn swapped(w: &mut [u32], n: u32, f: &[u32], d: usize, a: usize, g: &[u32], e: usize, b: usize, z: u32) -> Attempt
+fn swapped(
+    w: &mut [u32],
+    n: u32,
+    f: &[u32],
+    d: usize,
+    a: usize,
+    g: &[u32],
+    e: usize,
+    b: usize,
+    z: u32,
+) -> Attempt
     requires { ⌜ (2 ≤ n) × (PairSizes (now f) d a (now g) e b (now w) × (e ≤ d)) ⌝ }
     ensures { λ r. ⌜ ValueOrSplit n (value-at n (now (f .entry)) d a (now (g .entry)) e b z) r ⌝ }
 {
@@ -72,7 +92,17 @@ fn swapped(w: &mut [u32], n: u32, f: &[u32], d: usize, a: usize, g: &[u32], e: u
 }
 
 // The one of lower degree in y goes first.
-fn once(w: &mut [u32], n: u32, f: &[u32], d: usize, a: usize, g: &[u32], e: usize, b: usize, z: u32) -> Attempt
+fn once(
+    w: &mut [u32],
+    n: u32,
+    f: &[u32],
+    d: usize,
+    a: usize,
+    g: &[u32],
+    e: usize,
+    b: usize,
+    z: u32,
+) -> Attempt
     requires { ⌜ (2 ≤ n) × PairSizes (now f) d a (now g) e b (now w) ⌝ }
     ensures { λ r. ⌜ ValueOrSplit n (value-at n (now (f .entry)) d a (now (g .entry)) e b z) r ⌝ }
 {
@@ -84,7 +114,17 @@ fn once(w: &mut [u32], n: u32, f: &[u32], d: usize, a: usize, g: &[u32], e: usiz
 
 // The resultant of the pair at z. "At a splitting coefficient, each of the two factors is worked as a modulus of its own, and the
 // answers are joined by the Chinese remainder."
-fn run_at(w: &mut [u32], n: u32, f: &[u32], d: usize, a: usize, g: &[u32], e: usize, b: usize, z: u32) -> u32
+fn run_at(
+    w: &mut [u32],
+    n: u32,
+    f: &[u32],
+    d: usize,
+    a: usize,
+    g: &[u32],
+    e: usize,
+    b: usize,
+    z: u32,
+) -> u32
     requires { ⌜ (2 ≤ n) × PairSizes (now f) d a (now g) e b (now w) ⌝ }
     ensures { λ r. ⌜ r ≡ value-at n (now (f .entry)) d a (now (g .entry)) e b z ⌝ }
     ensures { λ _. ⌜ Scratch (now (w .entry)) (now (w .exit)) ⌝ }
@@ -100,7 +140,18 @@ fn run_at(w: &mut [u32], n: u32, f: &[u32], d: usize, a: usize, g: &[u32], e: us
 }
 
 // "evaluate at 0 to B": word z of out is the resultant of the pair at z.
-fn values(out: &mut [u32], w: &mut [u32], n: u32, f: &[u32], d: usize, a: usize, g: &[u32], e: usize, b: usize, last: usize)
+fn values(
+    out: &mut [u32],
+    w: &mut [u32],
+    n: u32,
+    f: &[u32],
+    d: usize,
+    a: usize,
+    g: &[u32],
+    e: usize,
+    b: usize,
+    last: usize,
+)
     requires { ⌜ Prepared n last (now f) d a (now g) e b (now out) (now w) ⌝ }
     ensures { λ _. ⌜ Written (value-at n (now (f .entry)) d a (now (g .entry)) e b) 0 (last + 1) (now (out .entry)) (now (out .exit)) ⌝ }
     ensures { λ _. ⌜ Scratch (now (w .entry)) (now (w .exit)) ⌝ }
@@ -113,7 +164,18 @@ fn values(out: &mut [u32], w: &mut [u32], n: u32, f: &[u32], d: usize, a: usize,
 }
 
 // "then interpolate": the first last + 1 words of out are the resultant in y.
-pub fn resultant_in_y(out: &mut [u32], w: &mut [u32], n: u32, f: &[u32], d: usize, a: usize, g: &[u32], e: usize, b: usize, last: usize)
+pub fn resultant_in_y(
+    out: &mut [u32],
+    w: &mut [u32],
+    n: u32,
+    f: &[u32],
+    d: usize,
+    a: usize,
+    g: &[u32],
+    e: usize,
+    b: usize,
+    last: usize,
+)
     requires { ⌜ Prepared n last (now f) d a (now g) e b (now out) (now w) ⌝ }
     ensures { λ _. ⌜ Written (resultant-two n d a e b (now (f .entry)) (now (g .entry))) 0 (last + 1)
         (now (out .entry)) (now (out .exit)) ⌝ }

@@ -5,33 +5,19 @@ use native.Mathlib.Omega.{arith}
 use borrow.Author.Needs.{needs}
 use Rattle.two_service.proofs.bad_shape.Statement.{statement}
 use Rattle.two_service.proofs.bad_shape.Tie as tie
-use Rattle.two_service.proofs.bad_shape.Reads as reads
-use Rattle.two_service.proofs.bad_shape.Lts as lts
 
--- src/lib.rt:23:9
 returns : tie.Need-returns
 returns c = simp (lt-ltb _ _ (c .if1 .taken)) refl
 
--- src/lib.rt:26:9
 returns-2 : tie.Need-returns-2
 returns-2 c = simp (le-ltb _ _ (c .before .if1 .left), lt-ltb _ _ (c .if2 .taken)) refl
 
--- src/lib.rt:28:17
-add-result : tie.Need-add-result
-add-result c = search needs
-
--- src/lib.rt:28:27
-add-result-2 : tie.Need-add-result-2
-add-result-2 c = search needs
-
--- src/lib.rt:28:16
 mul-result : tie.Need-mul-result
 mul-result c = record { fits = omega (arith, shape-most (c .before .before .args .d) (c .before .before .args .a) (c .before .if1 .left) (c .if2 .left)) }
 
--- src/lib.rt:19:1
 returns-3 : tie.Need-returns-3
 returns-3 c = shape-last (c .before .before .args .f .now) (c .before .before .args .d) (c .before .before .args .a) (c .before .if1 .left) (c .if2 .left)
 
 pub bad-shape-spec : {M : Type 1} → statement M
 bad-shape-spec =
-    tie.close (tie.spec returns returns-2 add-result add-result-2 mul-result returns-3)
+    tie.close (tie.spec returns returns-2 (λ c. search needs) (λ c. search needs) mul-result returns-3)

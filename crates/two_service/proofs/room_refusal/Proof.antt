@@ -4,39 +4,23 @@ use mathlib.Core.Path.{refl, sym, _∙_}
 use borrow.Author.Needs.{needs}
 use Rattle.two_service.proofs.room_refusal.Statement.{statement}
 use Rattle.two_service.proofs.room_refusal.Tie as tie
-use Rattle.two_service.proofs.room_refusal.Reads as reads
-use Rattle.two_service.proofs.room_refusal.Lts as lts
-use Rattle.two_service.proofs.prime_divides.Reads as prime-divides-reads
 
--- src/lib.rt:77:9
 returns : tie.Need-returns
 returns c = simp (lt-ltb _ _ (c .if1 .taken)) refl
 
--- src/lib.rt:79:8
-prime-divides-requires : tie.Need-prime-divides-requires
-prime-divides-requires c κs = search needs
-
--- src/lib.rt:80:9
 returns-2 : tie.Need-returns-2
 returns-2 c = simp (le-ltb _ _ (c .before .before .if1 .left), sym (c .before .prime-divides .ensures) ∙ c .if2 .taken) refl
 
--- src/lib.rt:82:12
-add-if3 : tie.Need-add-if3
-add-if3 c = search needs
-
--- src/lib.rt:83:9
 returns-3 : tie.Need-returns-3
 returns-3 c = simp (le-ltb _ _ (c .before .before .before .if1 .left), sym (c .before .before .prime-divides .ensures) ∙ c .before .if2 .left, lacks-room (c .before .before .before .before .args .l) (c .before .before .before .before .args .last) (c .if3 .taken)) refl
 
--- src/lib.rt:86:9
 returns-4 : tie.Need-returns-4
 returns-4 c = simp (le-ltb _ _ (c .before .before .before .before .if1 .left), sym (c .before .before .before .prime-divides .ensures) ∙ c .before .before .if2 .left, has-room (c .before .before .before .before .before .args .l) (c .before .before .before .before .before .args .last) (c .before .if3 .left), lt-ltb _ _ (c .if4 .taken)) refl
 
--- src/lib.rt:73:1
 returns-5 : tie.Need-returns-5
 returns-5 c = simp (le-ltb _ _ (c .before .before .before .before .if1 .left), sym (c .before .before .before .prime-divides .ensures) ∙ c .before .before .if2 .left, has-room (c .before .before .before .before .before .args .l) (c .before .before .before .before .before .args .last) (c .before .if3 .left), le-ltb _ _ (c .if4 .left)) refl
 
 pub room-refusal-spec : {M : Type 1} → statement M
 room-refusal-spec =
     tie.close
-    (tie.spec returns prime-divides-requires returns-2 add-if3 returns-3 returns-4 returns-5)
+    (tie.spec returns (λ c κs. search needs) returns-2 (λ c. search needs) returns-3 returns-4 returns-5)

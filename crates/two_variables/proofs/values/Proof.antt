@@ -10,9 +10,6 @@ use mathlib.Core.Path.{_≡_, refl, _∙_}
 use borrow.Author.Needs.{needs}
 use Rattle.two_variables.proofs.values.Statement.{statement}
 use Rattle.two_variables.proofs.values.Tie as tie
-use Rattle.two_variables.proofs.values.Reads as reads
-use Rattle.two_variables.proofs.values.Lts as lts
-use Rattle.two_variables.proofs.run_at.Reads as run-at-reads
 
 abbrev Inv-loop : tie.InvT-loop
 Inv-loop out₀ w₀ n f d a g e b last z₀ out w z = (z ≤ last + 1) × ((length w ≡ length w₀) × Written (value-at n f d a g e b) 0 z out₀ out)
@@ -20,52 +17,30 @@ Inv-loop out₀ w₀ n f d a g e b last z₀ out w z = (z ≤ last + 1) × ((len
 abbrev μ-loop : tie.MeasureT-loop
 μ-loop out₀ w₀ n f d a g e b last z₀ out w z = last + 1 - z
 
--- src/lib.rt:109:5
 loop-holds : tie.Need-loop-holds Inv-loop μ-loop
 loop-holds c = (omega arith, (refl, written-none _ _ _))
 
--- src/lib.rt:109:15
 add-loop : tie.Need-add-loop Inv-loop μ-loop
 add-loop c = let l : c .before .before .before .before .before .args .last < length (c .before .before .before .before .before .args .out .now) = c .before .before .before .before .before .pre .inside in search needs
 
--- src/lib.rt:110:49
 cast-run-at : tie.Need-cast-run-at Inv-loop μ-loop
 cast-run-at c = record { fits = point-fits (c .before .before .before .before .before .before .before .pre) (c .before .before .loop .z) _ (c .before .before .before .before .before .before .before .fits .n .fits) (omega arith) }
 
--- src/lib.rt:110:18
 run-at-requires : tie.Need-run-at-requires Inv-loop μ-loop
 run-at-requires c κs = (c .before .before .before .before .before .before .before .pre .two, sizes-kept (c .before .before .loop .inv .1 .0) (c .before .before .before .before .before .before .before .pre .sizes))
 
--- src/lib.rt:110:9
-mul-out : tie.Need-mul-out Inv-loop μ-loop
-mul-out c = search needs
-
--- src/lib.rt:110:9
 slice-write-out : tie.Need-slice-write-out Inv-loop μ-loop
 slice-write-out c = omega (arith, c .before .before .before .before .before .before .before .before .before .before .pre .inside, c .before .before .before .before .before .loop .inv .1 .1 .same)
 
--- src/lib.rt:111:9
-add-z : tie.Need-add-z Inv-loop μ-loop
-add-z c = search needs
-
--- src/lib.rt:109:5
-loop-less : tie.Need-loop-less Inv-loop μ-loop
-loop-less c = search needs
-
--- src/lib.rt:109:5
 loop-again : tie.Need-loop-again Inv-loop μ-loop
-loop-again c = (omega arith, (c .before .before .run-at .ensures .1 .same ∙ c .before .before .before .before .before .loop .inv .1 .0,
-    values-next (c .before .before .before .before .before .loop .z) (c .before .before .before .before .before .loop .inv .1 .1) (omega (arith, c .before .before .before .before .before .before .before .before .before .before .pre .inside)) (c .before .before .run-at .ensures .0)))
+loop-again c = (
+  omega arith,
+  (
+    c .before .before .run-at .ensures .1 .same ∙ c .before .before .before .before .before .loop .inv .1 .0,
+    values-next (c .before .before .before .before .before .loop .z) (c .before .before .before .before .before .loop .inv .1 .1) (omega (arith, c .before .before .before .before .before .before .before .before .before .before .pre .inside)) (c .before .before .run-at .ensures .0),
+  ),
+)
 
--- src/lib.rt:103:1
-same-length : tie.Need-same-length Inv-loop μ-loop
-same-length c = search needs
-
--- src/lib.rt:103:1
-same-length-2 : tie.Need-same-length-2 Inv-loop μ-loop
-same-length-2 c = search needs
-
--- src/lib.rt:103:1
 returns : tie.Need-returns Inv-loop μ-loop
 returns c = let e : c .before .loop .z ≡ c .before .before .before .before .before .before .args .last + 1 = omega arith in (rw e at (c .before .loop .inv .1 .1), record { same = c .before .loop .inv .1 .0 })
 
@@ -79,11 +54,11 @@ values-spec =
     add-loop
     cast-run-at
     run-at-requires
-    mul-out
+    (λ c. search needs)
     slice-write-out
-    add-z
-    loop-less
+    (λ c. search needs)
+    (λ c. search needs)
     loop-again
-    same-length
-    same-length-2
+    (λ c. search needs)
+    (λ c. search needs)
     returns)
