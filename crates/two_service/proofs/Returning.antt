@@ -1,7 +1,7 @@
 -- The promise of the resultant of two variables at each place where it returns.
 --
---   degree-fits      B has room in a word
---   accepted         what is known once none of the refusals 1, 2 and 3 applies
+--   accepted, room-accepted    what is known once none of the refusals 1, 2 and 3, or 12, 11, 6 and 7, applies
+--   small-products   the products of degrees that B is made of
 --   prepared         what the run asks, once none applies
 --   refused-sent, refused-room, done
 use mathlib.Core.Path.{_≡_, refl, sym, ap, subst, _∙_}
@@ -127,9 +127,20 @@ lacks-room l b h = lt-ltb l (suc b) (omega arith)
 pub has-room : (l b : ℕ) → b + 1 ≤ l → short l (suc b) ≡ false
 has-room l b h = le-ltb l (suc b) (omega arith)
 
--- a product of degrees
-pub product-most : (x y : ℕ) → x ≤ 48 → y ≤ 48 → x * y ≤ 2304
-product-most x y p q = mul-le-mul p q
+-- the products of a degree in y and one in z
+pub record SmallProducts (d a e b : ℕ) : Type 0 where
+  pub of-da : d * a ≤ 2304
+  pub of-db : d * b ≤ 2304
+  pub of-ea : e * a ≤ 2304
+  pub of-eb : e * b ≤ 2304
+
+pub small-products : {n d a e b : ℕ} {f g : List ℕ} → TwoAccepted n f d a g e b → SmallProducts d a e b
+small-products {n} {d} {a} {e} {b} t = record {
+  of-da = mul-le-mul (t .first .most-y) (t .first .most-z);
+  of-db = mul-le-mul (t .first .most-y) (t .second .most-z);
+  of-ea = mul-le-mul (t .second .most-y) (t .first .most-z);
+  of-eb = mul-le-mul (t .second .most-y) (t .second .most-z);
+}
 
 module _ (n : ℕ) (f : List ℕ) (d a : ℕ) (g : List ℕ) (e b : ℕ) (out work : List ℕ) (s : ℕ)
     (is : s ≡ first-refusal (two-sent narrow n f d a g e b)) where

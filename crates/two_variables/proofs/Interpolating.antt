@@ -34,7 +34,7 @@ values-next {F} {w₀} {w} {v} i h l e =
     plus k = omega arith
 
 module _ {n last d a e b : ℕ} {f g out w : List ℕ} (p : Prepared n last f d a g e b out w) where
-  pub point-fits : (z t : ℕ) → n < t → z ≤ last → z < t
+  pub point-fits : (z t : ℕ) → n < t → z ≤ last + 1 → z < t
   point-fits z t l q = let h = differences-above (p .two) (p .apart) in omega arith
 
   module _ {out₁ : List ℕ} (v : Written (value-at n f d a g e b) 0 (last + 1) out out₁) where

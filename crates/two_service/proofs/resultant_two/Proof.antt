@@ -1,4 +1,4 @@
-use Rattle.two_service.proofs.Returning.{accepted, product-most, refused-sent, refused-room, prepared, done}
+use Rattle.two_service.proofs.Returning.{accepted, small-products, refused-sent, refused-room, prepared, done}
 use lib.ListN.{replicate}
 use native.Mathlib.Omega.{arith}
 use Prim.Native.Nat.{ℕ}
@@ -14,24 +14,21 @@ returns c = let s = c .before .before .before .before .before .before .args in
 
 mul-last : tie.Need-mul-last
 mul-last c = let s = c .before .before .before .before .before .before .args in
-    let p = accepted (s .n) (s .f .now) (s .d) (s .a) (s .g .now) (s .e) (s .b) _ (c .before .sent-refusal .ensures) (c .if1 .left) in
-    record { fits = omega (arith, product-most (s .e) (s .a) (p .second .most-y) (p .first .most-z)) }
+    let p = small-products (accepted (s .n) (s .f .now) (s .d) (s .a) (s .g .now) (s .e) (s .b) _ (c .before .sent-refusal .ensures)
+    (c .if1 .left)) in
+    record { fits = omega (arith, p) }
 
 mul-last-2 : tie.Need-mul-last-2
 mul-last-2 c = let s = c .before .before .before .before .before .before .args in
-    let p = accepted (s .n) (s .f .now) (s .d) (s .a) (s .g .now) (s .e) (s .b) _ (c .before .sent-refusal .ensures) (c .if1 .left) in
-    record { fits = omega (arith, product-most (s .d) (s .b) (p .first .most-y) (p .second .most-z)) }
+    let p = small-products (accepted (s .n) (s .f .now) (s .d) (s .a) (s .g .now) (s .e) (s .b) _ (c .before .sent-refusal .ensures)
+    (c .if1 .left)) in
+    record { fits = omega (arith, p) }
 
 add-last : tie.Need-add-last
 add-last c = let s = c .before .before .before .before .before .before .args in
-    let p = accepted (s .n) (s .f .now) (s .d) (s .a) (s .g .now) (s .e) (s .b) _ (c .before .sent-refusal .ensures) (c .if1 .left) in
-    record {
-      fits = omega (
-        arith,
-        product-most (s .e) (s .a) (p .second .most-y) (p .first .most-z),
-        product-most (s .d) (s .b) (p .first .most-y) (p .second .most-z),
-      );
-    }
+    let p = small-products (accepted (s .n) (s .f .now) (s .d) (s .a) (s .g .now) (s .e) (s .b) _ (c .before .sent-refusal .ensures)
+    (c .if1 .left)) in
+    record { fits = omega (arith, p) }
 
 returns-2 : tie.Need-returns-2
 returns-2 c = let s = c .before .before .before .before .before .before .before .before .args in
