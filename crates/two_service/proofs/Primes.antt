@@ -41,12 +41,9 @@ ascends : (k : ℕ) → k < 16 → getD table k 0 ≤ getD table (suc k) 0
 ascends k l = leb→le (getD table k 0) (getD table (suc k) 0)
     (every-at 16 (λ k. leb (getD table k 0) (getD table (suc k) 0)) tt k l)
 
--- every word of it is from 1 to 59
+-- no word of it is 0
 pub least-prime : (k : ℕ) → k < 17 → 0 < getD table k 0
 least-prime k l = leb→le 1 (getD table k 0) (every-at 17 (λ k. leb 1 (getD table k 0)) tt k l)
-
-pub most-prime : (k : ℕ) → k < 17 → getD table k 0 ≤ 59
-most-prime k l = leb→le (getD table k 0) 59 (every-at 17 (λ k. leb (getD table k 0) 59) tt k l)
 
 sorted : (i r j : ℕ) → i + r ≡ j → j < 17 → getD table i 0 ≤ getD table j 0
 sorted i zero j e l = let s : i ≡ j = omega arith in subst (λ (k : ℕ). getD table i 0 ≤ getD table k 0) s (omega arith)

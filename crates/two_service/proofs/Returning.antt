@@ -2,7 +2,7 @@
 --
 --   accepted, room-accepted    what is known once none of the refusals 1, 2 and 3, or 12, 11, 6 and 7, applies
 --   small-products   the products of degrees that B is made of
---   prepared         what the run asks, once none applies
+--   prepared, prepared-turned    what the run asks, once none applies, whichever of f and g comes first
 --   refused-sent, refused-room, done
 use mathlib.Core.Path.{_≡_, refl, sym, ap, subst, _∙_}
 use mathlib.Core.Bool.{Bool, true, false, not, cond}
@@ -179,6 +179,27 @@ module _ (n : ℕ) (f : List ℕ) (d a : ℕ) (g : List ℕ) (e b : ℕ) (out wo
           inside = r .out;
           apart = none-differences (omega (arith, p .modulus)) (r .none);
         }
+
+    -- the same for g and f
+    pub prepared-turned : t ≡ 0 → Prepared n (degree-two d a e b) g e b f d a out work
+    prepared-turned y =
+        let p = prepared y in
+        record {
+          two = p .two;
+          sizes = record {
+            most-d = p .sizes .most-e;
+            most-e = p .sizes .most-d;
+            words-f = p .sizes .words-g;
+            words-g = p .sizes .words-f;
+            working = p .sizes .working;
+          };
+          degree = turned d a e b;
+          inside = p .inside;
+          apart = p .apart;
+        }
+      where
+        turned : (d a e b : ℕ) → degree-two d a e b ≡ degree-two e b d a
+        turned d a e b = omega arith
 
     pub done : (y : t ≡ 0) (out' work' : List ℕ) → Written (resultant-two n d a e b f g) 0 (degree-two d a e b + 1) out out'
         → work' ≡ replicate (length work) 0 → TwoAnswer narrow n f d a g e b out out' work work' 0 0

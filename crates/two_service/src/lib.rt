@@ -4,10 +4,12 @@
 //   last          B, the degree in z of the resultant
 //
 //   bad_shape, sent_refusal         the refusals 1, 2 and 3
-//   prime_divides, room_refusal     the refusals 12, 11, 6 and 7
+//   prime, prime_divides, room_refusal     the refusals 12, 11, 6 and 7
 //   resultant_two                   the service
 ghost use mathlib.Core.Path.{_≡_};
-ghost use Prim.Native.Nat.{_≤_};
+ghost use Prim.Native.Nat.{_<_, _≤_};
+ghost use lib.ListN.{getD};
+ghost use Rattle.numbers.specs.PrimeTable.{table};
 ghost use Rattle.refusals.specs.Refusals.{narrow, first-refusal};
 ghost use Rattle.two_service.specs.TwoService.{bad-shape, small-factor, two-sent, two-room, TwoAnswer};
 use refusals::Answer;
@@ -68,6 +70,14 @@ fn sent_refusal(n: u32, f: &[u32], d: usize, a: usize, g: &[u32], e: usize, b: u
     3
 }
 
+// Prime i of the table.
+fn prime(i: usize) -> u32
+    requires { ⌜ i < 17 ⌝ }
+    ensures { λ r. ⌜ r ≡ getD table i 0 ⌝ }
+{
+    PRIMES[i]
+}
+
 // Whether some prime up to last divides n: the table's primes that are not above last are tested.
 fn prime_divides(n: u32, last: usize) -> bool
     requires { ⌜ last ≤ 60 ⌝ }
@@ -75,7 +85,7 @@ fn prime_divides(n: u32, last: usize) -> bool
 {
     let mut i: usize = 0;
     while i < 17 {
-        let p = PRIMES[i];
+        let p = prime(i);
         if last < p as usize {
             return false;
         }

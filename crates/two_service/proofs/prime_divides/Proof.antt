@@ -1,6 +1,7 @@
-use Rattle.two_service.proofs.Primes.{Checked, checked-first, checked-next, over, all-checked, found, least-prime, most-prime}
-use Prim.Native.Nat.{_-_}
+use Rattle.two_service.proofs.Primes.{Checked, checked-first, checked-next, over, all-checked, found, least-prime}
+use Prim.Native.Nat.{ℕ, _-_, _%_, _<_, _≤_}
 use native.Mathlib.Omega.{arith}
+use mathlib.Core.Path.{_≡_, sym, subst}
 use borrow.Author.Needs.{needs}
 use Rattle.two_service.proofs.prime_divides.Statement.{statement}
 use Rattle.two_service.proofs.prime_divides.Tie as tie
@@ -14,20 +15,20 @@ abbrev μ-loop : tie.MeasureT-loop
 loop-holds : tie.Need-loop-holds Inv-loop μ-loop
 loop-holds c = checked-first _ _
 
-cast-if1 : tie.Need-cast-if1 Inv-loop μ-loop
-cast-if1 c = record { fits = omega (arith, most-prime (c .before .loop .i) (c .loop-test .taken)) }
-
 returns : tie.Need-returns Inv-loop μ-loop
-returns c = over (c .before .before .before .pre) (c .before .before .loop .inv) (c .before .loop-test .taken) (c .if1 .taken)
+returns c = over (c .before .before .before .before .pre) (c .before .before .before .loop .inv) (c .before .before .loop-test .taken) (subst (λ (x : ℕ). c .before .before .before .before .args .last < x) (c .before .prime .ensures) (c .if1 .taken))
 
 rem-if2 : tie.Need-rem-if2 Inv-loop μ-loop
-rem-if2 c = least-prime (c .before .before .loop .i) (c .before .loop-test .taken)
+rem-if2 c = subst (λ (x : ℕ). 0 < x) (sym (c .before .prime .ensures)) (least-prime (c .before .before .before .loop .i) (c .before .before .loop-test .taken))
 
 returns-2 : tie.Need-returns-2 Inv-loop μ-loop
-returns-2 c = found (c .before .before .before .before .args .n) (c .before .before .before .before .args .last) (c .before .before .before .loop .i) (c .before .before .loop-test .taken) (c .before .if1 .left) (c .if2 .taken)
+returns-2 c = found (c .before .before .before .before .before .args .n) (c .before .before .before .before .before .args .last) (c .before .before .before .before .loop .i) (c .before .before .before .loop-test .taken)
+    (subst (λ (x : ℕ). x ≤ c .before .before .before .before .before .args .last) (c .before .before .prime .ensures) (c .before .if1 .left))
+    (subst (λ (x : ℕ). c .before .before .before .before .before .args .n % x ≡ 0) (c .before .before .prime .ensures) (c .if2 .taken))
 
 loop-again : tie.Need-loop-again Inv-loop μ-loop
-loop-again c = checked-next (c .before .before .before .loop .inv) (c .before .before .loop-test .taken) (c .if2 .left)
+loop-again c = checked-next (c .before .before .before .before .loop .inv) (c .before .before .before .loop-test .taken)
+    (λ h. c .if2 .left (subst (λ (x : ℕ). c .before .before .before .before .before .args .n % x ≡ 0) (sym (c .before .before .prime .ensures)) h))
 
 returns-3 : tie.Need-returns-3 Inv-loop μ-loop
 returns-3 c = all-checked (c .before .before .pre) (c .before .loop .inv) (c .loop-test .left)
@@ -39,9 +40,8 @@ prime-divides-spec =
     Inv-loop
     μ-loop
     loop-holds
+    (λ c κs. search needs)
     (λ c. search needs)
-    (λ c. search needs)
-    cast-if1
     returns
     rem-if2
     returns-2

@@ -1,4 +1,4 @@
-use Rattle.two_service.proofs.Returning.{accepted, small-products, refused-sent, refused-room, prepared, done}
+use Rattle.two_service.proofs.Returning.{accepted, small-products, refused-sent, refused-room, prepared, prepared-turned, done}
 use lib.ListN.{replicate}
 use native.Mathlib.Omega.{arith}
 use Prim.Native.Nat.{ℕ}
@@ -35,10 +35,15 @@ returns-2 c = let s = c .before .before .before .before .before .before .before 
     refused-room (s .n) (s .f .now) (s .d) (s .a) (s .g .now) (s .e) (s .b) (s .out .now) (s .work .now) (c .before .before .before .sent-refusal .result)
     (c .before .before .before .sent-refusal .ensures) (c .before .before .if1 .left) (c .before .room-refusal .result) (c .before .room-refusal .ensures) (c .if2 .taken)
 
+-- whichever of the two comes first
 resultant-in-y-requires : tie.Need-resultant-in-y-requires
 resultant-in-y-requires c κs = let s = c .before .before .before .before .before .before .before .before .before .before .args in
-    prepared (s .n) (s .f .now) (s .d) (s .a) (s .g .now) (s .e) (s .b) (s .out .now) (s .work .now) (c .before .before .before .before .before .sent-refusal .result)
-    (c .before .before .before .before .before .sent-refusal .ensures) (c .before .before .before .before .if1 .left) (c .before .before .before .room-refusal .result) (c .before .before .before .room-refusal .ensures) (c .before .before .if2 .left)
+    search (
+      prepared (s .n) (s .f .now) (s .d) (s .a) (s .g .now) (s .e) (s .b) (s .out .now) (s .work .now) (c .before .before .before .before .before .sent-refusal .result)
+          (c .before .before .before .before .before .sent-refusal .ensures) (c .before .before .before .before .if1 .left) (c .before .before .before .room-refusal .result) (c .before .before .before .room-refusal .ensures) (c .before .before .if2 .left),
+      prepared-turned (s .n) (s .f .now) (s .d) (s .a) (s .g .now) (s .e) (s .b) (s .out .now) (s .work .now) (c .before .before .before .before .before .sent-refusal .result)
+          (c .before .before .before .before .before .sent-refusal .ensures) (c .before .before .before .before .if1 .left) (c .before .before .before .room-refusal .result) (c .before .before .before .room-refusal .ensures) (c .before .before .if2 .left),
+    )
 
 returns-3 : tie.Need-returns-3
 returns-3 c = let s = c .before .before .before .before .before .before .before .before .before .before .before .before .before .before .before .before .before .before .before .args in
