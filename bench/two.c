@@ -1,7 +1,7 @@
 /* Times of the resultant of two variables beside FLINT's and PARI's, in one run, over a pool of different pairs: d = e = 6 in y, a = b = 5 in
  * z, so B = 60, and smaller degrees. Each figure of the engine and of FLINT is the best of several passes over the pool, PARI's is by its
  * own clock, in microseconds a call. Where a word of the engine is not FLINT's, or a call is refused, the program says which and exits
- * with 1. At the end a composite modulus, where FLINT's function has no meaning and PARI stops at the first element without an inverse.
+ * with 1. At the end a pair modulo 67 * 71: PARI stops where a lead has no inverse, and FLINT's function asks for a prime modulus.
  * Build and run: make -C bench two && bench/two */
 #include <stdint.h>
 #include <stdio.h>
@@ -152,12 +152,13 @@ int main(void)
     pair(5, 6);
     pair(3, 4);
     pair(2, 2);
-    /* 67 y + z and 71 y + 1 modulo 67 * 71: neither lead is a unit; the resultant is 67 - 71 z */
-    uint32_t f[4] = { 0, 1, 67, 0 }, g[4] = { 1, 0, 71, 0 };
-    jingcobu_answer r = jingcobu_resultant_two(4757, f, 4, 1, 1, g, 4, 1, 1, out, 61, work, JINGCOBU_WORK);
-    printf("67 y + z and 71 y + 1 modulo 4757: %u %u %u, status %u\n", out[0], out[1], out[2], r.status);
-    if (r.status || out[0] != 67 || out[1] != 4686 || out[2]) wrong++;
-    if (system("printf 'y;z;print(\"PARI polresultant there: \", iferr(polresultant(Mod(1,4757)*(67*y+z),Mod(1,4757)*(71*y+1),y),E,E))\\n' | gp -q -f 2> /dev/null"))
+    /* neither lead is a unit */
+    uint32_t f[6] = { 1, 0, 0, 1, 67, 0 }, g[6] = { 0, 1, 1, 0, 71, 0 }, is[5] = { 351, 4686, 4422, 71, 0 };
+    jingcobu_answer r = jingcobu_resultant_two(4757, f, 6, 2, 1, g, 6, 2, 1, out, 61, work, JINGCOBU_WORK);
+    printf("67 y^2 + z y + 1 and 71 y^2 + y + z modulo 4757 = 67 * 71: %u %u %u %u %u, status %u\n", out[0], out[1], out[2], out[3], out[4], r.status);
+    if (r.status || memcmp(out, is, sizeof is)) wrong++;
+    fflush(stdout);
+    if (system("printf 'y;z;print(\"PARI polresultant there: \", iferr(polresultant(Mod(1,4757)*(67*y^2+z*y+1),Mod(1,4757)*(71*y^2+y+z),y),E,E))\\n' | gp -q -f 2> /dev/null"))
         printf("PARI (gp) did not answer\n");
     return wrong != 0;
 }
