@@ -1,6 +1,6 @@
 /* Times of the resultant of two variables beside FLINT's and PARI's, in one run, over a pool of different pairs: d = e = 6 in y, a = b = 5 in
- * z, so B = 60, and smaller degrees. Each figure of the engine and of FLINT is the best of several passes over the pool, PARI's is by its
- * own clock, in microseconds a call. Where a word of the engine is not FLINT's, or a call is refused, the program says which and exits
+ * z, so B = 60, and smaller degrees. Each figure is the best of several passes over the pool by the processor's clock, PARI's by its own,
+ * in microseconds a call. Where a word of the engine is not FLINT's, or a call is refused, the program says which and exits
  * with 1. At the end a pair modulo 67 * 71: PARI stops where a lead has no inverse, and FLINT's function asks for a prime modulus.
  * Build and run: make -C bench two && bench/two */
 #include <stdint.h>
@@ -34,7 +34,7 @@ static uint32_t draw(void)
 static double now(void)
 {
     struct timespec t;
-    clock_gettime(CLOCK_MONOTONIC, &t);
+    clock_gettime(CLOCK_PROCESS_CPUTIME_ID, &t);
     return t.tv_sec * 1e6 + t.tv_nsec / 1e3;
 }
 
@@ -110,6 +110,7 @@ static void polynomial_gp(FILE *s, const char *name, int p, const uint32_t *f, s
 /* PARI, by its own clock, on the pool as it stands */
 static double pari(uint32_t n, size_t d, size_t a)
 {
+    int rounds = d * a < 20 ? 50 : 5;
     const char *script = "/tmp/jingcobu_two.gp";
     double theirs = -1;
     FILE *s = fopen(script, "w");
@@ -119,7 +120,8 @@ static double pari(uint32_t n, size_t d, size_t a)
         polynomial_gp(s, "f", p, first[p], d, a);
         polynomial_gp(s, "g", p, second[p], d, a);
     }
-    fprintf(s, "best=10^9;for(k=1,5,gettime();for(r=1,5,for(p=1,%d,polresultant(f[p],g[p],y)));best=min(best,gettime()));print(best*200./%d);\n", POOL, POOL);
+    fprintf(s, "best=10^9;for(k=1,5,gettime();for(r=1,%d,for(p=1,%d,polresultant(f[p],g[p],y)));best=min(best,gettime()));print(best*1000./%d);\n",
+            rounds, POOL, rounds * POOL);
     fclose(s);
     FILE *in = popen("gp -q -f /tmp/jingcobu_two.gp < /dev/null 2> /dev/null", "r");
     if (in) {

@@ -15,7 +15,7 @@ use native.Mathlib.Omega.{arith}
 use Rattle.algebra.specs.Determinant.{det, minor}
 use Rattle.algebra.specs.Index.{skip, skip-lt}
 use Rattle.algebra.specs.Normaliser.{by-ring, quote}
-use Rattle.algebra.specs.Ring.{CRing, add-zero, mul-zero, zero-mul, neg-zero}
+use Rattle.algebra.specs.Ring.{CRing, add-zero, mul-zero, zero-mul}
 use Rattle.algebra.specs.Series.{conv, const, series, conv-zero, conv-out}
 use Rattle.algebra.specs.Stack.{up, up-is}
 use Rattle.algebra.specs.Sum.{alt}

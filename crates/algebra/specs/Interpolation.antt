@@ -8,13 +8,13 @@
 --   same-values       the same values: the same coefficients
 --
 -- Letters: f, g are coefficient sequences of n terms; z, w are points; p is the sequence of the points, i the inverse of a difference.
-use mathlib.Core.Path.{_≡_, refl, sym, _∙_, ap, ap₂}
+use mathlib.Core.Path.{_≡_, refl, sym, _∙_, ap}
 use mathlib.Core.List.{[], _∷_}
 use Prim.Native.Nat.{ℕ, zero, suc, _<_, _≤_}
 use native.Mathlib.Decide.{decLt}
 use native.Mathlib.Omega.{arith}
 use Rattle.algebra.specs.Normaliser.{by-ring, quote}
-use Rattle.algebra.specs.Ring.{CRing, add-zero, mul-zero, zero-mul, add-cancel, neg-zero}
+use Rattle.algebra.specs.Ring.{CRing, add-zero, mul-zero, add-cancel}
 use Rattle.algebra.specs.Evaluation.{ev, ev-zero, ev-lin}
 
 module _ {R : Type 0} (𝓡 : CRing R) where

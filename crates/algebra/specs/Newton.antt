@@ -11,15 +11,15 @@
 --   newton-values, newton    the nested form of the differences has the values, and the coefficients
 --
 -- Letters: f is a polynomial of b + 1 terms, y its values, c an array; i, j, m are points, k a pass.
-use mathlib.Core.Path.{_≡_, refl, sym, _∙_, ap, ap₂, fun-ext, subst}
+use mathlib.Core.Path.{_≡_, refl, sym, _∙_, ap, ap₂, fun-ext}
 use mathlib.Core.List.{[], _∷_}
 use Prim.Native.Nat.{ℕ, zero, suc, _<_, _≤_, _+_ as _+ℕ_, _-_ as _-ℕ_}
 use native.Mathlib.Decide.{decLt}
 use native.Mathlib.Omega.{arith}
 use Rattle.algebra.specs.Normaliser.{by-ring, quote}
-use Rattle.algebra.specs.Ring.{CRing, add-zero, mul-zero, zero-mul, neg-zero, add-neg}
-use Rattle.algebra.specs.Evaluation.{ev, ev-zero, ev-lin, ev-more}
-use Rattle.algebra.specs.Interpolation.{Inverted, same-values}
+use Rattle.algebra.specs.Ring.{CRing, add-zero, mul-zero, zero-mul, add-neg}
+use Rattle.algebra.specs.Evaluation.{ev, ev-lin, ev-more}
+use Rattle.algebra.specs.Interpolation.{same-values}
 
 module _ {R : Type 0} (𝓡 : CRing R) where
   open CRing 𝓡 using (add as _+_, mul as _*_, neg as -_, nil as 𝟘, unit as 𝟙, add-assoc, zero-add, mul-assoc, mul-comm, one-mul)

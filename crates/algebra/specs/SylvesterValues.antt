@@ -4,8 +4,8 @@
 --   Rs-value          the theorem
 --
 -- Letters: F, G are polynomials in y of degrees d, e, with coefficients of degrees at most a, b in z; x, y are their values at z.
-use mathlib.Core.Path.{_≡_, refl, sym, _∙_, ap, ap₂, subst}
-use Prim.Native.Nat.{ℕ, zero, suc, _<_, _≤_, _+_ as _+ℕ_, _*_ as _*ℕ_}
+use mathlib.Core.Path.{_≡_, subst}
+use Prim.Native.Nat.{ℕ, zero, suc, _+_ as _+ℕ_, _*_ as _*ℕ_}
 use native.Mathlib.Omega.{arith}
 use Rattle.algebra.specs.Resultant.{shift, res}
 use Rattle.algebra.specs.Reverse.{rv}

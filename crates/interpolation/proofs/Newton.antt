@@ -9,10 +9,9 @@
 -- Letters: n is the modulus, m is n less 1; b is the last point, k a pass, i the inverse of k + 1; j a term; w are words.
 use mathlib.Core.Path.{_≡_, refl, sym, _∙_, ap, ap₂, subst}
 use mathlib.Core.List.{List}
-use mathlib.Core.Logic.{⊎-elim}
 use Prim.Native.Nat.{ℕ, zero, suc, _<_, _≤_, _%_, _^_, _+_, _*_, _-_}
 use native.Mathlib.Decide.{Fin·val-path, ℕ-discrete, decLt}
-use native.Mathlib.Nat.{mod-mod, mod-lt, mod-eq-of-lt, mul-comm, zero-lt-suc}
+use native.Mathlib.Nat.{mod-mod, mod-lt, mod-eq-of-lt, zero-lt-suc}
 use native.Mathlib.Omega.{arith}
 use lib.IntN.{pos}
 use lib.ListN.{length, getD, set, length-set}
@@ -23,9 +22,8 @@ use Rattle.algebra.specs.Evaluation.{ev, ev-cong}
 use Rattle.algebra.specs.Newton.{num, nest, nest-cong, nest-out, nest-step, grow, diff, Stage, stage-first, stage-next, stage-last, newton-values}
 use Rattle.algebra.specs.Reduction.{reduce-hom}
 use Rattle.algebra.specs.Residues.{Res, toRes, Res-ring, mul-mod, mul-mod-r}
-use Rattle.algebra.specs.Ring.{CRing, neg-mul, mul-zero, add-neg, add-zero, neg-zero}
+use Rattle.algebra.specs.Ring.{neg-mul, mul-zero, add-zero, neg-zero}
 use Rattle.numbers.specs.Divisors.{GcdCofactor, bezout-exists}
-use Rattle.numbers.specs.PrimeTable.{UnitDifferences}
 use Rattle.numbers.specs.Units.{cofactor-inverse, inverse-unique, gcd-of-coprime, coprime-of-unit}
 use Rattle.theory.specs.TwoVariablesLaws.{ev-total, num-is}
 use Rattle.windows.specs.Window.{Moved, addMul}

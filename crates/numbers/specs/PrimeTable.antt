@@ -6,7 +6,7 @@
 --   UnitDifferences n b   the differences of the points 0, …, b are units modulo n
 --   differences-none, none-differences    which is the same
 --   differences-above     then b is below n
---   table                 the seventeen primes
+--   table                 the seventeen primes; table-above, table-sorted: they are above 1 and ascend
 --   table-complete        every prime up to 60 is in it, by a computed test: each number from 2 to 60 is divided by a word of the table
 --   Passed n b            no word of the table up to b divides n
 --   passed-none, none-passed     which is the same, for b up to 60
@@ -16,7 +16,7 @@
 use mathlib.Core.Path.{_≡_, refl, sym, subst}
 use mathlib.Core.List.{List, [], _∷_}
 use mathlib.Core.Bool.{Bool, true, false, _&&_}
-use Prim.Native.Nat.{ℕ, zero, suc, _-_, _%_, _<_, _≤_, _∣_}
+use Prim.Native.Nat.{ℕ, zero, suc, _+_, _-_, _%_, _<_, _≤_, _∣_}
 use native.Mathlib.Decide.{ℕ-discrete, decLt}
 use native.Mathlib.Nat.{dvd-of-mod-eq-zero, dvd-refl, dvd-trans, le-of-dvd, pos-of-dvd-of-pos}
 use native.Mathlib.Omega.{arith}
@@ -122,8 +122,19 @@ covered-at k (t ∷ ts) h = go (eqb (k % t) 0) refl h (λ h. later (covered-at k
     go false e h r = r h
 
 -- every word of the table is above 1
-table-above : (i : ℕ) → i < 17 → 1 < getD table i 0
+pub table-above : (i : ℕ) → i < 17 → 1 < getD table i 0
 table-above i l = leb→le 2 (getD table i 0) (every-at 17 (λ i. leb 2 (getD table i 0)) tt i l)
+
+-- the table ascends
+ascends : (k : ℕ) → k < 16 → getD table k 0 ≤ getD table (suc k) 0
+ascends k l = leb→le (getD table k 0) (getD table (suc k) 0)
+    (every-at 16 (λ k. leb (getD table k 0) (getD table (suc k) 0)) tt k l)
+
+pub table-sorted : (i r j : ℕ) → i + r ≡ j → j < 17 → getD table i 0 ≤ getD table j 0
+table-sorted i zero j e l = let s : i ≡ j = omega arith in subst (λ (k : ℕ). getD table i 0 ≤ getD table k 0) s (omega arith)
+table-sorted i (suc r) zero e l = absurd (omega arith)
+table-sorted i (suc r) (suc j) e l =
+    let a = table-sorted i r j (omega arith) (omega arith) in let b = ascends j (omega arith) in omega arith
 
 -- the computed test: each number from 2 to 60 is divided by a word of the table
 all-covered : (k : ℕ) → k < 59 → T (covered (suc (suc k)) table)

@@ -15,7 +15,7 @@ use native.Mathlib.Omega.{arith}
 use Rattle.definitions.specs.Expansions.{expansion}
 use Rattle.definitions.specs.Polynomials.{product, L, extent, place, true-degree, Division, UnitTimesMonic, InverseOf}
 use Rattle.definitions.specs.Residues.{K, halvings, Inverse, IsNilpotent, Splitting}
-use Rattle.definitions.specs.Resultants.{determinant, resultant}
+use Rattle.definitions.specs.Resultants.{resultant}
 use Rattle.theory.specs.Computed.{below-by, multiplied-by, divided-by, inverse-by}
 use Rattle.theory.specs.StarredRows.{Holds, sound}
 

@@ -18,7 +18,7 @@ use lib.Dec.{T, leb, eqb, leb→le, eqb→eq}
 use lib.ListN.{length}
 use Rattle.definitions.specs.Expansions.{expansion}
 use Rattle.definitions.specs.Polynomials.{coef}
-use Rattle.definitions.specs.Resultants.{determinant, resultant, Reduced}
+use Rattle.definitions.specs.Resultants.{resultant, Reduced}
 use Rattle.theory.specs.Certificates.{certified}
 use Rattle.theory.specs.Computed.{both, multiplied, multiplied-by, combined, combined-by}
 

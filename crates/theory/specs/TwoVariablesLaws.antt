@@ -22,7 +22,7 @@ use lib.Dec.{T, leb, leb→le, nleb→lt}
 use lib.IntN.{ℤ, pos, negℤ, _+ℤ_, _*ℤ_}
 use Rattle.definitions.specs.Expansions.{Operations, polynomials, summed, single, expansion, rows-of}
 use Rattle.definitions.specs.Polynomials.{coef, deg, total, tabulate}
-use Rattle.definitions.specs.Resultants.{residue, resultant}
+use Rattle.definitions.specs.Resultants.{resultant}
 use Rattle.definitions.specs.TwoVariables.{group, resultant-two, degree-two}
 use Rattle.algebra.specs.Evaluation.{ev, ev-cong, Value, value-of}
 use Rattle.algebra.specs.Integers.{ℤ-ring}

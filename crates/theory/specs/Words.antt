@@ -9,7 +9,7 @@
 --   words-cong          words count modulo n only
 --
 -- Letters: m is n less 1; f, g, q, r, a, b are word lists, p, q sequences of numbers; d, e are sent degrees; k is a place.
-use mathlib.Core.Path.{_≡_, refl, sym, _∙_, ap, ap₂, fun-ext, subst}
+use mathlib.Core.Path.{_≡_, refl, sym, _∙_, ap, ap₂, fun-ext}
 use mathlib.Core.List.{List, [], _∷_}
 use Prim.Native.Nat.{ℕ, zero, suc, _<_, _≤_, _%_, _+_ as _+ℕ_, _*_ as _*ℕ_, _-_ as _-ℕ_}
 use native.Mathlib.Decide.{Fin·val-path, decLe}

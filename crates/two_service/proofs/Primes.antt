@@ -3,54 +3,15 @@
 --   Checked n b i       the first i primes of the table are at most b, and none of them divides n
 --   checked-first, checked-next     before the first; one more
 --   over, all-checked, found        the test's value at each place where it returns
-use mathlib.Core.Path.{_≡_, refl, sym, subst}
-use mathlib.Core.Bool.{Bool, true, false, _&&_}
-use Prim.Native.Nat.{ℕ, zero, suc, _+_, _-_, _%_, _<_, _≤_, _∣_}
-use native.Mathlib.Decide.{ℕ-discrete, decLt}
+use mathlib.Core.Path.{_≡_, refl, subst}
+use mathlib.Core.Bool.{Bool, true, false}
+use Prim.Native.Nat.{ℕ, _+_, _-_, _%_, _<_, _≤_, _∣_}
+use native.Mathlib.Decide.{decLt}
 use native.Mathlib.Nat.{mod-eq-zero-of-dvd, dvd-of-mod-eq-zero}
 use native.Mathlib.Omega.{arith}
 use lib.ListN.{getD}
-use lib.Dec.{T, leb, leb→le}
-use Rattle.numbers.specs.PrimeTable.{NoSmallPrime, table, Passed, passed-none, none-passed}
+use Rattle.numbers.specs.PrimeTable.{NoSmallPrime, table, table-sorted, Passed, passed-none, none-passed}
 use Rattle.two_service.specs.TwoService.{small-factor, prime-fails}
-
--- ---- the table ascends, by a computed test
-
--- P 0, …, P (n - 1)
-abbrev every : ℕ → (ℕ → Bool) → Bool
-every zero P = true
-every (suc n) P = P n && every n P
-
-and-left : (x y : Bool) → T (x && y) → T x
-and-left true y h = tt
-and-left false y h = h
-
-and-right : (x y : Bool) → T (x && y) → T y
-and-right true y h = h
-and-right false y h = absurd h
-
-every-at : (n : ℕ) (P : ℕ → Bool) → T (every n P) → (k : ℕ) → k < n → T (P k)
-every-at zero P h k l = absurd (omega arith)
-every-at (suc n) P h k l = go (ℕ-discrete k n) (every-at n P (and-right (P n) (every n P) h) k)
-  where
-    go : Dec (k ≡ n) → (k < n → T (P k)) → T (P k)
-    go (yes e) r = subst (λ (j : ℕ). T (P j)) (sym e) (and-left (P n) (every n P) h)
-    go (no e) r = r (omega arith)
-
-ascends : (k : ℕ) → k < 16 → getD table k 0 ≤ getD table (suc k) 0
-ascends k l = leb→le (getD table k 0) (getD table (suc k) 0)
-    (every-at 16 (λ k. leb (getD table k 0) (getD table (suc k) 0)) tt k l)
-
--- no word of it is 0
-pub least-prime : (k : ℕ) → k < 17 → 0 < getD table k 0
-least-prime k l = leb→le 1 (getD table k 0) (every-at 17 (λ k. leb 1 (getD table k 0)) tt k l)
-
-sorted : (i r j : ℕ) → i + r ≡ j → j < 17 → getD table i 0 ≤ getD table j 0
-sorted i zero j e l = let s : i ≡ j = omega arith in subst (λ (k : ℕ). getD table i 0 ≤ getD table k 0) s (omega arith)
-sorted i (suc r) zero e l = absurd (omega arith)
-sorted i (suc r) (suc j) e l = let a = sorted i r j (omega arith) (omega arith) in let b = ascends j (omega arith) in omega arith
-
--- ---- the test
 
 pub record Checked (n b i : ℕ) : Type 0 where
   pub most : i ≤ 17
@@ -80,7 +41,7 @@ over {n} {b} {i} l h q r = is-no l (record { at = λ j p s d. go j p s d (decLt 
   where
     go : (j : ℕ) → j < 17 → getD table j 0 ≤ b → getD table j 0 ∣ n → Dec (j < i) → ⊥
     go j p s d (yes k) = h .at j k d
-    go j p s d (no k) = let t = sorted i (j - i) j (omega arith) p in omega arith
+    go j p s d (no k) = let t = table-sorted i (j - i) j (omega arith) p in omega arith
 
 pub all-checked : {n b i : ℕ} → b ≤ 60 → Checked n b i → 17 ≤ i → false ≡ small-factor n b
 all-checked {n} {b} {i} l h q = is-no l (record { at = λ j p s d. h .at j (omega arith) d })

@@ -19,11 +19,11 @@ use Rattle.definitions.specs.Polynomials.{coef, tabulate, Residues}
 use Rattle.definitions.specs.TwoVariables.{resultant-two, degree-two}
 use Rattle.numbers.specs.PrimeTable.{NoSmallPrime, none-differences}
 use Rattle.theory.specs.Words.{coef-tabulate, length-tabulate}
-use Rattle.refusals.specs.Refusals.{narrow, short, first-refusal, left, replaced}
-use Rattle.refusals.specs.Conditions.{ServedModulus, Listed, Fails, Passed, status-zero, modulus-fails, words-fail, short-fails}
+use Rattle.refusals.specs.Refusals.{narrow, short, first-refusal, replaced}
+use Rattle.refusals.specs.Conditions.{ServedModulus, status-zero, modulus-fails, words-fail, short-fails}
 use Rattle.refusals.proofs.Statuses.{refused-early, passed-on, left-refused, replaced-refused}
 use Rattle.windows.specs.Window.{Written}
-use Rattle.two_variables.specs.PairSizes.{PairSizes, Prepared}
+use Rattle.two_variables.specs.PairSizes.{Prepared}
 use Rattle.two_service.specs.TwoService.{bad-shape, two-sent, two-room, ServedShape, shape-fails, above-fails, prime-fails, TwoAnswer}
 
 -- the first words written: the list is replaced

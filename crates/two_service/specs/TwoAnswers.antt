@@ -5,17 +5,17 @@
 --   answer-constant      with a = b = 0 the answer is the resultant
 --
 -- Letters: f is of degrees d in y and a in z, g of e and b; z is a point.
-use mathlib.Core.Path.{_≡_, refl, sym, ap, subst, _∙_}
-use mathlib.Core.List.{List, _++_}
+use mathlib.Core.Path.{_≡_, sym, ap, subst, _∙_}
+use mathlib.Core.List.{List}
 use Prim.Native.Nat.{ℕ, zero, suc, pred, _*_, _%_, _^_, _<_, _≤_}
 use native.Mathlib.Omega.{arith}
 use lib.ListN.{length, drop, List·getD-append}
-use Rattle.definitions.specs.Polynomials.{coef, deg, total, tabulate}
+use Rattle.definitions.specs.Polynomials.{coef, total, tabulate}
 use Rattle.definitions.specs.Resultants.{resultant}
 use Rattle.definitions.specs.TwoVariables.{resultant-two, degree-two}
 use Rattle.theory.specs.TwoVariablesLaws.{evaluated, two-value, two-constant}
 use Rattle.theory.specs.Words.{coef-tabulate, length-tabulate, total-cong}
-use Rattle.refusals.specs.Refusals.{Width, replaced}
+use Rattle.refusals.specs.Refusals.{Width}
 use Rattle.refusals.specs.Conditions.{ServedModulus, Passed, status-zero}
 use Rattle.two_service.specs.TwoService.{TwoAnswer, two-refusals, two-conditions, two-listed}
 

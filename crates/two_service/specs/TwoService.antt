@@ -15,13 +15,13 @@ use Prim.Native.Nat.{ℕ, zero, suc, _+_, _-_, _*_, _%_, _<_, _≤_, _∣_}
 use native.Mathlib.Decide.{decLt}
 use native.Mathlib.Nat.{dvd-of-mod-eq-zero, mod-eq-zero-of-dvd, dvd-trans, le-of-dvd}
 use native.Mathlib.Omega.{arith}
-use lib.Dec.{T, ltb, eqb, ltb→lt, nltb→le, eqb→eq}
+use lib.Dec.{T, ltb, eqb, ltb→lt, nltb→le}
 use lib.ListN.{length}
-use borrow.Author.Tests.{eqb-true, eqb-false, eq-eqb}
+use borrow.Author.Tests.{eqb-true, eq-eqb}
 use Rattle.definitions.specs.Polynomials.{tabulate, Residues}
 use Rattle.definitions.specs.TwoVariables.{resultant-two, degree-two}
 use Rattle.numbers.specs.PrimeTable.{NoSmallPrime}
-use Rattle.numbers.specs.Primes.{Prime, prime-of}
+use Rattle.numbers.specs.Primes.{prime-of}
 use Rattle.refusals.specs.Refusals.{Width, Tested, bad-modulus, all-below, short, first-refusal, left, replaced}
 use Rattle.refusals.specs.Conditions.{Listed, Fails, ServedModulus, modulus-fails, words-fail, short-fails}
 

@@ -4,10 +4,10 @@
 --   group-word           group i of f at z, as the part of the words that it is
 --   place-next           the next group's place
 --   evaluated-loaded     all groups
---   length-evaluated, run-sizes, placed, placed-answer, turned-sign    what the attempt asks of the evaluated pair, and what it answers
+--   length-evaluated, sizes-kept, run-sizes, placed, placed-answer, turned-sign    what the attempt asks of the evaluated pair, and what it answers
 --
 -- Letters: n is the modulus, z the point; f of degrees d in y and a in z, g of e and b; c are the words of a group; j, i are places.
-use mathlib.Core.Path.{_≡_, refl, sym, _∙_, ap, ap₂, fun-ext, subst}
+use mathlib.Core.Path.{_≡_, sym, _∙_, ap, ap₂, fun-ext, subst}
 use mathlib.Core.List.{List}
 use Prim.Native.Nat.{ℕ, zero, suc, _+_, _-_, _*_, _^_, _%_, _<_, _≤_}
 use native.Mathlib.Nat.{mul-zero, mul-add, mul-one, mul-left-comm, pow-zero, pow-succ', zero-mod, mul-le-mul-right}
@@ -15,7 +15,7 @@ use native.Mathlib.Omega.{arith}
 use lib.ListN.{length, getD, take, drop}
 use Rattle.definitions.specs.Polynomials.{coef, total}
 use Rattle.definitions.specs.Resultants.{resultant}
-use Rattle.numbers.specs.Congruence.{Cong, c-refl, c-add, c-mul, c-mod}
+use Rattle.numbers.specs.Congruence.{c-refl, c-add, c-mul, c-mod}
 use Rattle.theory.specs.ResultantLaws.{signed}
 use Rattle.theory.specs.TwoVariablesLaws.{group-value, evaluated}
 use Rattle.theory.specs.Words.{coef-tabulate, length-tabulate, total-cong}
@@ -127,9 +127,6 @@ evaluated-loaded n at d a z i f w w' e h = written-loaded n at (evaluated d a f 
     (subst (λ (k : ℕ). Written (λ (k : ℕ). coef (evaluated d a f z) k % n) at k w w') (e ∙ sym (length-evaluated d a f z)) h)
 
 -- ---- the run
-
-pub sizes-turned : {f g w : List ℕ} {d a e b : ℕ} → PairSizes f d a g e b w → PairSizes g e b f d a w
-sizes-turned s = record { most-d = s .most-e; most-e = s .most-d; words-f = s .words-g; words-g = s .words-f; working = s .working }
 
 pub sizes-kept : {f g w w' : List ℕ} {d a e b : ℕ} → length w' ≡ length w → PairSizes f d a g e b w → PairSizes f d a g e b w'
 sizes-kept h s = record {

@@ -16,7 +16,7 @@ use Rattle.definitions.specs.Polynomials.{total}
 use Rattle.definitions.specs.Residues.{IsUnit}
 use Rattle.definitions.specs.TwoVariables.{resultant-two, degree-two}
 use Rattle.numbers.specs.Divisors.{bezout-exists}
-use Rattle.numbers.specs.PrimeTable.{UnitDifferences, differences-above}
+use Rattle.numbers.specs.PrimeTable.{differences-above}
 use Rattle.numbers.specs.Units.{cofactor-inverse, gcd-of-coprime, coprime-of-unit}
 use Rattle.theory.specs.TwoVariablesLaws.{evaluated, two-fixed}
 use Rattle.windows.specs.Window.{Written}

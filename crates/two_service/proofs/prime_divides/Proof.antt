@@ -1,4 +1,5 @@
-use Rattle.two_service.proofs.Primes.{Checked, checked-first, checked-next, over, all-checked, found, least-prime}
+use Rattle.numbers.specs.PrimeTable.{table-above}
+use Rattle.two_service.proofs.Primes.{Checked, checked-first, checked-next, over, all-checked, found}
 use Prim.Native.Nat.{ℕ, _-_, _%_, _<_, _≤_}
 use native.Mathlib.Omega.{arith}
 use mathlib.Core.Path.{_≡_, sym, subst}
@@ -19,7 +20,7 @@ returns : tie.Need-returns Inv-loop μ-loop
 returns c = over (c .before .before .before .before .pre) (c .before .before .before .loop .inv) (c .before .before .loop-test .taken) (subst (λ (x : ℕ). c .before .before .before .before .args .last < x) (c .before .prime .ensures) (c .if1 .taken))
 
 rem-if2 : tie.Need-rem-if2 Inv-loop μ-loop
-rem-if2 c = subst (λ (x : ℕ). 0 < x) (sym (c .before .prime .ensures)) (least-prime (c .before .before .before .loop .i) (c .before .before .loop-test .taken))
+rem-if2 c = subst (λ (x : ℕ). 0 < x) (sym (c .before .prime .ensures)) (omega (arith, table-above (c .before .before .before .loop .i) (c .before .before .loop-test .taken)))
 
 returns-2 : tie.Need-returns-2 Inv-loop μ-loop
 returns-2 c = found (c .before .before .before .before .before .args .n) (c .before .before .before .before .before .args .last) (c .before .before .before .before .loop .i) (c .before .before .before .loop-test .taken)

@@ -1,5 +1,5 @@
 use borrow.Author.Tests.{not-true, not-false}
-use mathlib.Core.Path.{_≡_, refl, sym, _∙_}
+use mathlib.Core.Path.{refl, sym, _∙_}
 use borrow.Author.Needs.{needs}
 use Rattle.two_service.proofs.sent_refusal.Statement.{statement}
 use Rattle.two_service.proofs.sent_refusal.Tie as tie

@@ -3,7 +3,6 @@ use Rattle.windows.specs.Window.{Written}
 use Rattle.theory.specs.TwoVariablesLaws.{evaluated}
 use Rattle.definitions.specs.Polynomials.{coef}
 use mathlib.Core.Path.{_≡_}
-use lib.ListN.{length}
 use native.Mathlib.Omega.{arith}
 use Prim.Native.Nat.{ℕ, suc, _+_, _-_, _*_, _%_, _≤_}
 use Rattle.two_variables.proofs.Evaluating.{place-next, place-inside, group-word, evaluated-loaded}

@@ -1,5 +1,5 @@
 use Rattle.resultant_steps.proofs.Turned.{followed}
-use Rattle.two_variables.proofs.Evaluating.{turned-sign, sizes-turned}
+use Rattle.two_variables.proofs.Evaluating.{turned-sign}
 use borrow.Author.Needs.{needs}
 use Rattle.two_variables.proofs.swapped.Statement.{statement}
 use Rattle.two_variables.proofs.swapped.Tie as tie
