@@ -6,6 +6,7 @@
 //   jingcobu_divisor              divisor_service::divisor
 //   jingcobu_resultant_cofactors  cofactor_service::resultant_cofactors
 //   jingcobu_why                  why_service::why
+//   jingcobu_resultant_two        two_service::resultant_two
 //   jingcobu_product              polynomial_product::product
 //   jingcobu_product_word         polynomial_word::product_word
 //   jingcobu_true_degree          polynomial_degree::true_degree_words
@@ -32,6 +33,7 @@ ghost use Rattle.residue_services.specs.Services.{GcdPromised};
 ghost use Rattle.factors.specs.FactorsService.{StartAnswer, ArriveAnswer, LeaveAnswer, ReadingAnswer};
 ghost use Rattle.shares.specs.SharesService.{SharesAnswer};
 ghost use Rattle.claim_service.specs.ClaimService.{ClaimAnswer};
+ghost use Rattle.two_service.specs.TwoService.{TwoAnswer};
 use factors::Factors;
 use factors::Held;
 use polynomial_degree::DegreeAnswer;
@@ -104,6 +106,25 @@ pub extern "C" fn jingcobu_why(
         (now (work .exit)) (r .ground) (r .m) (r .degree) (r .status) ⌝ }
 {
     why_service::why(n, f, g, w, work)
+}
+
+// The resultant in y of f of degrees d in y and a in z and g of e and b, in the first e a + d b + 1 words of out.
+#[no_mangle]
+pub extern "C" fn jingcobu_resultant_two(
+    n: u32,
+    f: &[u32],
+    d: usize,
+    a: usize,
+    g: &[u32],
+    e: usize,
+    b: usize,
+    out: &mut [u32],
+    work: &mut [u32],
+) -> Answer
+    ensures { λ r. ⌜ TwoAnswer narrow n (now (f .entry)) d a (now (g .entry)) e b (now (out .entry)) (now (out .exit))
+        (now (work .entry)) (now (work .exit)) (r .value) (r .status) ⌝ }
+{
+    two_service::resultant_two(n, f, d, a, g, e, b, out, work)
 }
 
 // The product of f and g modulo n, in the first d + e + 1 words of out.
