@@ -150,7 +150,8 @@ module _ {R : Type 0} (𝓡 : CRing R) where
   alt-value : (n b : ℕ) (z : R) (F : ℕ → ℕ → R) (x : ℕ → R) → ((i : ℕ) → i < n → Value b z (F i) (x i))
       → Value b z (alt (series 𝓡) n F) (alt 𝓡 n x)
   alt-value zero b z F x h = value-zero b z
-  alt-value (suc n) b z F x h = value-sub (h 0 (omega arith)) (alt-value n b z (λ i. F (suc i)) (λ i. x (suc i)) (λ i l. h (suc i) (omega arith)))
+  alt-value (suc n) b z F x h =
+      value-sub (h 0 (omega arith)) (alt-value n b z (λ i. F (suc i)) (λ i. x (suc i)) (λ i l. h (suc i) (omega arith)))
 
   -- EVALUATION COMMUTES WITH THE DETERMINANT, and its degree is at most the sum of the rows' bounds
   pub det-value : (n : ℕ) (b : ℕ → ℕ) (z : R) (a : ℕ → ℕ → ℕ → R) (x : ℕ → ℕ → R)

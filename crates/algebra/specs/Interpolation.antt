@@ -59,7 +59,8 @@ module _ {R : Type 0} (𝓡 : CRing R) where
     pub one : i * x ≡ 𝟙
 
   pub unit-cancel : {x y : R} → Inverted x → x * y ≡ 𝟘 → y ≡ 𝟘
-  unit-cancel {x} {y} u h = sym (one-mul y) ∙ ap (λ s. s * y) (sym (u .one)) ∙ mul-assoc (u .i) x y ∙ ap (λ s. u .i * s) h ∙ mul-zero 𝓡 (u .i)
+  unit-cancel {x} {y} u h =
+      sym (one-mul y) ∙ ap (λ s. s * y) (sym (u .one)) ∙ mul-assoc (u .i) x y ∙ ap (λ s. u .i * s) h ∙ mul-zero 𝓡 (u .i)
 
   Vanishing : ℕ → Type 0
   Vanishing n = (p : ℕ → R) (f : ℕ → R) → ((i : ℕ) → i < n → ev 𝓡 n (p i) f ≡ 𝟘)

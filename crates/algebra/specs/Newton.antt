@@ -66,7 +66,8 @@ module _ {R : Type 0} (𝓡 : CRing R) where
   falling-next zero c = refl
   falling-next (suc m) c =
       sym (ap (λ x. c 0 + num 1 * c 1 + num (suc m) * x)
-      (falling-cong m (λ k. c (suc k) + num (suc (suc k)) * c (suc (suc k))) (λ k. c (suc k) + num (suc k) * c (suc (suc k)) + c (suc (suc k)))
+      (falling-cong m (λ k. c (suc k) + num (suc (suc k)) * c (suc (suc k)))
+      (λ k. c (suc k) + num (suc k) * c (suc (suc k)) + c (suc (suc k)))
       (λ k l. split (c (suc k)) (num (suc k)) (c (suc (suc k))))
       ∙ falling-add m (λ k. c (suc k) + num (suc k) * c (suc (suc k))) (λ k. c (suc (suc k)))
       ∙ ap (λ x. x + falling m (λ k. c (suc (suc k)))) (sym (falling-next m (λ k. c (suc k)))))
@@ -119,7 +120,8 @@ module _ {R : Type 0} (𝓡 : CRing R) where
       over : (j k : ℕ) → suc j +ℕ k ≡ j +ℕ suc k
       over j k = omega arith
 
-  pub ev-grow : (n j : ℕ) (z x : R) (f : ℕ → R) → ((k : ℕ) → n ≤ k → f k ≡ 𝟘) → ev 𝓡 (suc n) z (grow j x f) ≡ x + (z + (- num j)) * ev 𝓡 n z f
+  pub ev-grow : (n j : ℕ) (z x : R) (f : ℕ → R) → ((k : ℕ) → n ≤ k → f k ≡ 𝟘)
+      → ev 𝓡 (suc n) z (grow j x f) ≡ x + (z + (- num j)) * ev 𝓡 n z f
   ev-grow n j z x f h =
       ap (λ s. x + (- (num j * f 0)) + z * s)
       (ap (ev 𝓡 n z) (fun-ext (λ k. order (num j) (f k) (f (suc k)))) ∙ ev-lin 𝓡 n z (- num j) (λ k. f (suc k)) f)

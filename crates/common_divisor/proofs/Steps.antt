@@ -65,7 +65,13 @@ module _ (m a d b e : ℕ) (w w₁ w₂ : List ℕ) (s : StepAsked m a d b e w) 
   pub divide-asked : (g i : ℕ) → GcdCofactor m (getD w₂ (b + e) 0) g i
       → (DivisionSizes m b e a d w₂) × ((Pair m b e a d w₂) × ((i * getD w₂ (b + e) 0) % m ≡ 1 % m))
   divide-asked g i c = (
-    (pos, (s .one, (s .near, (omega (arith, whole, s .second), omega (arith, whole, s .first))))),
+    record {
+      modulus = pos;
+      degree = s .one;
+      near = s .near;
+      divisor = omega (arith, whole, s .second);
+      dividend = omega (arith, whole, s .first);
+    },
     (pair, c .bezout ∙ ap (λ (x : ℕ). x % m) (gcd-of-coprime (coprime-of-unit unit) (c .gcd))),
   )
     where

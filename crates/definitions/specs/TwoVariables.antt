@@ -1,5 +1,5 @@
--- What document 02 (W6) says of the resultant of two polynomials in two variables. "The words of f are d + 1 groups of a + 1 words, constant
--- first in y and within each group constant first in z": word j of group i is the coefficient of y to the i, z to the j.
+-- What document 02 (W6) says of the resultant of two polynomials in two variables. "The words of f are d + 1 groups of a + 1 words,
+-- constant first in y and within each group constant first in z": word j of group i is the coefficient of y to the i, z to the j.
 --
 --   group a f i           the coefficient of y to the i, a polynomial in z
 --   resultant-two n d a e b f g k     word k of the resultant in y

@@ -4,9 +4,9 @@
 //   jingcobu_resultant            resultant_service::resultant
 //   jingcobu_reduced_resultant    reduced_service::reduced_resultant
 //   jingcobu_divisor              divisor_service::divisor
-//   jingcobu_resultant_cofactors  cofactor_service::resultant_cofactors
 //   jingcobu_why                  why_service::why
 //   jingcobu_resultant_two        two_service::resultant_two
+//   jingcobu_resultant_cofactors  cofactor_service::resultant_cofactors
 //   jingcobu_product              polynomial_product::product
 //   jingcobu_product_word         polynomial_word::product_word
 //   jingcobu_true_degree          polynomial_degree::true_degree_words
@@ -21,8 +21,8 @@ ghost use Rattle.refusals.specs.Refusals.{narrow};
 ghost use Rattle.resultant_service.specs.ResultantService.{ResultantAnswer};
 ghost use Rattle.reduced_service.specs.ReducedService.{ReducedAnswer};
 ghost use Rattle.divisor_service.specs.DivisorService.{DivisorAnswer};
-ghost use Rattle.cofactor_service.specs.CofactorService.{CofactorAnswer};
 ghost use Rattle.why_service.specs.WhyService.{WhyAnswer};
+ghost use Rattle.cofactor_service.specs.CofactorService.{CofactorAnswer};
 ghost use Rattle.polynomial_product.specs.ProductService.{ProductAnswer};
 ghost use Rattle.polynomial_degree.specs.DegreeService.{DegreeWordsAnswer};
 ghost use Rattle.polynomial_word.specs.ProductWord.{ProductWordAnswer};
@@ -76,22 +76,6 @@ pub extern "C" fn jingcobu_divisor(n: u32, f: &[u32], g: &[u32], work: &mut [u32
     divisor_service::divisor(n, f, g, work)
 }
 
-// The resultant of f and g modulo n, with u in the first e words of one buffer and v in the first d words of the other: u f + v g is it.
-#[no_mangle]
-pub extern "C" fn jingcobu_resultant_cofactors(
-    n: u32,
-    f: &[u32],
-    g: &[u32],
-    u: &mut [u32],
-    v: &mut [u32],
-    work: &mut [u32],
-) -> Answer
-    ensures { λ r. ⌜ CofactorAnswer narrow n (now (f .entry)) (now (g .entry)) (now (u .entry)) (now (u .exit)) (now (v .entry))
-        (now (v .exit)) (now (work .entry)) (now (work .exit)) (r .value) (r .status) ⌝ }
-{
-    cofactor_service::resultant_cofactors(n, f, g, u, v, work)
-}
-
 // Why f and g are not coprime: a divisor m of n, and both are zero modulo m, or a monic polynomial in the first 49 words of w divides
 // both modulo m.
 #[no_mangle]
@@ -125,6 +109,22 @@ pub extern "C" fn jingcobu_resultant_two(
         (now (work .entry)) (now (work .exit)) (r .value) (r .status) ⌝ }
 {
     two_service::resultant_two(n, f, d, a, g, e, b, out, work)
+}
+
+// The resultant of f and g modulo n, with u in the first e words of one buffer and v in the first d words of the other: u f + v g is it.
+#[no_mangle]
+pub extern "C" fn jingcobu_resultant_cofactors(
+    n: u32,
+    f: &[u32],
+    g: &[u32],
+    u: &mut [u32],
+    v: &mut [u32],
+    work: &mut [u32],
+) -> Answer
+    ensures { λ r. ⌜ CofactorAnswer narrow n (now (f .entry)) (now (g .entry)) (now (u .entry)) (now (u .exit)) (now (v .entry))
+        (now (v .exit)) (now (work .entry)) (now (work .exit)) (r .value) (r .status) ⌝ }
+{
+    cofactor_service::resultant_cofactors(n, f, g, u, v, work)
 }
 
 // The product of f and g modulo n, in the first d + e + 1 words of out.

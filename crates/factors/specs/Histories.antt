@@ -169,7 +169,8 @@ module _ (W : Width) (n : ℕ) (h : List ℕ) where
     where
       taken-in : arrived 0 (stored n h S) k f ≡ stored n h (places-arrived 0 k f S)
       taken-in =
-          ap (λ (g : List ℕ). replaced-at (stored n h S) (place-of 0 (numbers S)) k (deg f) (resultant n f g)) (held-of n h S (d .accepted .few))
+          ap (λ (g : List ℕ). replaced-at (stored n h S) (place-of 0 (numbers S)) k (deg f) (resultant n f g))
+          (held-of n h S (d .accepted .few))
           ∙ placed-is n h S (place-of 0 (numbers S)) (held k f)
   stands-arrival s r S k f (suc t) d e = record { accepted = d .accepted; is = e ∙ d .is }
 

@@ -1,5 +1,5 @@
--- The table of the seventeen primes up to 60, and what a test of it against n says: for every bound b up to 60, that no word of the table up
--- to b divides n is exactly that no prime up to b divides n, and that is exactly that the differences of the points 0, …, b are units.
+-- The table of the seventeen primes up to 60, and what a test of it against n says: for every bound b up to 60, that no word of the table
+-- up to b divides n is exactly that no prime up to b divides n, and that is exactly that the differences of the points 0, …, b are units.
 --
 --   NoSmallPrime n b      no prime up to b divides n
 --   small-units           then 1, …, b are units
@@ -117,7 +117,8 @@ covered-at k (t ∷ ts) h = go (eqb (k % t) 0) refl h (λ h. later (covered-at k
     later : Place k ts → Place k (t ∷ ts)
     later p = record { i = suc (p .i); inside = let l = p .inside in omega arith; divides = p .divides }
 
-    go : (x : Bool) → eqb (k % t) 0 ≡ x → T (elim x [ true ↦ true | false ↦ covered k ts ]) → (T (covered k ts) → Place k (t ∷ ts)) → Place k (t ∷ ts)
+    go : (x : Bool) → eqb (k % t) 0 ≡ x → T (elim x [ true ↦ true | false ↦ covered k ts ])
+        → (T (covered k ts) → Place k (t ∷ ts)) → Place k (t ∷ ts)
     go true e h r = record { i = 0; inside = omega arith; divides = dvd-of-mod-eq-zero t (eqb→eq (k % t) 0 (subst T (sym e) tt)) }
     go false e h r = r h
 

@@ -9,7 +9,8 @@ ghost use mathlib.Core.Bool.{not};
 ghost use mathlib.Core.List.{[], _∷_};
 ghost use Prim.Native.Nat.{ℕ};
 ghost use lib.ListN.{length};
-ghost use Rattle.refusals.specs.Refusals.{narrow, bad-modulus, bad-length, all-below, first-of, first-refusal, refusals-one, refusals-two};
+ghost use Rattle.refusals.specs.Refusals.{narrow, bad-modulus, bad-length, all-below};
+ghost use Rattle.refusals.specs.Refusals.{first-of, first-refusal, refusals-one, refusals-two};
 
 // What a service answers: the number, and 0 or the number of the refusal.
 #[repr(C)]

@@ -39,7 +39,8 @@ module _ {R : Type 0} (𝓡 : CRing R) where
   determinant-of (suc n) a =
       alternating-is (suc n) (λ i. 𝓡 .mul (a i 0) (expansion operations n (λ r c. a (beside i r) (suc c))))
       ∙ ap (alt 𝓡 (suc n)) (fun-ext (λ i. ap (λ (x : R). 𝓡 .mul (a i 0) x)
-      (ap (expansion operations n) (fun-ext (λ r. fun-ext (λ c. ap (λ (x : ℕ). a x (suc c)) (beside-is i r)))) ∙ determinant-of n (minor 𝓡 i a))))
+      (ap (expansion operations n) (fun-ext (λ r. fun-ext (λ c. ap (λ (x : ℕ). a x (suc c)) (beside-is i r))))
+      ∙ determinant-of n (minor 𝓡 i a))))
 
   entry-is : (d : ℕ) (f : ℕ → R) (i j : ℕ) → entry-of operations d f i j ≡ shift 𝓡 i (rv 𝓡 d f) j
   entry-is d f i j = go (leb i j) refl (leb j (i +ℕ d)) refl

@@ -1,6 +1,6 @@
--- The resultant of two variables, from its definition: it is the ring's resultant over polynomials in z modulo n, its degree in z is at most
--- B = e a + d b, its value at every point is the resultant of the evaluated pair, and its words are fixed by the values at 0, …, B where the
--- differences of these points are units.
+-- The resultant of two variables, from its definition: it is the ring's resultant over polynomials in z modulo n, its degree in z is at
+-- most B = e a + d b, its value at every point is the resultant of the evaluated pair, and its words are fixed by the values at 0, …, B
+-- where the differences of these points are units.
 --
 --   polynomials-are      the definition's polynomials are the ring's series
 --   resultant-two-is     word k of the resultant of two variables, in the ring
@@ -123,12 +123,14 @@ module _ (m : ℕ) where
   pub evaluated-is : (d a : ℕ) (f : List ℕ) (z i : ℕ) → i ≤ d
       → ev (Res-ring m) (suc a) (toRes m z) (groups a f i) ≡ words m (evaluated d a f z) i
   evaluated-is d a f z i l =
-      ev-cong (Res-ring m) (suc a) (toRes m z) (groups a f i) (λ j. toRes m (coef f (i *ℕ suc a +ℕ j))) (λ j p. group-in a f i j (omega arith))
+      ev-cong (Res-ring m) (suc a) (toRes m z) (groups a f i) (λ j. toRes m (coef f (i *ℕ suc a +ℕ j)))
+      (λ j p. group-in a f i j (omega arith))
       ∙ ev-total (suc a) z (λ j. coef f (i *ℕ suc a +ℕ j))
       ∙ ap (toRes m) (sym (coef-tabulate (suc d) (group-value a f z) i (omega arith)))
 
   resultant-below : (f g : List ℕ) → resultant (suc m) f g % suc m ≡ resultant (suc m) f g
-  resultant-below f g = ap (λ (x : ℕ). x % suc m) (resultant-is m f g) ∙ mod-eq-of-lt (Rs (Res-ring m) (deg f) (deg g) (words m f) (words m g) .1)
+  resultant-below f g =
+      ap (λ (x : ℕ). x % suc m) (resultant-is m f g) ∙ mod-eq-of-lt (Rs (Res-ring m) (deg f) (deg g) (words m f) (words m g) .1)
       ∙ sym (resultant-is m f g)
 
   -- the numbers 0, 1, 2, … of the ring
@@ -147,7 +149,8 @@ module _ (m : ℕ) where
 
     -- of the ring's value at z
     value : (z : ℕ) → Value (Res-ring m) (degree-two d a e b) (toRes m z) two
-        (Rs (Res-ring m) d e (λ i. ev (Res-ring m) (suc a) (toRes m z) (groups a f i)) (λ i. ev (Res-ring m) (suc b) (toRes m z) (groups b g i)))
+        (Rs (Res-ring m) d e (λ i. ev (Res-ring m) (suc a) (toRes m z) (groups a f i))
+        (λ i. ev (Res-ring m) (suc b) (toRes m z) (groups b g i)))
     value z = Rs-value (Res-ring m) (toRes m z) d e a b (groups a f) (groups b g) _ _
         (λ i. value-of (Res-ring m) a (toRes m z) (groups a f i) (group-out a f i))
         (λ i. value-of (Res-ring m) b (toRes m z) (groups b g i) (group-out b g i))
@@ -156,7 +159,8 @@ module _ (m : ℕ) where
         ≡ toRes m (resultant (suc m) (evaluated d a f z) (evaluated e b g z))
     value-ring z =
         value z .at
-        ∙ Rs-cong (Res-ring m) d e _ (words m (evaluated d a f z)) _ (words m (evaluated e b g z)) (evaluated-is d a f z) (evaluated-is e b g z)
+        ∙ Rs-cong (Res-ring m) d e _ (words m (evaluated d a f z)) _ (words m (evaluated e b g z))
+        (evaluated-is d a f z) (evaluated-is e b g z)
         ∙ Fin·val-path (sym (mod-eq-of-lt (Rs (Res-ring m) d e (words m (evaluated d a f z)) (words m (evaluated e b g z)) .1)))
         ∙ ap (toRes m) (sym (resultant-is m (evaluated d a f z) (evaluated e b g z)
         ∙ ap₂ (λ (s t : ℕ). Rs (Res-ring m) s t (words m (evaluated d a f z)) (words m (evaluated e b g z)) .0)

@@ -60,7 +60,8 @@ pub answer-constant : {W : Width} {n : ℕ} {f : List ℕ} {d : ℕ} {g : List �
 answer-constant {W} {n} {f} {d} {g} {e} {out} {out'} {work} {work'} t = two-words t 0 (omega arith) ∙ go n (served .0 .least)
   where
     served : Passed (two-conditions W n f d 0 g e 0 (length out) (length work))
-    served = status-zero (two-refusals W n f d 0 g e 0 (length out) (length work)) (two-conditions W n f d 0 g e 0 (length out) (length work))
+    served =
+        status-zero (two-refusals W n f d 0 g e 0 (length out) (length work)) (two-conditions W n f d 0 g e 0 (length out) (length work))
         (two-listed W n f d 0 g e 0 (length out) (length work)) .0 (sym (t .status-is))
 
     one : (d : ℕ) → suc d * 1 ≡ suc d

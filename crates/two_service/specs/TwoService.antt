@@ -43,8 +43,8 @@ abbrev pub two-sent : Width → ℕ → List ℕ → (d a : ℕ) → List ℕ �
 two-sent W n f d a g e b =
     (1, bad-modulus W n) ∷ (2, bad-shape d a f) ∷ (2, bad-shape e b g) ∷ (3, not (all-below n f)) ∷ (3, not (all-below n g)) ∷ []
 
--- "It refuses with 12 a B above 60, then with 11 a modulus that some prime up to B divides, both after 3 and before 6 and 7." l and m are the
--- lengths of the result buffer and of the working buffer. "Its buffer needs B + 1 words."
+-- "It refuses with 12 a B above 60, then with 11 a modulus that some prime up to B divides, both after 3 and before 6 and 7." l and m are
+-- the lengths of the result buffer and of the working buffer. "Its buffer needs B + 1 words."
 abbrev pub two-room : Width → (n B l m : ℕ) → List Tested
 two-room W n B l m = (12, ltb 60 B) ∷ (11, small-factor n B) ∷ (6, short l (suc B)) ∷ (7, short m (W .working)) ∷ []
 
@@ -54,7 +54,8 @@ two-refusals W n f d a g e b l m = two-sent W n f d a g e b ++ two-room W n (deg
 abbrev pub two-status : Width → ℕ → List ℕ → (d a : ℕ) → List ℕ → (e b : ℕ) → (l m : ℕ) → ℕ
 two-status W n f d a g e b l m = first-refusal (two-refusals W n f d a g e b l m)
 
--- "The answer is the resultant in y, a polynomial in z of B + 1 words"; "words beyond are unchanged". The value is 0: the words are the answer.
+-- "The answer is the resultant in y, a polynomial in z of B + 1 words"; "words beyond are unchanged". The value is 0: the words are the
+-- answer.
 pub record TwoAnswer (W : Width) (n : ℕ) (f : List ℕ) (d a : ℕ) (g : List ℕ) (e b : ℕ) (out out' work work' : List ℕ)
     (value status : ℕ) : Type 0 where
   pub status-is : status ≡ two-status W n f d a g e b (length out) (length work)

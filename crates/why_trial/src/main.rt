@@ -292,7 +292,8 @@ fn next_drawn(x: u32) -> u32 {
 
 // Pair k of those where there are b second polynomials, or a drawn one of the b polynomials of degree 2.
 fn pair_at(t: Tally, n: u32, k: u32, d: u32, e: u32, b: u32, drawn: bool, work: &mut [u32]) -> Tally
-    requires { ⌜ (2 ≤ n) × ((d ≤ 2) × ((e ≤ 2) × (1 ≤ b))) ⌝ }
+    requires { ⌜ (2 ≤ n) × (1 ≤ b) ⌝ }
+    requires { ⌜ (d ≤ 2) × (e ≤ 2) ⌝ }
 {
     if drawn {
         let x = next_drawn(k);
@@ -303,7 +304,8 @@ fn pair_at(t: Tally, n: u32, k: u32, d: u32, e: u32, b: u32, drawn: bool, work: 
 
 // The first of them.
 fn tally_pairs(n: u32, d: u32, e: u32, b: u32, count: u32, drawn: bool, work: &mut [u32]) -> Tally
-    requires { ⌜ (2 ≤ n) × ((d ≤ 2) × ((e ≤ 2) × (1 ≤ b))) ⌝ }
+    requires { ⌜ (2 ≤ n) × (1 ≤ b) ⌝ }
+    requires { ⌜ (d ≤ 2) × (e ≤ 2) ⌝ }
 {
     let mut s = nothing();
     let mut k: u32 = 0;
@@ -328,7 +330,8 @@ fn write_tally(n: u32, d: u32, e: u32, t: Tally) {
 
 // The line of all count pairs of sent degrees d and e, of which there are b to each first polynomial.
 fn all_pairs(n: u32, d: u32, e: u32, b: u32, count: u32, work: &mut [u32])
-    requires { ⌜ (2 ≤ n) × ((d ≤ 2) × ((e ≤ 2) × (1 ≤ b))) ⌝ }
+    requires { ⌜ (2 ≤ n) × (1 ≤ b) ⌝ }
+    requires { ⌜ (d ≤ 2) × (e ≤ 2) ⌝ }
 {
     write_tally(n, d, e, tally_pairs(n, d, e, b, count, false, work));
 }

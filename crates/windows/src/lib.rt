@@ -11,7 +11,7 @@ ghost use mathlib.Core.Path.{_≡_};
 ghost use Prim.Native.Nat.{_+_, _-_, _%_, _<_, _≤_};
 ghost use lib.ListN.{length, replicate};
 ghost use Rattle.windows.specs.Window.{Moved, Clear, addMul, mulBy, second, quotient-by, reduced-by};
-ghost use Rattle.windows.specs.Window.{zeroed, Paired, Apart, Below, Zeros, Content, Reversed, Loaded};
+ghost use Rattle.windows.specs.Window.{zeroed, PairAsked, Paired, Apart, Zeros, Content, Reversed, Loaded};
 
 // w[dst + j] += c * w[src + j], for j < len.
 pub fn add_scaled(w: &mut [u32], n: u32, c: u32, src: usize, dst: usize, len: usize)
@@ -78,8 +78,7 @@ pub fn zeros(s: &[u32]) -> usize
 
 // w[dst + j] += c * w[src + j - 1] + m * w[src + j], for j < len, one reduction a word; the word before the first counts as 0.
 pub fn add_pair(w: &mut [u32], n: u32, c: u32, m: u32, src: usize, dst: usize, len: usize)
-    requires { ⌜ (1 ≤ n) × ((m ≤ n) × ((src + len ≤ length (now w)) × (dst + len ≤ length (now w)))) ⌝ }
-    requires { ⌜ (Apart src len dst len) × (Below n dst len (now w)) ⌝ }
+    requires { ⌜ PairAsked n m src dst len (now w) ⌝ }
     ensures { λ _. ⌜ Paired n c m src dst len (now (w .entry)) (now (w .exit)) ⌝ }
 {
     let modulus = reduction::modulus_of(n);

@@ -207,7 +207,13 @@ division-stage-divide-requires t c κs =
     let s = c .before .before .before in
     let da = s .pre .1 in
     let one = pos-of-ne-zero (c .before .if1 .left) in (
-      (omega (arith, da .two), (one, (omega (arith, da .near), (omega (arith, da .second, da .fits), omega (arith, da .first, da .fits))))),
+      record {
+        modulus = omega (arith, da .two);
+        degree = one;
+        near = omega (arith, da .near);
+        divisor = omega (arith, da .second, da .fits);
+        dividend = omega (arith, da .first, da .fits);
+      },
       (division-pair _ _ _ _ _ _ _ _ da, da .inverse),
     )
 

@@ -27,10 +27,15 @@ sub-add-pair-2 c = le-of-lt (first-small (c .before .before .before .before .loo
 add-pair-requires : tie.Need-add-pair-requires Inv-loop μ-loop
 add-pair-requires c κs = let s = c .before .before .before .before .before .before in
     let l = c .before .before .before .before .loop in
-    let g = l .inv .1 .around .same in (
-      (omega arith, (omega arith, (omega arith, omega arith))),
-      (turn-apart (s .pre .1 .apart-second) (l .j) (omega arith), turn-below (l .inv .1) (omega arith)),
-    )
+    let g = l .inv .1 .around .same in
+    record {
+      modulus = omega arith;
+      factor = omega arith;
+      source = omega arith;
+      target = omega arith;
+      apart = turn-apart (s .pre .1 .apart-second) (l .j) (omega arith);
+      below = turn-below (l .inv .1) (omega arith);
+    }
 
 sub-mul-add-mod : tie.Need-sub-mul-add-mod Inv-loop μ-loop
 sub-mul-add-mod c = le-of-lt (first-small (c .before .before .before .before .before .before .before .before .loop .inv .1) (c .before .before .before .before .before .before .before .before .before .before .pre .1 .apart-first) (c .before .before .before .before .before .before .before .before .before .before .pre .1 .first) _ (omega arith))

@@ -13,7 +13,7 @@ divide-requires : tie.Need-divide-requires
 divide-requires c κs = let s = c .before .before .before .before .before .before .before in
     let r = c .before .before .before .before .sub-product .ensures in
     let g = r .around .same in (
-      (omega arith, (omega arith, (omega arith, (omega arith, omega arith)))),
+      omega arith,
       (pair-at _ _ _ _ _ _ _ _ _ _ refl (omega arith) (s .pre .1 .after) (s .pre .1 .monic) r, unit-at _ _ _ _ _ _ _ _ _ (s .pre .1 .after) (s .pre .1 .monic) r),
     )
 

@@ -18,7 +18,7 @@ divide-keeping-requires c κs = let s = c .before .before .before .before .befor
     let p = s .pre .0 in
     let h = s .pre .1 in
     let r = quotient-room _ _ _ _ _ _ _ _ (p .modulus) (p .degree) (p .lies) (p .room) (h .0) (h .1 .0) (h .1 .1) (c .before .before .before .before .before .before .before .before .clear .ensures) (c .before .before .before .before .before .residue .ensures) _ (c .before .before .before .sub-product .ensures) in (
-      (omega arith, (p .degree, (omega arith, (r .0, r .1)))),
+      record { modulus = omega arith; degree = p .degree; near = omega arith; divisor = r .0; dividend = r .1 },
       (
         quotient-pair _ _ _ _ _ _ _ _ (p .modulus) (p .degree) (p .lies) (p .room) (h .0) (h .1 .0) (h .1 .1) (c .before .before .before .before .before .before .before .before .clear .ensures) (c .before .before .before .before .before .residue .ensures) _ (c .before .before .before .sub-product .ensures),
         quotient-unit _ _ _ _ _ _ _ _ (p .modulus) (p .degree) (p .lies) (p .room) (h .0) (h .1 .0) (h .1 .1) (c .before .before .before .before .before .before .before .before .clear .ensures) (c .before .before .before .before .before .residue .ensures) _ (c .before .before .before .sub-product .ensures),

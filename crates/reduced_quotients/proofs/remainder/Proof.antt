@@ -16,7 +16,7 @@ divide-requires c κs = let s = c .before .before .before .before .before .befor
     let p = s .pre .0 in
     let h = s .pre .1 in
     let r = rest-room _ _ _ _ _ _ _ (le-of-lt (p .modulus)) (p .degree) (p .lies) (p .room) (h .0) (h .1 .0) (h .1 .1) (c .before .before .before .before .before .before .before .before .clear .ensures) (c .before .before .before .before .copy .ensures) in (
-      (le-of-lt (p .modulus), (p .degree, (omega arith, (r .0, r .1)))),
+      record { modulus = le-of-lt (p .modulus); degree = p .degree; near = omega arith; divisor = r .0; dividend = r .1 },
       (
         rest-pair _ _ _ _ _ _ _ (le-of-lt (p .modulus)) (p .degree) (p .lies) (p .room) (h .0) (h .1 .0) (h .1 .1) (c .before .before .before .before .before .before .before .before .clear .ensures) (c .before .before .before .before .copy .ensures),
         rest-unit _ _ _ _ _ _ _ (le-of-lt (p .modulus)) (p .degree) (p .lies) (p .room) (h .0) (h .1 .0) (h .1 .1) (c .before .before .before .before .before .before .before .before .clear .ensures) (c .before .before .before .before .copy .ensures),

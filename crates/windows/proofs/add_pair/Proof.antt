@@ -27,13 +27,13 @@ sum-two-requires c κs =
       q .0,
       (
         subst (λ (x : ℕ). x ≤ c .before .before .before .before .modulus-of .result .n) (sym (l .inv .1 .0 .high (s .args .dst + l .j) (omega arith)))
-            (let b = s .pre .1 .1 .at (l .j) (omega arith) in omega (arith, q .1)),
-        omega (arith, s .pre .0 .1 .0, q .1),
+            (let b = s .pre .below .at (l .j) (omega arith) in omega (arith, q .1)),
+        omega (arith, s .pre .factor, q .1),
       ),
     )
 
 returns : tie.Need-returns Inv-loop μ-loop
-returns c = absurd (never _ (c .before .before .before .before .before .before .before .before .pre .0 .0) (c .before .before .before .before .before .before .modulus-of .ensures .1) (c .before .sum-two .ensures) (c .if1 .taken))
+returns c = absurd (never _ (c .before .before .before .before .before .before .before .before .pre .modulus) (c .before .before .before .before .before .before .modulus-of .ensures .1) (c .before .sum-two .ensures) (c .if1 .taken))
 
 loop-again : tie.Need-loop-again Inv-loop μ-loop
 loop-again c =
@@ -41,9 +41,9 @@ loop-again c =
     let l = c .before .before .before .before .before .loop in (
       omega arith,
       (
-        paired-step (l .inv .1 .0) (s .pre .1 .0) (omega arith) (omega arith) (l .inv .1 .1)
+        paired-step (l .inv .1 .0) (s .pre .apart) (omega arith) (omega arith) (l .inv .1 .1)
             (modulo _ (c .before .before .before .before .before .before .modulus-of .ensures .1) (c .before .sum-two .ensures)),
-        source (l .inv .1 .0) (s .pre .1 .0) (omega arith) (l .j) (omega arith)
+        source (l .inv .1 .0) (s .pre .apart) (omega arith) (l .j) (omega arith)
             ∙ sym (next-behind (λ (k : ℕ). getD (s .args .w .now) (s .args .src + k) 0) (l .j)),
       ),
     )
