@@ -1,6 +1,7 @@
-/* jingcobu.h: products, true degrees, resultants and reduced resultants of polynomials over Z/nZ, n from 2 to 4294967295;
- * the gcd of two residues with cofactors; a product whose factors come and go; polynomials as text; the shares of four groups in a
- * run of frames.
+/* jingcobu.h: products, true degrees, resultants and reduced resultants of polynomials over Z/nZ, n from 2 to 4294967295, with
+ * cofactors of both; why two polynomials are not coprime, and whether a claim about them is true; resultants of polynomials in two
+ * variables; the gcd of two residues with cofactors; a product whose factors come and go; polynomials as text; the shares of four
+ * groups in a run of frames.
  *
  * A polynomial of sent degree d is d + 1 words, constant first, each below n, d from 0 to 48. The top word may be zero and
  * counts: the resultant is the determinant of the Sylvester matrix in the sent degrees, modulo n. Below, f has the sent degree
@@ -29,6 +30,10 @@ typedef struct { uint32_t value; uint32_t status; } jingcobu_answer;
 /* some is 1 where there is a degree. some = 0 with status 0 says "none"; some and degree are 0 then, and after a refusal. */
 typedef struct { uint32_t some; uint32_t degree; uint32_t status; } jingcobu_degree;
 
+/* ground 0: coprime. 1: both are zero modulo m. 2: w of that degree divides both modulo m. m and degree are 0 where they say
+ * nothing. */
+typedef struct { uint32_t ground; uint32_t m; uint32_t degree; uint32_t status; } jingcobu_reason;
+
 /* g = gcd(a, b, n) and its cofactors. */
 typedef struct { uint32_t g; uint32_t s; uint32_t t; uint32_t status; } jingcobu_cofactors;
 
@@ -54,26 +59,36 @@ typedef struct { uint32_t share[4]; uint32_t status; } jingcobu_plan;
 enum jingcobu_status {
     JINGCOBU_OK = 0,
     JINGCOBU_BAD_MODULUS = 1,       /* n is 0 or 1 */
-    JINGCOBU_BAD_LENGTH = 2,        /* f, g or h has no word or more than 49; for a product also d + e above 48 */
-    JINGCOBU_BAD_WORD = 3,          /* a word of f, g or h, or a residue a or b, is n or more */
+    JINGCOBU_BAD_LENGTH = 2,        /* f, g or h has no word or more than 49; for a product also d + e above 48; in two variables
+                                       a degree is above 48, or the length is not that of the degrees */
+    JINGCOBU_BAD_WORD = 3,          /* a word of f, g, h, or of a claimed multiplier, or a residue a or b, is n or more */
     JINGCOBU_LEAD_NO_UNIT = 4,      /* division: the divisor's top word is not a unit */
     JINGCOBU_NO_UNIT_FACTOR = 5,    /* not a unit polynomial times a monic one; inverse: not a unit polynomial */
     JINGCOBU_SHORT_RESULT = 6,      /* a result buffer (out, u or v, the words read, the text written) is too short */
     JINGCOBU_SHORT_WORK = 7,        /* work has fewer than JINGCOBU_WORK words */
     JINGCOBU_NO_FRAME = 8,          /* the line is not a frame */
+    JINGCOBU_NO_COFACTORS = 9,      /* cofactors of the resultant: d = e = 0 */
     JINGCOBU_EMPTY_TOP = 10,        /* frames only: the top word of f or g is zero */
+    JINGCOBU_PRIME_DIVIDES = 11,    /* two variables: a prime up to e a + d b divides n */
+    JINGCOBU_TOO_MANY_POINTS = 12,  /* two variables: e a + d b is above 60 */
     JINGCOBU_FACTORS_FULL = 13,     /* factors: 16 are held, or the sent degrees would add up to more than 48 */
     JINGCOBU_BAD_NUMBER = 14,       /* factors: the number is 0, or is held already on arrival, or is not held on leaving */
     JINGCOBU_BAD_FRAMES = 15,       /* shares: the number of frames is 0 or above 1024 */
+    JINGCOBU_BAD_MULTIPLIER = 16,   /* claims: a multiplier has no word or more than 4096 */
     JINGCOBU_NO_TEXT = 17           /* the text is not one of the notation, or has a power above 48 */
 };
 
-/* The words that work needs. After a resultant, a reduced resultant or the arrival of a factor is answered, ALL words of work are
- * zero, however many there are. */
+/* The words that work needs. After an answer ALL words of work are zero, however many there are. */
 #define JINGCOBU_WORK 8192
 
-/* Words that always suffice for a cofactor: 31 * 48 + 1. */
+/* Words that always suffice for a cofactor of D: 31 * 48 + 1. */
 #define JINGCOBU_COFACTOR 1489
+
+/* The words that a common divisor needs, the most words of a claimed multiplier, and the most words of a resultant in two
+ * variables. */
+#define JINGCOBU_COMMON 49
+#define JINGCOBU_MULTIPLIER 4096
+#define JINGCOBU_TWO 61
 
 /* The words that a polynomial read from text needs, and the bytes that a text to be written needs. */
 #define JINGCOBU_WORDS 49
@@ -112,6 +127,57 @@ jingcobu_answer jingcobu_resultant(uint32_t n, const uint32_t *f, size_t f_len, 
  * the s and t of jingcobu_gcd(n, f[0], g[0]). Refusals: 1, 2, 3, 6, 7. */
 jingcobu_answer jingcobu_reduced_resultant(uint32_t n, const uint32_t *f, size_t f_len, const uint32_t *g, size_t g_len,
                                            uint32_t *u, size_t u_len, uint32_t *v, size_t v_len, uint32_t *work, size_t work_len);
+
+/* D alone, as jingcobu_reduced_resultant answers it, in less time. Refusals: 1, 2, 3, 7. */
+jingcobu_answer jingcobu_divisor(uint32_t n, const uint32_t *f, size_t f_len, const uint32_t *g, size_t g_len,
+                                 uint32_t *work, size_t work_len);
+
+/* The resultant of f and g, as jingcobu_resultant answers it, with cofactors: u of e words and v of d words with u f + v g equal to
+ * the resultant modulo n, for every pair with d + e at least 1.
+ *
+ * u needs e words and v needs d: none where e or d is 0. After an answer the first e words of u and the first d of v hold
+ * residues, constant first, and the words beyond are left as they were found. Which cofactors come back is not fixed where there
+ * are several. Refusals: 1, 2, 3, 9 (d = e = 0), 6 (u before v), 7. */
+jingcobu_answer jingcobu_resultant_cofactors(uint32_t n, const uint32_t *f, size_t f_len, const uint32_t *g, size_t g_len,
+                                             uint32_t *u, size_t u_len, uint32_t *v, size_t v_len, uint32_t *work, size_t work_len);
+
+/* Why f and g are not coprime. ground 0: they are, D is 1. Otherwise m is a divisor of n, above 1, that divides D, and
+ * ground 1: both polynomials are zero modulo m;
+ * ground 2: a monic w of that degree, 1 to 48, divides both modulo m.
+ *
+ * w needs JINGCOBU_COMMON words. After an answer its first 49 words hold w, constant first, zeros above it; they are all zero for
+ * the grounds 0 and 1. The words beyond are left as they were found. Which m and w come back is not fixed where there are several.
+ * Refusals: 1, 2, 3, 6, 7. */
+jingcobu_reason jingcobu_why(uint32_t n, const uint32_t *f, size_t f_len, const uint32_t *g, size_t g_len,
+                             uint32_t *w, size_t w_len, uint32_t *work, size_t work_len);
+
+/* Whether a claim from elsewhere is true: that D is d, and that the multipliers u and v make it. d may be any word. The value is 0
+ * where it is, otherwise the first that fails of
+ * 1: d divides n (0 divides no n);
+ * 2: u f + v g is the constant d modulo n;
+ * 3: d is the reduced resultant of f and g.
+ *
+ * u and v have 1 to JINGCOBU_MULTIPLIER words each, whatever n, f and g are. Refusals: 1, 2, 16 (u before v), 3 (f, g, u, v), 7. */
+jingcobu_answer jingcobu_check_claim(uint32_t n, const uint32_t *f, size_t f_len, const uint32_t *g, size_t g_len, uint32_t d,
+                                     const uint32_t *u, size_t u_len, const uint32_t *v, size_t v_len, uint32_t *work, size_t work_len);
+
+/* The resultant in y of two polynomials in y and z, itself a polynomial in z. f has the sent degrees d in y and a in z, g has e and
+ * b; each is at most 48. The words of f stand in d + 1 groups of a + 1, one group for each power of y, both constant first:
+ *
+ *     f[0]            f[1]            ..  f[a]                  y^0 times  1, z, .., z^a
+ *     f[a + 1]        f[a + 2]        ..  f[2 a + 1]            y^1
+ *     ..
+ *     f[d (a + 1)]    ..              ..  f[(d + 1)(a + 1) - 1] y^d
+ *
+ * So f_len is (d + 1)(a + 1), and g_len is (e + 1)(b + 1). The answer has B + 1 words, B = e a + d b, at most 61: the Sylvester
+ * determinant in the sent degrees d and e, worked with polynomials in z, modulo n; constant first. It is found from its values at
+ * 0 to B, so no prime up to B may divide n.
+ *
+ * out needs B + 1 words. After an answer its first B + 1 words hold the resultant, and the words beyond are left as they were
+ * found. The value is 0. Refusals: 1, 2 (f before g), 3, 12 (B is above 60), 11 (a prime up to B divides n), 6, 7. */
+jingcobu_answer jingcobu_resultant_two(uint32_t n, const uint32_t *f, size_t f_len, size_t d, size_t a,
+                                       const uint32_t *g, size_t g_len, size_t e, size_t b,
+                                       uint32_t *out, size_t out_len, uint32_t *work, size_t work_len);
 
 /* The greatest common divisor g of a, b and n, from 1 to n, for residues a and b, each below n; it is n where both are 0. s and t
  * are its least cofactors, each below n: s is the least number from 0 upward for which some t makes s a + t b equal to g modulo n,

@@ -21,8 +21,10 @@
 #define WORK_ROOM (MARGIN + 9000 + MARGIN)
 #define COFACTOR_ROOM (MARGIN + 1600 + MARGIN)
 #define PRODUCT_ROOM (MARGIN + 100 + MARGIN)
+#define MULTIPLIER_ROOM 4200
 #define TEXT_ROOM (MARGIN + 900 + MARGIN)
 static uint32_t work[WORK_ROOM], u[COFACTOR_ROOM], v[COFACTOR_ROOM], out[PRODUCT_ROOM];
+static uint32_t first_multiplier[MULTIPLIER_ROOM], second_multiplier[MULTIPLIER_ROOM];
 static uint8_t written[TEXT_ROOM];
 
 static long tried, failed;
@@ -69,15 +71,13 @@ static size_t cofactor_length(uint32_t n, size_t fl, size_t gl)
     return k * (larger(fl, gl) - 1) + 1;
 }
 
-/* whether u f + v g is the constant c modulo n, u and v being l words */
-static int combines(uint32_t n, const uint32_t *f, size_t fl, const uint32_t *g, size_t gl, size_t l, uint32_t c)
+/* whether u f + v g is the constant c modulo n, u and v being ul and vl words */
+static int combine(uint32_t n, const uint32_t *f, size_t fl, const uint32_t *g, size_t gl, size_t ul, size_t vl, uint32_t c)
 {
-    for (size_t k = 0; k < l + larger(fl, gl); k++) {
+    for (size_t k = 0; k < larger(ul + fl, vl + gl); k++) {
         uint64_t s = 0;
-        for (size_t i = 0; i <= k && i < l; i++) {
-            if (k - i < fl) s = (s + (uint64_t) u[MARGIN + i] * f[k - i]) % n;
-            if (k - i < gl) s = (s + (uint64_t) v[MARGIN + i] * g[k - i]) % n;
-        }
+        for (size_t i = 0; i <= k && i < ul; i++) if (k - i < fl) s = (s + (uint64_t) u[MARGIN + i] * f[k - i]) % n;
+        for (size_t i = 0; i <= k && i < vl; i++) if (k - i < gl) s = (s + (uint64_t) v[MARGIN + i] * g[k - i]) % n;
         if (s != (k == 0 ? c % n : 0)) return 0;
     }
     return 1;
@@ -327,10 +327,142 @@ static uint32_t reduced(uint32_t n, const uint32_t *f, size_t fl, const uint32_t
     expect(kept_but(u, COFACTOR_ROOM, l), "reduced: words of u beyond L are unchanged", where);
     expect(kept_but(v, COFACTOR_ROOM, l), "reduced: words of v beyond L are unchanged", where);
     expect(below(u, l, n) && below(v, l, n), "reduced: the words of the cofactors are below n", where);
-    expect(combines(n, f, fl, g, gl, l, a.value), "reduced: the cofactors combine f and g to D", where);
+    expect(combine(n, f, fl, g, gl, l, l, a.value), "reduced: the cofactors combine f and g to D", where);
     if (fl == 1 && gl == 1 && a.value)
         expect(least(n, f[0], g[0], a.value, u[MARGIN], v[MARGIN]), "reduced: the cofactors of two constants are the least", where);
     return a.value ? a.value : 1;
+}
+
+static uint32_t divisor(uint32_t n, const uint32_t *f, size_t fl, const uint32_t *g, size_t gl, size_t wl, uint32_t status, const char *where)
+{
+    mark(work, WORK_ROOM);
+    copy(f, fl, g, gl);
+    jingcobu_answer a = jingcobu_divisor(n, f, fl, g, gl, lent(work, wl), wl);
+    expect(a.status == status, "divisor: the status", where);
+    expect(same(f, fl, g, gl), "divisor: f and g are only read", where);
+    if (status != JINGCOBU_OK) {
+        expect(a.value == 0, "divisor refused: the value is 0", where);
+        expect(kept_but(work, WORK_ROOM, 0), "divisor refused: the working words are as found", where);
+        return 0;
+    }
+    expect(a.value >= 1 && n % (a.value ? a.value : 1) == 0, "divisor: D is at least 1 and divides n", where);
+    expect(all(work, 0, wl, 0), "divisor: all working words are zero", where);
+    expect(kept_but(work, WORK_ROOM, wl), "divisor: words that are not lent", where);
+    return a.value;
+}
+
+static uint32_t with_cofactors(uint32_t n, const uint32_t *f, size_t fl, const uint32_t *g, size_t gl, size_t ul, size_t vl, size_t wl, uint32_t status, const char *where)
+{
+    mark(work, WORK_ROOM); mark(u, COFACTOR_ROOM); mark(v, COFACTOR_ROOM);
+    copy(f, fl, g, gl);
+    jingcobu_answer a = jingcobu_resultant_cofactors(n, f, fl, g, gl, lent(u, ul), ul, lent(v, vl), vl, lent(work, wl), wl);
+    expect(a.status == status, "cofactors: the status", where);
+    expect(same(f, fl, g, gl), "cofactors: f and g are only read", where);
+    if (status != JINGCOBU_OK) {
+        expect(a.value == 0, "cofactors refused: the value is 0", where);
+        expect(kept_but(work, WORK_ROOM, 0), "cofactors refused: the working words are as found", where);
+        expect(kept_but(u, COFACTOR_ROOM, 0), "cofactors refused: u is as found", where);
+        expect(kept_but(v, COFACTOR_ROOM, 0), "cofactors refused: v is as found", where);
+        return 0;
+    }
+    expect(all(work, 0, wl, 0), "cofactors: all working words are zero", where);
+    expect(kept_but(work, WORK_ROOM, wl), "cofactors: words that are not lent", where);
+    expect(kept_but(u, COFACTOR_ROOM, gl - 1), "cofactors: words of u beyond e are unchanged", where);
+    expect(kept_but(v, COFACTOR_ROOM, fl - 1), "cofactors: words of v beyond d are unchanged", where);
+    expect(below(u, gl - 1, n) && below(v, fl - 1, n), "cofactors: their words are below n", where);
+    expect(combine(n, f, fl, g, gl, gl - 1, fl - 1, a.value), "cofactors: they combine f and g to the resultant", where);
+    return a.value;
+}
+
+/* whether the l words of b, modulo m, are a multiple of the monic polynomial of degree k in w */
+static int multiple_of(uint32_t m, const uint32_t *b, size_t l, const uint32_t *w, size_t k)
+{
+    uint32_t r[MOST];
+    for (size_t i = 0; i < l; i++) r[i] = b[i] % m;
+    for (size_t i = l; i-- > k;)
+        for (size_t j = 0; j < k; j++) r[i - k + j] = (uint32_t) ((r[i - k + j] + (uint64_t) (m - r[i]) * w[j]) % m);
+    for (size_t i = 0; i < l && i < k; i++) if (r[i]) return 0;
+    return 1;
+}
+
+/* The ground; D is what it must agree with, or 0 where it is not known. The buffer for w is out. */
+static uint32_t why(uint32_t n, const uint32_t *f, size_t fl, const uint32_t *g, size_t gl, size_t ol, size_t wl, uint32_t D, uint32_t status, const char *where)
+{
+    mark(work, WORK_ROOM); mark(out, PRODUCT_ROOM);
+    copy(f, fl, g, gl);
+    jingcobu_reason a = jingcobu_why(n, f, fl, g, gl, lent(out, ol), ol, lent(work, wl), wl);
+    const uint32_t *w = out + MARGIN;
+    expect(a.status == status, "why: the status", where);
+    expect(same(f, fl, g, gl), "why: f and g are only read", where);
+    if (status != JINGCOBU_OK) {
+        expect(a.ground == 0 && a.m == 0 && a.degree == 0, "why refused: the values are 0", where);
+        expect(kept_but(work, WORK_ROOM, 0), "why refused: the working words are as found", where);
+        expect(kept_but(out, PRODUCT_ROOM, 0), "why refused: w is as found", where);
+        return 0;
+    }
+    expect(all(work, 0, wl, 0), "why: all working words are zero", where);
+    expect(kept_but(work, WORK_ROOM, wl), "why: words that are not lent", where);
+    expect(kept_but(out, PRODUCT_ROOM, 49), "why: words of w beyond 49 are unchanged", where);
+    expect(a.ground <= 2, "why: the ground is 0, 1 or 2", where);
+    if (D) expect((a.ground == 0) == (D == 1), "why: coprime where D is 1, and nowhere else", where);
+    if (a.ground == 0) {
+        expect(a.m == 0 && a.degree == 0 && all(out, 0, 49, 0), "why: coprime, the values and w are 0", where);
+        return 0;
+    }
+    expect(a.m > 1 && n % (a.m ? a.m : 1) == 0, "why: m is above 1 and divides n", where);
+    if (a.m < 2) return a.ground;
+    if (D) expect(D % a.m == 0, "why: m divides D", where);
+    if (a.ground == 1) {
+        int zero = 1;
+        for (size_t i = 0; i < fl; i++) if (f[i] % a.m) zero = 0;
+        for (size_t i = 0; i < gl; i++) if (g[i] % a.m) zero = 0;
+        expect(zero, "why: both are zero modulo m", where);
+        expect(a.degree == 0 && all(out, 0, 49, 0), "why: the first ground has no w", where);
+        return 1;
+    }
+    expect(a.degree >= 1 && a.degree <= 48, "why: w has a degree of 1 to 48", where);
+    if (a.degree < 1 || a.degree > 48) return 2;
+    expect(w[a.degree] == 1 && all(out, a.degree + 1, 49, 0) && below(out, 49, n), "why: w is monic, zeros above", where);
+    expect(multiple_of(a.m, f, fl, w, a.degree) && multiple_of(a.m, g, gl, w, a.degree), "why: w divides both modulo m", where);
+    return 2;
+}
+
+/* The answer to a claim, with multipliers of ul and vl words. */
+static uint32_t claim(uint32_t n, const uint32_t *f, size_t fl, const uint32_t *g, size_t gl, uint32_t d, size_t ul, size_t vl, size_t wl, uint32_t status, const char *where)
+{
+    mark(work, WORK_ROOM);
+    copy(f, fl, g, gl);
+    jingcobu_answer a = jingcobu_check_claim(n, f, fl, g, gl, d, ul ? first_multiplier : NULL, ul, vl ? second_multiplier : NULL, vl,
+                                             lent(work, wl), wl);
+    expect(a.status == status, "claim: the status", where);
+    expect(same(f, fl, g, gl), "claim: f and g are only read", where);
+    if (status != JINGCOBU_OK) {
+        expect(a.value == 0, "claim refused: the value is 0", where);
+        expect(kept_but(work, WORK_ROOM, 0), "claim refused: the working words are as found", where);
+        return 0;
+    }
+    expect(a.value <= 3, "claim: the value is 0 to 3", where);
+    expect(all(work, 0, wl, 0), "claim: all working words are zero", where);
+    expect(kept_but(work, WORK_ROOM, wl), "claim: words that are not lent", where);
+    return a.value;
+}
+
+/* The resultant in y; f has (d + 1)(a + 1) words, where the lengths are right. The answer's buffer is out. */
+static void two(uint32_t n, const uint32_t *f, size_t fl, size_t d, size_t a, const uint32_t *g, size_t gl, size_t e, size_t b, size_t ol, size_t wl, uint32_t status, const char *where)
+{
+    mark(work, WORK_ROOM); mark(out, PRODUCT_ROOM);
+    jingcobu_answer r = jingcobu_resultant_two(n, f, fl, d, a, g, gl, e, b, lent(out, ol), ol, lent(work, wl), wl);
+    expect(r.status == status, "two variables: the status", where);
+    expect(r.value == 0, "two variables: the value is 0", where);
+    if (status != JINGCOBU_OK) {
+        expect(kept_but(work, WORK_ROOM, 0), "two variables refused: the working words are as found", where);
+        expect(kept_but(out, PRODUCT_ROOM, 0), "two variables refused: the answer's words are as found", where);
+        return;
+    }
+    expect(all(work, 0, wl, 0), "two variables: all working words are zero", where);
+    expect(kept_but(work, WORK_ROOM, wl), "two variables: words that are not lent", where);
+    expect(kept_but(out, PRODUCT_ROOM, e * a + d * b + 1), "two variables: words beyond B + 1 are unchanged", where);
+    expect(below(out, e * a + d * b + 1, n), "two variables: the words are below n", where);
 }
 
 static jingcobu_cofactors gcd(uint32_t n, uint32_t a, uint32_t b, uint32_t status, const char *where)
@@ -479,12 +611,41 @@ static int word_by_word(uint32_t n, const uint32_t *f, size_t fl, const uint32_t
     return 1;
 }
 
+/* The services that answer for a pair beside the resultant and D: the ground of `why`. The claim is the engine's own answer, and then
+ * that answer with one thing changed. */
+static uint32_t stored_pair(uint32_t n, const uint32_t *f, size_t fl, const uint32_t *g, size_t gl, uint32_t r, uint32_t D, const char *where)
+{
+    size_t l = cofactor_length(n, fl, gl);
+    expect(divisor(n, f, fl, g, gl, 9000, JINGCOBU_OK, where) == D, "D alone is the other program's", where);
+    if (fl + gl == 2) with_cofactors(n, f, fl, g, gl, 48, 48, 9000, JINGCOBU_NO_COFACTORS, where);
+    else expect(with_cofactors(n, f, fl, g, gl, 48, 48, 9000, JINGCOBU_OK, where) == r, "cofactors: the value is the resultant", where);
+    reduced(n, f, fl, g, gl, 1600, 1600, 9000, JINGCOBU_OK, where);
+    memcpy(first_multiplier, u + MARGIN, l * sizeof *u);
+    memcpy(second_multiplier, v + MARGIN, l * sizeof *v);
+    expect(claim(n, f, fl, g, gl, D, l, l, 9000, JINGCOBU_OK, where) == 0, "claim: the engine's own answer is accepted", where);
+    expect(claim(n, f, fl, g, gl, 0, l, l, 9000, JINGCOBU_OK, where) == 1, "claim: 0 divides no n", where);
+    if (D > 1) expect(claim(n, f, fl, g, gl, D / common_divisor(D, 2) + (D % 2 ? n : 0), l, l, 9000, JINGCOBU_OK, where) != 0, "claim: another D is not accepted", where);
+    first_multiplier[0] = (first_multiplier[0] + 1) % n;
+    int still = 1;
+    for (size_t i = 0; i < fl; i++) if (f[i] % n) still = 0;
+    expect(claim(n, f, fl, g, gl, D, l, l, 9000, JINGCOBU_OK, where) == (still ? 0 : 2), "claim: a changed multiplier", where);
+    first_multiplier[0] = (first_multiplier[0] + n - 1) % n;
+    if (D < n && n % 2 == 0 && (n / D) % 2 == 0) {
+        for (size_t i = 0; i < l; i++) {
+            first_multiplier[i] = (uint32_t) (2 * (uint64_t) first_multiplier[i] % n);
+            second_multiplier[i] = (uint32_t) (2 * (uint64_t) second_multiplier[i] % n);
+        }
+        expect(claim(n, f, fl, g, gl, 2 * D, l, l, 9000, JINGCOBU_OK, where) == 3, "claim: 2 D with doubled multipliers", where);
+    }
+    return why(n, f, fl, g, gl, 60, 9000, D, JINGCOBU_OK, where) % 3;
+}
+
 static void pairs(const char *folder)
 {
     char path[400], line[1000], figures[100], where[40];
     uint32_t w[2 * MOST], n, r, D;
     size_t fl, gl;
-    long count = 0, full = 0, between = 0, by_words = 0;
+    long count = 0, full = 0, between = 0, by_words = 0, grounds[3] = { 0, 0, 0 };
     snprintf(path, sizeof path, "%s/stdin", folder);
     FILE *in = fopen(path, "r");
     snprintf(path, sizeof path, "%s/stdout", folder);
@@ -501,6 +662,7 @@ static void pairs(const char *folder)
         if (!whole) break;
         expect(resultant(n, w, fl, w + fl, gl, 9000, JINGCOBU_OK, where) == r, "the resultant is the other program's", where);
         expect(reduced(n, w, fl, w + fl, gl, 1600, 1600, 9000, JINGCOBU_OK, where) == D, "D is the other program's", where);
+        grounds[stored_pair(n, w, fl, w + fl, gl, r, D, where)]++;
         by_words += word_by_word(n, w, fl, w + fl, gl, where);
         degree(n, w, fl, JINGCOBU_OK, where);
         degree(n, w + fl, gl, JINGCOBU_OK, where);
@@ -512,6 +674,7 @@ static void pairs(const char *folder)
     fclose(in);
     fclose(numbers);
     printf("%ld stored pairs, %ld of them with d = e = 48, %ld with D neither 1 nor n, %ld multiplied word by word\n", count, full, between, by_words);
+    printf("of these %ld are coprime, %ld are zero modulo some m, %ld have a common divisor\n", grounds[0], grounds[1], grounds[2]);
 }
 
 /* ---- refusals */
@@ -548,6 +711,12 @@ static void orders(void)
             uint32_t three = common ? common : word;
             resultant(n, fl ? f : NULL, fl, gl ? g : NULL, gl, wl, three ? three : short_work, where);
             reduced(n, fl ? f : NULL, fl, gl ? g : NULL, gl, ul, vl, wl, three ? three : short_cofactor ? short_cofactor : short_work, where);
+            divisor(n, fl ? f : NULL, fl, gl ? g : NULL, gl, wl, three ? three : short_work, where);
+            why(n, fl ? f : NULL, fl, gl ? g : NULL, gl, set & U ? last ? 0 : 48 : 49, wl, 0,
+                three ? three : set & U ? JINGCOBU_SHORT_RESULT : short_work, where);
+            with_cofactors(n, fl ? f : NULL, fl, gl ? g : NULL, gl, e - 1 - (set & U ? 1 : 0), d - 1 - (set & V ? 1 : 0), wl,
+                           three ? three : short_cofactor ? short_cofactor : short_work, where);
+            with_cofactors(n, f, 1, g, 1, 0, 0, wl, set & N ? JINGCOBU_BAD_MODULUS : f[0] >= n || g[0] >= n ? JINGCOBU_BAD_WORD : JINGCOBU_NO_COFACTORS, where);
             if (!common && (set & SUM)) common = JINGCOBU_BAD_LENGTH;
             three = common ? common : word;
             product(n, fl ? f : NULL, fl, gl ? g : NULL, gl, ol, three ? three : short_product, where);
@@ -557,6 +726,65 @@ static void orders(void)
             sets++;
         }
     printf("%ld sets of reasons to refuse\n", sets);
+}
+
+/* The same for a claim: multipliers of no or too many words, and large words in each polynomial, at either end. */
+static void orders_of_claims(void)
+{
+    enum { N = 1, F = 2, G = 4, U = 8, V = 16, WF = 32, WG = 64, WU = 128, WV = 256, W = 512, SETS = 1024 };
+    uint32_t f[60], g[60];
+    char where[40];
+    long sets = 0;
+    for (int other = 0; other < 4; other++)
+        for (int set = 0; set < SETS; set++) {
+            int empty = other & 1, last = other & 2;
+            uint32_t n = set & N ? (uint32_t) empty : 7, large = n < 7 ? 7 : n;
+            size_t fl = set & F ? empty ? 0 : 50 : 5, gl = set & G ? empty ? 0 : 50 : 3, wl = set & W ? last ? 0 : 8191 : 8192;
+            size_t ul = set & U ? empty ? 0 : 4097 : last ? 4096 : 1, vl = set & V ? empty ? 0 : 4097 : last ? 1 : 4096;
+            for (int i = 0; i < 60; i++) { f[i] = (uint32_t) (i % 7); g[i] = (uint32_t) ((3 * i + 1) % 7); }
+            for (int i = 0; i < MULTIPLIER_ROOM; i++) first_multiplier[i] = second_multiplier[i] = (uint32_t) (i % 5);
+            if ((set & WF) && fl) f[last ? fl - 1 : 0] = large;
+            if ((set & WG) && gl) g[last ? gl - 1 : 0] = 4294967295u;
+            if ((set & WU) && ul) first_multiplier[last ? ul - 1 : 0] = large;
+            if ((set & WV) && vl) second_multiplier[last ? vl - 1 : 0] = 4294967295u;
+            uint32_t status = set & N ? JINGCOBU_BAD_MODULUS : set & (F | G) ? JINGCOBU_BAD_LENGTH : set & (U | V) ? JINGCOBU_BAD_MULTIPLIER
+                : set & (WF | WG | WU | WV) ? JINGCOBU_BAD_WORD : set & W ? JINGCOBU_SHORT_WORK : 0;
+            snprintf(where, sizeof where, "set %d of a claim's reasons, %d", set, other);
+            claim(n, fl ? f : NULL, fl, gl ? g : NULL, gl, (uint32_t) set, ul, vl, wl, status, where);
+            sets++;
+        }
+    printf("%ld sets of reasons to refuse a claim\n", sets);
+}
+
+/* The same for two variables: a degree above 48, a length that does not fit, large words, B above 60, a prime up to B, short buffers. */
+static void orders_of_two(void)
+{
+    enum { N = 1, F = 2, G = 4, WF = 8, WG = 16, POINTS = 32, PRIME = 64, OUT = 128, W = 256, SETS = 512 };
+    static uint32_t f[2500], g[2500];
+    char where[40];
+    long sets = 0;
+    for (int other = 0; other < 4; other++)
+        for (int set = 0; set < SETS; set++) {
+            int degree = other & 1, last = other & 2;
+            uint32_t n = set & N ? (uint32_t) degree : set & PRIME ? 59 * 61 : 67 * 61;
+            size_t d = 3, a = set & POINTS ? 11 : 10, e = 3, b = 10, wl = set & W ? last ? 0 : 8191 : 8192;
+            if (set & F) { if (degree) { if (last) d = 49; else a = 49; } }
+            if (set & G) { if (degree) { if (last) b = SIZE_MAX; else e = SIZE_MAX - 1; } }
+            size_t fl = (d + 1) * (a + 1), gl = set & G && degree ? 44 : (e + 1) * (b + 1);
+            if ((set & F) && !degree) fl = last ? 0 : fl + 1;
+            if ((set & G) && !degree) gl = last ? 0 : gl - 1;
+            for (int i = 0; i < 2500; i++) { f[i] = (uint32_t) (i % 50); g[i] = (uint32_t) ((3 * i + 1) % 50); }
+            if ((set & WF) && fl) f[last ? fl - 1 : 0] = n < 50 ? 50 : n;
+            if ((set & WG) && gl) g[last ? gl - 1 : 0] = 4294967295u;
+            size_t ol = set & OUT ? last ? 0 : 60 : 61;
+            uint32_t status = set & N ? JINGCOBU_BAD_MODULUS : set & (F | G) ? JINGCOBU_BAD_LENGTH : set & (WF | WG) ? JINGCOBU_BAD_WORD
+                : set & POINTS ? JINGCOBU_TOO_MANY_POINTS : set & PRIME ? JINGCOBU_PRIME_DIVIDES : set & OUT ? JINGCOBU_SHORT_RESULT
+                : set & W ? JINGCOBU_SHORT_WORK : 0;
+            snprintf(where, sizeof where, "set %d of two variables' reasons, %d", set, other);
+            two(n, fl ? f : NULL, fl, d, a, gl ? g : NULL, gl, e, b, ol, wl, status, where);
+            sets++;
+        }
+    printf("%ld sets of reasons to refuse two variables\n", sets);
 }
 
 /* The same for one polynomial or one text: n is 0 or 1, the length, a word, no text, a short buffer. */
@@ -603,6 +831,13 @@ static void words(void)
                 snprintf(where, sizeof where, "word %u modulo 11 at place %zu of %s", (second ? g : f)[k], k, second ? "g" : "f");
                 resultant(11, f, fl, g, gl, 8192, status, where);
                 reduced(11, f, fl, g, gl, 1489, 1489, 8192, status, where);
+                divisor(11, f, fl, g, gl, 8192, status, where);
+                with_cofactors(11, f, fl, g, gl, 48, 48, 8192, status, where);
+                why(11, f, fl, g, gl, 49, 8192, 0, status, where);
+                first_multiplier[0] = second_multiplier[0] = 1;
+                claim(11, f, fl, g, gl, 1, 1, 1, 8192, status, where);
+                two(11, f, fl, 0, fl - 1, g, gl, 0, gl - 1, 61, 8192, status, where);
+                two(11, f, fl, fl - 1, 0, g, gl, gl - 1, 0, 61, 8192, status, where);
                 product(11, f, fl, g, gl, 49, status, where);
                 one_word(11, f, fl, g, gl, 49, k, status, where);
                 degree(11, second ? g : f, MOST, status, where);
@@ -622,6 +857,11 @@ static void ends(void)
         resultant(n, f, 1, g, 1, 8192, JINGCOBU_BAD_MODULUS, "n below 2");
         reduced(n, f, 1, g, 1, 1489, 1489, 8192, JINGCOBU_BAD_MODULUS, "n below 2");
         product(n, f, 1, g, 1, 1, JINGCOBU_BAD_MODULUS, "n below 2");
+        divisor(n, f, 1, g, 1, 8192, JINGCOBU_BAD_MODULUS, "n below 2");
+        with_cofactors(n, f, 1, g, 1, 0, 0, 8192, JINGCOBU_BAD_MODULUS, "n below 2");
+        why(n, f, 1, g, 1, 49, 8192, 0, JINGCOBU_BAD_MODULUS, "n below 2");
+        claim(n, f, 1, g, 1, 1, 1, 1, 8192, JINGCOBU_BAD_MODULUS, "n below 2");
+        two(n, f, 1, 0, 0, g, 1, 0, 0, 1, 8192, JINGCOBU_BAD_MODULUS, "n below 2");
         one_word(n, f, 1, g, 1, 1, 0, JINGCOBU_BAD_MODULUS, "n below 2");
         degree(n, f, 1, JINGCOBU_BAD_MODULUS, "n below 2");
         gcd(n, 0, 0, JINGCOBU_BAD_MODULUS, "n below 2");
@@ -648,6 +888,12 @@ static void ends(void)
             int right = fl >= 1 && fl <= 49 && gl >= 1 && gl <= 49;
             snprintf(where, sizeof where, "%zu and %zu words", fl, gl);
             resultant(2, fl ? f : NULL, fl, gl ? g : NULL, gl, 8192, right ? JINGCOBU_OK : JINGCOBU_BAD_LENGTH, where);
+            divisor(2, fl ? f : NULL, fl, gl ? g : NULL, gl, 8192, right ? JINGCOBU_OK : JINGCOBU_BAD_LENGTH, where);
+            why(2, fl ? f : NULL, fl, gl ? g : NULL, gl, 49, 8192, 0, right ? JINGCOBU_OK : JINGCOBU_BAD_LENGTH, where);
+            with_cofactors(2, fl ? f : NULL, fl, gl ? g : NULL, gl, right ? gl - 1 : 48, right ? fl - 1 : 48, 8192,
+                           !right ? JINGCOBU_BAD_LENGTH : fl + gl == 2 ? JINGCOBU_NO_COFACTORS : JINGCOBU_OK, where);
+            if (right && gl > 1) with_cofactors(2, f, fl, g, gl, gl - 2, fl - 1, 8192, JINGCOBU_SHORT_RESULT, where);
+            if (right && fl > 1) with_cofactors(2, f, fl, g, gl, gl - 1, fl - 2, 8192, JINGCOBU_SHORT_RESULT, where);
             product(2, fl ? f : NULL, fl, gl ? g : NULL, gl, 100, right && fl + gl <= 50 ? JINGCOBU_OK : JINGCOBU_BAD_LENGTH, where);
             if (right && fl + gl <= 50) product(2, f, fl, g, gl, fl + gl - 2, JINGCOBU_SHORT_RESULT, where);
             if (right && fl + gl <= 50) product(2, f, fl, g, gl, fl + gl - 1, JINGCOBU_OK, where);
@@ -671,6 +917,13 @@ static void ends(void)
                     reduced(n, f, d + 1, g, e + 1, l, l, 8191, JINGCOBU_SHORT_WORK, where);
                     resultant(n, f, d + 1, g, e + 1, 8191, JINGCOBU_SHORT_WORK, where);
                     resultant(n, f, d + 1, g, e + 1, 8192, JINGCOBU_OK, where);
+                    divisor(n, f, d + 1, g, e + 1, 8191, JINGCOBU_SHORT_WORK, where);
+                    uint32_t D = divisor(n, f, d + 1, g, e + 1, 8192, JINGCOBU_OK, where);
+                    why(n, f, d + 1, g, e + 1, 48, 8192, D, JINGCOBU_SHORT_RESULT, where);
+                    why(n, f, d + 1, g, e + 1, 49, 8191, D, JINGCOBU_SHORT_WORK, where);
+                    why(n, f, d + 1, g, e + 1, 49, 8192, D, JINGCOBU_OK, where);
+                    if (d + e) with_cofactors(n, f, d + 1, g, e + 1, e, d, 8191, JINGCOBU_SHORT_WORK, where);
+                    if (d + e) with_cofactors(n, f, d + 1, g, e + 1, e, d, 8192, JINGCOBU_OK, where);
                 }
     /* a product whose top word comes out zero has its sent degree all the same */
     uint32_t two[] = { 1, 2 }, three[] = { 5, 3 };
@@ -1257,10 +1510,145 @@ static void products(void)
     printf("%d triples of the law of products, in %ld the resultant is not 0, in %ld D is neither 1 nor n\n", TRIPLES, nonzero, between);
 }
 
+/* ---- D alone, cofactors of the resultant and grounds, of every pair of small degrees */
+
+static void small_pairs(void)
+{
+    static const uint32_t moduli[] = { 4, 6, 8, 9, 12 };
+    uint32_t f[3], g[3];
+    long count = 0, grounds[3] = { 0, 0, 0 };
+    char where[80];
+    for (size_t i = 0; i < sizeof moduli / sizeof *moduli; i++) {
+        uint32_t n = moduli[i];
+        for (size_t fl = 1; fl <= 3; fl++)
+            for (size_t gl = 1; gl <= 2; gl++) {
+                long all_f = 1, all_g = 1;
+                for (size_t k = 0; k < fl; k++) all_f *= n;
+                for (size_t k = 0; k < gl; k++) all_g *= n;
+                for (long a = 0; a < all_f; a += fl == 3 ? 7 : 1)
+                    for (long b = 0; b < all_g; b += fl == 3 ? 5 : 1) {
+                        for (long k = 0, x = a; k < (long) fl; k++, x /= n) f[k] = (uint32_t) (x % n);
+                        for (long k = 0, x = b; k < (long) gl; k++, x /= n) g[k] = (uint32_t) (x % n);
+                        snprintf(where, sizeof where, "small pair %ld, %ld modulo %u", a, b, n);
+                        uint32_t r = resultant(n, f, fl, g, gl, 8192, JINGCOBU_OK, where);
+                        uint32_t D = reduced(n, f, fl, g, gl, 20, 20, 8192, JINGCOBU_OK, where);
+                        expect(divisor(n, f, fl, g, gl, 8192, JINGCOBU_OK, where) == D, "small pair: D alone", where);
+                        if (fl + gl > 2)
+                            expect(with_cofactors(n, f, fl, g, gl, gl - 1, fl - 1, 8192, JINGCOBU_OK, where) == r, "small pair: the resultant", where);
+                        grounds[why(n, f, fl, g, gl, 49, 8192, D, JINGCOBU_OK, where) % 3]++;
+                        count++;
+                    }
+            }
+    }
+    printf("%ld small pairs: %ld coprime, %ld zero modulo some m, %ld with a common divisor\n", count, grounds[0], grounds[1], grounds[2]);
+}
+
+/* ---- two variables: at every point the answer's value is the resultant of the pair at that point */
+
+static void points(void)
+{
+    static const uint32_t moduli[] = { 61, 67, 3481, 4087, 4294967291u, 2147483647u, 61u * 61u * 61u * 61u };
+    static uint32_t f[2500], g[2500];
+    uint32_t answer[61], x[MOST], y[MOST];
+    long jobs = 0, full = 0, values = 0;
+    char where[80];
+    for (int t = 0; t < 400; t++) {
+        uint32_t n = moduli[draw() % (sizeof moduli / sizeof *moduli)];
+        size_t d = draw() % 5, e = draw() % 5, a = draw() % 8, b = draw() % 8;
+        if (t % 20 == 0) { d = 48; a = 0; e = 1; b = 1; }
+        if (t % 20 == 1) { d = 0; a = 48; e = 1; b = 48; }
+        if (t % 20 == 2) { d = 3; e = 3; a = 10; b = 10; }
+        size_t B = e * a + d * b, fl = (d + 1) * (a + 1), gl = (e + 1) * (b + 1);
+        for (size_t i = 0; i < fl; i++) f[i] = draw() % n * (draw() % 5 != 0);
+        for (size_t i = 0; i < gl; i++) g[i] = draw() % n * (draw() % 5 != 0);
+        snprintf(where, sizeof where, "two variables %d: n = %u, d = %zu, a = %zu, e = %zu, b = %zu", t, n, d, a, e, b);
+        if (B > 60) { two(n, f, fl, d, a, g, gl, e, b, 61, 8192, JINGCOBU_TOO_MANY_POINTS, where); continue; }
+        two(n, f, fl, d, a, g, gl, e, b, B, 8192, JINGCOBU_SHORT_RESULT, where);
+        two(n, f, fl, d, a, g, gl, e, b, B + 1, 8191, JINGCOBU_SHORT_WORK, where);
+        two(n, f, fl, d, a, g, gl, e, b, B + 1 + t % 30, 8192 + (size_t) t % 100, JINGCOBU_OK, where);
+        memcpy(answer, out + MARGIN, (B + 1) * sizeof *answer);
+        for (uint32_t p = 0; p < 80; p++) {
+            uint64_t z = p < 64 ? p % n : draw() % n, s = 0;
+            for (size_t i = 0; i <= d; i++) { s = 0; for (size_t k = a + 1; k-- > 0;) s = (s * z + f[i * (a + 1) + k]) % n; x[i] = (uint32_t) s; }
+            for (size_t i = 0; i <= e; i++) { s = 0; for (size_t k = b + 1; k-- > 0;) s = (s * z + g[i * (b + 1) + k]) % n; y[i] = (uint32_t) s; }
+            s = 0;
+            for (size_t k = B + 1; k-- > 0;) s = (s * z + answer[k]) % n;
+            expect(resultant(n, x, d + 1, y, e + 1, 8192, JINGCOBU_OK, where) == s, "two variables: the value at a point", where);
+            values++;
+        }
+        jobs++;
+        if (B == 60) full++;
+    }
+    /* a prime up to B divides n, and none does */
+    static const uint32_t primes[] = { 2, 3, 5, 7, 11, 13, 17, 19, 23, 29, 31, 37, 41, 43, 47, 53, 59 };
+    for (size_t B = 0; B <= 60; B++)
+        for (size_t i = 0; i < sizeof primes / sizeof *primes; i++) {
+            uint32_t other[2] = { 1, 1 };
+            size_t d = 1, a = B < 49 ? B : 48, b = B < 49 ? 0 : B - 48;
+            snprintf(where, sizeof where, "B = %zu and the prime %u", B, primes[i]);
+            static uint32_t lines[98];
+            for (int k = 0; k < 98; k++) lines[k] = k == 0;
+            two(primes[i] * 61, lines, (d + 1) * (a + 1), d, a, b ? lines : other, 2 * (b + 1), 1, b, 61, 8192,
+                primes[i] <= B ? JINGCOBU_PRIME_DIVIDES : JINGCOBU_OK, where);
+        }
+    printf("%ld pairs in two variables, %ld of them with 61 words, %ld values at points\n", jobs, full, values);
+}
+
+/* ---- claims: the longest multipliers, and each of the four answers */
+
+static void claims(void)
+{
+    uint32_t f[9], g[9];
+    long given[4] = { 0, 0, 0, 0 };
+    char where[40];
+    for (int t = 0; t < 600; t++) {
+        static const uint32_t moduli[] = { 4, 6, 12, 30, 36, 210, 2147483648u, 223092870u, 4294967295u };
+        uint32_t n = moduli[draw() % (sizeof moduli / sizeof *moduli)], small = 1 + draw() % 6;
+        size_t fl = 1 + draw() % 8, gl = 1 + draw() % 8, l = cofactor_length(n, fl, gl), longer = t % 7 == 0 ? 4096 : l;
+        for (size_t i = 0; i < fl; i++) f[i] = (uint32_t) ((uint64_t) (draw() % n) * small % n);
+        for (size_t i = 0; i < gl; i++) g[i] = (uint32_t) ((uint64_t) (draw() % n) * small % n);
+        snprintf(where, sizeof where, "claim %d", t);
+        uint32_t D = reduced(n, f, fl, g, gl, l, l, 8192, JINGCOBU_OK, where), k = 1 + draw() % 5;
+        memset(first_multiplier, 0, sizeof first_multiplier);
+        memset(second_multiplier, 0, sizeof second_multiplier);
+        memcpy(first_multiplier, u + MARGIN, l * sizeof *u);
+        memcpy(second_multiplier, v + MARGIN, l * sizeof *v);
+        /* the claims k D with multipliers times k, and a multiplier of g f - f g added: still true, in more words */
+        for (size_t i = 0; i < l; i++) {
+            first_multiplier[i] = (uint32_t) ((uint64_t) k * first_multiplier[i] % n);
+            second_multiplier[i] = (uint32_t) ((uint64_t) k * second_multiplier[i] % n);
+        }
+        if (longer == 4096)
+            for (size_t i = 0; i < 9; i++) {
+                if (i < gl) first_multiplier[4096 - gl - (fl > gl ? fl - gl : 0) + i] = g[i] % n;
+                if (i < fl) second_multiplier[4096 - gl - (fl > gl ? fl - gl : 0) + i] = (n - f[i]) % n;
+            }
+        uint32_t d = (uint32_t) ((uint64_t) k * D % n);
+        if (d == 0) d = n;
+        uint32_t right = n % d ? 1 : d == D ? 0 : 3;
+        uint32_t a = claim(n, f, fl, g, gl, d, longer, longer, 8192, JINGCOBU_OK, where);
+        expect(a == right, "claim: k D with k times the multipliers", where);
+        given[a & 3]++;
+        size_t place = draw() % (fl + l);
+        first_multiplier[place % longer] = (first_multiplier[place % longer] + 1) % n;
+        int zero = 1;
+        for (size_t i = 0; i < fl; i++) if (f[i]) zero = 0;
+        a = claim(n, f, fl, g, gl, d, longer, longer, 8192, JINGCOBU_OK, where);
+        expect(a == (right == 1 ? 1 : zero ? right : 2), "claim: one word of a multiplier changed", where);
+        given[a & 3]++;
+        a = claim(n, f, fl, g, gl, t % 2 ? 0 : n + 1, longer, longer, 8192, JINGCOBU_OK, where);
+        expect(a == 1, "claim: no divisor of n", where);
+        given[a & 3]++;
+    }
+    printf("claims: %ld accepted, the first test failed in %ld, the second in %ld, the third in %ld\n", given[0], given[1], given[2], given[3]);
+}
+
 int main(int argc, char **argv)
 {
     pairs(argc > 1 ? argv[1] : "../crates/vectors");
     orders();
+    orders_of_claims();
+    orders_of_two();
     orders_of_one();
     words();
     ends();
@@ -1273,6 +1661,9 @@ int main(int argc, char **argv)
     factor_orders();
     histories();
     any_states();
+    small_pairs();
+    points();
+    claims();
     printf("%ld passed, %ld failed\n", tried - failed, failed);
     return failed != 0;
 }
