@@ -21,7 +21,7 @@ use Rattle.numbers.specs.Units.{cofactor-inverse, gcd-of-coprime, coprime-of-un
 use Rattle.theory.specs.TwoVariablesLaws.{evaluated, two-fixed}
 use Rattle.windows.specs.Window.{Written}
 use Rattle.windows.proofs.Leaf.{written-step}
-use Rattle.resultant_steps.proofs.Degrees.{resultant-lt}
+use Rattle.resultant_turns.specs.Degrees.{resultant-lt}
 use Rattle.interpolation.specs.Interpolated.{Valued, Interpolated}
 use Rattle.two_variables.specs.PairSizes.{Prepared, value-at}
 
