@@ -225,31 +225,70 @@ fn constants(f: &[u32], g: &[u32]) -> bool {
     false
 }
 
-// The cofactors of the resultant x, of e and d words, where f and g have d + 1 and e + 1.
-fn try_multipliers(n: u32, f: &[u32], g: &[u32], u: &mut [u32], v: &mut [u32], x: u32) -> Tried
-    requires { ⌜ 1 ≤ n ⌝ }
-{
-    if f.len() < 1 {
+// Two constants are refused with 9.
+fn expected_status(f: &[u32], g: &[u32]) -> u32 {
+    if constants(f, g) {
+        return 9;
+    }
+    0
+}
+
+// The resultant x with its cofactors, from a call with marked words.
+fn call_cofactors(
+    n: u32,
+    f: &[u32],
+    g: &[u32],
+    u: &mut [u32],
+    v: &mut [u32],
+    work: &mut [u32],
+    x: u32,
+) -> Tried {
+    fill(work, 0, MARK);
+    fill(u, 0, MARK);
+    fill(v, 0, MARK);
+    let a = cofactor_service::resultant_cofactors(n, f, g, u, v, work);
+    if a.status != expected_status(f, g) {
         return Tried::Wrong(9);
     }
-    if g.len() < 1 {
-        return Tried::Wrong(9);
+    if a.status != 0 {
+        return Tried::Value(x);
     }
-    if !all_are(u, g.len() - 1, MARK) {
+    if a.value != x {
         return Tried::Wrong(10);
     }
-    if !all_are(v, f.len() - 1, MARK) {
-        return Tried::Wrong(10);
-    }
-    fill(u, g.len() - 1, 0);
-    fill(v, f.len() - 1, 0);
-    if !combines(n, f, g, u, v, x, 97) {
+    if !all_are(work, 0, 0) {
         return Tried::Wrong(11);
     }
     Tried::Value(x)
 }
 
-// The resultant x with its cofactors, from a call with marked words; two constants are refused with 9.
+// The cofactors of the resultant x, of e and d words, where f and g have d + 1 and e + 1.
+fn try_multipliers(n: u32, f: &[u32], g: &[u32], u: &mut [u32], v: &mut [u32], x: u32) -> Tried
+    requires { ⌜ 1 ≤ n ⌝ }
+{
+    if constants(f, g) {
+        return Tried::Value(x);
+    }
+    if f.len() < 1 {
+        return Tried::Wrong(12);
+    }
+    if g.len() < 1 {
+        return Tried::Wrong(12);
+    }
+    if !all_are(u, g.len() - 1, MARK) {
+        return Tried::Wrong(13);
+    }
+    if !all_are(v, f.len() - 1, MARK) {
+        return Tried::Wrong(13);
+    }
+    fill(u, g.len() - 1, 0);
+    fill(v, f.len() - 1, 0);
+    if !combines(n, f, g, u, v, x, 97) {
+        return Tried::Wrong(14);
+    }
+    Tried::Value(x)
+}
+
 fn try_resultant_cofactors(
     n: u32,
     f: &[u32],
@@ -261,26 +300,10 @@ fn try_resultant_cofactors(
 ) -> Tried
     requires { ⌜ 1 ≤ n ⌝ }
 {
-    fill(work, 0, MARK);
-    fill(u, 0, MARK);
-    fill(v, 0, MARK);
-    let a = cofactor_service::resultant_cofactors(n, f, g, u, v, work);
-    if constants(f, g) {
-        if a.status == 9 {
-            return Tried::Value(x);
-        }
-        return Tried::Wrong(12);
+    match call_cofactors(n, f, g, u, v, work, x) {
+        Tried::Value(r) => try_multipliers(n, f, g, u, v, r),
+        Tried::Wrong(place) => Tried::Wrong(place),
     }
-    if a.status != 0 {
-        return Tried::Wrong(13);
-    }
-    if a.value != x {
-        return Tried::Wrong(14);
-    }
-    if !all_are(work, 0, 0) {
-        return Tried::Wrong(15);
-    }
-    try_multipliers(n, f, g, u, v, x)
 }
 
 // D, from a call with marked words.
