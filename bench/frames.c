@@ -1,11 +1,15 @@
-/* Frames a second through the frame program, beside the time that the engine itself takes on the same pairs: 100,000 frames of
- * degree 8 and 10,000 of degree 48, modulo 4294967291. It exits with 1 where an
- * answer of the frame program is not the engine's, or the frame program fails. Build and run: make -C bench */
+/* Frames a second through the frame program, beside the time that the engine itself takes on the same pairs: of each kind 100,000 frames
+ * of degree 8 and 10,000 of degree 48, modulo 4294967291. It exits with 1 where an answer of the frame program is not the engine's, or the
+ * frame program fails. The frame program is ../target/bin/desk, or the one that the first argument names. Build and run: make -C bench */
 #include <stdio.h>
 #include <stdlib.h>
 #include <string.h>
 #include <time.h>
 #include "../include/jingcobu.h"
+
+/* as in the header, where it stands there already */
+jingcobu_answer jingcobu_divisor(uint32_t n, const uint32_t *f, size_t f_len, const uint32_t *g, size_t g_len, uint32_t *work,
+                                 size_t work_len);
 
 #define MODULUS 4294967291u
 static uint32_t work[JINGCOBU_WORK];
@@ -24,15 +28,23 @@ static double now(void)
     return t.tv_sec + t.tv_nsec / 1e9;
 }
 
-static void measure(int count, int d)
+static jingcobu_answer engine_answer(int kind, const uint32_t *w, int d)
 {
+    if (kind == 1) return jingcobu_resultant(MODULUS, w, d + 1, w + d + 1, d + 1, work, JINGCOBU_WORK);
+    return jingcobu_divisor(MODULUS, w, d + 1, w + d + 1, d + 1, work, JINGCOBU_WORK);
+}
+
+static void measure(const char *desk, int kind, int count, int d)
+{
+    char command[500];
+    snprintf(command, sizeof command, "%s < /tmp/jingcobu_frames > /tmp/jingcobu_answers", desk);
     const char *in = "/tmp/jingcobu_frames", *out = "/tmp/jingcobu_answers";
     uint32_t *words = malloc((size_t) count * 2 * (d + 1) * sizeof *words), *values = malloc((size_t) count * sizeof *values);
     FILE *file = fopen(in, "w");
     if (!words || !values || !file) exit(1);
     for (int i = 0; i < count; i++) {
         uint32_t *w = words + (size_t) i * 2 * (d + 1);
-        fprintf(file, "01%08x%02x%02x", MODULUS, d, d);
+        fprintf(file, "%02x%08x%02x%02x", kind, MODULUS, d, d);
         for (int k = 0; k < 2 * (d + 1); k++) fprintf(file, "%08x", w[k] = draw());
         fputc('\n', file);
     }
@@ -42,9 +54,9 @@ static void measure(int count, int d)
         double t = now();
         for (int i = 0; i < count; i++) {
             uint32_t *w = words + (size_t) i * 2 * (d + 1);
-            jingcobu_answer a = jingcobu_resultant(MODULUS, w, d + 1, w + d + 1, d + 1, work, JINGCOBU_WORK);
+            jingcobu_answer a = engine_answer(kind, w, d);
             if (a.status != JINGCOBU_OK) {
-                printf("WRONG: degree %d, pair %d: refused with %u\n", d, i, a.status);
+                printf("WRONG: kind %02x, degree %d, pair %d: refused with %u\n", kind, d, i, a.status);
                 exit(1);
             }
             values[i] = a.value;
@@ -52,7 +64,7 @@ static void measure(int count, int d)
         t = now() - t;
         if (t < engine) engine = t;
         t = now();
-        if (system("../target/bin/desk < /tmp/jingcobu_frames > /tmp/jingcobu_answers")) {
+        if (system(command)) {
             printf("WRONG: the frame program did not exit with 0\n");
             exit(1);
         }
@@ -63,23 +75,26 @@ static void measure(int count, int d)
     file = fopen(out, "r");
     for (int i = 0; i <= count; i++) {
         char *got = file ? fgets(line, sizeof line, file) : NULL;
-        snprintf(should, sizeof should, "0100%08x\n", i < count ? values[i] : 0);
+        snprintf(should, sizeof should, "%02x00%08x\n", kind, i < count ? values[i] : 0);
         if (i < count ? got && !strcmp(line, should) : !got) continue;
-        if (!wrong++) printf("WRONG: degree %d, answer %d is %s", d, i, got ? line : "not there\n");
+        if (!wrong++) printf("WRONG: kind %02x, degree %d, answer %d is %s", kind, d, i, got ? line : "not there\n");
     }
     if (file) fclose(file);
     remove(in);
     remove(out);
-    printf("degree %2d: %d frames, %.0f frames a second; the engine alone would take %.2f of that time; reading and writing cost %.2f of the engine's work\n",
-           d, count, count / program, engine / program, program / engine - 1);
+    printf("kind %02x, degree %2d: %d frames, %.0f frames a second; the engine alone would take %.2f of that time; reading and writing cost %.2f of the engine's work\n",
+           kind, d, count, count / program, engine / program, program / engine - 1);
     free(words);
     free(values);
 }
 
-int main(void)
+int main(int argc, char **argv)
 {
-    measure(100000, 8);
-    measure(10000, 48);
+    const char *desk = argc > 1 ? argv[1] : "../target/bin/desk";
+    for (int kind = 1; kind <= 2; kind++) {
+        measure(desk, kind, 100000, 8);
+        measure(desk, kind, 10000, 48);
+    }
     printf("wrong answers of the frame program: %d\n", wrong);
     return wrong != 0;
 }

@@ -1,5 +1,7 @@
-/* Times of product and division beside the same loops in plain C, in one run. Each figure is the best of several passes over a pool of
- * drawn pairs, in microseconds a call. "one % a term" is the schoolbook loop, for comparison. The modulus is read from a volatile.
+/* Times of product and division beside the same loops in plain C, in one run. Each figure is the best of many short passes over a pool of
+ * drawn pairs, in microseconds a call. Each loop in C has one % where the engine reduces by a reciprocal. "C" keeps the sum of a word
+ * below n 2^32 by a comparison a term; "C wide" has a sum of 128 bits, which is what the engine has. "one %" is the schoolbook loop,
+ * one % a term, for comparison. The modulus is read from a volatile.
  * Where a product or a division is not that of the schoolbook loop, the program says which and exits with 1.
  * Build and run: make -C bench */
 #include <stdint.h>
@@ -13,8 +15,8 @@ Answer polynomial_bench_product(uint32_t n, const uint32_t *f, size_t f_len, con
 Answer polynomial_bench_division(uint32_t n, const uint32_t *f, size_t f_len, const uint32_t *g, size_t g_len, uint32_t *q, size_t q_len, uint32_t *r, size_t r_len);
 
 #define POOL 64
-#define PASSES 25
-#define ROUNDS 40
+#define PASSES 250
+#define ROUNDS 4
 
 static uint32_t first[POOL][49], second[POOL][49];
 static volatile uint32_t modulus = 4294967291u;
@@ -60,11 +62,13 @@ static uint32_t word(uint32_t n, const uint32_t *f, size_t fl, const uint32_t *g
     return (uint32_t) (add_within(m, x, y) % n);
 }
 
-static __attribute__((noinline)) int c_product(uint32_t n, const uint32_t *f, size_t fl, const uint32_t *g, size_t gl, uint32_t *out, size_t ol)
+static uint32_t wide_word(uint32_t n, const uint32_t *f, size_t fl, const uint32_t *g, size_t gl, size_t k)
 {
-    if (n < 2 || fl < 1 || fl > 49 || gl < 1 || gl > 49 || fl + gl - 2 > 48 || !below(n, f, fl) || !below(n, g, gl) || ol < fl + gl - 1) return 1;
-    for (size_t k = 0; k < fl + gl - 1; k++) out[k] = word(n, f, fl, g, gl, k);
-    return 0;
+    unsigned __int128 x = 0;
+    size_t last = k < fl ? k + 1 : fl, i = k < gl ? 0 : k - (gl - 1);
+    if (i >= last) return 0;
+    for (; i < last; i++) x += (uint64_t) f[i] * g[k - i];
+    return (uint32_t) (x % n);
 }
 
 static uint32_t inverse(uint32_t n, uint32_t a)
@@ -72,6 +76,20 @@ static uint32_t inverse(uint32_t n, uint32_t a)
     int64_t x = n, y = a, s = 0, t = 1;
     while (y) { int64_t q = x / y, z = x % y, u = s - q * t; x = y; y = z; s = t; t = u; }
     return x == 1 ? (uint32_t) (s < 0 ? s + n : s) : 0;
+}
+
+static __attribute__((noinline)) int c_product(uint32_t n, const uint32_t *f, size_t fl, const uint32_t *g, size_t gl, uint32_t *out, size_t ol)
+{
+    if (n < 2 || fl < 1 || fl > 49 || gl < 1 || gl > 49 || fl + gl - 2 > 48 || !below(n, f, fl) || !below(n, g, gl) || ol < fl + gl - 1) return 1;
+    for (size_t k = 0; k < fl + gl - 1; k++) out[k] = word(n, f, fl, g, gl, k);
+    return 0;
+}
+
+static __attribute__((noinline)) int wide_product(uint32_t n, const uint32_t *f, size_t fl, const uint32_t *g, size_t gl, uint32_t *out, size_t ol)
+{
+    if (n < 2 || fl < 1 || fl > 49 || gl < 1 || gl > 49 || fl + gl - 2 > 48 || !below(n, f, fl) || !below(n, g, gl) || ol < fl + gl - 1) return 1;
+    for (size_t k = 0; k < fl + gl - 1; k++) out[k] = wide_word(n, f, fl, g, gl, k);
+    return 0;
 }
 
 static __attribute__((noinline)) int c_division(uint32_t n, const uint32_t *f, size_t fl, const uint32_t *g, size_t gl, uint32_t *q, size_t ql, uint32_t *r, size_t rl)
@@ -83,9 +101,26 @@ static __attribute__((noinline)) int c_division(uint32_t n, const uint32_t *f, s
     memset(q, 0, m * 4);
     for (size_t s = fl > e ? fl - e : 0; s-- > 0;) {
         uint32_t x = word(n, q + s, m - s, g, gl, e);
-        q[s] = (uint32_t) ((uint64_t) i * (((uint64_t) f[e + s] + (n - x)) % n) % n);
+        uint64_t t = (uint64_t) f[e + s] + (n - x);
+        q[s] = (uint32_t) ((uint64_t) i * (t >= n ? t - n : t) % n);
     }
     for (size_t k = 0; k < e; k++) r[k] = (uint32_t) (((uint64_t) (k < fl ? f[k] : 0) + (n - word(n, q, m, g, gl, k))) % n);
+    return 0;
+}
+
+static __attribute__((noinline)) int wide_division(uint32_t n, const uint32_t *f, size_t fl, const uint32_t *g, size_t gl, uint32_t *q, size_t ql, uint32_t *r, size_t rl)
+{
+    if (n < 2 || fl < 1 || fl > 49 || gl < 1 || gl > 49 || !below(n, f, fl) || !below(n, g, gl)) return 1;
+    size_t e = gl - 1, m = fl > e ? fl - e : 1;
+    uint32_t i = inverse(n, g[e]);
+    if (i == 0 || ql < m || rl < e) return 1;
+    memset(q, 0, m * 4);
+    for (size_t s = fl > e ? fl - e : 0; s-- > 0;) {
+        uint32_t x = wide_word(n, q + s, m - s, g, gl, e);
+        uint64_t t = (uint64_t) f[e + s] + (n - x);
+        q[s] = (uint32_t) ((uint64_t) i * (t >= n ? t - n : t) % n);
+    }
+    for (size_t k = 0; k < e; k++) r[k] = (uint32_t) (((uint64_t) (k < fl ? f[k] : 0) + (n - wide_word(n, q, m, g, gl, k))) % n);
     return 0;
 }
 
@@ -130,6 +165,7 @@ static double product(int which, size_t fl, size_t gl)
                 uint32_t n = modulus;
                 if (which == 0) polynomial_bench_product(n, first[p], fl, second[p], gl, a, 64);
                 else if (which == 1) c_product(n, first[p], fl, second[p], gl, a, 64);
+                else if (which == 3) wide_product(n, first[p], fl, second[p], gl, a, 64);
                 else plain_product(n, first[p], fl, second[p], gl, a, 64);
                 sum += a[fl] + a[0];
             }
@@ -149,6 +185,7 @@ static double division(int which, size_t fl, size_t gl)
                 uint32_t n = modulus;
                 if (which == 0) polynomial_bench_division(n, first[p], fl, second[p], gl, a, 64, b, 64);
                 else if (which == 1) c_division(n, first[p], fl, second[p], gl, a, 64, b, 64);
+                else if (which == 3) wide_division(n, first[p], fl, second[p], gl, a, 64, b, 64);
                 else plain_division(n, first[p], fl, second[p], gl, a, 64, b, 64);
                 sum += a[0] + b[0];
             }
@@ -177,6 +214,8 @@ static void check(size_t fl, size_t gl)
             if (z.status || z.value || memcmp(a, c, sizeof a)) differ("product", fl, gl, p);
             memset(a, 0, sizeof a);
             if (c_product(modulus, first[p], fl, second[p], gl, a, 64) || memcmp(a, c, sizeof a)) differ("product in C", fl, gl, p);
+            memset(a, 0, sizeof a);
+            if (wide_product(modulus, first[p], fl, second[p], gl, a, 64) || memcmp(a, c, sizeof a)) differ("wide product in C", fl, gl, p);
         }
         memset(a, 0, sizeof a); memset(c, 0, sizeof c); memset(b, 0, sizeof b); memset(d, 0, sizeof d);
         Answer z = polynomial_bench_division(modulus, first[p], fl, second[p], gl, a, 64, b, 64);
@@ -185,12 +224,16 @@ static void check(size_t fl, size_t gl)
         memset(a, 0, sizeof a); memset(b, 0, sizeof b);
         if (c_division(modulus, first[p], fl, second[p], gl, a, 64, b, 64) || memcmp(a, c, sizeof a) || memcmp(b, d, sizeof b))
             differ("division in C", fl, gl, p);
+        memset(a, 0, sizeof a); memset(b, 0, sizeof b);
+        if (wide_division(modulus, first[p], fl, second[p], gl, a, 64, b, 64) || memcmp(a, c, sizeof a) || memcmp(b, d, sizeof b))
+            differ("wide division in C", fl, gl, p);
     }
 }
 
-static void row(const char *name, double x, double y, double z)
+static void row(const char *name, double (*time)(int, size_t, size_t), size_t fl, size_t gl)
 {
-    printf("%-28s %8.3f %8.3f %8.3f   %.2f\n", name, x, y, z, x / y);
+    double x = time(0, fl, gl), y = time(1, fl, gl), w = time(3, fl, gl), z = time(2, fl, gl);
+    printf("%-28s %8.3f %8.3f %8.3f %8.3f   %.2f  %.2f\n", name, x, y, w, z, x / y, x / w);
 }
 
 int main(void)
@@ -204,11 +247,11 @@ int main(void)
     check(49, 25);
     check(9, 5);
     check(5, 5);
-    printf("%-28s %8s %8s %8s   %s\n", "microseconds a call", "Rattle", "C", "one %", "Rattle / C");
-    row("product 25 by 25 words", product(0, 25, 25), product(1, 25, 25), product(2, 25, 25));
-    row("product 5 by 5 words", product(0, 5, 5), product(1, 5, 5), product(2, 5, 5));
-    row("division 49 by 25 words", division(0, 49, 25), division(1, 49, 25), division(2, 49, 25));
-    row("division 9 by 5 words", division(0, 9, 5), division(1, 9, 5), division(2, 9, 5));
+    printf("%-28s %8s %8s %8s %8s   %s\n", "microseconds a call", "Rattle", "C", "C wide", "one %", "Rattle / C, / C wide");
+    row("product 25 by 25 words", product, 25, 25);
+    row("product 5 by 5 words", product, 5, 5);
+    row("division 49 by 25 words", division, 49, 25);
+    row("division 9 by 5 words", division, 9, 5);
     printf("wrong products and divisions: %d (sum %u)\n", wrong, sum);
     return wrong != 0;
 }

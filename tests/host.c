@@ -1510,37 +1510,49 @@ static void products(void)
     printf("%d triples of the law of products, in %ld the resultant is not 0, in %ld D is neither 1 nor n\n", TRIPLES, nonzero, between);
 }
 
-/* ---- D alone, cofactors of the resultant and grounds, of every pair of small degrees */
+/* ---- D alone, cofactors of the resultant and grounds, of every pair of degrees up to 2 */
 
+/* polynomial number x of l words: its digits to the base n */
+static void counted(uint32_t n, size_t l, long x, uint32_t *f) { for (size_t k = 0; k < l; k++, x /= n) f[k] = (uint32_t) (x % n); }
+static long power(uint32_t n, size_t l) { long p = 1; while (l--) p *= n; return p; }
+
+/* The services against each other, with no marks in the buffers, which `pairs` and `ends` look at. */
 static void small_pairs(void)
 {
     static const uint32_t moduli[] = { 4, 6, 8, 9, 12 };
-    uint32_t f[3], g[3];
-    long count = 0, grounds[3] = { 0, 0, 0 };
-    char where[80];
-    for (size_t i = 0; i < sizeof moduli / sizeof *moduli; i++) {
-        uint32_t n = moduli[i];
+    uint32_t f[3], g[3], *w = out + MARGIN;
+    long count = 0, grounds[3] = { 0, 0, 0 }, wrong = 0;
+    for (size_t i = 0; i < sizeof moduli / sizeof *moduli; i++)
         for (size_t fl = 1; fl <= 3; fl++)
-            for (size_t gl = 1; gl <= 2; gl++) {
-                long all_f = 1, all_g = 1;
-                for (size_t k = 0; k < fl; k++) all_f *= n;
-                for (size_t k = 0; k < gl; k++) all_g *= n;
-                for (long a = 0; a < all_f; a += fl == 3 ? 7 : 1)
-                    for (long b = 0; b < all_g; b += fl == 3 ? 5 : 1) {
-                        for (long k = 0, x = a; k < (long) fl; k++, x /= n) f[k] = (uint32_t) (x % n);
-                        for (long k = 0, x = b; k < (long) gl; k++, x /= n) g[k] = (uint32_t) (x % n);
-                        snprintf(where, sizeof where, "small pair %ld, %ld modulo %u", a, b, n);
-                        uint32_t r = resultant(n, f, fl, g, gl, 8192, JINGCOBU_OK, where);
-                        uint32_t D = reduced(n, f, fl, g, gl, 20, 20, 8192, JINGCOBU_OK, where);
-                        expect(divisor(n, f, fl, g, gl, 8192, JINGCOBU_OK, where) == D, "small pair: D alone", where);
-                        if (fl + gl > 2)
-                            expect(with_cofactors(n, f, fl, g, gl, gl - 1, fl - 1, 8192, JINGCOBU_OK, where) == r, "small pair: the resultant", where);
-                        grounds[why(n, f, fl, g, gl, 49, 8192, D, JINGCOBU_OK, where) % 3]++;
+            for (size_t gl = 1; gl <= 3; gl++) {
+                uint32_t n = moduli[i];
+                for (long a = 0; a < power(n, fl); a++)
+                    for (long b = 0; b < power(n, gl); b++) {
+                        counted(n, fl, a, f);
+                        counted(n, gl, b, g);
+                        uint32_t r = jingcobu_resultant(n, f, fl, g, gl, work, JINGCOBU_WORK).value;
+                        uint32_t D = jingcobu_reduced_resultant(n, f, fl, g, gl, u + MARGIN, 20, v + MARGIN, 20, work, JINGCOBU_WORK).value;
+                        size_t l = cofactor_length(n, fl, gl);
+                        int ok = combine(n, f, fl, g, gl, l, l, D) && jingcobu_divisor(n, f, fl, g, gl, work, JINGCOBU_WORK).value == D;
+                        if (fl + gl > 2) {
+                            jingcobu_answer c = jingcobu_resultant_cofactors(n, f, fl, g, gl, u + MARGIN, gl - 1, v + MARGIN, fl - 1, work, JINGCOBU_WORK);
+                            ok = ok && c.status == 0 && c.value == r && combine(n, f, fl, g, gl, gl - 1, fl - 1, r);
+                        }
+                        jingcobu_reason y = jingcobu_why(n, f, fl, g, gl, w, JINGCOBU_COMMON, work, JINGCOBU_WORK);
+                        ok = ok && y.status == 0 && y.ground <= 2 && (y.ground == 0) == (D == 1);
+                        if (ok && y.ground) {
+                            ok = y.m > 1 && D % y.m == 0;
+                            for (size_t k = 0; ok && y.ground == 1 && k < 3; k++) if ((k < fl && f[k] % y.m) || (k < gl && g[k] % y.m)) ok = 0;
+                            if (ok && y.ground == 2)
+                                ok = y.degree >= 1 && y.degree <= 2 && w[y.degree] == 1 && multiple_of(y.m, f, fl, w, y.degree) && multiple_of(y.m, g, gl, w, y.degree);
+                        }
+                        if (!ok) wrong++;
+                        grounds[y.ground % 3]++;
                         count++;
                     }
             }
-    }
-    printf("%ld small pairs: %ld coprime, %ld zero modulo some m, %ld with a common divisor\n", count, grounds[0], grounds[1], grounds[2]);
+    expect(wrong == 0, "every pair of degrees up to 2: D, cofactors of both numbers, grounds", "4, 6, 8, 9 and 12");
+    printf("%ld pairs of degrees up to 2: %ld coprime, %ld zero modulo some m, %ld with a common divisor\n", count, grounds[0], grounds[1], grounds[2]);
 }
 
 /* ---- two variables: at every point the answer's value is the resultant of the pair at that point */

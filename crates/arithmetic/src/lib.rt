@@ -1,9 +1,8 @@
-// Residues modulo n, n at most 32 bits: the leaves that every loop of the engine calls. One division a call.
+// Residues modulo n, n at most 32 bits: single operations, one division a call. Loops over words reduce by `reduction`.
 //
 //   reduce          x modulo n, x of 64 bits
 //   add_mod, sub_mod, mul_mod, mul_add_mod
 //   negate          -a, with no division
-//   sum_two         x + c a + m b by one division
 //   power           x to the power k
 ghost use mathlib.Core.Path.{_≡_};
 ghost use Prim.Native.Nat.{ℕ, _+_, _-_, _*_, _%_, _^_, _<_, _≤_};
@@ -56,21 +55,6 @@ pub fn mul_add_mod(n: u32, a: u32, m: u32, b: u32) -> u32
     ensures { λ r. ⌜ r ≡ (a + m * b) % n ⌝ }
 {
     reduce(n, (a as u64) + (m as u64) * (b as u64))
-}
-
-// x + c a + m b. The sum is kept below n 2^32 by one comparison.
-pub fn sum_two(n: u32, x: u32, c: u32, a: u32, m: u32, b: u32) -> u32
-    requires { ⌜ (1 ≤ n) × ((x ≤ n) × (m ≤ n)) ⌝ }
-    ensures { λ r. ⌜ r ≡ (x + c * a + m * b) % n ⌝ }
-{
-    let k = (n as u64) * 4294967296;
-    let p = (c as u64) * (a as u64);
-    let q = (m as u64) * (b as u64) + (x as u64);
-    let h = k - q;
-    if p >= h {
-        return reduce(n, p - h);
-    }
-    reduce(n, p + q)
 }
 
 // x to the power k, by squaring; a square, which the engine asks for most, at once.

@@ -1,31 +1,32 @@
 // One word of a product of polynomials.
 //
-//   add_within      x + y modulo m, by one comparison
-//   add_product     x + a b modulo m
-//   first, end      the range of places whose words meet in word k
-//   product_word    word k of f g
+//   times, carries     a b, and whether a sum of two numbers of 64 bits passes 64 bits
+//   first, end         the range of places whose words meet in word k
+//   product_word_by    word k of f g, where the modulus comes with its reciprocal: for loops over k
+//   product_word       word k of f g
 ghost use mathlib.Core.Path.{_≡_};
-ghost use Prim.Native.Nat.{min, _+_, _-_, _*_, _%_, _<_, _≤_};
+ghost use Prim.Native.Nat.{min, _+_, _-_, _*_, _%_, _≤_};
 ghost use Rattle.definitions.specs.Polynomials.{coef, convolve, Residues};
+ghost use Rattle.reduction.specs.Moduli.{Ready};
+ghost use Rattle.convolution.specs.Carries.{Carry};
+use reduction::Modulus;
 
-// x + y modulo m. The sum may pass 64 bits, so it is compared before it is made.
-fn add_within(m: u64, x: u64, y: u64) -> u64
-    requires { ⌜ (x < m) × (y ≤ m) ⌝ }
-    ensures { λ r. ⌜ r ≡ (x + y) % m ⌝ }
+// a b, of 64 bits.
+fn times(a: u32, b: u32) -> u64
+    ensures { λ r. ⌜ r ≡ a * b ⌝ }
 {
-    let h = m - x;
-    if y >= h {
-        return y - h;
-    }
-    x + y
+    (a as u64) * (b as u64)
 }
 
-// x + a b modulo m.
-fn add_product(m: u64, x: u64, a: u32, b: u32) -> u64
-    requires { ⌜ (x < m) × (a * b ≤ m) ⌝ }
-    ensures { λ r. ⌜ r ≡ (x + a * b) % m ⌝ }
+// 1 where x + p passes 64 bits, else 0.
+fn carries(x: u64, p: u64) -> u64
+    ensures { λ r. ⌜ Carry x p r ⌝ }
 {
-    add_within(m, x, (a as u64) * (b as u64))
+    let s = std::num::wrapping_add_u64(x, p);
+    if s < p {
+        return 1;
+    }
+    0
 }
 
 // The first place of f whose word meets one of g, of len words, in word k.
@@ -49,31 +50,34 @@ fn end(k: usize, len: usize) -> usize
     len
 }
 
-// Word k of the product of f and g. The sum is kept modulo n 2^32, in two halves that do not wait for each other, and reduced once.
-pub fn product_word(n: u32, f: &[u32], g: &[u32], k: usize) -> u32
-    requires { ⌜ (1 ≤ n) × Residues n (now g) ⌝ }
-    ensures { λ r. ⌜ r ≡ convolve (coef (now (f .entry))) (coef (now (g .entry))) k % n ⌝ }
+// Word k of the product of f and g. The sum is h 2^64 + x, reduced once.
+pub fn product_word_by(m: Modulus, f: &[u32], g: &[u32], k: usize) -> u32
+    requires { ⌜ Ready m ⌝ }
+    ensures { λ r. ⌜ r ≡ convolve (coef (now (f .entry))) (coef (now (g .entry))) k % m .n ⌝ }
 {
     if g.len() == 0 {
         return 0;
     }
-    let m = (n as u64) * 4294967296;
     let last = end(k, f.len());
     let mut i = first(k, g.len());
     if i >= last {
         return 0;
     }
     let mut x: u64 = 0;
-    let mut y: u64 = 0;
-    while i + 1 < last {
-        let j = i + 1;
-        x = add_product(m, x, f[i], g[k - i]);
-        y = add_product(m, y, f[j], g[k - j]);
-        i += 2;
+    let mut h: u64 = 0;
+    while i < last {
+        let p = times(f[i], g[k - i]);
+        h += carries(x, p);
+        x = std::num::wrapping_add_u64(x, p);
+        i += 1;
     }
-    if i < last {
-        x = add_product(m, x, f[i], g[k - i]);
-        return arithmetic::reduce(n, add_within(m, x, y));
-    }
-    arithmetic::reduce(n, add_within(m, x, y))
+    reduction::reduce_wide(m, h, x)
+}
+
+// Word k of the product of f and g.
+pub fn product_word(n: u32, f: &[u32], g: &[u32], k: usize) -> u32
+    requires { ⌜ (1 ≤ n) × Residues n (now g) ⌝ }
+    ensures { λ r. ⌜ r ≡ convolve (coef (now (f .entry))) (coef (now (g .entry))) k % n ⌝ }
+{
+    product_word_by(reduction::modulus_of(n), f, g, k)
 }

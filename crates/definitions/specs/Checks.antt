@@ -6,6 +6,7 @@
 --   zero-top           zero top words count in Sylvester's matrix
 --   long-multipliers   multipliers may be longer than e and d words
 --   not-the-gcd        D is not the gcd of the resultant and n
+--   two-0, two-1, two-3, two-uneven     words of resultants of two variables, from another program
 use mathlib.Core.Path.{_≡_, refl, _∙_, ap, ap₂}
 use mathlib.Core.List.{List, [], _∷_}
 use Prim.Native.Nat.{ℕ, zero, suc, _+_, _*_, _-_, _%_, _<_, _≤_}
@@ -13,8 +14,10 @@ use native.Mathlib.Decide.{decLt}
 use native.Mathlib.Nat.{mul-zero, zero-mul, eq-one-of-dvd-one}
 use native.Mathlib.Omega.{arith}
 use lib.ListN.{length, List·getD-eq-default}
+use Rattle.definitions.specs.Expansions.{expansion}
 use Rattle.definitions.specs.Polynomials.{coef, total, convolve, extent, none, place, true-degree}
-use Rattle.definitions.specs.Resultants.{determinant, resultant, Reached, Reduced}
+use Rattle.definitions.specs.Resultants.{resultant, Reached, Reduced}
+use Rattle.definitions.specs.TwoVariables.{resultant-two}
 
 total-zero : (n : ℕ) (F : ℕ → ℕ) → ((i : ℕ) → F i ≡ 0) → total n F ≡ 0
 total-zero zero F h = refl
@@ -38,12 +41,12 @@ degree-of-constant = refl
 
 -- "Zero top words dropped: the row modulo 5 with f = 2,1,0 becomes 4 instead of 1."
 zero-top : resultant 5 (2 ∷ 1 ∷ 0 ∷ []) (1 ∷ 1 ∷ []) ≡ 1
-unfolding resultant determinant extent
+unfolding resultant expansion extent
 zero-top = refl
 
 -- "Cofactors of D cut to degrees below e and d: modulo 4, 1,2 and 3,2 have none so short."
 long-multipliers : Reached 4 (1 ∷ 2 ∷ []) (3 ∷ 2 ∷ []) 1
-unfolding resultant determinant
+unfolding resultant expansion
 long-multipliers = record {
   u = 1 ∷ 2 ∷ [];
   v = [];
@@ -61,3 +64,21 @@ long-multipliers = record {
 -- "D taken as gcd(resultant, n)": the resultant of these two is 0 modulo 4, and D is 1
 not-the-gcd : (D : ℕ) → Reduced 4 (1 ∷ 2 ∷ []) (3 ∷ 2 ∷ []) D → D ≡ 1
 not-the-gcd D r = eq-one-of-dvd-one (r .only 1 (omega arith) long-multipliers)
+
+-- f = 1 + 2z + (3 + 4z) y, g = 5 + 6z + (7 + 8z) y + (9 + 10z) y²
+two-0 : resultant-two 1009 1 1 2 1 (1 ∷ 2 ∷ 3 ∷ 4 ∷ []) (5 ∷ 6 ∷ 7 ∷ 8 ∷ 9 ∷ 10 ∷ []) 0 ≡ 33
+unfolding resultant-two expansion
+two-0 = refl
+
+two-1 : resultant-two 1009 1 1 2 1 (1 ∷ 2 ∷ 3 ∷ 4 ∷ []) (5 ∷ 6 ∷ 7 ∷ 8 ∷ 9 ∷ 10 ∷ []) 1 ≡ 126
+unfolding resultant-two expansion
+two-1 = refl
+
+two-3 : resultant-two 1009 1 1 2 1 (1 ∷ 2 ∷ 3 ∷ 4 ∷ []) (5 ∷ 6 ∷ 7 ∷ 8 ∷ 9 ∷ 10 ∷ []) 3 ≡ 72
+unfolding resultant-two expansion
+two-3 = refl
+
+-- f of degree 2 in z, g of degree 1
+two-uneven : resultant-two 1009 1 2 1 1 (1 ∷ 2 ∷ 3 ∷ 4 ∷ 5 ∷ 6 ∷ []) (5 ∷ 6 ∷ 7 ∷ 8 ∷ []) 3 ≡ 12
+unfolding resultant-two expansion
+two-uneven = refl

@@ -1,41 +1,24 @@
 -- What document 01 says of the resultant and of the reduced resultant. f and g are polynomials of sent degrees d and e.
 --
 --   sylvester f g         Sylvester's matrix in the sent degrees
---   determinant n a       Laplace's expansion along the first column
+--   determinant n a       Laplace's expansion along the first column, of integers
 --   resultant n f g       the determinant of Sylvester's matrix, from 0 to n - 1
 --   Reached n f g c       f and g combine to the constant c
 --   Reduced n f g D       D is the reduced resultant
 use mathlib.Core.Path.{_≡_}
 use mathlib.Core.List.{List}
-use mathlib.Core.Bool.{cond}
-use Prim.Native.Nat.{ℕ, zero, suc, _+_, _*_, _-_, _%_, _<_, _≤_, _∣_}
-use lib.Dec.{leb, ltb}
-use lib.IntN.{ℤ, pos, negsuc, negℤ, _+ℤ_, _*ℤ_}
+use Prim.Native.Nat.{ℕ, suc, _+_, _-_, _%_, _<_, _≤_, _∣_}
+use lib.IntN.{ℤ, pos, negsuc}
+use Rattle.definitions.specs.Expansions.{integers, expansion, rows-of}
 use Rattle.definitions.specs.Polynomials.{coef, deg, convolve, constant}
-
--- row i of f in degree d, highest coefficient first, i columns to the right: at column j
-abbrev pub entry : ℕ → List ℕ → ℕ → ℕ → ℤ
-entry d f i j = cond (leb i j) (cond (leb j (i + d)) (pos (coef f (i + d - j))) (pos 0)) (pos 0)
 
 -- "first e rows hold f, highest coefficient first, each row one column further right; then d rows hold g likewise"
 abbrev pub sylvester : List ℕ → List ℕ → ℕ → ℕ → ℤ
-sylvester f g i j = cond (ltb i (deg g)) (entry (deg f) f i j) (entry (deg g) g (i - deg g) j)
+sylvester f g = rows-of integers (deg f) (deg g) (λ k. pos (coef f k)) (λ k. pos (coef g k))
 
--- F 0 - F 1 + F 2 - …, n terms
-abbrev pub alternating : ℕ → (ℕ → ℤ) → ℤ
-alternating zero F = pos 0
-alternating (suc n) F = F zero +ℤ negℤ (alternating n (λ i. F (suc i)))
-
--- the place of row r once row i is left out
-abbrev pub beside : ℕ → ℕ → ℕ
-beside zero r = suc r
-beside (suc i) zero = zero
-beside (suc i) (suc r) = suc (beside i r)
-
--- n rows and columns. "With d = e = 0 the determinant is 1."
-unfoldable pub determinant : ℕ → (ℕ → ℕ → ℤ) → ℤ
-determinant zero a = pos 1
-determinant (suc n) a = alternating (suc n) (λ i. a i 0 *ℤ determinant n (λ r c. a (beside i r) (suc c)))
+-- "With d = e = 0 the determinant is 1."
+abbrev pub determinant : ℕ → (ℕ → ℕ → ℤ) → ℤ
+determinant = expansion integers
 
 -- an integer modulo n, from 0 to n - 1
 abbrev pub residue : ℕ → ℤ → ℕ

@@ -3,6 +3,10 @@
 //
 //   jingcobu_resultant            resultant_service::resultant
 //   jingcobu_reduced_resultant    reduced_service::reduced_resultant
+//   jingcobu_divisor              divisor_service::divisor
+//   jingcobu_why                  why_service::why
+//   jingcobu_resultant_two        two_service::resultant_two
+//   jingcobu_resultant_cofactors  cofactor_service::resultant_cofactors
 //   jingcobu_product              polynomial_product::product
 //   jingcobu_product_word         polynomial_word::product_word
 //   jingcobu_true_degree          polynomial_degree::true_degree_words
@@ -11,10 +15,14 @@
 //   jingcobu_gcd                  residue_services::gcd_with_cofactors
 //   jingcobu_factors_start, _arrive, _leave, _read    factors::start, arrive, leave, read
 //   jingcobu_shares               shares::shares
+//   jingcobu_check_claim          claim_service::check_claim_words
 ghost use mathlib.Core.Path.{_≡_};
 ghost use Rattle.refusals.specs.Refusals.{narrow};
 ghost use Rattle.resultant_service.specs.ResultantService.{ResultantAnswer};
 ghost use Rattle.reduced_service.specs.ReducedService.{ReducedAnswer};
+ghost use Rattle.divisor_service.specs.DivisorService.{DivisorAnswer};
+ghost use Rattle.why_service.specs.WhyService.{WhyAnswer};
+ghost use Rattle.cofactor_service.specs.CofactorService.{CofactorAnswer};
 ghost use Rattle.polynomial_product.specs.ProductService.{ProductAnswer};
 ghost use Rattle.polynomial_degree.specs.DegreeService.{DegreeWordsAnswer};
 ghost use Rattle.polynomial_word.specs.ProductWord.{ProductWordAnswer};
@@ -24,12 +32,15 @@ ghost use Rattle.text_writer.specs.TextWriter.{WriteAnswer};
 ghost use Rattle.residue_services.specs.Services.{GcdPromised};
 ghost use Rattle.factors.specs.FactorsService.{StartAnswer, ArriveAnswer, LeaveAnswer, ReadingAnswer};
 ghost use Rattle.shares.specs.SharesService.{SharesAnswer};
+ghost use Rattle.claim_service.specs.ClaimService.{ClaimAnswer};
+ghost use Rattle.two_service.specs.TwoService.{TwoAnswer};
 use factors::Factors;
 use factors::Held;
 use polynomial_degree::DegreeAnswer;
 use refusals::Answer;
 use residue_services::GcdAnswer;
 use shares::Plan;
+use why_service::Reason;
 
 // The resultant of f and g modulo n, in the sent degrees.
 #[no_mangle]
@@ -54,6 +65,66 @@ pub extern "C" fn jingcobu_reduced_resultant(
         (now (v .exit)) (now (work .entry)) (now (work .exit)) (r .value) (r .status) ⌝ }
 {
     reduced_service::reduced_resultant(n, f, g, u, v, work)
+}
+
+// The reduced resultant D of f and g modulo n, without cofactors.
+#[no_mangle]
+pub extern "C" fn jingcobu_divisor(n: u32, f: &[u32], g: &[u32], work: &mut [u32]) -> Answer
+    ensures { λ r. ⌜ DivisorAnswer narrow n (now (f .entry)) (now (g .entry)) (now (work .entry)) (now (work .exit))
+        (r .value) (r .status) ⌝ }
+{
+    divisor_service::divisor(n, f, g, work)
+}
+
+// Why f and g are not coprime: a divisor m of n, and both are zero modulo m, or a monic polynomial in the first 49 words of w divides
+// both modulo m.
+#[no_mangle]
+pub extern "C" fn jingcobu_why(
+    n: u32,
+    f: &[u32],
+    g: &[u32],
+    w: &mut [u32],
+    work: &mut [u32],
+) -> Reason
+    ensures { λ r. ⌜ WhyAnswer narrow n (now (f .entry)) (now (g .entry)) (now (w .entry)) (now (w .exit)) (now (work .entry))
+        (now (work .exit)) (r .ground) (r .m) (r .degree) (r .status) ⌝ }
+{
+    why_service::why(n, f, g, w, work)
+}
+
+// The resultant in y of f of degrees d in y and a in z and g of e and b, in the first e a + d b + 1 words of out.
+#[no_mangle]
+pub extern "C" fn jingcobu_resultant_two(
+    n: u32,
+    f: &[u32],
+    d: usize,
+    a: usize,
+    g: &[u32],
+    e: usize,
+    b: usize,
+    out: &mut [u32],
+    work: &mut [u32],
+) -> Answer
+    ensures { λ r. ⌜ TwoAnswer narrow n (now (f .entry)) d a (now (g .entry)) e b (now (out .entry)) (now (out .exit))
+        (now (work .entry)) (now (work .exit)) (r .value) (r .status) ⌝ }
+{
+    two_service::resultant_two(n, f, d, a, g, e, b, out, work)
+}
+
+// The resultant of f and g modulo n, with u in the first e words of one buffer and v in the first d words of the other: u f + v g is it.
+#[no_mangle]
+pub extern "C" fn jingcobu_resultant_cofactors(
+    n: u32,
+    f: &[u32],
+    g: &[u32],
+    u: &mut [u32],
+    v: &mut [u32],
+    work: &mut [u32],
+) -> Answer
+    ensures { λ r. ⌜ CofactorAnswer narrow n (now (f .entry)) (now (g .entry)) (now (u .entry)) (now (u .exit)) (now (v .entry))
+        (now (v .exit)) (now (work .entry)) (now (work .exit)) (r .value) (r .status) ⌝ }
+{
+    cofactor_service::resultant_cofactors(n, f, g, u, v, work)
 }
 
 // The product of f and g modulo n, in the first d + e + 1 words of out.
@@ -161,4 +232,21 @@ pub extern "C" fn jingcobu_shares(
     ensures { λ r. ⌜ SharesAnswer frames (waiting1 ∷ waiting2 ∷ waiting3 ∷ waiting4 ∷ []) (r .share) (r .status) ⌝ }
 {
     shares::shares(frames, waiting1, waiting2, waiting3, waiting4)
+}
+
+// Whether d is the reduced resultant of f and g modulo n, with u f + v g = d: 0 accepted, else 1, 2 or 3, what fails first.
+#[no_mangle]
+pub extern "C" fn jingcobu_check_claim(
+    n: u32,
+    f: &[u32],
+    g: &[u32],
+    d: u32,
+    u: &[u32],
+    v: &[u32],
+    work: &mut [u32],
+) -> Answer
+    ensures { λ r. ⌜ ClaimAnswer narrow n (now (f .entry)) (now (g .entry)) d (now (u .entry)) (now (v .entry))
+        (now (work .entry)) (now (work .exit)) (r .value) (r .status) ⌝ }
+{
+    claim_service::check_claim_words(n, f, g, d, u, v, work)
 }

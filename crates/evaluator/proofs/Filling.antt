@@ -17,7 +17,8 @@ use lib.Dec.{ltb, leb}
 use lib.IntN.{pos, natAbs}
 use lib.ListN.{length, List·getD-eq-default}
 use Rattle.definitions.specs.Polynomials.{coef, deg, Residues}
-use Rattle.definitions.specs.Resultants.{entry, sylvester, resultant}
+use Rattle.definitions.specs.Resultants.{sylvester, resultant}
+use Rattle.evaluator.specs.SylvesterRows.{entry}
 use Rattle.evaluator_matrices.specs.Elimination.{cell, ResidueCells}
 use Rattle.evaluator_matrices.specs.LeadingMinors.{leading-minor, minor-sylvester}
 use Rattle.evaluator.specs.Sylvester.{HoldsSylvester}

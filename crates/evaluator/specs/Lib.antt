@@ -1,2 +1,3 @@
 pub mod EvaluatorService
 pub mod Sylvester
+pub mod SylvesterRows

@@ -15,6 +15,7 @@ use native.Mathlib.Decide.{Fin·val-path, ℕ-discrete}
 use native.Mathlib.Omega.{arith}
 use lib.IntN.{pos}
 use Rattle.definitions.specs.Polynomials.{deg}
+use Rattle.definitions.specs.Expansions.{expansion}
 use Rattle.definitions.specs.Resultants.{sylvester, determinant, residue, resultant}
 use Rattle.theory.specs.Words.{residue-reduce, determinant-is}
 use Rattle.algebra.specs.Determinant.{det, det-cong, det-upper, prod}
@@ -86,7 +87,7 @@ toRes-neg m y x h =
     (sym (reduce-hom m .h-add (pos y) (pos x)) ∙ Fin·val-path (h .same) ∙ sym (add-neg (Res-ring m) (toRes m y)))
 
 pub minor-zero : (n : ℕ) (a : ℕ → ℕ → ℕ) → leading-minor n 0 a ≡ 1 % n
-unfolding leading-minor determinant
+unfolding leading-minor expansion
 minor-zero n a = refl
 
 pub minor-add-row : (n k i j x : ℕ) → 1 ≤ n → i < k → j < k → i ≢ j → (a b : ℕ → ℕ → ℕ)

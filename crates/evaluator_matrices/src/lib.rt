@@ -19,10 +19,11 @@ fn subtract_multiple(n: u32, x: [u32; 8], q: u32, y: [u32; 8]) -> [u32; 8]
     requires { ⌜ (2 ≤ n) × (q ≤ n) ⌝ }
     ensures { λ z. ⌜ LessMultiple n q x y z ⌝ }
 {
+    let m = reduction::modulus_of(n);
     let mut z = x;
     let mut c: usize = 0;
     while c < 8 {
-        z[c] = arithmetic::mul_add_mod(n, x[c], n - q, y[c]);
+        z[c] = reduction::add_product(m, x[c], n - q, y[c]);
         c += 1;
     }
     z
@@ -103,10 +104,11 @@ fn diagonal(m: [[u32; 8]; 8], n: u32, size: usize) -> u32
     requires { ⌜ Triangular size size m ⌝ }
     ensures { λ x. ⌜ x ≡ leading-minor n size (cell m) ⌝ }
 {
-    let mut x = arithmetic::reduce(n, 1);
+    let modulus = reduction::modulus_of(n);
+    let mut x = reduction::reduce(modulus, 1);
     let mut k: usize = 0;
     while k < size {
-        x = arithmetic::mul_mod(n, x, m[k][k]);
+        x = reduction::product(modulus, x, m[k][k]);
         k += 1;
     }
     x

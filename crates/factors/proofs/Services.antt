@@ -2,13 +2,15 @@
 --
 --   read-refused, read-answered, leave-refused, leave-unheld, leave-answered, start-refused, start-answered
 --   arrive-sent, arrive-taken, arrive-full, arrive-short, arrive-answered
---   unheld-.., held-found, taken-.., full-.., not-full     the tests of the refusals 14 and 13, as the code makes them
+--   unheld-.., held-found, full-.., free-place             the tests of the refusals 14 and 13, as the code makes them
 --   part-held                                              the part of the words of h that is lent
 use mathlib.Core.Path.{_≡_, refl, sym, ap, _∙_}
-use mathlib.Core.Bool.{true, false}
+use mathlib.Core.Bool.{Bool, true, false, true≢false}
 use mathlib.Core.List.{List, [], _∷_, _++_}
 use Prim.Native.Nat.{ℕ, zero, suc, pred, _+_, _-_, _≤_, _<_}
 use native.Mathlib.Omega.{arith}
+use native.Mathlib.Decide.{decLe}
+use lib.Dec.{ltb}
 use lib.ListN.{length, take, replicate}
 use borrow.Author.Tests.{lt-ltb, le-ltb, eq-eqb, ne-eqb}
 use Rattle.definitions.specs.Polynomials.{deg}
@@ -18,7 +20,7 @@ use Rattle.refusals.specs.Conditions.{modulus-fails, accepted-one, accepted-two
 use Rattle.refusals.proofs.Statuses.{row-applies, row-passes, refused-early, passed-on, too-short, long-enough, left-refused}
 use Rattle.resultant_service.specs.ResultantService.{ResultantAnswer}
 use Rattle.factors.specs.declared.Factors.{Factors}
-use Rattle.factors.specs.FactorsService.{place-of, sum, multiplied, served-length, held-h, unheld, taken, full, started, placed, arrived}
+use Rattle.factors.specs.FactorsService.{place-of, sum, multiplied, served-length, held-h, unheld, taken, full, started, replaced-at, arrived}
 use Rattle.factors.specs.FactorsService.{StartAnswer, ArriveAnswer, LeaveAnswer, ReadingAnswer}
 
 -- the refusals from 14, 13 and 7 on
@@ -59,10 +61,10 @@ module _ (s : Factors) (k : ℕ) where
       factors-is = refl;
     }
 
-    pub leave-answered : unheld k (s .number) ≡ false → (i : ℕ) → i ≡ place-of k (s .number) → LeaveAnswer narrow s k (placed s i 0 0 1) 0
+    pub leave-answered : unheld k (s .number) ≡ false → (i : ℕ) → i ≡ place-of k (s .number) → LeaveAnswer narrow s k (replaced-at s i 0 0 1) 0
     leave-answered u i h = record {
       status-is = row-passes 1 (bad-modulus narrow (s .n)) (unheld-row s k) 0 e (row-passes 14 (unheld k (s .number)) [] 0 u refl);
-      factors-is = ap (λ (j : ℕ). placed s j 0 0 1) h;
+      factors-is = ap (λ (j : ℕ). replaced-at s j 0 0 1) h;
     }
 
 module _ (k : ℕ) (l : List ℕ) where
@@ -74,15 +76,6 @@ module _ (k : ℕ) (l : List ℕ) where
 
   pub held-found : (k ≡ 0 → ⊥) → (i : ℕ) → i ≡ place-of k l → i < 16 → unheld k l ≡ false
   held-found z i e h = rw (ne-eqb k 0 z, lt-ltb (place-of k l) 16 (omega (arith, e)))
-
-  pub taken-zero : k ≡ 0 → taken k l ≡ true
-  taken-zero z = rw (eq-eqb k 0 z)
-
-  pub taken-found : (k ≡ 0 → ⊥) → (i : ℕ) → i ≡ place-of k l → i < 16 → taken k l ≡ true
-  taken-found z i e h = rw (ne-eqb k 0 z, lt-ltb (place-of k l) 16 (omega (arith, e)))
-
-  pub taken-none : (k ≡ 0 → ⊥) → (i : ℕ) → i ≡ place-of k l → 16 ≤ i → taken k l ≡ false
-  taken-none z i e h = rw (ne-eqb k 0 z, le-ltb (place-of k l) 16 (omega (arith, e)))
 
 -- ---- the start
 
@@ -108,11 +101,20 @@ module _ (d : ℕ) (number degree : List ℕ) (i : ℕ) (e : i ≡ place-of 0 nu
   pub full-places : 16 ≤ i → full d number degree ≡ true
   full-places h = rw (le-ltb (place-of 0 number) 16 (omega (arith, e)))
 
-  pub full-degree : i < 16 → (x : ℕ) → x ≡ sum degree → 48 < x + d → full d number degree ≡ true
-  full-degree h x p l = rw (lt-ltb (place-of 0 number) 16 (omega (arith, e))) (lt-ltb 48 (sum degree + d) (omega (arith, p)))
+  pub full-sum : i < 16 → (x : ℕ) → x ≡ sum degree → ltb 48 (x + d) ≡ full d number degree
+  full-sum h x p = rw (lt-ltb (place-of 0 number) 16 (omega (arith, e)), p)
 
-  pub not-full : i < 16 → (x : ℕ) → x ≡ sum degree → x + d ≤ 48 → full d number degree ≡ false
-  not-full h x p l = rw (lt-ltb (place-of 0 number) 16 (omega (arith, e))) (le-ltb 48 (sum degree + d) (omega (arith, p)))
+  -- where it is not full, a place is free
+  pub free-place : full d number degree ≡ false → i < 16
+  free-place f = go (decLe 16 (place-of 0 number))
+    where
+      go : Dec (16 ≤ place-of 0 number) → i < 16
+      go (yes h) = absurd (true≢false (sym (full-places (omega (arith, e))) ∙ f))
+      go (no h) = omega (arith, e)
+
+-- the test, of the degree
+pub full-at : {d d' : ℕ} {x y : Bool} (number degree : List ℕ) → d ≡ d' → x ≡ full d number degree → x ≡ y → full d' number degree ≡ y
+full-at number degree p q r = ap (λ (d : ℕ). full d number degree) (sym p) ∙ sym q ∙ r
 
 module _ (s : Factors) (k : ℕ) (f work : List ℕ) (g : List ℕ) (same : g ≡ held-h s) (t : ℕ)
     (e : t ≡ first-refusal (refusals-two narrow (s .n) f g)) where
@@ -162,7 +164,7 @@ module _ (s : Factors) (k : ℕ) (f work : List ℕ) (g : List ℕ) (same : g �
 
         -- the resultant is asked of the service, which tests what was tested
         pub arrive-answered : 8192 ≤ length work → (work' : List ℕ) (x y : ℕ) → ResultantAnswer narrow (s .n) f g work work' x y
-            → (i d : ℕ) → i ≡ place-of 0 (s .number) → d ≡ deg f → ArriveAnswer narrow s k f work work' (placed s i k d x) 0
+            → (i d : ℕ) → i ≡ place-of 0 (s .number) → d ≡ deg f → ArriveAnswer narrow s k f work work' (replaced-at s i k d x) 0
         arrive-answered h work' x y r i d p q = record {
           status-is = on 0 (row-passes 14 (taken k (s .number)) (full-row s f work) 0 a
               (row-passes 13 (full (deg f) (s .number) (s .degree)) (short-row work) 0 b (long-enough 7 (length work) 8192 [] 0 h refl)));
@@ -179,6 +181,9 @@ module _ (s : Factors) (k : ℕ) (f work : List ℕ) (g : List ℕ) (same : g �
 
 pub sent-length : (n : ℕ) (f g : List ℕ) (t : ℕ) → t ≡ first-refusal (refusals-two narrow n f g) → t ≡ 0 → 1 ≤ length f
 sent-length n f g t e z = accepted-two narrow n f g (sym e ∙ z) .0 .some
+
+pub sent-most : (n : ℕ) (f g : List ℕ) (t : ℕ) → t ≡ first-refusal (refusals-two narrow n f g) → t ≡ 0 → length f - 1 ≤ 48
+sent-most n f g t e z = let l = accepted-two narrow n f g (sym e ∙ z) .0 .few in omega arith
 
 pub deg-less : (f : List ℕ) → length f - 1 ≡ deg f
 deg-less f = go (length f)

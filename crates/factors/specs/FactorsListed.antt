@@ -15,7 +15,7 @@ use Rattle.refusals.specs.Refusals.{Width}
 use Rattle.refusals.specs.Conditions.{Fails, Listed, ServedModulus, conditions-two, modulus-fails, length-fails, words-fail, short-fails}
 use Rattle.factors.specs.declared.Factors.{Factors}
 use Rattle.factors.specs.FactorsService.{place-of, sum, held-h, unheld, taken, full}
-use Rattle.factors.specs.FactorsService.{arrive-refusals, leave-refusals, read-refusals}
+use Rattle.factors.specs.FactorsService.{arrive-refusals, leave-refusals, reading-refusals}
 
 -- a number that is not 0 and that no place has
 pub record NewNumber (k : ℕ) (l : List ℕ) : Type 0 where
@@ -113,5 +113,5 @@ pub leave-listed : (W : Width) (s : Factors) (k : ℕ)
     → Listed (leave-refusals W s k) (ServedModulus W (s .n) ∷ HeldNumber k (s .number) ∷ [])
 leave-listed W s k = ((omega arith, modulus-fails W (s .n)), ((omega arith, unheld-fails k (s .number)), tt))
 
-pub read-listed : (W : Width) (s : Factors) → Listed (read-refusals W s) (ServedModulus W (s .n) ∷ [])
+pub read-listed : (W : Width) (s : Factors) → Listed (reading-refusals W s) (ServedModulus W (s .n) ∷ [])
 read-listed W s = ((omega arith, modulus-fails W (s .n)), tt)

@@ -5,7 +5,7 @@
 --   served-length, held-h  how many words of h a state holds, and which; none where their number is above 49
 --   started, arrived, left-by      the states that answered calls hand back, s or zeros after a refusal
 --   unheld, taken, full    the tests of the refusals 14 and 13
---   start-refusals, arrive-refusals, leave-refusals, read-refusals     the refusals of each call in their order
+--   start-refusals, arrive-refusals, leave-refusals, reading-refusals     the refusals of each call in their order
 --   StartAnswer, ArriveAnswer, LeaveAnswer, ReadingAnswer      all that is promised of a call
 use mathlib.Core.Path.{_≡_}
 use mathlib.Core.Bool.{Bool, true, cond, not}
@@ -66,8 +66,8 @@ arrive-refusals W s k f l =
 abbrev pub leave-refusals : Width → Factors → ℕ → List Tested
 leave-refusals W s k = (1, bad-modulus W (s .n)) ∷ (14, unheld k (s .number)) ∷ []
 
-abbrev pub read-refusals : Width → Factors → List Tested
-read-refusals W s = (1, bad-modulus W (s .n)) ∷ []
+abbrev pub reading-refusals : Width → Factors → List Tested
+reading-refusals W s = (1, bad-modulus W (s .n)) ∷ []
 
 -- ---- states
 
@@ -91,8 +91,8 @@ started (suc t) n h = record {
 }
 
 -- place i has the number k, the degree d and the resultant x
-abbrev pub placed : Factors → ℕ → ℕ → ℕ → ℕ → Factors
-placed s i k d x = record {
+abbrev pub replaced-at : Factors → ℕ → ℕ → ℕ → ℕ → Factors
+replaced-at s i k d x = record {
   n = s .n;
   len = s .len;
   h = s .h;
@@ -103,11 +103,11 @@ placed s i k d x = record {
 
 -- "A refusal leaves the held factors unchanged."
 abbrev pub arrived : ℕ → Factors → ℕ → List ℕ → Factors
-arrived zero s k f = placed s (place-of 0 (s .number)) k (deg f) (resultant (s .n) f (held-h s))
+arrived zero s k f = replaced-at s (place-of 0 (s .number)) k (deg f) (resultant (s .n) f (held-h s))
 arrived (suc t) s k f = s
 
 abbrev pub left-by : ℕ → Factors → ℕ → Factors
-left-by zero s k = placed s (place-of k (s .number)) 0 0 1
+left-by zero s k = replaced-at s (place-of k (s .number)) 0 0 1
 left-by (suc t) s k = s
 
 -- ---- answers
@@ -126,5 +126,5 @@ pub record LeaveAnswer (W : Width) (s : Factors) (k : ℕ) (r : Factors) (status
   pub factors-is : r ≡ left-by status s k
 
 pub record ReadingAnswer (W : Width) (s : Factors) (value status : ℕ) : Type 0 where
-  pub status-is : status ≡ first-refusal (read-refusals W s)
+  pub status-is : status ≡ first-refusal (reading-refusals W s)
   pub value-is : value ≡ answered status (multiplied (s .n) (s .resultant))

@@ -27,8 +27,8 @@ use Rattle.theory.specs.ResultantLaws.{law-of-products, resultant-const-first}
 use Rattle.refusals.specs.Refusals.{Width, bad-modulus, short, first-refusal, refusals-two, answered}
 use Rattle.refusals.specs.Conditions.{Accepted, accepted-one, ServedModulus, modulus-fails, status-zero}
 use Rattle.factors.specs.declared.Factors.{Factors}
-use Rattle.factors.specs.FactorsService.{place-of, multiplied, held-h, taken, full, unheld, placed, arrived, left-by}
-use Rattle.factors.specs.FactorsService.{arrive-refusals, leave-refusals, read-refusals}
+use Rattle.factors.specs.FactorsService.{place-of, multiplied, held-h, taken, full, unheld, replaced-at, arrived, left-by}
+use Rattle.factors.specs.FactorsService.{arrive-refusals, leave-refusals, reading-refusals}
 use Rattle.factors.specs.FactorsService.{StartAnswer, ArriveAnswer, LeaveAnswer, ReadingAnswer}
 
 pub data Place : Type 0 where
@@ -135,7 +135,7 @@ held-of n h S l =
     ∙ take-all h (replicate (49 - length h) 0)
 
 placed-is : (n : ℕ) (h : List ℕ) (S : List Place) (i : ℕ) (p : Place)
-    → placed (stored n h S) i (number-of p) (deg (factor-of p)) (resultant n (factor-of p) h) ≡ stored n h (set S i p)
+    → replaced-at (stored n h S) i (number-of p) (deg (factor-of p)) (resultant n (factor-of p) h) ≡ stored n h (set S i p)
 unfolding stored state
 placed-is n h S i p =
     ap (λ (a : List ℕ). state n h a (set (degrees S) i (deg (factor-of p)))
@@ -169,7 +169,8 @@ module _ (W : Width) (n : ℕ) (h : List ℕ) where
     where
       taken-in : arrived 0 (stored n h S) k f ≡ stored n h (places-arrived 0 k f S)
       taken-in =
-          ap (λ (g : List ℕ). placed (stored n h S) (place-of 0 (numbers S)) k (deg f) (resultant n f g)) (held-of n h S (d .accepted .few))
+          ap (λ (g : List ℕ). replaced-at (stored n h S) (place-of 0 (numbers S)) k (deg f) (resultant n f g))
+          (held-of n h S (d .accepted .few))
           ∙ placed-is n h S (place-of 0 (numbers S)) (held k f)
   stands-arrival s r S k f (suc t) d e = record { accepted = d .accepted; is = e ∙ d .is }
 
@@ -182,7 +183,7 @@ module _ (W : Width) (n : ℕ) (h : List ℕ) where
     where
       given-up : left-by 0 (stored n h S) k ≡ stored n h (places-left 0 k S)
       given-up =
-          ap (λ (x : ℕ). placed (stored n h S) (place-of k (numbers S)) 0 0 x) (sym (resultant-of-one n (d .accepted .modulus) h))
+          ap (λ (x : ℕ). replaced-at (stored n h S) (place-of k (numbers S)) 0 0 x) (sym (resultant-of-one n (d .accepted .modulus) h))
           ∙ placed-is n h S (place-of k (numbers S)) free
   stands-leaving s r S k (suc t) d e = record { accepted = d .accepted; is = e ∙ d .is }
 
@@ -207,7 +208,7 @@ history-reading W n h s S v t y a = record { status-is = zero-status; value-is =
 
     zero-status : t ≡ 0
     zero-status =
-        a .status-is ∙ ap (λ (x : Factors). first-refusal (read-refusals W x)) (d .is)
+        a .status-is ∙ ap (λ (x : Factors). first-refusal (reading-refusals W x)) (d .is)
         ∙ status-zero ((1, bad-modulus W n) ∷ []) (ServedModulus W n ∷ []) ((omega arith, modulus-fails W n), tt) .1
         (record { least = d .accepted .modulus; most = d .accepted .bounded }, tt)
 

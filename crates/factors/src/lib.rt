@@ -6,14 +6,17 @@
 //   place_of                     the first place that has a number
 //   degree_sum, multiplied       the sum of the degrees and the product of the resultants
 //   padded, served_length        h with zeros above; how many of its words are read
+//   taken, full                  what refuses an arrival with 14, and with 13
+//   free_place                   the first free place
 //   arrive_beside                an arrival, with h
 //   start, arrive, leave, read   the services
 ghost use mathlib.Core.Path.{_≡_};
-ghost use Prim.Native.Nat.{_-_, _≤_};
+ghost use Prim.Native.Nat.{_-_, _<_, _≤_};
+ghost use mathlib.Core.Bool.{false};
 ghost use mathlib.Core.List.{_++_};
 ghost use lib.ListN.{length, replicate};
 ghost use Rattle.refusals.specs.Refusals.{narrow};
-ghost use Rattle.factors.specs.FactorsService.{place-of, sum, multiplied, served-length, held-h};
+ghost use Rattle.factors.specs.FactorsService.{place-of, sum, multiplied, served-length, held-h, taken, full};
 ghost use Rattle.factors.specs.FactorsService.{StartAnswer, ArriveAnswer, LeaveAnswer, ReadingAnswer};
 use refusals::Answer;
 
@@ -130,6 +133,37 @@ pub fn start(n: u32, h: &[u32]) -> Held
     Held { factors, status: 0 }
 }
 
+// "a number 0 or one already held on arrival"
+fn taken(number: [u16; 16], k: u16) -> bool
+    ensures { λ r. ⌜ r ≡ taken k number ⌝ }
+{
+    let i = place_of(number, k);
+    if k != 0 {
+        return i < 16;
+    }
+    true
+}
+
+// "a seventeenth factor or a summed degree above 48"
+fn full(number: [u16; 16], degree: [u32; 16], d: usize) -> bool
+    requires { ⌜ d ≤ 48 ⌝ }
+    ensures { λ r. ⌜ r ≡ full d number degree ⌝ }
+{
+    if 16 <= place_of(number, 0) {
+        return true;
+    }
+    let sum = degree_sum(degree) + (d as u64);
+    48 < sum
+}
+
+// The first place that is free, where one is.
+fn free_place(number: [u16; 16], degree: [u32; 16], d: usize) -> usize
+    requires { ⌜ full d number degree ≡ false ⌝ }
+    ensures { λ r. ⌜ (r ≡ place-of 0 number) × (r < 16) ⌝ }
+{
+    place_of(number, 0)
+}
+
 // The factor f arrives where h is the polynomial held.
 fn arrive_beside(s: Factors, k: u16, f: &[u32], h: &[u32], work: &mut [u32]) -> Held
     requires { ⌜ now h ≡ held-h s ⌝ }
@@ -139,29 +173,16 @@ fn arrive_beside(s: Factors, k: u16, f: &[u32], h: &[u32], work: &mut [u32]) -> 
     if status != 0 {
         return Held { factors: s, status };
     }
-    if k == 0 {
-        return Held {
-            factors: s,
-            status: 14,
-        };
-    }
     let mut number = s.number;
-    if place_of(number, k) < 16 {
+    if taken(number, k) {
         return Held {
             factors: s,
             status: 14,
         };
     }
-    let i = place_of(number, 0);
-    if 16 <= i {
-        return Held {
-            factors: s,
-            status: 13,
-        };
-    }
-    let mut degree = s.degree;
     let d = f.len() - 1;
-    if 48 < degree_sum(degree) + (d as u64) {
+    let mut degree = s.degree;
+    if full(number, degree, d) {
         return Held {
             factors: s,
             status: 13,
@@ -176,6 +197,7 @@ fn arrive_beside(s: Factors, k: u16, f: &[u32], h: &[u32], work: &mut [u32]) -> 
     let a = resultant_service::resultant(s.n, f, h, work);
     let words = s.h;
     let mut resultant = s.resultant;
+    let i = free_place(number, degree, d);
     number[i] = k;
     degree[i] = d as u32;
     resultant[i] = a.value;

@@ -37,10 +37,6 @@ pub words-refused : {s : List ℕ} {k n d e count : ℕ} {w : List ℕ} {r : Boo
     → is-frame s ≡ false
 words-refused h p e = h .frame ∙ sym (p .digits) ∙ e
 
--- the words that are handed on: the first count of those read
-pub handed : (count : ℕ) (w : List ℕ) → take (count - 0) (w ++ []) ≡ take count w
-handed count w = let e : count - 0 ≡ count = omega arith in ap₂ take e (append-nil w)
-
 outcome-same : {k k' n n' r v : ℕ} {f f' g g' : List ℕ} → k ≡ k' → n ≡ n' → f ≡ f' → g ≡ g' → Outcome k n f g r v → Outcome k' n' f' g' r v
 outcome-same {r = r} {v = v} a b c d p =
     subst (λ (x : ℕ × (ℕ × (List ℕ × List ℕ))). Outcome (x .0) (x .1 .0) (x .1 .1 .0) (x .1 .1 .1) r v) (λ i. (a i, (b i, (c i, d i)))) p
@@ -72,3 +68,13 @@ first-handed k w = let e : k - 0 ≡ k = omega arith in ap (λ (x : ℕ). take x
 
 pub second-handed : (k : ℕ) (w : List ℕ) → take (length w - k) (drop k w) ≡ drop k w
 second-handed k w = take-all (length w - k) (drop k w) (omega (arith, length-drop k w))
+
+-- all 98 words are lent
+lent : (w : List ℕ) → length w ≡ 98 → take 98 (w ++ []) ≡ w
+lent w e = ap (take 98) (append-nil w) ∙ take-all 98 w (omega arith)
+
+pub lent-some : (count : ℕ) (w : List ℕ) → length w ≡ 98 → count ≤ 98 → count ≤ length (take 98 (w ++ []))
+lent-some count w e h = omega (arith, ap length (lent w e))
+
+pub lent-handed : (count : ℕ) (w : List ℕ) → length w ≡ 98 → take count (take 98 (w ++ [])) ≡ take count w
+lent-handed count w e = ap (take count) (lent w e)

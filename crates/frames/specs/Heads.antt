@@ -2,6 +2,7 @@
 --
 --   Fields s k n d e      s is a frame if the characters after the first 14 are digits, with these numbers at its head
 --   HeadOf s h            h is what the head of s says
+--   WordsRead, ServeAsked  what reading the words comes to, and what is asked where their job is served
 use mathlib.Core.Path.{_≡_}
 use mathlib.Core.Bool.{Bool, true, false}
 use mathlib.Core.List.{List}
@@ -30,3 +31,10 @@ HeadOf s Other = is-frame s ≡ false
 pub record WordsRead (s : List ℕ) (count : ℕ) (w : List ℕ) (r : Bool) : Type 0 where
   pub digits : r ≡ all-digits (drop 14 s)
   pub words : r ≡ true → take count w ≡ words-of count (drop 14 s)
+
+-- a job of a known kind whose count words, d + 1 of the first polynomial among them, are among the words w; work are the working words
+pub record ServeAsked (kind d count : ℕ) (w work : List ℕ) : Type 0 where
+  pub known : 1 ≤ kind
+  pub first : d + 1 ≤ count
+  pub some : count ≤ length w
+  pub working : 8192 ≤ length work

@@ -2,10 +2,10 @@
 ghost use mathlib.Core.Path.{_≡_};
 ghost use mathlib.Core.List.{_++_};
 ghost use Prim.Native.Nat.{_+_, _*_, _≤_};
-ghost use lib.ListN.{length, take, drop};
+ghost use lib.ListN.{length, take, drop, replicate};
 ghost use Rattle.refusals.specs.Refusals.{first-refusal};
 ghost use Rattle.frames.specs.Frames.{zero-top, top-refusals, job-refusals, answer-line, Served, Wrote};
-ghost use Rattle.frames.specs.Heads.{HeadOf, WordsRead};
+ghost use Rattle.frames.specs.Heads.{HeadOf, WordsRead, ServeAsked};
 use hexadecimal::Reading;
 use refusals::Answer;
 
@@ -87,13 +87,6 @@ pub fn write_line(out: &mut [u8], at: usize, kind: u32, status: u32, value: u32)
     out[at + 12] = 10;
 }
 
-// Room for a cofactor: K is at most 31 and a degree at most 48. Of zeros only the count is told.
-fn cofactor_words() -> [u32; 1489]
-    ensures { λ r. ⌜ 1489 ≡ length r ⌝ }
-{
-    [0; 1489]
-}
-
 // Whether the top word of f is 0. Where there is none, refusal 2 has come before.
 fn zero_top(f: &[u32]) -> bool
     ensures { λ r. ⌜ r ≡ zero-top (now (f .entry)) ⌝ }
@@ -130,7 +123,7 @@ fn job_refusal(n: u32, f: &[u32], g: &[u32]) -> u32
 }
 
 // Serves the job of a frame's words: the first polynomial is the first d + 1 of them, the second is the part from place d + 1
-// onward. The cofactors of D are not asked for.
+// onward.
 fn serve(kind: u32, n: u32, words: &[u32], d: usize, work: &mut [u32]) -> Answer
     requires { ⌜ (1 ≤ kind) × ((d + 1 ≤ length (now words)) × (8192 ≤ length (now work))) ⌝ }
     ensures { λ r. ⌜ Served kind n (take (d + 1) (now (words .entry))) (drop (d + 1) (now (words .entry)))
@@ -145,12 +138,29 @@ fn serve(kind: u32, n: u32, words: &[u32], d: usize, work: &mut [u32]) -> Answer
     if kind == 1 {
         return resultant_service::resultant(n, f, g, work);
     }
-    let mut u = cofactor_words();
-    let mut v = cofactor_words();
-    reduced_service::reduced_resultant(n, f, g, &mut u, &mut v, work)
+    divisor_service::divisor(n, f, g, work)
 }
 
-// Writes the answer to the line s from place `at` on.
+// Serves the job of the first count words, and leaves zeros in the place of all.
+fn serve_once(
+    kind: u32,
+    n: u32,
+    words: &mut [u32],
+    count: usize,
+    d: usize,
+    work: &mut [u32],
+) -> Answer
+    requires { ⌜ ServeAsked kind d count (now words) (now work) ⌝ }
+    ensures { λ r. ⌜ Served kind n (take (d + 1) (take count (now (words .entry)))) (drop (d + 1) (take count (now (words .entry))))
+        (r .status) (r .value) (now (work .entry)) (now (work .exit)) ⌝ }
+    ensures { λ _. ⌜ now (words .exit) ≡ replicate (length (now (words .entry))) 0 ⌝ }
+{
+    let a = serve(kind, n, &words[0..count], d, work);
+    windows::wipe(words);
+    a
+}
+
+// Writes the answer to the line s from place `at` on. The words of a frame are zero again before the answer is written.
 pub fn answer(s: &[u8], work: &mut [u32], out: &mut [u8], at: usize)
     requires { ⌜ (at + 13 ≤ length (now out)) × (8192 ≤ length (now work)) ⌝ }
     ensures { λ _. ⌜ Wrote (now (s .entry)) at (now (out .entry)) (now (out .exit)) (now (work .entry)) (now (work .exit)) ⌝ }
@@ -162,9 +172,10 @@ pub fn answer(s: &[u8], work: &mut [u32], out: &mut [u8], at: usize)
     let count = d + 1 + (e + 1);
     let mut words = [0u32; 98];
     if !read_words(s, &mut words[0..98], count) {
+        windows::wipe(&mut words[0..98]);
         write_line(out, at, 255, 8, 0);
         return;
     }
-    let a = serve(kind, n, &words[0..count], d, work);
+    let a = serve_once(kind, n, &mut words[0..98], count, d, work);
     write_line(out, at, kind, a.status, a.value);
 }

@@ -9,3 +9,4 @@ pub mod Nilpotents
 pub mod Kinds
 pub mod Cofactors
 pub mod LeastCofactors
+pub mod PrimeTable

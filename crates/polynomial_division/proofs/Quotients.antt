@@ -7,7 +7,7 @@ use native.Mathlib.Nat.{mod-lt, add-zero, add-comm, mul-one, eq-or-lt-of-le, zer
 use native.Mathlib.Omega.{arith}
 use lib.ListN.{length, getD, take, drop, set, replicate, length-set, length-drop, List·getD-eq-default}
 use lib.Seq.{getD-set-same, getD-set-other, getD-drop, take-all}
-use Rattle.numbers.specs.Congruence.{Cong, c-refl, c-trans, c-eq, c-add, c-mul, c-mod, c-sub, ring}
+use Rattle.numbers.specs.Congruence.{Cong, c-refl, c-sym, c-trans, c-eq, c-add, c-mul, c-mod, c-sub, ring}
 use Rattle.definitions.specs.Polynomials.{coef, deg, convolve, tabulate, quotient-length, Division}
 use Rattle.theory.specs.Words.{total-cong, coef-out, coef-tabulate, length-tabulate}
 use Rattle.convolution.specs.Sums.{total-none, convolve-shift, convolve-first}
@@ -113,6 +113,20 @@ module _ (n i s x v : ℕ) (f g q₀ q : List ℕ) (pos : 0 < n) (inside : s < l
         (λ b. c-trans (c-eq (kept j b)) (qs .at j (omega arith)))
         (eq-or-lt-of-le l);
   }
+
+-- i (a - x), by one sum of two products
+pub quotient-word-is : (n i a z r : ℕ) → r ≡ (0 + i * a + z * i) % n → r ≡ (i * ((a + z) % n)) % n
+quotient-word-is n i a z r e = e ∙ c-trans (c-eq (sums i a z)) (c-mul (c-refl {a = i}) (c-sym (c-mod (a + z)))) .same
+  where
+    sums : (i a z : ℕ) → 0 + i * a + z * i ≡ i * (a + z)
+    sums i a z = omega arith
+
+-- modulo the modulus found with its reciprocal
+pub quotient-modulo : {a n r : ℕ} (i p x : ℕ) → a ≡ n → r ≡ (i * ((p + (a - x)) % a)) % a → r ≡ (i * ((p + (n - x)) % n)) % n
+quotient-modulo i p x e h = h ∙ ap (λ (z : ℕ). (i * ((p + (z - x)) % z)) % z) e
+
+pub difference-modulo : {a n r : ℕ} (p x : ℕ) → a ≡ n → r ≡ (p + (a - x)) % a → r ≡ (p + (n - x)) % n
+difference-modulo p x e h = h ∙ ap (λ (z : ℕ). (p + (z - x)) % z) e
 
 -- the turn, as the code has it
 pub quotienting-turn : (n i s k x y v : ℕ) (f g q₀ q : List ℕ) → 0 < n → s < length q₀ → s < length f - (length g - 1)

@@ -5,13 +5,15 @@
 ghost use mathlib.Core.Path.{_≡_};
 ghost use mathlib.Core.Bool.{not};
 ghost use mathlib.Core.List.{[], _∷_};
-ghost use Prim.Native.Nat.{ℕ, _-_, _≤_};
+ghost use Prim.Native.Nat.{ℕ, _+_, _-_, _*_, _%_, _≤_};
 ghost use lib.Dec.{eqb};
 ghost use lib.ListN.{length};
 ghost use Rattle.definitions.specs.Polynomials.{coef, deg, convolve, tabulate, Residues, Division};
+ghost use Rattle.reduction.specs.Moduli.{Ready};
 ghost use Rattle.refusals.specs.Refusals.{narrow, short, first-refusal};
 ghost use Rattle.polynomial_division.specs.Stages.{QuotientAsked, QuotientWords, difference};
 ghost use Rattle.polynomial_division.specs.DivisionService.{DivisionAnswer};
+use reduction::Modulus;
 use refusals::Answer;
 
 // a - b, or 0 where b is more.
@@ -34,6 +36,15 @@ fn coefficient(f: &[u32], k: usize) -> u32
     0
 }
 
+// i (a - x) modulo n, for x at most n, by one reduction.
+fn quotient_word(m: Modulus, i: u32, a: u32, x: u32) -> u32
+    requires { ⌜ (Ready m) × (x ≤ m .n) ⌝ }
+    ensures { λ r. ⌜ r ≡ (i * ((a + (m .n - x)) % m .n)) % m .n ⌝ }
+{
+    let n = m.n;
+    reduction::sum_two(m, 0, i, a, n - x, i)
+}
+
 // The quotient of f by g, from its top word down: word s is i (f_{e+s} - q_{s+1} g_{e-1} - q_{s+2} g_{e-2} - ..), where i is the
 // inverse of the top word of g. While word s is made, 0 stands in its place.
 fn quotient_words(n: u32, i: u32, f: &[u32], g: &[u32], q: &mut [u32])
@@ -41,13 +52,14 @@ fn quotient_words(n: u32, i: u32, f: &[u32], g: &[u32], q: &mut [u32])
     ensures { λ _. ⌜ QuotientWords n (now (f .entry)) (now (g .entry)) (now (q .exit)) ⌝ }
 {
     windows::wipe(q);
+    let modulus = reduction::modulus_of(n);
     let e = g.len() - 1;
     let m = q.len();
     let mut s = excess(f.len(), e);
     while 0 < s {
         s -= 1;
-        let x = convolution::product_word(n, &q[s..m], g, e);
-        q[s] = arithmetic::mul_mod(n, i, arithmetic::sub_mod(n, f[e + s], x));
+        let x = convolution::product_word_by(modulus, &q[s..m], g, e);
+        q[s] = quotient_word(modulus, i, f[e + s], x);
     }
 }
 
@@ -57,10 +69,11 @@ fn remainder_words(n: u32, f: &[u32], g: &[u32], q: &[u32], r: &mut [u32])
     ensures { λ _. ⌜ now (r .exit) ≡ tabulate (length (now (r .entry)))
         (λ (k : ℕ). difference n (coef (now (f .entry)) k) (convolve (coef (now (q .entry))) (coef (now (g .entry))) k)) ⌝ }
 {
+    let m = reduction::modulus_of(n);
     let mut k: usize = 0;
     while k < r.len() {
-        let x = convolution::product_word(n, q, g, k);
-        r[k] = arithmetic::sub_mod(n, coefficient(f, k), x);
+        let x = convolution::product_word_by(m, q, g, k);
+        r[k] = reduction::difference(m, coefficient(f, k), x);
         k += 1;
     }
 }

@@ -31,7 +31,7 @@ use Rattle.polynomial_inverse.specs.InverseService.{inverse-length, Inve
 abbrev pub late : ℕ → ℕ → ℕ → ℕ → ℕ → List Tested
 late g t lo m l = (5, not (cond (eqb g 1) (eqb t 0) false)) ∷ (6, short lo m) ∷ (7, short l 8192) ∷ []
 
-pub record LateAccepted (g t lo m l : ℕ) : Type 0 where
+pub record InverseAccepted (g t lo m l : ℕ) : Type 0 where
   pub one : g ≡ 1
   pub constant : t ≡ 0
   pub room : m ≤ lo
@@ -46,7 +46,7 @@ both-fails g t = fails (cond (eqb g 1) (eqb t 0) false) (go (eqb g 1) refl)
     go true e h = (eqb-true g 1 e, eqb-true t 0 h)
     go false e h = absurd (subst T (sym h) tt)
 
-pub late-accepted : (g t lo m l r : ℕ) → r ≡ first-refusal (late g t lo m l) → r ≡ 0 → LateAccepted g t lo m l
+pub late-accepted : (g t lo m l r : ℕ) → r ≡ first-refusal (late g t lo m l) → r ≡ 0 → InverseAccepted g t lo m l
 late-accepted g t lo m l r is z =
     let p = status-zero (late g t lo m l) (((g ≡ 1) × (t ≡ 0)) ∷ (m ≤ lo) ∷ (8192 ≤ l) ∷ [])
     ((omega arith, both-fails g t), ((omega arith, short-fails lo m), ((omega arith, short-fails l 8192), tt))) .0 (sym is ∙ z) in

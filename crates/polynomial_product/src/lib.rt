@@ -46,9 +46,10 @@ fn product_words(n: u32, f: &[u32], g: &[u32], out: &mut [u32])
     ensures { λ _. ⌜ now (out .exit) ≡ tabulate (length (now (out .entry)))
         (λ (k : ℕ). convolve (coef (now (f .entry))) (coef (now (g .entry))) k % n) ⌝ }
 {
+    let m = reduction::modulus_of(n);
     let mut k: usize = 0;
     while k < out.len() {
-        out[k] = convolution::product_word(n, f, g, k);
+        out[k] = convolution::product_word_by(m, f, g, k);
         k += 1;
     }
 }

@@ -22,7 +22,7 @@ pub enum Trial {
 }
 
 // The content of f and g together.
-fn common_content(w: &mut [u32], n: u32, f: &[u32], g: &[u32]) -> u32
+pub fn common_content(w: &mut [u32], n: u32, f: &[u32], g: &[u32]) -> u32
     requires { ⌜ (1 ≤ n) × (length (now f) + length (now g) ≤ length (now w)) ⌝ }
     ensures { λ r. ⌜ CommonContent n (now (f .entry)) (now (g .entry)) r ⌝ }
     ensures { λ _. ⌜ Scratch (now (w .entry)) (now (w .exit)) ⌝ }
@@ -76,7 +76,7 @@ fn half(x: &mut [u32], y: &mut [u32], w: &mut [u32], n: u32, c: u32, a: &[u32], 
 }
 
 // n as a product of two coprime factors, from two coprime divisors: what n has in common with p, and the rest.
-fn split(n: u32, p: u32, q: u32) -> Attempt
+pub fn split(n: u32, p: u32, q: u32) -> Attempt
     requires { ⌜ (2 ≤ n) × (Splitter n p q) ⌝ }
     ensures { λ r. ⌜ Parted n r ⌝ }
 {

@@ -16,13 +16,13 @@ use Rattle.windows.specs.Window.{piece, Below, Around, Apart}
 use Rattle.reduced_multipliers.specs.Leads.{Taken}
 
 -- two factors of at least one word each, and the words that lose their product, stand in the buffer
-abbrev pub ProductRoom : ℕ → ℕ → ℕ → ℕ → ℕ → ℕ → List ℕ → Type 0
-ProductRoom n p lp q lq dst w =
-    (1 ≤ n)
-    × ((1 ≤ lp)
-    × ((1 ≤ lq)
-    × ((p + lp ≤ length w)
-    × ((q + lq ≤ length w) × (dst + (lp + lq - 1) ≤ length w)))))
+pub record ProductRoom (n p lp q lq dst : ℕ) (w : List ℕ) : Type 0 where
+  pub modulus : 1 ≤ n
+  pub some-first : 1 ≤ lp
+  pub some-second : 1 ≤ lq
+  pub first : p + lp ≤ length w
+  pub second : q + lq ≤ length w
+  pub product : dst + (lp + lq - 1) ≤ length w
 
 -- no word of a factor is one of those that lose the product, and what is read and written are residues
 pub record Factors (n p lp q lq dst : ℕ) (w : List ℕ) : Type 0 where

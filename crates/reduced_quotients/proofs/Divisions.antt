@@ -15,7 +15,7 @@ use Rattle.windows.specs.Window.{piece, Moved, zeroed, Loaded, Below, Around, A
 use Rattle.windows.proofs.Leaf.{lt-or-le, piece-at, piece-over, piece-length}
 use Rattle.windows.proofs.Lift.{moved-around}
 use Rattle.window_division.specs.Remainders.{Pair, Quotient}
-use Rattle.reduced_products.specs.Products.{Factors, Subtracted}
+use Rattle.reduced_products.specs.Products.{ProductRoom, Factors, Subtracted}
 use Rattle.reduced_units.specs.Factorings.{Negated}
 use Rattle.reduced_units.proofs.Regions.{apart-low, below-apart, piece-apart}
 use Rattle.reduced_quotients.specs.Quotients.{OverFirst, ExactQuotient}
@@ -43,8 +43,9 @@ module _ (n up k zp lz len : ℕ) (w w₁ : List ℕ) (two : 2 ≤ n) (one : 1 �
     cleared : Around (up + (k + 1) + len) (len + lz - 1) w₁ w₂
     cleared = moved-around cl
 
-    pub over-bounds : (1 ≤ n) × ((1 ≤ len) × ((1 ≤ lz) × ((up + (k + 1) + len ≤ length w₂) × ((zp + lz ≤ length w₂) × (up + (k + 1) + len + (len + lz - 1) ≤ length w₂)))))
-    over-bounds = let r = over-room in let s = cl .same in (omega arith, (some, (one, (omega arith, (omega arith, omega arith)))))
+    pub over-bounds : ProductRoom n (up + (k + 1)) len zp lz (up + (k + 1) + len) w₂
+    over-bounds = let r = over-room in let s = cl .same in
+        record { modulus = omega arith; some-first = some; some-second = one; first = omega arith; second = omega arith; product = omega arith }
 
     pub over-factors : Factors n (up + (k + 1)) len zp lz (up + (k + 1) + len) w₂
     over-factors = record {
@@ -117,8 +118,9 @@ module _ (n e q t c v : ℕ) (w w₁ : List ℕ) (two : 2 ≤ n) (one : 1 ≤ t)
   below-start : Below n (q + 2 * (t + 1)) (t + e + 1) (set w₁ (q + 2 * (t + 1)) v)
   below-start = record { at = λ k h. subst (λ (x : ℕ). x < n) (sym (first-word k h)) (small k) }
 
-  pub quotient-bounds : (1 ≤ n) × ((1 ≤ t) × ((1 ≤ e + 1) × ((q + (t + 1) + t ≤ length (set w₁ (q + 2 * (t + 1)) v)) × ((0 + (e + 1) ≤ length (set w₁ (q + 2 * (t + 1)) v)) × (q + 2 * (t + 1) + (t + (e + 1) - 1) ≤ length (set w₁ (q + 2 * (t + 1)) v))))))
-  quotient-bounds = let s = quotient-start .same in (omega arith, (one, (omega arith, (omega arith, (omega arith, omega arith)))))
+  pub quotient-bounds : ProductRoom n (q + (t + 1)) t 0 (e + 1) (q + 2 * (t + 1)) (set w₁ (q + 2 * (t + 1)) v)
+  quotient-bounds = let s = quotient-start .same in
+      record { modulus = omega arith; some-first = one; some-second = omega arith; first = omega arith; second = omega arith; product = omega arith }
 
   pub quotient-factors : Factors n (q + (t + 1)) t 0 (e + 1) (q + 2 * (t + 1)) (set w₁ (q + 2 * (t + 1)) v)
   quotient-factors = record {

@@ -13,11 +13,12 @@ use Rattle.windows.specs.Window.{piece, Below, Around}
 use Rattle.reduced_multipliers.specs.Leads.{NegatedInverse}
 
 -- lz words at zp lie before the unit polynomial at up; above it is room for its inverse twice and for the product, and x holds the quotient
-abbrev pub OverRoom : ℕ → ℕ → ℕ → ℕ → ℕ → List ℕ → List ℕ → Type 0
-OverRoom n up k zp lz w x =
-    (2 ≤ n)
-    × ((1 ≤ lz)
-    × ((zp + lz ≤ up) × ((up + (k + 1) + (2 * (K n * k + 1) + lz) ≤ length w) × ((K n - 1) * k + lz ≤ length x))))
+pub record OverRoom (n up k zp lz : ℕ) (w x : List ℕ) : Type 0 where
+  pub modulus : 2 ≤ n
+  pub some : 1 ≤ lz
+  pub lies : zp + lz ≤ up
+  pub room : up + (k + 1) + (2 * (K n * k + 1) + lz) ≤ length w
+  pub quotient : (K n - 1) * k + lz ≤ length x
 
 -- x is the lz words at zp over the unit polynomial of k + 1 words at up
 pub record OverFirst (n up k zp lz : ℕ) (w x : List ℕ) : Type 0 where
@@ -28,8 +29,11 @@ pub record OverFirst (n up k zp lz : ℕ) (w x : List ℕ) : Type 0 where
   pub short : (i : ℕ) → (K n - 1) * k + lz ≤ i → coef x i ≡ 0
 
 -- G lies before H, H has degree above 0, and from q on there is room for eight polynomials like H and for the division of G
-abbrev pub PrepareRoom : ℕ → ℕ → ℕ → ℕ → List ℕ → Type 0
-PrepareRoom n e q t w = (2 ≤ n) × ((1 ≤ t) × ((e + 1 ≤ q) × (q + 8 * (t + 1) + (e + 1 + t) ≤ length w)))
+pub record PrepareRoom (n e q t : ℕ) (w : List ℕ) : Type 0 where
+  pub modulus : 2 ≤ n
+  pub degree : 1 ≤ t
+  pub lies : e + 1 ≤ q
+  pub room : q + 8 * (t + 1) + (e + 1 + t) ≤ length w
 
 -- G modulo H, t words at q + 8 (t + 1)
 pub record RestAt (n e q t : ℕ) (w w' : List ℕ) : Type 0 where
@@ -50,8 +54,11 @@ pub record Prepared (n e q t : ℕ) (w w' : List ℕ) : Type 0 where
   pub one : (k : ℕ) → k < 2 * (t + 1) → getD w' (q + 6 * (t + 1) + k) 0 ≡ constant 1 k
 
 -- G lies before H, H has degree above 0, and above H and the multiplier there is room for their product
-abbrev pub QuotientRoom : ℕ → ℕ → ℕ → ℕ → List ℕ → Type 0
-QuotientRoom n e q t w = (2 ≤ n) × ((1 ≤ t) × ((e + 1 ≤ q) × (q + 2 * (t + 1) + (t + e + 1) ≤ length w)))
+pub record QuotientRoom (n e q t : ℕ) (w : List ℕ) : Type 0 where
+  pub modulus : 2 ≤ n
+  pub degree : 1 ≤ t
+  pub lies : e + 1 ≤ q
+  pub room : q + 2 * (t + 1) + (t + e + 1) ≤ length w
 
 -- c less the product of G and the t words at q + (t + 1), by H: the remainder, t words, and the quotient, e + 1 words, from
 -- q + 2 (t + 1) on

@@ -1,7 +1,7 @@
 // The reduced resultant with its cofactors as a service: from any words and lengths an answer, or a numbered refusal.
 //
 //   put_constant, constants    two polynomials of sent degree 0: D with the least cofactors
-//   worked                     D with its cofactors, of constants or by the run
+//   by_run, worked             D with its cofactors, by the run; of constants or by the run
 //   reduced_resultant          the service
 ghost use mathlib.Core.Path.{_≡_};
 ghost use Prim.Native.Nat.{_-_, _≤_};
@@ -35,6 +35,16 @@ fn constants(u: &mut [u32], v: &mut [u32], n: u32, a: u32, b: u32) -> u32
     c.g
 }
 
+// D, with the cofactors that the run finds.
+fn by_run(u: &mut [u32], v: &mut [u32], w: &mut [u32], n: u32, f: &[u32], g: &[u32]) -> u32
+    requires { ⌜ RunAsked n (now f) (now g) (now u) (now v) (now w) ⌝ }
+    ensures { λ r. ⌜ Certified n (L n (length (now (f .entry)) - 1) (length (now (g .entry)) - 1)) (now (f .entry)) (now (g .entry))
+        (now (u .exit)) (now (v .exit)) r ⌝ }
+    ensures { λ _. ⌜ Scratch (now (w .entry)) (now (w .exit)) ⌝ }
+{
+    reduced::run(u, v, w, n, f, g)
+}
+
 // D, with cofactors in u and v: "For two polynomials of sent degree 0 the cofactors of D follow the same rule" (02, W7); those of every
 // other pair are the run's.
 fn worked(u: &mut [u32], v: &mut [u32], w: &mut [u32], n: u32, f: &[u32], g: &[u32]) -> u32
@@ -49,7 +59,7 @@ fn worked(u: &mut [u32], v: &mut [u32], w: &mut [u32], n: u32, f: &[u32], g: &[u
             return constants(u, v, n, f[0], g[0]);
         }
     }
-    reduced::run(u, v, w, n, f, g)
+    by_run(u, v, w, n, f, g)
 }
 
 // "After an answered call the whole working buffer is zero."

@@ -9,8 +9,9 @@
 //   modulus_of    n with K n
 ghost use mathlib.Core.Path.{_≡_};
 ghost use Prim.Native.Nat.{ℕ, _+_, _-_, _*_, _/_, _%_, _<_, _≤_};
-ghost use Rattle.definitions.specs.Residues.{K, Coprime, GcdWithCofactors, LeastCofactors};
+ghost use Rattle.definitions.specs.Residues.{K, GcdWithCofactors, LeastCofactors};
 ghost use Rattle.residue.specs.Kinds.{KindOf};
+ghost use Rattle.residue.specs.Moduli.{CoprimeModuli};
 
 // "unit with its inverse, nilpotent, or splitting with two factors"
 pub enum Kind {
@@ -53,7 +54,7 @@ pub fn kind_of(n: u32, a: u32) -> Kind
 
 // 1 modulo n1 and 0 modulo n2.
 pub fn idempotent(n1: u32, n2: u32) -> u32
-    requires { ⌜ (1 ≤ n1) × ((1 ≤ n2) × ((n1 * n2 < 4294967296) × Coprime n1 n2)) ⌝ }
+    requires { ⌜ CoprimeModuli 4294967296 n1 n2 ⌝ }
     ensures { λ r. ⌜ (r < n1 * n2) × ((r % n1 ≡ 1 % n1) × (r % n2 ≡ 0)) ⌝ }
 {
     let e = bezout::cofactor(n1, n2);
@@ -62,7 +63,7 @@ pub fn idempotent(n1: u32, n2: u32) -> u32
 
 // x modulo n1 and y modulo n2.
 pub fn join(n1: u32, n2: u32, x: u32, y: u32) -> u32
-    requires { ⌜ (1 ≤ n1) × ((1 ≤ n2) × ((n1 * n2 < 4294967296) × Coprime n1 n2)) ⌝ }
+    requires { ⌜ CoprimeModuli 4294967296 n1 n2 ⌝ }
     requires { ⌜ (x < n1) × (y < n2) ⌝ }
     ensures { λ r. ⌜ (r < n1 * n2) × ((r % n1 ≡ x) × (r % n2 ≡ y)) ⌝ }
 {

@@ -134,7 +134,8 @@ fn kind_line(n: u32, a: u32) {
 
 // x and y joined, where they are residues modulo n1 and n2 and these are coprime.
 fn mix_joined(n1: u32, n2: u32, x: u32, y: u32, h: u32) -> u32
-    requires { ⌜ (1 ≤ n1) × ((n1 ≤ 16) × ((1 ≤ n2) × (n2 ≤ 16))) ⌝ }
+    requires { ⌜ (1 ≤ n1) × (n1 ≤ 16) ⌝ }
+    requires { ⌜ (1 ≤ n2) × (n2 ≤ 16) ⌝ }
 {
     if x >= n1 {
         return h;

@@ -5,19 +5,24 @@
 //
 //   run      the resultant; a split of n is worked on each factor and joined
 //   once     one attempt
-//   ordered  one attempt where f has no more words than g
+//   ordered  one attempt where f has no more words than g: without inverses first
+//   tried    the attempt without inverses
+//   settled  what is left where some leading word is no unit: a split, or the general attempt
+//   general  the general attempt
 //   swapped  one attempt where g has no more words than f
 ghost use mathlib.Core.Path.{_≡_};
 ghost use Prim.Native.Nat.{_≤_};
 ghost use lib.ListN.{length};
 ghost use Rattle.definitions.specs.Resultants.{resultant};
 ghost use Rattle.windows.specs.Window.{Scratch};
+ghost use Rattle.resultant_pseudo.specs.Standing.{TriedAnswer};
 ghost use Rattle.resultant_steps.specs.AttemptAnswers.{ValueOrSplit};
 ghost use Rattle.resultant.specs.Sizes.{RunSizes};
 use residue::Attempt;
+use resultant_pseudo::Tried;
 
 // f and g are loaded modulo n, f first.
-fn ordered(w: &mut [u32], n: u32, f: &[u32], g: &[u32]) -> Attempt
+fn general(w: &mut [u32], n: u32, f: &[u32], g: &[u32]) -> Attempt
     requires { ⌜ (2 ≤ n) × (RunSizes (now f) (now g) (now w) × (length (now f) ≤ length (now g))) ⌝ }
     ensures { λ r. ⌜ ValueOrSplit n (resultant n (now (f .entry)) (now (g .entry))) r ⌝ }
 {
@@ -26,6 +31,41 @@ fn ordered(w: &mut [u32], n: u32, f: &[u32], g: &[u32]) -> Attempt
     windows::load(w, 0, f, n);
     windows::load(w, l, g, n);
     resultant_attempt::euclid(w, n, 0, l - 1, l, m - 1, l + m)
+}
+
+// The same by Euclid without inverses.
+fn tried(w: &mut [u32], n: u32, f: &[u32], g: &[u32]) -> Tried
+    requires { ⌜ (2 ≤ n) × (RunSizes (now f) (now g) (now w) × (length (now f) ≤ length (now g))) ⌝ }
+    ensures { λ r. ⌜ TriedAnswer n (resultant n (now (f .entry)) (now (g .entry))) r ⌝ }
+{
+    let l = f.len();
+    let m = g.len();
+    windows::load(w, 0, f, n);
+    windows::load(w, l, g, n);
+    resultant_pseudo::attempt(w, n, 0, l - 1, l, m - 1)
+}
+
+// Some leading word is no unit, and x is their product: it splits n, or the general attempt goes on from the sent words.
+fn settled(w: &mut [u32], n: u32, f: &[u32], g: &[u32], x: u32) -> Attempt
+    requires { ⌜ (2 ≤ n) × (RunSizes (now f) (now g) (now w) × (length (now f) ≤ length (now g))) ⌝ }
+    ensures { λ r. ⌜ ValueOrSplit n (resultant n (now (f .entry)) (now (g .entry))) r ⌝ }
+{
+    match residue::kind_of(n, x) {
+        residue::Kind::Splits(p, q) => Attempt::Splits(p, q),
+        residue::Kind::Unit(_) => general(w, n, f, g),
+        residue::Kind::Nilpotent => general(w, n, f, g),
+    }
+}
+
+// Euclid without inverses first.
+fn ordered(w: &mut [u32], n: u32, f: &[u32], g: &[u32]) -> Attempt
+    requires { ⌜ (2 ≤ n) × (RunSizes (now f) (now g) (now w) × (length (now f) ≤ length (now g))) ⌝ }
+    ensures { λ r. ⌜ ValueOrSplit n (resultant n (now (f .entry)) (now (g .entry))) r ⌝ }
+{
+    match tried(w, n, f, g) {
+        Tried::Value(v) => Attempt::Value(v),
+        Tried::NotUnit(x) => settled(w, n, f, g, x),
+    }
 }
 
 // A swap costs the sign (-1)^(d e).

@@ -26,7 +26,17 @@ room-next d e one l = subst (λ (x : ℕ). room (d - 1) x ≤ room x e) (sym bac
     less : (c e : ℕ) → c + 1 ≤ e → room c (c + 1) ≤ room (c + 1) e
     less c e l = omega arith
 
--- the same with both polynomials copied before
+-- after a leading word was dropped
+pub room-dropped : (d e : ℕ) → 1 ≤ d → room (d - 1) e ≤ room d e
+room-dropped d e one = subst (λ (x : ℕ). room (d - 1) e ≤ room x e) (sym back) (less (d - 1))
+  where
+    back : d ≡ d - 1 + 1
+    back = omega arith
+
+    less : (c : ℕ) → room c e ≤ room (c + 1) e
+    less c = omega arith
+
+-- after a division, with both polynomials copied before
 pub room-copied : (d e : ℕ) → 1 ≤ d → d ≤ e → e + 1 + (d + 1) + room (d - 1) d ≤ room d e
 room-copied d e one l = subst (λ (x : ℕ). e + 1 + (x + 1) + room (d - 1) x ≤ room x e) (sym back) (less (d - 1) e (omega arith))
   where

@@ -3,7 +3,7 @@
 --   Placed             f at a, g at b, and room from s on
 --   Divisor            the same, the leading word of f with the inverse i
 --   Stacked            g at 0 and f above it, and room above both
---   Part               a factor of f at a, g at 0, and room from x on
+--   Part               f, or a factor of it, at a, g at b, and room for both and for a division from x on
 use mathlib.Core.Path.{_≡_}
 use mathlib.Core.List.{List}
 use Prim.Native.Nat.{ℕ, _+_, _-_, _*_, _%_, _<_, _≤_}
@@ -37,11 +37,11 @@ pub record Stacked (n d e : ℕ) (w : List ℕ) : Type 0 where
   pub fits : room d e ≤ length w
   pub below : Below n 0 (e + 1 + (d + 1)) w
 
-pub record Part (n a d e x : ℕ) (w : List ℕ) : Type 0 where
+pub record Part (n a d b e x : ℕ) (w : List ℕ) : Type 0 where
   pub two : 2 ≤ n
   pub near : d ≤ e
   pub first : a + (d + 1) ≤ x
-  pub second : e + 1 ≤ x
+  pub second : b + (e + 1) ≤ x
   pub fits : x + (d + 1 + (e + 1) + room (d - 1) d) ≤ length w
   pub below-first : Below n a (d + 1) w
-  pub below-second : Below n 0 (e + 1) w
+  pub below-second : Below n b (e + 1) w

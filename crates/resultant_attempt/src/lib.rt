@@ -7,10 +7,13 @@
 //
 //   euclid                  the attempt; it divides while each leading word is a unit, with no copies
 //   step                    one division
+//   dropped                 a leading word that is 0
+//   from_below              a leading word that is no unit: the other end is tried
+//   reversed                a constant that is a unit
 //   by_content, primitive   a leading word that is no unit: the content, and the highest coefficient that is not nilpotent
 //   factors                 f as a unit polynomial times a monic one; monic_part and unit_part are the attempts at the two
 ghost use mathlib.Core.Path.{_≡_};
-ghost use Prim.Native.Nat.{_+_, _<_, _≤_};
+ghost use Prim.Native.Nat.{_+_, _*_, _%_, _<_, _≤_};
 ghost use lib.ListN.{getD};
 ghost use Rattle.definitions.specs.Residues.{IsUnit};
 ghost use Rattle.definitions.specs.Resultants.{resultant};
@@ -31,12 +34,58 @@ pub fn euclid(w: &mut [u32], n: u32, a: usize, d: usize, b: usize, e: usize, s: 
     if d == 0 {
         return Attempt::Value(arithmetic::power(n, lead, e));
     }
+    if lead == 0 {
+        return dropped(w, n, a, d, b, e, s);
+    }
     let x = bezout::cofactor(n, lead);
     if x.g == 1 {
         return step(w, n, a, d, b, e, s, x.s);
     }
+    from_below(w, n, a, d, b, e, s)
+}
+
+// The same, where the leading word of f is 0: it is dropped, which costs the leading word of g with the sign (-1)^e.
+fn dropped(w: &mut [u32], n: u32, a: usize, d: usize, b: usize, e: usize, s: usize) -> Attempt
+    requires { ⌜ (Placed n a d b e s (now w)) × ((1 ≤ d) × (getD (now w) (a + d) 0 ≡ 0)) ⌝ }
+    ensures { λ r. ⌜ ValueOrSplit n (resultant n (piece (now (w .entry)) a (d + 1)) (piece (now (w .entry)) b (e + 1))) r ⌝ }
+{
+    let c = w[b + e];
+    let r = euclid(w, n, a, d - 1, b, e, s);
+    resultant_steps::times_sign(n, 1, e, resultant_steps::times(n, c, r))
+}
+
+// The same, where the leading word of f is no unit: the constant may be one.
+fn from_below(w: &mut [u32], n: u32, a: usize, d: usize, b: usize, e: usize, s: usize) -> Attempt
+    requires { ⌜ (Placed n a d b e s (now w)) × (1 ≤ d) ⌝ }
+    ensures { λ r. ⌜ ValueOrSplit n (resultant n (piece (now (w .entry)) a (d + 1)) (piece (now (w .entry)) b (e + 1))) r ⌝ }
+{
+    let y = bezout::cofactor(n, w[a]);
+    if y.g == 1 {
+        return reversed(w, n, a, d, b, e, s, y.s);
+    }
     resultant_steps::copy_pair(w, b, e + 1, a, d + 1, s);
     by_content(&mut w[s..], n, d, e)
+}
+
+// The same, where the constant of f has the inverse i: both are reversed, which brings it to the lead.
+fn reversed(
+    w: &mut [u32],
+    n: u32,
+    a: usize,
+    d: usize,
+    b: usize,
+    e: usize,
+    s: usize,
+    i: u32,
+) -> Attempt
+    requires { ⌜ (Part n a d b e s (now w)) × ((1 ≤ d) × ((i * getD (now w) a 0) % n ≡ 1 % n)) ⌝ }
+    ensures { λ r. ⌜ ValueOrSplit n (resultant n (piece (now (w .entry)) a (d + 1)) (piece (now (w .entry)) b (e + 1))) r ⌝ }
+{
+    let l = d + 1;
+    let m = e + 1;
+    resultant_steps::copy_pair_reversed(w, a, l, b, m, s);
+    let r = step(&mut w[s..], n, 0, d, l, e, l + m, i);
+    resultant_steps::times_sign(n, d, e, r)
 }
 
 // The same, where the leading word of f has the inverse i: a division, and the remainder and f after it.
@@ -105,7 +154,7 @@ fn factors(w: &mut [u32], n: u32, d: usize, e: usize, t: usize, i: u32) -> Attem
 
 // The resultant of the monic polynomial of degree t at a and of g at 0, worked from x on.
 fn monic_part(w: &mut [u32], n: u32, a: usize, t: usize, e: usize, x: usize) -> Attempt
-    requires { ⌜ (Part n a t e x (now w)) × (getD (now w) (a + t) 0 ≡ 1) ⌝ }
+    requires { ⌜ (Part n a t 0 e x (now w)) × (getD (now w) (a + t) 0 ≡ 1) ⌝ }
     ensures { λ r. ⌜ ValueOrSplit n (resultant n (piece (now (w .entry)) a (t + 1)) (piece (now (w .entry)) 0 (e + 1))) r ⌝ }
     ensures { λ _. ⌜ Kept x (now (w .entry)) (now (w .exit)) ⌝ }
 {
@@ -118,15 +167,11 @@ fn monic_part(w: &mut [u32], n: u32, a: usize, t: usize, e: usize, x: usize) -> 
     step(&mut w[x..], n, 0, t, l, e, l + m, 1)
 }
 
-// The same for a polynomial of degree k whose constant is a unit: both are reversed, which brings the unit to the lead.
+// The same for a polynomial of degree k whose constant is a unit.
 fn unit_part(w: &mut [u32], n: u32, a: usize, k: usize, e: usize, x: usize) -> Attempt
-    requires { ⌜ (Part n a k e x (now w)) × ((1 ≤ k) × (IsUnit n (getD (now w) a 0))) ⌝ }
+    requires { ⌜ (Part n a k 0 e x (now w)) × ((1 ≤ k) × (IsUnit n (getD (now w) a 0))) ⌝ }
     ensures { λ r. ⌜ ValueOrSplit n (resultant n (piece (now (w .entry)) a (k + 1)) (piece (now (w .entry)) 0 (e + 1))) r ⌝ }
 {
     let i = bezout::cofactor(n, w[a]);
-    let l = k + 1;
-    let m = e + 1;
-    resultant_steps::copy_pair_reversed(w, a, l, 0, m, x);
-    let r = step(&mut w[x..], n, 0, k, l, e, l + m, i.s);
-    resultant_steps::times_sign(n, k, e, r)
+    reversed(w, n, a, k, 0, e, x, i.s)
 }

@@ -2,7 +2,7 @@
 --
 --   factors            c m = n
 --   content-law        the law, over lists
---   cleared            what the division by c and the reduction modulo m leave
+--   cleared, cleared-none    what the division by c and the reduction modulo m leave; the content 1 needs neither
 --   content-two, content-below, content-primitive   m is above 1, the words are residues of it, f / c is primitive modulo m
 --   content-times      the value, from that modulo m
 --   content-whole      c = n: the resultant is 0
@@ -11,7 +11,7 @@ use mathlib.Core.List.{List}
 use mathlib.Core.Logic.{⊎-elim}
 use Prim.Native.Nat.{ℕ, zero, suc, _+_, _-_, _*_, _/_, _%_, _^_, _≤_, _<_, _∣_}
 use native.Mathlib.Omega.{arith}
-use native.Mathlib.Nat.{mod-lt, mod-mod, mul-div-cancel', pos-of-dvd-of-pos, pow-suc, mul-one, mul-zero, zero-add, zero-mod, mul-le-mul-left, mul-dvd-mul-left, dvd-mul-left, dvd-of-mul-dvd-mul-left, dvd-one, mod-eq-zero-of-dvd}
+use native.Mathlib.Nat.{div-one, mod-lt, mod-eq-of-lt, mod-mod, mul-div-cancel', pos-of-dvd-of-pos, pow-suc, mul-one, mul-zero, zero-add, zero-mod, mul-le-mul-left, mul-dvd-mul-left, dvd-mul-left, dvd-of-mul-dvd-mul-left, dvd-one, mod-eq-zero-of-dvd}
 use lib.ListN.{length, getD}
 use Rattle.definitions.specs.Polynomials.{coef, deg}
 use Rattle.definitions.specs.Resultants.{resultant}
@@ -22,7 +22,7 @@ use borrow.Rule.Slice.PartMut.{midOf}
 use Rattle.windows.specs.Window.{piece, Moved, quotient-by, reduced-by, Below, Content}
 use Rattle.windows.proofs.Leaf.{lt-or-le, piece-at, piece-length}
 use Rattle.resultant_steps.specs.Layouts.{Primitive, ContentCleared}
-use Rattle.resultant_steps.proofs.Degrees.{deg-of}
+use Rattle.resultant_turns.specs.Degrees.{deg-of}
 
 -- ---- numbers
 
@@ -121,6 +121,16 @@ cleared n c d e m w w₁ w₂ h fits ct x y = record {
   first = λ k l. y .high (e + 1 + k) (omega arith) ∙ x .mid k l;
   second = λ k l. ap (λ (i : ℕ). getD w₂ i 0) (sym (zero-add k)) ∙ y .mid k l
       ∙ ap (λ (i : ℕ). i % (n / c)) (ap (λ (i : ℕ). getD w₁ i 0) (zero-add k) ∙ x .low k (omega arith));
+}
+
+-- the content 1: nothing is to be done
+pub cleared-none : (n c d e m : ℕ) (w : List ℕ) → m ≡ d + 1 → Content n (midOf (e + 1) m w) c → c ≡ 1 → Below n 0 (e + 1) w → ContentCleared n d e 1 w w
+unfolding piece
+cleared-none n c d e m w h ct one below = record {
+  content = subst (λ (x : ℕ). Content n (midOf (e + 1) (d + 1) w) x) one (subst (λ (k : ℕ). Content n (midOf (e + 1) k w) c) h ct);
+  around = record { same = refl; low = λ k l. refl; high = λ k l. refl };
+  first = λ k l. sym (div-one (getD w (e + 1 + k) 0));
+  second = λ k l. sym (ap (λ (x : ℕ). getD w k 0 % x) (div-one n) ∙ mod-eq-of-lt (subst (λ (x : ℕ). getD w x 0 < n) (zero-add k) (below .at k l)));
 }
 
 module _ (n c d e : ℕ) (w w' : List ℕ) (two : 2 ≤ n) (one : 1 ≤ d) (near : d ≤ e) (fits : e + 1 + (d + 1) ≤ length w)

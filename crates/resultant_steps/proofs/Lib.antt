@@ -1,6 +1,4 @@
 pub mod Contents
-pub mod Degrees
 pub mod SideBySide
-pub mod Signs
 pub mod Splitting
 pub mod Turned

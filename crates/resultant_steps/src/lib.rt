@@ -14,6 +14,7 @@ ghost use mathlib.Core.Path.{_≡_};
 ghost use Prim.Native.Nat.{_+_, _-_, _*_, _/_, _%_, _<_, _≤_, _∣_};
 ghost use lib.ListN.{length};
 ghost use Rattle.theory.specs.ResultantLaws.{signed};
+ghost use Rattle.windows.specs.Window.{Below};
 ghost use Rattle.window_factor.specs.Factors.{SplitOf};
 ghost use Rattle.resultant_steps.specs.AttemptAnswers.{IsAnswer, Partial, Follows, Lifted};
 ghost use Rattle.resultant_steps.specs.Layouts.{ContentCleared, Beside, words-at, words-back};
@@ -60,10 +61,13 @@ pub fn copy_pair_reversed(w: &mut [u32], a: usize, l: usize, b: usize, m: usize,
 
 // The content c of f and n. f of degree d at e + 1 is divided by it, g of degree e at 0 is reduced modulo n / c.
 pub fn clear_content(w: &mut [u32], n: u32, d: usize, e: usize) -> u32
-    requires { ⌜ (1 ≤ n) × (e + 1 + (d + 1) ≤ length (now w)) ⌝ }
+    requires { ⌜ (1 ≤ n) × ((e + 1 + (d + 1) ≤ length (now w)) × (Below n 0 (e + 1) (now w))) ⌝ }
     ensures { λ r. ⌜ ContentCleared n d e r (now (w .entry)) (now (w .exit)) ⌝ }
 {
     let c = windows::content(&w[e + 1..e + 1 + (d + 1)], n);
+    if c == 1 {
+        return 1;
+    }
     windows::divide_words(w, c, e + 1, d + 1);
     windows::reduce_words(w, n / c, 0, e + 1);
     c

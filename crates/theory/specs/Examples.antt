@@ -12,9 +12,10 @@ use mathlib.Core.List.{[], _∷_}
 use Prim.Native.Nat.{zero, suc}
 use native.Mathlib.Nat.{dvd-sub, eq-one-of-dvd-one}
 use native.Mathlib.Omega.{arith}
+use Rattle.definitions.specs.Expansions.{expansion}
 use Rattle.definitions.specs.Polynomials.{product, L, extent, place, true-degree, Division, UnitTimesMonic, InverseOf}
 use Rattle.definitions.specs.Residues.{K, halvings, Inverse, IsNilpotent, Splitting}
-use Rattle.definitions.specs.Resultants.{determinant, resultant}
+use Rattle.definitions.specs.Resultants.{resultant}
 use Rattle.theory.specs.Computed.{below-by, multiplied-by, divided-by, inverse-by}
 use Rattle.theory.specs.StarredRows.{Holds, sound}
 
@@ -112,12 +113,12 @@ degree-over-zeros = refl
 
 -- the row that is not starred
 largest-modulus : Holds (record { n = 4294967295; f = 4294967294 ∷ []; g = 0 ∷ 1 ∷ []; value = 4294967294; D = 1 })
-unfolding resultant determinant
+unfolding resultant expansion
 largest-modulus = sound _ (record { u = 4294967294 ∷ []; v = []; w = 0 ∷ 1 ∷ []; a = []; b = [] }) tt
 
 -- "A content of f taken out as a factor of D though the top word of g is no unit: modulo 4, f = 2 and g = 1,2 would give 2, and D is 1."
 content-stays : Holds (record { n = 4; f = 2 ∷ []; g = 1 ∷ 2 ∷ []; value = 2; D = 1 })
-unfolding resultant determinant
+unfolding resultant expansion
 content-stays = sound _ (record { u = []; v = 1 ∷ 2 ∷ []; w = 0 ∷ 1 ∷ []; a = []; b = [] }) tt
 
 -- a product whose top word is 0, and resultants that another program gave
@@ -125,17 +126,17 @@ product-12 : product 12 (3 ∷ 2 ∷ []) (5 ∷ 4 ∷ 0 ∷ []) ≡ 3 ∷ 10 ∷
 product-12 = refl
 
 resultant-of-product : resultant 12 (3 ∷ 10 ∷ 8 ∷ 0 ∷ []) (7 ∷ 5 ∷ 9 ∷ []) ≡ 3
-unfolding resultant determinant
+unfolding resultant expansion
 resultant-of-product = refl
 
 resultant-of-first : resultant 12 (3 ∷ 2 ∷ []) (7 ∷ 5 ∷ 9 ∷ []) ≡ 7
-unfolding resultant determinant
+unfolding resultant expansion
 resultant-of-first = refl
 
 resultant-of-second : resultant 12 (5 ∷ 4 ∷ 0 ∷ []) (7 ∷ 5 ∷ 9 ∷ []) ≡ 9
-unfolding resultant determinant
+unfolding resultant expansion
 resultant-of-second = refl
 
 seven-rows : resultant 1000003 (3 ∷ 2 ∷ 8 ∷ 1 ∷ 5 ∷ []) (1 ∷ 4 ∷ 9 ∷ 6 ∷ []) ≡ 79963
-unfolding resultant determinant
+unfolding resultant expansion
 seven-rows = refl

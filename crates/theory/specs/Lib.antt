@@ -1,6 +1,7 @@
 pub mod Certificates
 pub mod Computed
 pub mod Examples
+pub mod ExpansionLaws
 pub mod PointThree
 pub mod PolynomialLaws
 pub mod ReachedLaws
@@ -8,4 +9,5 @@ pub mod ReachedSteps
 pub mod ReducedLaws
 pub mod ResultantLaws
 pub mod StarredRows
+pub mod TwoVariablesLaws
 pub mod Words

@@ -16,8 +16,9 @@ use native.Mathlib.Nat.{dvd-of-mod-eq-zero}
 use native.Mathlib.Omega.{arith}
 use lib.Dec.{T, leb, eqb, leb→le, eqb→eq}
 use lib.ListN.{length}
+use Rattle.definitions.specs.Expansions.{expansion}
 use Rattle.definitions.specs.Polynomials.{coef}
-use Rattle.definitions.specs.Resultants.{determinant, resultant, Reduced}
+use Rattle.definitions.specs.Resultants.{resultant, Reduced}
 use Rattle.theory.specs.Certificates.{certified}
 use Rattle.theory.specs.Computed.{both, multiplied, multiplied-by, combined, combined-by}
 
@@ -137,5 +138,5 @@ certificates =
 
 -- THE TABLE: each starred row's resultant and D
 pub table-holds : Every starred
-unfolding resultant determinant certificates
+unfolding resultant expansion certificates
 table-holds = every starred certificates tt

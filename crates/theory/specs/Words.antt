@@ -9,29 +9,25 @@
 --   words-cong          words count modulo n only
 --
 -- Letters: m is n less 1; f, g, q, r, a, b are word lists, p, q sequences of numbers; d, e are sent degrees; k is a place.
-use mathlib.Core.Path.{_≡_, refl, sym, _∙_, ap, ap₂, fun-ext, subst}
+use mathlib.Core.Path.{_≡_, refl, sym, _∙_, ap, ap₂, fun-ext}
 use mathlib.Core.List.{List, [], _∷_}
-use mathlib.Core.Bool.{Bool, true, false, not, cond}
 use Prim.Native.Nat.{ℕ, zero, suc, _<_, _≤_, _%_, _+_ as _+ℕ_, _*_ as _*ℕ_, _-_ as _-ℕ_}
 use native.Mathlib.Decide.{Fin·val-path, decLe}
 use native.Mathlib.Nat.{mod-mod}
 use native.Mathlib.Omega.{arith}
-use lib.Dec.{T, leb, ltb, leb→le, nleb→lt, ltb→lt, nltb→le}
-use lib.IntN.{ℤ, pos, negsuc, negℤ, _+ℤ_, _*ℤ_}
+use lib.IntN.{ℤ, pos, negsuc}
 use lib.ListN.{length, List·getD-eq-default}
 use Rattle.definitions.specs.Polynomials.{coef, deg, total, convolve, tabulate, product, Divided, Multiplied}
-use Rattle.definitions.specs.Resultants.{entry, sylvester, alternating, beside, determinant, residue, resultant}
-use Rattle.algebra.specs.Determinant.{det, minor}
-use Rattle.algebra.specs.Index.{skip}
+use Rattle.definitions.specs.Resultants.{sylvester, determinant, residue, resultant}
+use Rattle.algebra.specs.Determinant.{det}
 use Rattle.algebra.specs.Integers.{ℤ-ring}
 use Rattle.algebra.specs.Reduction.{reduce, reduce-hom}
 use Rattle.algebra.specs.Residues.{Res, toRes, Res-ring}
-use Rattle.algebra.specs.Resultant.{res-mod, shift, shift-low, res, shift-at}
-use Rattle.algebra.specs.Reverse.{rv-hom, rv, rv-at, rv-out}
+use Rattle.algebra.specs.Resultant.{res-mod, res}
+use Rattle.algebra.specs.Reverse.{rv-hom, rv}
 use Rattle.algebra.specs.SentLaws.{Rs}
 use Rattle.algebra.specs.Series.{conv, conv-out}
-use Rattle.algebra.specs.Stack.{up, up-is, stack, stack-top}
-use Rattle.algebra.specs.Sum.{alt}
+use Rattle.theory.specs.ExpansionLaws.{determinant-of, expansion-is}
 
 pub coef-out : (f : List ℕ) (k : ℕ) → deg f < k → coef f k ≡ 0
 coef-out [] zero l = absurd (omega arith)
@@ -57,64 +53,12 @@ whole f k = pos (coef f k)
 abbrev pub words : (m : ℕ) → List ℕ → ℕ → Res m
 words m f k = toRes m (coef f k)
 
-entry-is : (d : ℕ) (f : List ℕ) (i j : ℕ) → entry d f i j ≡ shift ℤ-ring i (rv ℤ-ring d (whole f)) j
-entry-is d f i j = go (leb i j) refl (leb j (i +ℕ d)) refl
-  where
-    go : (s : Bool) → leb i j ≡ s → (t : Bool) → leb j (i +ℕ d) ≡ t
-        → cond s (cond t (pos (coef f (i +ℕ d -ℕ j))) (pos 0)) (pos 0) ≡ shift ℤ-ring i (rv ℤ-ring d (whole f)) j
-    go true h true g =
-        let p = leb→le i j (subst T (sym h) tt) in
-        let q = leb→le j (i +ℕ d) (subst T (sym g) tt) in
-        sym (shift-at ℤ-ring i (rv ℤ-ring d (whole f)) j (j -ℕ i) (omega arith)
-        ∙ rv-at ℤ-ring d (whole f) (j -ℕ i) (i +ℕ d -ℕ j) (omega arith))
-    go true h false g =
-        let p = leb→le i j (subst T (sym h) tt) in
-        let q = nleb→lt j (i +ℕ d) (subst (λ t. T (not t)) (sym g) tt) in
-        sym (shift-at ℤ-ring i (rv ℤ-ring d (whole f)) j (j -ℕ i) (omega arith) ∙ rv-out ℤ-ring d (whole f) (j -ℕ i) (omega arith))
-    go false h true g = sym (shift-low ℤ-ring i j (rv ℤ-ring d (whole f)) (nleb→lt i j (subst (λ t. T (not t)) (sym h) tt)))
-    go false h false g = sym (shift-low ℤ-ring i j (rv ℤ-ring d (whole f)) (nleb→lt i j (subst (λ t. T (not t)) (sym h) tt)))
-
-stack-cond : (e : ℕ) (a b : ℕ → ℕ → ℤ) (r c : ℕ) → cond (ltb r e) (a r c) (b (r -ℕ e) c) ≡ stack e a b r c
-stack-cond e a b r c = go (ltb r e) refl
-  where
-    rest : (e : ℕ) (a b : ℕ → ℕ → ℤ) (r s : ℕ) → e +ℕ s ≡ r → stack e a b r c ≡ b s c
-    rest zero a b r s h = ap (λ (k : ℕ). b k c) (omega arith)
-    rest (suc e) a b zero s h = absurd (omega arith)
-    rest (suc e) a b (suc r) s h = rest e (λ i. a (suc i)) b r s (omega arith)
-
-    go : (t : Bool) → ltb r e ≡ t → cond t (a r c) (b (r -ℕ e) c) ≡ stack e a b r c
-    go true h = sym (ap (λ (v : ℕ → ℤ). v c) (stack-top e a b r (ltb→lt r e (subst T (sym h) tt))))
-    go false h = let l = nltb→le r e (subst (λ t. T (not t)) (sym h) tt) in sym (rest e a b r (r -ℕ e) (omega arith))
-
-beside-is : (i r : ℕ) → beside i r ≡ skip i r
-beside-is zero r = refl
-beside-is (suc i) zero = refl
-beside-is (suc i) (suc r) = ap suc (beside-is i r)
-
-alternating-is : (n : ℕ) (F : ℕ → ℤ) → alternating n F ≡ alt ℤ-ring n F
-alternating-is zero F = refl
-alternating-is (suc n) F = ap (λ (x : ℤ). F zero +ℤ negℤ x) (alternating-is n (λ i. F (suc i)))
-
 -- the reader's determinant is the ring's, over the integers
 pub determinant-is : (n : ℕ) (a : ℕ → ℕ → ℤ) → determinant n a ≡ det ℤ-ring n a
-unfolding determinant det
-determinant-is zero a = refl
-determinant-is (suc n) a =
-    alternating-is (suc n) (λ i. a i 0 *ℤ determinant n (λ r c. a (beside i r) (suc c)))
-    ∙ ap (alt ℤ-ring (suc n)) (fun-ext (λ i. ap (λ (x : ℤ). a i 0 *ℤ x)
-    (ap (determinant n) (fun-ext (λ r. fun-ext (λ c. ap (λ (x : ℕ). a x (suc c)) (beside-is i r)))) ∙ determinant-is n (minor ℤ-ring i a))))
+determinant-is = determinant-of ℤ-ring
 
 pub sylvester-is : (f g : List ℕ) → determinant (deg f +ℕ deg g) (sylvester f g) ≡ Rs ℤ-ring (deg f) (deg g) (whole f) (whole g)
-unfolding res
-sylvester-is f g =
-    determinant-is (deg f +ℕ deg g) (sylvester f g)
-    ∙ ap₂ (λ (k : ℕ) (a : ℕ → ℕ → ℤ). det ℤ-ring k a) (swap (deg f) (deg g) (up-is (deg g) (deg f)))
-    (fun-ext (λ r. fun-ext (λ c.
-    ap₂ (λ x y. cond (ltb r (deg g)) x y) (entry-is (deg f) f r c) (entry-is (deg g) g (r -ℕ deg g) c)
-    ∙ stack-cond (deg g) (λ i. shift ℤ-ring i (rv ℤ-ring (deg f) (whole f))) (λ i. shift ℤ-ring i (rv ℤ-ring (deg g) (whole g))) r c)))
-  where
-    swap : (d e : ℕ) → up e d ≡ e +ℕ d → d +ℕ e ≡ up e d
-    swap d e h = omega arith
+sylvester-is f g = expansion-is ℤ-ring (deg f) (deg g) (whole f) (whole g)
 
 -- the resultant of words is the ring's
 pub resultant-is : (m : ℕ) (f g : List ℕ) → resultant (suc m) f g ≡ Rs (Res-ring m) (deg f) (deg g) (words m f) (words m g) .0

@@ -1,9 +1,10 @@
 // Drawn pairs of polynomials, against another program's numbers (tools/draw_vectors.py).
 //
 // Reads frames of kind 01, one a line, and writes for each the resultant and the reduced resultant, or a line that says what went
-// wrong; what it writes is held to the other program's numbers, both of them in every line. It tries both services on the words of
-// the frame, checks that the cofactors combine f and g to D, that the words beyond L are unchanged and that the working words are
-// zero, and, where d + e is at most 8, that the plain evaluator answers the same.
+// wrong; what it writes is held to the other program's numbers, both of them in every line. It tries the services on the words of
+// the frame, that for D alone too, and checks that the cofactors combine f and g to D, that the words beyond L are unchanged, that the
+// working words are zero, and, where d + e is at most 8, that the plain evaluator answers the same. It tries the cofactors of the
+// resultant likewise: they combine f and g to it, and the words beyond e and d are unchanged.
 use hexadecimal::Reading;
 use libc::STDIN_FILENO;
 use libc::STDOUT_FILENO;
@@ -216,6 +217,95 @@ fn try_resultant(n: u32, f: &[u32], g: &[u32], is_small: bool, work: &mut [u32])
     Tried::Value(a.value)
 }
 
+// Whether f and g are two constants.
+fn constants(f: &[u32], g: &[u32]) -> bool {
+    if f.len() == 1 {
+        return g.len() == 1;
+    }
+    false
+}
+
+// Two constants are refused with 9.
+fn expected_status(f: &[u32], g: &[u32]) -> u32 {
+    if constants(f, g) {
+        return 9;
+    }
+    0
+}
+
+// The resultant x with its cofactors, from a call with marked words.
+fn call_cofactors(
+    n: u32,
+    f: &[u32],
+    g: &[u32],
+    u: &mut [u32],
+    v: &mut [u32],
+    work: &mut [u32],
+    x: u32,
+) -> Tried {
+    fill(work, 0, MARK);
+    fill(u, 0, MARK);
+    fill(v, 0, MARK);
+    let a = cofactor_service::resultant_cofactors(n, f, g, u, v, work);
+    if a.status != expected_status(f, g) {
+        return Tried::Wrong(9);
+    }
+    if a.status != 0 {
+        return Tried::Value(x);
+    }
+    if a.value != x {
+        return Tried::Wrong(10);
+    }
+    if !all_are(work, 0, 0) {
+        return Tried::Wrong(11);
+    }
+    Tried::Value(x)
+}
+
+// The cofactors of the resultant x, of e and d words, where f and g have d + 1 and e + 1.
+fn try_multipliers(n: u32, f: &[u32], g: &[u32], u: &mut [u32], v: &mut [u32], x: u32) -> Tried
+    requires { ⌜ 1 ≤ n ⌝ }
+{
+    if constants(f, g) {
+        return Tried::Value(x);
+    }
+    if f.len() < 1 {
+        return Tried::Wrong(12);
+    }
+    if g.len() < 1 {
+        return Tried::Wrong(12);
+    }
+    if !all_are(u, g.len() - 1, MARK) {
+        return Tried::Wrong(13);
+    }
+    if !all_are(v, f.len() - 1, MARK) {
+        return Tried::Wrong(13);
+    }
+    fill(u, g.len() - 1, 0);
+    fill(v, f.len() - 1, 0);
+    if !combines(n, f, g, u, v, x, 97) {
+        return Tried::Wrong(14);
+    }
+    Tried::Value(x)
+}
+
+fn try_resultant_cofactors(
+    n: u32,
+    f: &[u32],
+    g: &[u32],
+    u: &mut [u32],
+    v: &mut [u32],
+    work: &mut [u32],
+    x: u32,
+) -> Tried
+    requires { ⌜ 1 ≤ n ⌝ }
+{
+    match call_cofactors(n, f, g, u, v, work, x) {
+        Tried::Value(r) => try_multipliers(n, f, g, u, v, r),
+        Tried::Wrong(place) => Tried::Wrong(place),
+    }
+}
+
 // D, from a call with marked words.
 fn try_call(n: u32, f: &[u32], g: &[u32], u: &mut [u32], v: &mut [u32], work: &mut [u32]) -> Tried {
     fill(work, 0, MARK);
@@ -277,6 +367,40 @@ fn try_reduced(
     }
 }
 
+// D alone: the service without cofactors answers d too.
+fn try_divisor(n: u32, f: &[u32], g: &[u32], d: u32, work: &mut [u32]) -> Tried {
+    fill(work, 0, MARK);
+    let a = divisor_service::divisor(n, f, g, work);
+    if a.status != 0 {
+        return Tried::Wrong(9);
+    }
+    if !all_are(work, 0, 0) {
+        return Tried::Wrong(10);
+    }
+    if a.value != d {
+        return Tried::Wrong(11);
+    }
+    Tried::Value(d)
+}
+
+// D with its cofactors, and D alone.
+fn try_both(
+    n: u32,
+    f: &[u32],
+    g: &[u32],
+    l: usize,
+    u: &mut [u32],
+    v: &mut [u32],
+    work: &mut [u32],
+) -> Tried
+    requires { ⌜ 1 ≤ n ⌝ }
+{
+    match try_reduced(n, f, g, l, u, v, work) {
+        Tried::Value(d) => try_divisor(n, f, g, d, work),
+        Tried::Wrong(place) => Tried::Wrong(place),
+    }
+}
+
 // Eight digits.
 fn write_word(x: u32) {
     let mut out = io::buffer();
@@ -310,7 +434,7 @@ fn finish_pair(r: u32, j: Job, f: &[u32], g: &[u32], u: &mut [u32], v: &mut [u32
     requires { ⌜ (1 ≤ j .n) × (j .larger ≤ 48) ⌝ }
 {
     let l = cofactor_words(j.n, j.larger);
-    match try_reduced(j.n, f, g, l, u, v, work) {
+    match try_both(j.n, f, g, l, u, v, work) {
         Tried::Value(d) => {
             write_numbers(r, d);
         }
@@ -320,10 +444,28 @@ fn finish_pair(r: u32, j: Job, f: &[u32], g: &[u32], u: &mut [u32], v: &mut [u32
     }
 }
 
+// The resultant, alone and with its cofactors.
+fn try_value(
+    n: u32,
+    f: &[u32],
+    g: &[u32],
+    is_small: bool,
+    u: &mut [u32],
+    v: &mut [u32],
+    work: &mut [u32],
+) -> Tried
+    requires { ⌜ 1 ≤ n ⌝ }
+{
+    match try_resultant(n, f, g, is_small, work) {
+        Tried::Value(r) => try_resultant_cofactors(n, f, g, u, v, work, r),
+        Tried::Wrong(place) => Tried::Wrong(place),
+    }
+}
+
 fn try_pair(j: Job, f: &[u32], g: &[u32], u: &mut [u32], v: &mut [u32], work: &mut [u32])
     requires { ⌜ (1 ≤ j .n) × (j .larger ≤ 48) ⌝ }
 {
-    match try_resultant(j.n, f, g, j.is_small, work) {
+    match try_value(j.n, f, g, j.is_small, u, v, work) {
         Tried::Value(r) => {
             finish_pair(r, j, f, g, u, v, work);
         }

@@ -1,7 +1,7 @@
 -- The rounds of `unit_times_monic`, on the words of its buffer: f at 0, H at d + 1, the room at d + 1 + (t + 1).
 --
 --   ready, round, round-one what `divide_copy` asks of the division, and what comes of it
---   Held                    what the loop keeps of the buffer
+--   RoundHolds                    what the loop keeps of the buffer
 --   enter, again, leave     the loop's first turn, a turn, and its end
 use mathlib.Core.Path.{_≡_, sym, ap, ap₂, subst, fun-ext, _∙_}
 use mathlib.Core.List.{List}
@@ -85,14 +85,14 @@ module _ (n d t : ℕ) (w w2 : List ℕ) (td : t ≤ d) (fits : d + 1 + (t + 1 +
 
 -- ---- what the loop keeps of the buffer: f is F, H is monic and near
 
-pub record Held (n d t k i : ℕ) (F w : List ℕ) : Type 0 where
+pub record RoundHolds (n d t k i : ℕ) (F w : List ℕ) : Type 0 where
   pub poly : piece w 0 (d + 1) ≡ F
   pub small : Below n 0 (d + 1) w
   pub lead : getD w (d + 1 + t) 0 ≡ 1
   pub below : Below n (d + 1) (t + 1) w
   pub near : Near n d t k i (coef F) (coef (piece w (d + 1) (t + 1)))
 
-pub held-less : {n d t k i : ℕ} {F w : List ℕ} → 0 < n → Held n d t k i F w → k < n
+pub held-less : {n d t k i : ℕ} {F w : List ℕ} → 0 < n → RoundHolds n d t k i F w → k < n
 held-less pos x = let a = x .near .more in let b = le-of-dvd pos (x .near .divides) in omega arith
 
 monic-piece : (n a t : ℕ) (w : List ℕ) → getD w (a + t) 0 ≡ 1 → MonicAt n t (coef (piece w a (t + 1)))
@@ -104,7 +104,7 @@ monic-piece n a t w e = record {
 
 pub held-start : (n d t i : ℕ) (w w' : List ℕ) → 2 ≤ n → t ≤ d → d + 1 + (t + 1 + (d + 1)) ≤ length w → Given n d t i w
     → Moved (mulBy n i) 0 (d + 1) (t + 1) w w'
-    → Held n d t 0 i (piece w 0 (d + 1)) w'
+    → RoundHolds n d t 0 i (piece w 0 (d + 1)) w'
 held-start n d t i w w' two td fits g mv =
     let low : (k : ℕ) → k < d + 1 → getD w' (0 + k) 0 ≡ getD w (0 + k) 0 = λ k l. mv .low (0 + k) (omega arith) in
     let word : (j : ℕ) → j < t + 1 → getD w' (d + 1 + j) 0 ≡ (i * coef (piece w 0 (d + 1)) j) % n =
@@ -123,7 +123,7 @@ held-start n d t i w w' two td fits g mv =
 
 module _ (n d t k i : ℕ) (F w w' : List ℕ) (two : 2 ≤ n) (td : t ≤ d) (fits : d + 1 + (t + 1 + (d + 1)) ≤ length w)
     (unit : (i * coef F t) % n ≡ 1 % n)
-    (radical : (j : ℕ) → t < j → InRadical n (coef F j)) (x : Held n d t k i F w) (r : Round n d t w w') where
+    (radical : (j : ℕ) → t < j → InRadical n (coef F j)) (x : RoundHolds n d t k i F w) (r : Round n d t w w') where
   H : List ℕ
   H = piece w (d + 1) (t + 1)
 
@@ -194,7 +194,7 @@ module _ (n d t k i : ℕ) (F w w' : List ℕ) (two : 2 ≤ n) (td : t ≤ d) (f
   }
 
   pub held-next : (z : ℕ) (w4 : List ℕ) → z < t → (getD w' (d + 1 + (t + 1) + z) 0 ≡ 0 → ⊥)
-      → Moved (addMul n i) (d + 1 + (t + 1)) (d + 1) t w' w4 → Held n d t (k + 1) i F w4
+      → Moved (addMul n i) (d + 1 + (t + 1)) (d + 1) t w' w4 → RoundHolds n d t (k + 1) i F w4
   unfolding H R
   held-next z w4 zt nz mv =
       let lead : getD w4 (d + 1 + t) 0 ≡ 1 = mv .high (d + 1 + t) (omega arith) ∙ r .around .low (d + 1 + t) (omega arith) ∙ x .lead in
@@ -253,17 +253,17 @@ module _ (v m t r : ℕ) (w : List ℕ) (em : m ≡ t) (fits : v + t ≤ length 
 
 module _ (n d t i : ℕ) (w w0 : List ℕ) (two : 2 ≤ n) (td : t ≤ d) (fits : d + 1 + (t + 1 + (d + 1)) ≤ length w) (g : Given n d t i w)
     (sc : Moved (mulBy n i) 0 (d + 1) (t + 1) w w0) where
-  begun : Held n d t 0 i (piece w 0 (d + 1)) w0
+  begun : RoundHolds n d t 0 i (piece w 0 (d + 1)) w0
   begun = held-start n d t i w w0 two td fits g sc
 
   same-given : piece w0 0 (d + 1) ≡ piece w 0 (d + 1)
   same-given = begun .poly
 
   abbrev pub Loop : ℕ → List ℕ → Type 0
-  Loop k w1 = Around (d + 1) (t + 1 + (d + 1)) w0 w1 × Held n d t k i (piece w0 0 (d + 1)) w1
+  Loop k w1 = Around (d + 1) (t + 1 + (d + 1)) w0 w1 × RoundHolds n d t k i (piece w0 0 (d + 1)) w1
 
   pub enter : Loop 0 w0
-  enter = (around-none _ _ w0, subst (λ (F : List ℕ). Held n d t 0 i F w0) (sym same-given) begun)
+  enter = (around-none _ _ w0, subst (λ (F : List ℕ). RoundHolds n d t 0 i F w0) (sym same-given) begun)
 
   unit : (i * coef (piece w0 0 (d + 1)) t) % n ≡ 1 % n
   unit = ap (λ (F : List ℕ). (i * coef F t) % n) same-given ∙ g .unit

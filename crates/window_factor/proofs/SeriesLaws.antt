@@ -1,6 +1,6 @@
 -- The series of a unit polynomial ends: word j is a multiple of the j/k-th power of a nilpotent number, and the K-th is 0.
 --
---   Multiple n m a         a is a multiple of m modulo n
+--   SeriesMultiple n m a         a is a multiple of m modulo n
 --   common-of              a number in the radical of n that divides some given ones of the radical
 --   SeriesInverse          Y U is the constant s U_0, and the words of Y beyond (K - 1) k are 0
 --   series-exact           so it is for a unit polynomial U of degree k, if Y has more than (K - 1) k words
@@ -25,27 +25,27 @@ use Rattle.window_factor.specs.Factors.{Series}
 
 -- ---- multiples modulo n
 
-pub record Multiple (n m a : ℕ) : Type 0 where
+pub record SeriesMultiple (n m a : ℕ) : Type 0 where
   pub times : ℕ
   pub is : Cong n a (m * times)
 
-multiple-zero : (n m : ℕ) → Multiple n m 0
+multiple-zero : (n m : ℕ) → SeriesMultiple n m 0
 multiple-zero n m = record { times = 0; is = c-eq (sym (mul-zero m)) }
 
-multiple-all : (n ρ a : ℕ) → Multiple n (ρ ^ 0) a
+multiple-all : (n ρ a : ℕ) → SeriesMultiple n (ρ ^ 0) a
 multiple-all n ρ a = record { times = a; is = c-eq (sym (one-mul a) ∙ ap (λ (x : ℕ). x * a) (sym (pow-zero ρ))) }
 
-multiple-add : {n m a b : ℕ} → Multiple n m a → Multiple n m b → Multiple n m (a + b)
+multiple-add : {n m a b : ℕ} → SeriesMultiple n m a → SeriesMultiple n m b → SeriesMultiple n m (a + b)
 multiple-add {n} {m} x y = record { times = x .times + y .times; is = c-trans (c-add (x .is) (y .is)) (c-eq (omega arith)) }
 
-multiple-scale : {n m a : ℕ} (c : ℕ) → Multiple n m a → Multiple n m (c * a)
+multiple-scale : {n m a : ℕ} (c : ℕ) → SeriesMultiple n m a → SeriesMultiple n m (c * a)
 multiple-scale {n} {m} {a} c x = record { times = c * x .times; is = c-trans (c-mul (c-refl {a = c}) (x .is)) (c-eq (simp ring)) }
 
-multiple-same : {n m a b : ℕ} → Cong n a b → Multiple n m b → Multiple n m a
+multiple-same : {n m a b : ℕ} → Cong n a b → SeriesMultiple n m b → SeriesMultiple n m a
 multiple-same c x = record { times = x .times; is = c-trans c (x .is) }
 
 -- one factor ρ more
-multiple-more : {n a : ℕ} (ρ u c : ℕ) → ρ ∣ u → Multiple n (ρ ^ c) a → Multiple n (ρ ^ suc c) (u * a)
+multiple-more : {n a : ℕ} (ρ u c : ℕ) → ρ ∣ u → SeriesMultiple n (ρ ^ c) a → SeriesMultiple n (ρ ^ suc c) (u * a)
 multiple-more {n} {a} ρ u c d x =
     let e : ρ * (u / ρ) ≡ u = mul-div-cancel' ρ d in
     record {
@@ -55,12 +55,12 @@ multiple-more {n} {a} ρ u c d x =
           ∙ ap (λ (y : ℕ). y * (u / ρ * x .times)) (sym (pow-suc ρ c))));
     }
 
-multiple-total : {n m : ℕ} (l : ℕ) (F : ℕ → ℕ) → ((i : ℕ) → i < l → Multiple n m (F i)) → Multiple n m (total l F)
+multiple-total : {n m : ℕ} (l : ℕ) (F : ℕ → ℕ) → ((i : ℕ) → i < l → SeriesMultiple n m (F i)) → SeriesMultiple n m (total l F)
 multiple-total {n} {m} zero F h = multiple-zero n m
 multiple-total (suc l) F h = multiple-add (h 0 (omega arith)) (multiple-total l (λ i. F (suc i)) (λ i b. h (suc i) (omega arith)))
 
 -- a multiple of what n divides is 0
-multiple-none : {n m a : ℕ} → n ∣ m → Multiple n m a → Cong n a 0
+multiple-none : {n m a : ℕ} → n ∣ m → SeriesMultiple n m a → Cong n a 0
 multiple-none {n} {m} {a} d x = c-trans (x .is) (c-trans (c-mul (c-zero d) (c-refl {a = x .times})) (c-eq (zero-mul (x .times))))
 
 -- ---- a number of the radical that divides m given numbers of the radical
@@ -104,22 +104,22 @@ module _ (n k s i len : ℕ) (U Y : ℕ → ℕ) (two : 2 ≤ n) (unit : Cong n 
           (c-trans (c-eq (sym (more (n - 1) (omega arith)))) (c-trans (c-add c (c-refl {a = (n - 1) * t})) (c-eq (zero-add _))))
 
   -- a term of the recurrence
-  term : (c h x : ℕ) → x < suc h → ((c * k < h - x + k) → Multiple n (ρ ^ c) (Y (h - x))) → c * k ≤ h → Dec (x < k)
-      → Multiple n (ρ ^ suc c) (U (suc x) * Y (h - x))
+  term : (c h x : ℕ) → x < suc h → ((c * k < h - x + k) → SeriesMultiple n (ρ ^ c) (Y (h - x))) → c * k ≤ h → Dec (x < k)
+      → SeriesMultiple n (ρ ^ suc c) (U (suc x) * Y (h - x))
   term c h x l ih b (yes d) = multiple-more ρ (U (suc x)) c (divides x d) (ih (omega arith))
   term c h x l ih b (no d) = multiple-same (c-eq (ap (λ (y : ℕ). y * Y (h - x)) (deg (suc x) (omega arith)) ∙ zero-mul (Y (h - x))))
       (multiple-zero n (ρ ^ suc c))
 
-  inside : (c h : ℕ) → c * k ≤ h → suc h < len → ((j : ℕ) → j ≤ h → c * k < j + k → Multiple n (ρ ^ c) (Y j))
-      → Multiple n (ρ ^ suc c) (Y (suc h))
+  inside : (c h : ℕ) → c * k ≤ h → suc h < len → ((j : ℕ) → j ≤ h → c * k < j + k → SeriesMultiple n (ρ ^ c) (Y j))
+      → SeriesMultiple n (ρ ^ suc c) (Y (suc h))
   inside c h b l ih =
       let t : ℕ = convolve (λ x. U (suc x)) Y h in
-      let sum : Multiple n (ρ ^ suc c) t = multiple-total (suc h) (λ x. U (suc x) * Y (h - x))
+      let sum : SeriesMultiple n (ρ ^ suc c) t = multiple-total (suc h) (λ x. U (suc x) * Y (h - x))
       (λ x q. term c h x q (ih (h - x) (omega arith)) b (decLt x k)) in
       multiple-same (solved (Y (suc h)) t (c-trans (c-eq (sym (convolve-comm Y U (suc h) ∙ convolve-suc U Y h))) (eq (suc h) l)))
       (multiple-scale (i * (n - 1)) sum)
 
-  power-at : (b j c : ℕ) → j < b → c * k < j + k → Multiple n (ρ ^ c) (Y j)
+  power-at : (b j c : ℕ) → j < b → c * k < j + k → SeriesMultiple n (ρ ^ c) (Y j)
   power-at zero j c l h = absurd (omega arith)
   power-at (suc b) j zero l h = multiple-all n ρ (Y j)
   power-at (suc b) zero (suc c) l h = absurd (omega arith)
@@ -129,7 +129,7 @@ module _ (n k s i len : ℕ) (U Y : ℕ → ℕ) (two : 2 ≤ n) (unit : Cong n 
       (λ q. multiple-same (c-eq (over (suc j) q)) (multiple-zero n (ρ ^ suc c)))
       (lt-or-le (suc j) len)
 
-  word-power : (j c : ℕ) → c * k < j + k → Multiple n (ρ ^ c) (Y j)
+  word-power : (j c : ℕ) → c * k < j + k → SeriesMultiple n (ρ ^ c) (Y j)
   word-power j c h = power-at (suc j) j c (omega arith) h
 
   none : n ∣ ρ ^ K n
@@ -144,7 +144,7 @@ module _ (n k s i len : ℕ) (U Y : ℕ → ℕ) (two : 2 ≤ n) (unit : Cong n 
   zeros-mod j l = multiple-none none (word-power j (K n) (omega (arith, split (K n) (K-positive n two))))
 
   -- beyond the words of Y
-  far : (j x : ℕ) → len ≤ j → (K n - 1) * k < j → x < suc j → Multiple n (ρ ^ K n) (Y x * U (j - x))
+  far : (j x : ℕ) → len ≤ j → (K n - 1) * k < j → x < suc j → SeriesMultiple n (ρ ^ K n) (Y x * U (j - x))
   far j x b l h =
       ⊎-elim
       (λ p. multiple-same (c-eq (ap (λ (y : ℕ). y * U (j - x)) (over x p) ∙ zero-mul (U (j - x)))) (multiple-zero n (ρ ^ K n)))
@@ -153,7 +153,7 @@ module _ (n k s i len : ℕ) (U Y : ℕ → ℕ) (two : 2 ≤ n) (unit : Cong n 
       (λ q.
       let e : suc (K n - 1) ≡ K n = omega (arith, K-positive n two) in
       let y : j - x ≡ suc (j - x - 1) = omega arith in
-      subst (λ (z : ℕ). Multiple n (ρ ^ z) (Y x * U (j - x))) e
+      subst (λ (z : ℕ). SeriesMultiple n (ρ ^ z) (Y x * U (j - x))) e
       (multiple-same (c-eq (mul-comm (Y x) (U (j - x))))
       (multiple-more ρ (U (j - x)) (K n - 1) (subst (λ (z : ℕ). ρ ∣ U z) (sym y) (divides (j - x - 1) (omega arith)))
       (word-power x (K n - 1) (omega arith)))))

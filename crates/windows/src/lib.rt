@@ -4,11 +4,14 @@
 //   divide_words, reduce_words, clear, wipe             words made of themselves, or zeros
 //   residue, load                                       words of a lent polynomial, as residues
 //   zeros, content                                      what a polynomial's words have in front, and in common
+//
+// The loops that reduce a word find the reciprocal of n once and divide no more. Where such a loop tests a residue against n, the
+// test fails always: it keeps the back end from vector code, which has no upper half of a product.
 ghost use mathlib.Core.Path.{_≡_};
 ghost use Prim.Native.Nat.{_+_, _-_, _%_, _<_, _≤_};
 ghost use lib.ListN.{length, replicate};
 ghost use Rattle.windows.specs.Window.{Moved, Clear, addMul, mulBy, second, quotient-by, reduced-by};
-ghost use Rattle.windows.specs.Window.{zeroed, Paired, Apart, Below, Zeros, Content, Reversed, Loaded};
+ghost use Rattle.windows.specs.Window.{zeroed, PairAsked, Paired, Apart, Zeros, Content, Reversed, Loaded};
 
 // w[dst + j] += c * w[src + j], for j < len.
 pub fn add_scaled(w: &mut [u32], n: u32, c: u32, src: usize, dst: usize, len: usize)
@@ -16,9 +19,14 @@ pub fn add_scaled(w: &mut [u32], n: u32, c: u32, src: usize, dst: usize, len: us
     requires { ⌜ Clear src dst len ⌝ }
     ensures { λ _. ⌜ Moved (addMul n c) src dst len (now (w .entry)) (now (w .exit)) ⌝ }
 {
+    let m = reduction::modulus_of(n);
     let mut j: usize = 0;
     while j < len {
-        w[dst + j] = arithmetic::mul_add_mod(n, w[dst + j], c, w[src + j]);
+        let r = reduction::add_product(m, w[dst + j], c, w[src + j]);
+        if r >= n {
+            return;
+        }
+        w[dst + j] = r;
         j += 1;
     }
 }
@@ -29,9 +37,14 @@ pub fn scale(w: &mut [u32], n: u32, c: u32, src: usize, dst: usize, len: usize)
     requires { ⌜ Clear src dst len ⌝ }
     ensures { λ _. ⌜ Moved (mulBy n c) src dst len (now (w .entry)) (now (w .exit)) ⌝ }
 {
+    let m = reduction::modulus_of(n);
     let mut j: usize = 0;
     while j < len {
-        w[dst + j] = arithmetic::mul_mod(n, c, w[src + j]);
+        let r = reduction::product(m, c, w[src + j]);
+        if r >= n {
+            return;
+        }
+        w[dst + j] = r;
         j += 1;
     }
 }
@@ -65,15 +78,19 @@ pub fn zeros(s: &[u32]) -> usize
 
 // w[dst + j] += c * w[src + j - 1] + m * w[src + j], for j < len, one reduction a word; the word before the first counts as 0.
 pub fn add_pair(w: &mut [u32], n: u32, c: u32, m: u32, src: usize, dst: usize, len: usize)
-    requires { ⌜ (1 ≤ n) × ((m ≤ n) × ((src + len ≤ length (now w)) × (dst + len ≤ length (now w)))) ⌝ }
-    requires { ⌜ (Apart src len dst len) × (Below n dst len (now w)) ⌝ }
+    requires { ⌜ PairAsked n m src dst len (now w) ⌝ }
     ensures { λ _. ⌜ Paired n c m src dst len (now (w .entry)) (now (w .exit)) ⌝ }
 {
+    let modulus = reduction::modulus_of(n);
     let mut j: usize = 0;
     let mut y: u32 = 0;
     while j < len {
         let z = w[src + j];
-        w[dst + j] = arithmetic::sum_two(n, w[dst + j], c, y, m, z);
+        let r = reduction::sum_two(modulus, w[dst + j], c, y, m, z);
+        if r >= n {
+            return;
+        }
+        w[dst + j] = r;
         y = z;
         j += 1;
     }
@@ -113,9 +130,14 @@ pub fn reduce_words(w: &mut [u32], n: u32, at: usize, len: usize)
     requires { ⌜ (1 ≤ n) × (at + len ≤ length (now w)) ⌝ }
     ensures { λ _. ⌜ Moved (reduced-by n) at at len (now (w .entry)) (now (w .exit)) ⌝ }
 {
+    let m = reduction::modulus_of(n);
     let mut j: usize = 0;
     while j < len {
-        w[at + j] = w[at + j] % n;
+        let r = reduction::product(m, w[at + j], 1);
+        if r >= n {
+            return;
+        }
+        w[at + j] = r;
         j += 1;
     }
 }

@@ -1,8 +1,8 @@
 use borrow.Author.Tests.{not-true, not-false}
-use borrow.Author.Needs.{needs}
 use Prim.Native.Nat.{_+_}
 use native.Mathlib.Omega.{arith}
-use Rattle.frames.proofs.Answering.{room, head-fields, head-other, count-most, wrote-refused, words-refused, handed, wrote-answered}
+use Rattle.frames.proofs.Answering.{room, head-fields, head-other, count-most, wrote-refused, words-refused, lent-some, lent-handed, wrote-answered}
+use borrow.Author.Needs.{needs}
 use Rattle.frames.proofs.answer.Statement.{statement}
 use Rattle.frames.proofs.answer.Tie as tie
 
@@ -56,57 +56,41 @@ read-words-requires c κs =
     (at-read-head .read-head .ensures) in
     (h .fits, count-most h)
 
+part-words-end-2 : tie.Need-part-words-end-2
+part-words-end-2 c = room 98 (c .before .before .read-words .last .1 .0) (c .before .before .read-words .kept .1 .0) (omega arith)
+
 returns-2 : tie.Need-returns-2
 returns-2 c =
-    let at-if1 = c .before .before .before .before in
-    let at-if1 = at-if1 in
-    let at-read-words = at-if1 .before .before in
-    let at-kind = at-read-words .before .before .before in
-    let at-read-head = at-kind .before .before in
-    let start = at-read-head .before .before .before .before in
-    wrote-refused (start .args .s .now) (start .args .at) (words-refused (head-fields (start .args .s .now) (at-kind .kind .given .0 .0)
-    (at-kind .kind .given .0 .1 .0) (at-kind .kind .given .0 .1 .1 .0) (at-kind .kind .given .0 .1 .1 .1 .0) (at-kind .kind .given .1)
-    (at-read-head .read-head .ensures)) (at-read-words .read-words .ensures) (not-true _ (at-if1 .if1 .taken)))
+    let start = c .before .before .before .before .before .before .before .before .before .before .before .before .before .before .before .before .before .before in
+    let k = c .before .before .before .before .before .before .before .before .before .before .before .before .kind .given in
+    let h = head-fields (start .args .s .now) (k .0 .0) (k .0 .1 .0) (k .0 .1 .1 .0) (k .0 .1 .1 .1 .0) (k .1) (c .before .before .before .before .before .before .before .before .before .before .before .before .before .before .read-head .ensures) in
+    wrote-refused (start .args .s .now) (start .args .at) (words-refused h (c .before .before .before .before .before .before .before .before .before .read-words .ensures) (not-true _ (c .before .before .before .before .before .before .before .if1 .taken)))
     (c .before .before .write-line2 .ensures)
 
-part-serve-end : tie.Need-part-serve-end
-part-serve-end c =
-    let at-read-words = c .before .before .before in
-    let at-read-words = at-read-words in
-    let at-kind = at-read-words .before .before .before in
-    let at-read-head = at-kind .before .before in
-    let start = at-read-head .before .before .before .before in
-    let h = head-fields (start .args .s .now) (at-kind .kind .given .0 .0) (at-kind .kind .given .0 .1 .0)
-    (at-kind .kind .given .0 .1 .1 .0) (at-kind .kind .given .0 .1 .1 .1 .0) (at-kind .kind .given .1) (at-read-head .read-head .ensures)
-    in
-    room (at-kind .kind .given .0 .1 .1 .0 + 1 + (at-kind .kind .given .0 .1 .1 .1 .0 + 1)) (at-read-words .read-words .last .1 .0)
-    (at-read-words .read-words .kept .1 .0) (count-most h)
+part-words-end-3 : tie.Need-part-words-end-3
+part-words-end-3 c = room 98 (c .before .before .read-words .last .1 .0) (c .before .before .read-words .kept .1 .0) (omega arith)
 
-serve-requires : tie.Need-serve-requires
-serve-requires c κs =
-    let at-kind = c .before .before .before .before .before .before .before .before in
-    let at-read-head = at-kind .before .before in
-    let start = at-read-head .before .before .before .before in
-    let h = head-fields (start .args .s .now) (at-kind .kind .given .0 .0) (at-kind .kind .given .0 .1 .0)
-    (at-kind .kind .given .0 .1 .1 .0) (at-kind .kind .given .0 .1 .1 .1 .0) (at-kind .kind .given .1) (at-read-head .read-head .ensures)
-    in
-    (h .known .0, (search needs, search needs))
+serve-once-requires : tie.Need-serve-once-requires
+serve-once-requires c κs =
+    let start = c .before .before .before .before .before .before .before .before .before .before .before .before .before in
+    let k = c .before .before .before .before .before .before .before .kind .given in
+    let h = head-fields (start .args .s .now) (k .0 .0) (k .0 .1 .0) (k .0 .1 .1 .0) (k .0 .1 .1 .1 .0) (k .1) (c .before .before .before .before .before .before .before .before .before .read-head .ensures) in
+    record {
+      known = h .known .0;
+      first = omega arith;
+      some = lent-some (k .0 .1 .1 .0 + 1 + (k .0 .1 .1 .1 .0 + 1)) (c .before .before .before .before .read-words .last .1 .0) (c .before .before .before .before .read-words .kept .1 .0) (count-most h);
+      working = start .pre .1;
+    }
 
 returns-3 : tie.Need-returns-3
 returns-3 c =
-    let at-serve = c .before .before .before .before .before .before in
-    let at-serve = at-serve in
-    let at-if1 = at-serve .before .before .before .before in
-    let at-read-words = at-if1 .before .before in
-    let at-kind = at-read-words .before .before .before in
-    let at-read-head = at-kind .before .before in
-    let start = at-read-head .before .before .before .before in
-    wrote-answered (start .args .s .now) (start .args .at) _ (at-serve .serve .result .status) (at-serve .serve .result .value)
-    (head-fields (start .args .s .now) (at-kind .kind .given .0 .0) (at-kind .kind .given .0 .1 .0) (at-kind .kind .given .0 .1 .1 .0)
-    (at-kind .kind .given .0 .1 .1 .1 .0) (at-kind .kind .given .1) (at-read-head .read-head .ensures))
-    (at-read-words .read-words .ensures) (not-false _ (at-if1 .if1 .left))
-    (handed (at-kind .kind .given .0 .1 .1 .0 + 1 + (at-kind .kind .given .0 .1 .1 .1 .0 + 1)) (at-read-words .read-words .last .1 .0))
-    (at-serve .serve .ensures) (c .before .before .write-line3 .ensures)
+    let start = c .before .before .before .before .before .before .before .before .before .before .before .before .before .before .before .before .before .before .before .before .before in
+    let k = c .before .before .before .before .before .before .before .before .before .before .before .before .before .before .before .kind .given in
+    let h = head-fields (start .args .s .now) (k .0 .0) (k .0 .1 .0) (k .0 .1 .1 .0) (k .0 .1 .1 .1 .0) (k .1) (c .before .before .before .before .before .before .before .before .before .before .before .before .before .before .before .before .before .read-head .ensures) in
+    wrote-answered (start .args .s .now) (start .args .at) _ (c .before .before .before .before .before .before .before .serve-once .result .status) (c .before .before .before .before .before .before .before .serve-once .result .value)
+    h (c .before .before .before .before .before .before .before .before .before .before .before .before .read-words .ensures) (not-false _ (c .before .before .before .before .before .before .before .before .before .before .if1 .left))
+    (lent-handed (k .0 .1 .1 .0 + 1 + (k .0 .1 .1 .1 .0 + 1)) (c .before .before .before .before .before .before .before .before .before .before .before .before .read-words .last .1 .0) (c .before .before .before .before .before .before .before .before .before .before .before .before .read-words .kept .1 .0))
+    (c .before .before .before .before .before .before .before .serve-once .ensures .0) (c .before .before .write-line3 .ensures)
 
 pub answer-spec : {M : Type 1} → statement M
 answer-spec =
@@ -125,13 +109,17 @@ answer-spec =
     (λ c. search needs)
     (λ c. search needs)
     read-words-requires
+    (λ c. search needs)
+    (λ c. search needs)
+    part-words-end-2
+    (λ c κs. search needs)
     (λ c κs. search needs)
     (λ c. search needs)
     returns-2
     (λ c. search needs)
     (λ c. search needs)
-    part-serve-end
-    serve-requires
+    part-words-end-3
+    serve-once-requires
     (λ c κs. search needs)
     (λ c. search needs)
     (λ c. search needs)

@@ -18,19 +18,15 @@ returns-2 c =
     (sym (at-job-refusal .job-refusal .ensures) ∙ at-if2 .before .if1 .left) (search needs) (search needs)
     (c .before .before .resultant .ensures)
 
-slice-aggregate-reduced-resultant-2 :
-    tie.Need-slice-aggregate-reduced-resultant-2
-slice-aggregate-reduced-resultant-2 c = search needs
-
 returns-3 : tie.Need-returns-3
 returns-3 c =
-    let at-reduced-resultant = c .before .before .before .before in
-    let at-if2 = at-reduced-resultant .before .before .before .before .before .before in
+    let at-divisor = c .before .before in
+    let at-if2 = at-divisor .before .before in
     let at-job-refusal = at-if2 .before .before in
     let start = at-job-refusal .before .before .before .before .before in
     served-reduced (start .args .kind) (start .args .d) (start .args .words .now)
     (sym (at-job-refusal .job-refusal .ensures) ∙ at-if2 .before .if1 .left) (at-if2 .if2 .left) (search needs) (search needs)
-    (search needs) (search needs) (search needs) (at-reduced-resultant .reduced-resultant .ensures)
+    (at-divisor .divisor .ensures)
 
 pub serve-spec : {M : Type 1} → statement M
 serve-spec =
@@ -50,10 +46,6 @@ serve-spec =
     (λ c κs. search needs)
     (λ c. search needs)
     returns-2
-    (λ c κs. search needs)
-    (λ c κs. search needs)
-    (λ c. search needs)
-    slice-aggregate-reduced-resultant-2
     (λ c κs. search needs)
     (λ c. search needs)
     returns-3)

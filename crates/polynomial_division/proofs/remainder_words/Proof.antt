@@ -1,39 +1,38 @@
-use Rattle.polynomial_division.proofs.Quotients.{remainder-made}
+use Rattle.polynomial_division.proofs.Quotients.{remainder-made, difference-modulo}
 use borrow.Author.Needs.{needs}
-use mathlib.Core.Path.{sym, subst}
 use Prim.Native.Nat.{ℕ, _-_, _≤_}
 use native.Mathlib.Omega.{arith}
 use lib.ListN.{length}
-use native.Mathlib.Nat.{mod-lt, le-of-lt}
 use Rattle.definitions.specs.Polynomials.{coef, convolve}
+use Rattle.reduction.proofs.Reciprocals.{modulo, within}
 use Rattle.polynomial_division.specs.Stages.{difference}
 use Rattle.polynomial_tests.specs.Buffers.{Filled, filled-none, filled-step, filled-end}
 use Rattle.polynomial_division.proofs.remainder_words.Statement.{statement}
 use Rattle.polynomial_division.proofs.remainder_words.Tie as tie
 
 abbrev Inv-loop : tie.InvT-loop
-Inv-loop n f g q r₀ k₀ r k = (k ≤ length r₀) × Filled (λ (i : ℕ). difference n (coef f i) (convolve (coef q) (coef g) i)) k r₀ r
+Inv-loop n f g q r₀ m k₀ r k = (k ≤ length r₀) × Filled (λ (i : ℕ). difference n (coef f i) (convolve (coef q) (coef g) i)) k r₀ r
 
 abbrev μ-loop : tie.MeasureT-loop
-μ-loop n f g q r₀ k₀ r k = length r₀ - k
+μ-loop n f g q r₀ m k₀ r k = length r₀ - k
 
 loop-holds : tie.Need-loop-holds Inv-loop μ-loop
 loop-holds c = (omega arith, filled-none _ _)
 
-product-word-requires : tie.Need-product-word-requires Inv-loop μ-loop
-product-word-requires c κs = c .before .before .before .before .before .before .pre
+product-word-by-requires : tie.Need-product-word-by-requires Inv-loop μ-loop
+product-word-by-requires c κs = c .before .before .modulus-of .ensures .0
 
-sub-mod-requires : tie.Need-sub-mod-requires Inv-loop μ-loop
-sub-mod-requires c κs = let s = c .before .before .before .before .before .before .before .before in
-    (s .pre .0, subst (λ (y : ℕ). y ≤ s .args .n) (sym (c .before .product-word .ensures)) (le-of-lt (mod-lt _ (s .pre .0))))
+difference-requires : tie.Need-difference-requires Inv-loop μ-loop
+difference-requires c κs = let k = c .before .before .before .before .modulus-of .ensures .0 in (k, within _ (k .pos) (c .before .product-word-by .ensures))
 
 loop-again : tie.Need-loop-again Inv-loop μ-loop
-loop-again c = let s = c .before .before .before .before .before .before .before .before .before in
+loop-again c = let s = c .before .before .before .before .before .before .before .before .before .before in
     let l = c .before .before .before .before .loop in
-    let n = s .args .n in (
+    let k = c .before .before .before .before .before .modulus-of .ensures .1 in (
       omega arith,
-      filled-step (l .inv .1) (omega arith) (remainder-made n _ _ _ (s .args .f .now) (s .args .g .now) (s .args .q .now)
-          (l .k) (c .before .before .product-word .ensures) (c .before .coefficient .ensures) (c .sub-mod .ensures)),
+      filled-step (l .inv .1) (omega arith) (remainder-made (s .args .n) _ _ _ (s .args .f .now) (s .args .g .now) (s .args .q .now)
+          (l .k) (modulo _ k (c .before .before .product-word-by .ensures)) (c .before .coefficient .ensures)
+          (difference-modulo _ _ k (c .difference .ensures))),
     )
 
 returns : tie.Need-returns Inv-loop μ-loop
@@ -45,10 +44,11 @@ remainder-words-spec =
     (tie.spec
     Inv-loop
     μ-loop
-    loop-holds
-    product-word-requires
     (λ c κs. search needs)
-    sub-mod-requires
+    loop-holds
+    product-word-by-requires
+    (λ c κs. search needs)
+    difference-requires
     (λ c. search needs)
     (λ c. search needs)
     (λ c. search needs)

@@ -10,13 +10,20 @@ use borrow.Author.Needs.{needs}
 use Rattle.reduced.proofs.merge.Statement.{statement}
 use Rattle.reduced.proofs.merge.Tie as tie
 
+idempotent-requires : tie.Need-idempotent-requires
+idempotent-requires c κs = let s = c .before .before .before in
+    let x = s .pre .factors in
+    let a = x .above₁ in
+    let b = x .above₂ in
+    record { some₁ = omega arith; some₂ = omega arith; word = s .pre .word; coprime = x .coprime }
+
 idempotent-requires-2 : tie.Need-idempotent-requires-2
 idempotent-requires-2 c κs = let s = c .before .before .before .before .before in
     let x = s .pre .factors in
     let a = x .above₁ in
     let b = x .above₂ in
     let m = s .pre .word in
-    (omega arith, (omega arith, (omega arith, coprime-sym (x .coprime))))
+    record { some₁ = omega arith; some₂ = omega arith; word = omega arith; coprime = coprime-sym (x .coprime) }
 
 returns : tie.Need-returns
 returns c = let s = c .before .before .before .before .before .before .before .before .before .before .before .before .before .before .before .before .before in
@@ -36,7 +43,7 @@ merge-spec =
     tie.close
     (tie.spec
     (λ c. search needs)
-    (λ c κs. search needs)
+    idempotent-requires
     (λ c κs. search needs)
     idempotent-requires-2
     (λ c κs. search needs)

@@ -15,7 +15,13 @@ over-first-requires : tie.Need-over-first-requires
 over-first-requires c κs = let s = c .before .before .before .before .before .before .before .before .before in
     let p = s .pre .0 in
     let r : s .args .d ≤ s .args .d = omega arith in (
-      (p .above, (omega arith, (omega arith, (constant-room _ _ _ _ (s .args .y .now) (s .args .x .now) (p .above) (p .room) (s .pre .1), omega (arith, p .long-x, cofactor-fits (s .args .n) (s .args .d) (s .args .e) (s .args .d) (p .above) r))))),
+      record {
+        modulus = p .above;
+        some = omega arith;
+        lies = omega arith;
+        room = constant-room _ _ _ _ (s .args .y .now) (s .args .x .now) (p .above) (p .room) (s .pre .1);
+        quotient = omega (arith, p .long-x, cofactor-fits (s .args .n) (s .args .d) (s .args .e) (s .args .d) (p .above) r);
+      },
       constant-unit _ _ _ _ (s .args .y .now) (s .args .x .now) (p .above) (p .room) (s .pre .1),
     )
 

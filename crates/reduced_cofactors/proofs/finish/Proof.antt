@@ -13,7 +13,7 @@ use Rattle.reduced_cofactors.proofs.finish.Tie as tie
 over-first-requires : tie.Need-over-first-requires
 over-first-requires c κs = let s = c .before .before .before .before .before .before .before .before .before .before .before .before .before .before .before .before .before .before .before .before .before .before .before in
     let p = s .pre .1 in (
-      (p .above, (omega arith, (omega arith, (finish-room _ _ _ _ _ _ _ _ _ _ _ p (c .before .before .before .before .before .before .before .before .before .before .before .before .before .before .before .before .before .before .exact-quotient .ensures) (c .before .before .before .before .before .before .before .before .before .before .before .before .before .before .copy .ensures), p .long-x)))),
+      record { modulus = p .above; some = omega arith; lies = omega arith; room = finish-room _ _ _ _ _ _ _ _ _ _ _ p (c .before .before .before .before .before .before .before .before .before .before .before .before .before .before .before .before .before .before .exact-quotient .ensures) (c .before .before .before .before .before .before .before .before .before .before .before .before .before .before .copy .ensures); quotient = p .long-x },
       finish-unit _ _ _ _ _ _ _ _ _ _ _ p (c .before .before .before .before .before .before .before .before .before .before .before .before .before .before .before .before .before .before .exact-quotient .ensures) (c .before .before .before .before .before .before .before .before .before .before .before .before .before .before .copy .ensures),
     )
 

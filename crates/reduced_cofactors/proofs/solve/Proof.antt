@@ -19,7 +19,7 @@ prepare-requires c κs = let s = c .before .before .before .before .before .befo
     let y = s .pre .1 .1 .0 in
     let fa = s .pre .1 .1 .1 in
     let cp = c .before .before .before .copy .ensures in
-    ((p .above, (o, (omega arith, solve-room _ _ _ _ _ _ (p .above) o y (p .room) fa cp))), (solve-second _ _ _ _ _ _ (p .above) o y (p .room) fa cp, (solve-monic _ _ _ _ _ _ (p .above) o y (p .room) fa cp, solve-lead _ _ _ _ _ _ (p .above) o y (p .room) fa cp)))
+    (record { modulus = p .above; degree = o; lies = omega arith; room = solve-room _ _ _ _ _ _ (p .above) o y (p .room) fa cp }, (solve-second _ _ _ _ _ _ (p .above) o y (p .room) fa cp, (solve-monic _ _ _ _ _ _ (p .above) o y (p .room) fa cp, solve-lead _ _ _ _ _ _ (p .above) o y (p .room) fa cp)))
 
 content-stage-requires : tie.Need-content-stage-requires
 content-stage-requires c κs = let s = c .before .before .before .before .before .before .before .before .before .before .before .before in

@@ -27,10 +27,15 @@ sub-add-pair-2 c = le-of-lt (first-small (c .before .before .before .before .loo
 add-pair-requires : tie.Need-add-pair-requires Inv-loop μ-loop
 add-pair-requires c κs = let s = c .before .before .before .before .before .before in
     let l = c .before .before .before .before .loop in
-    let g = l .inv .1 .around .same in (
-      (omega arith, (omega arith, (omega arith, omega arith))),
-      (turn-apart (s .pre .1 .apart-second) (l .j) (omega arith), turn-below (l .inv .1) (omega arith)),
-    )
+    let g = l .inv .1 .around .same in
+    record {
+      modulus = omega arith;
+      factor = omega arith;
+      source = omega arith;
+      target = omega arith;
+      apart = turn-apart (s .pre .1 .apart-second) (l .j) (omega arith);
+      below = turn-below (l .inv .1) (omega arith);
+    }
 
 sub-mul-add-mod : tie.Need-sub-mul-add-mod Inv-loop μ-loop
 sub-mul-add-mod c = le-of-lt (first-small (c .before .before .before .before .before .before .before .before .loop .inv .1) (c .before .before .before .before .before .before .before .before .before .before .pre .1 .apart-first) (c .before .before .before .before .before .before .before .before .before .before .pre .1 .first) _ (omega arith))
@@ -40,7 +45,7 @@ loop-again c = let s = c .before .before .before .before .before .before .before
     let l = c .before .before .before .before .before .before .before .before .before .before .loop in
     let g = l .inv .1 .around .same in (
       omega arith,
-      subtracting-two _ _ _ _ _ _ _ (l .j) _ (s .args .w .now) (l .w) (s .pre .0 .0) (s .pre .0 .1 .1 .0) (s .pre .1 .apart-first) (s .pre .1 .apart-second)
+      subtracting-two _ _ _ _ _ _ _ (l .j) _ (s .args .w .now) (l .w) (s .pre .0 .modulus) (s .pre .0 .some-second) (s .pre .1 .apart-first) (s .pre .1 .apart-second)
           (first-small (l .inv .1) (s .pre .1 .apart-first) (s .pre .1 .first) (l .j) (omega arith)) refl (l .inv .1)
           _ _ (c .before .before .before .before .before .add-pair .last .0) (first-small (l .inv .1) (s .pre .1 .apart-first) (s .pre .1 .first) (l .j + 1) (omega arith)) (omega arith) (omega arith) (omega arith) refl
           (c .before .before .before .before .before .add-pair .ensures) (c .mul-add-mod .ensures),
@@ -62,7 +67,7 @@ returns-2 : tie.Need-returns-2 Inv-loop μ-loop
 returns-2 c = let s = c .before .before .before .before .before .before .before .before .before in
     let l = c .before .before .before .before .before .before .before .loop in
     subtracting-end _ _ _ _ _ _ _ (l .j + 1) _ _ (omega arith) refl
-    (subtracting-one _ _ _ _ _ _ _ (l .j) _ (s .args .w .now) (l .w) (s .pre .0 .0) (s .pre .0 .1 .1 .0) (s .pre .1 .apart-first) (s .pre .1 .apart-second)
+    (subtracting-one _ _ _ _ _ _ _ (l .j) _ (s .args .w .now) (l .w) (s .pre .0 .modulus) (s .pre .0 .some-second) (s .pre .1 .apart-first) (s .pre .1 .apart-second)
     (first-small (l .inv .1) (s .pre .1 .apart-first) (s .pre .1 .first) (l .j) (omega arith)) refl (l .inv .1)
     (c .before .before .add-scaled .last .0) (omega arith) (omega arith) (c .before .before .add-scaled .ensures))
 

@@ -9,19 +9,19 @@ sub-product-requires : tie.Need-sub-product-requires
 sub-product-requires c κs = let s = c .before .before .before .before .before .before .before in
     let p = s .pre .0 in
     let h = s .pre .1 in (
-      quotient-bounds _ _ _ _ _ _ _ _ (p .0) (p .1 .0) (p .1 .1 .0) (p .1 .1 .1) (h .0) (h .1 .0) (h .1 .1) (c .before .before .before .before .clear .ensures) (c .before .residue .ensures),
-      quotient-factors _ _ _ _ _ _ _ _ (p .0) (p .1 .0) (p .1 .1 .0) (p .1 .1 .1) (h .0) (h .1 .0) (h .1 .1) (c .before .before .before .before .clear .ensures) (c .before .residue .ensures),
+      quotient-bounds _ _ _ _ _ _ _ _ (p .modulus) (p .degree) (p .lies) (p .room) (h .0) (h .1 .0) (h .1 .1) (c .before .before .before .before .clear .ensures) (c .before .residue .ensures),
+      quotient-factors _ _ _ _ _ _ _ _ (p .modulus) (p .degree) (p .lies) (p .room) (h .0) (h .1 .0) (h .1 .1) (c .before .before .before .before .clear .ensures) (c .before .residue .ensures),
     )
 
 divide-keeping-requires : tie.Need-divide-keeping-requires
 divide-keeping-requires c κs = let s = c .before .before .before .before .before .before .before .before .before .before .before in
     let p = s .pre .0 in
     let h = s .pre .1 in
-    let r = quotient-room _ _ _ _ _ _ _ _ (p .0) (p .1 .0) (p .1 .1 .0) (p .1 .1 .1) (h .0) (h .1 .0) (h .1 .1) (c .before .before .before .before .before .before .before .before .clear .ensures) (c .before .before .before .before .before .residue .ensures) _ (c .before .before .before .sub-product .ensures) in (
-      (omega arith, (p .1 .0, (omega arith, (r .0, r .1)))),
+    let r = quotient-room _ _ _ _ _ _ _ _ (p .modulus) (p .degree) (p .lies) (p .room) (h .0) (h .1 .0) (h .1 .1) (c .before .before .before .before .before .before .before .before .clear .ensures) (c .before .before .before .before .before .residue .ensures) _ (c .before .before .before .sub-product .ensures) in (
+      record { modulus = omega arith; degree = p .degree; near = omega arith; divisor = r .0; dividend = r .1 },
       (
-        quotient-pair _ _ _ _ _ _ _ _ (p .0) (p .1 .0) (p .1 .1 .0) (p .1 .1 .1) (h .0) (h .1 .0) (h .1 .1) (c .before .before .before .before .before .before .before .before .clear .ensures) (c .before .before .before .before .before .residue .ensures) _ (c .before .before .before .sub-product .ensures),
-        quotient-unit _ _ _ _ _ _ _ _ (p .0) (p .1 .0) (p .1 .1 .0) (p .1 .1 .1) (h .0) (h .1 .0) (h .1 .1) (c .before .before .before .before .before .before .before .before .clear .ensures) (c .before .before .before .before .before .residue .ensures) _ (c .before .before .before .sub-product .ensures),
+        quotient-pair _ _ _ _ _ _ _ _ (p .modulus) (p .degree) (p .lies) (p .room) (h .0) (h .1 .0) (h .1 .1) (c .before .before .before .before .before .before .before .before .clear .ensures) (c .before .before .before .before .before .residue .ensures) _ (c .before .before .before .sub-product .ensures),
+        quotient-unit _ _ _ _ _ _ _ _ (p .modulus) (p .degree) (p .lies) (p .room) (h .0) (h .1 .0) (h .1 .1) (c .before .before .before .before .before .before .before .before .clear .ensures) (c .before .before .before .before .before .residue .ensures) _ (c .before .before .before .sub-product .ensures),
       ),
     )
 
@@ -29,13 +29,13 @@ same-length : tie.Need-same-length
 same-length c = let s = c .before .before .before .before .before .before .before .before .before .before .before .before .before .before in
     let p = s .pre .0 in
     let h = s .pre .1 in
-    exact-quotient _ _ _ _ _ _ _ _ (p .0) (p .1 .0) (p .1 .1 .0) (p .1 .1 .1) (h .0) (h .1 .0) (h .1 .1) (c .before .before .before .before .before .before .before .before .before .before .before .clear .ensures) (c .before .before .before .before .before .before .before .before .residue .ensures) _ (c .before .before .before .before .before .before .sub-product .ensures) _ (c .before .before .divide-keeping .ensures) .around .same
+    exact-quotient _ _ _ _ _ _ _ _ (p .modulus) (p .degree) (p .lies) (p .room) (h .0) (h .1 .0) (h .1 .1) (c .before .before .before .before .before .before .before .before .before .before .before .clear .ensures) (c .before .before .before .before .before .before .before .before .residue .ensures) _ (c .before .before .before .before .before .before .sub-product .ensures) _ (c .before .before .divide-keeping .ensures) .around .same
 
 returns : tie.Need-returns
 returns c = let s = c .before .before .before .before .before .before .before .before .before .before .before .before .before .before in
     let p = s .pre .0 in
     let h = s .pre .1 in
-    exact-quotient _ _ _ _ _ _ _ _ (p .0) (p .1 .0) (p .1 .1 .0) (p .1 .1 .1) (h .0) (h .1 .0) (h .1 .1) (c .before .before .before .before .before .before .before .before .before .before .before .clear .ensures) (c .before .before .before .before .before .before .before .before .residue .ensures) _ (c .before .before .before .before .before .before .sub-product .ensures) _ (c .before .before .divide-keeping .ensures)
+    exact-quotient _ _ _ _ _ _ _ _ (p .modulus) (p .degree) (p .lies) (p .room) (h .0) (h .1 .0) (h .1 .1) (c .before .before .before .before .before .before .before .before .before .before .before .clear .ensures) (c .before .before .before .before .before .before .before .before .residue .ensures) _ (c .before .before .before .before .before .before .sub-product .ensures) _ (c .before .before .divide-keeping .ensures)
 
 pub exact-quotient-spec : {M : Type 1} → statement M
 exact-quotient-spec =

@@ -12,19 +12,19 @@ use Rattle.reduced_quotients.proofs.over_first.Tie as tie
 clear-requires : tie.Need-clear-requires
 clear-requires c κs = let s = c .before .before .before .before .before .before .before in
     let p = s .pre .0 in
-    over-room _ _ _ _ _ _ _ _ (p .0) (p .1 .0) (p .1 .1 .0) (p .1 .1 .1 .0) (c .before .before .before .negate-inverse .ensures)
+    over-room _ _ _ _ _ _ _ _ (p .modulus) (p .some) (p .lies) (p .room) (c .before .before .before .negate-inverse .ensures)
 
 sub-product-requires : tie.Need-sub-product-requires
 sub-product-requires c κs = let s = c .before .before .before .before .before .before .before .before .before .before .before in
     let p = s .pre .0 in (
-      over-bounds _ _ _ _ _ _ _ _ (p .0) (p .1 .0) (p .1 .1 .0) (p .1 .1 .1 .0) (c .before .before .before .before .before .before .before .negate-inverse .ensures) _ (c .before .before .before .clear .ensures),
-      over-factors _ _ _ _ _ _ _ _ (p .0) (p .1 .0) (p .1 .1 .0) (p .1 .1 .1 .0) (c .before .before .before .before .before .before .before .negate-inverse .ensures) _ (c .before .before .before .clear .ensures),
+      over-bounds _ _ _ _ _ _ _ _ (p .modulus) (p .some) (p .lies) (p .room) (c .before .before .before .before .before .before .before .negate-inverse .ensures) _ (c .before .before .before .clear .ensures),
+      over-factors _ _ _ _ _ _ _ _ (p .modulus) (p .some) (p .lies) (p .room) (c .before .before .before .before .before .before .before .negate-inverse .ensures) _ (c .before .before .before .clear .ensures),
     )
 
 part-load-end : tie.Need-part-load-end
 part-load-end c = let s = c .before .before .before .before .before .before .before .before .before .before .before .before .before .before .before .before .before .before .before .before in
     let p = s .pre .0 in
-    let r = over-room _ _ _ _ _ _ _ _ (p .0) (p .1 .0) (p .1 .1 .0) (p .1 .1 .1 .0) (c .before .before .before .before .before .before .before .before .before .before .before .before .before .before .before .before .negate-inverse .ensures) in
+    let r = over-room _ _ _ _ _ _ _ _ (p .modulus) (p .some) (p .lies) (p .room) (c .before .before .before .before .before .before .before .before .before .before .before .before .before .before .before .before .negate-inverse .ensures) in
     let g = c .before .before .before .before .before .before .before .before .before .before .before .before .clear .ensures .same in
     let h = c .before .before .before .before .before .before .before .before .sub-product .ensures .around .same in
     omega arith
@@ -37,7 +37,7 @@ returns c = let s = c .before .before .before .before .before .before .before .b
     let m = l + s .args .lz - 1 in
     let z : b + m - b ≡ m = omega arith in
     let ld = subst (λ (f : List ℕ). Loaded (s .args .n) 0 f (c .before .before .before .before .before .before .before .before .wipe .last .0) (c .before .before .load .last .0)) (part-piece (c .before .before .before .before .before .before .before .before .before .before .before .before .sub-product .last .0) b m _ z) (c .before .before .load .ensures) in (
-      over-first _ _ _ _ _ _ _ _ (p .0) (p .1 .0) (p .1 .1 .0) (p .1 .1 .1 .0) (c .before .before .before .before .before .before .before .before .before .before .before .before .before .before .before .before .before .before .before .before .negate-inverse .ensures) _ (c .before .before .before .before .before .before .before .before .before .before .before .before .before .before .before .before .clear .ensures) (c .before .before .before .before .before .before .before .before .before .before .before .before .sub-product .last .0) (s .args .x .now) _ (c .before .before .before .before .before .before .before .before .before .before .before .before .sub-product .ensures)
+      over-first _ _ _ _ _ _ _ _ (p .modulus) (p .some) (p .lies) (p .room) (c .before .before .before .before .before .before .before .before .before .before .before .before .before .before .before .before .before .before .before .before .negate-inverse .ensures) _ (c .before .before .before .before .before .before .before .before .before .before .before .before .before .before .before .before .clear .ensures) (c .before .before .before .before .before .before .before .before .before .before .before .before .sub-product .last .0) (s .args .x .now) _ (c .before .before .before .before .before .before .before .before .before .before .before .before .sub-product .ensures)
           (subst (λ (x : List ℕ). Loaded (s .args .n) 0 (piece (c .before .before .before .before .before .before .before .before .before .before .before .before .sub-product .last .0) b m) x (c .before .before .load .last .0)) (c .before .before .before .before .before .before .before .before .wipe .ensures) ld),
       record { same = c .before .before .before .before .before .before .before .before .before .before .before .before .sub-product .ensures .around .same ∙ c .before .before .before .before .before .before .before .before .before .before .before .before .before .before .before .before .clear .ensures .same ∙ c .before .before .before .before .before .before .before .before .before .before .before .before .before .before .before .before .before .before .before .before .negate-inverse .ensures .around .same },
     )

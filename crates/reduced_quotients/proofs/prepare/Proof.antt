@@ -12,7 +12,7 @@ same-length c = simp length-set (c .before .before .clear .ensures .same ∙ c .
 returns : tie.Need-returns
 returns c = let s = c .before .before .before .before .before .before .before .before .before .before .before .before .before .before .before .before .before in
     let p = s .pre .0 in
-    prepared _ _ _ _ _ _ _ _ _ (le-of-lt (p .0)) (p .1 .0) (p .1 .1 .0) (p .1 .1 .1) (c .before .before .before .before .before .before .before .before .before .before .before .before .before .before .remainder .ensures) (c .before .before .before .before .before .before .before .before .before .before .copy .ensures) (c .before .before .before .before .before .before .copy2 .ensures) (c .before .before .clear .ensures)
+    prepared _ _ _ _ _ _ _ _ _ (le-of-lt (p .modulus)) (p .degree) (p .lies) (p .room) (c .before .before .before .before .before .before .before .before .before .before .before .before .before .before .remainder .ensures) (c .before .before .before .before .before .before .before .before .before .before .copy .ensures) (c .before .before .before .before .before .before .copy2 .ensures) (c .before .before .clear .ensures)
 
 pub prepare-spec : {M : Type 1} → statement M
 prepare-spec =

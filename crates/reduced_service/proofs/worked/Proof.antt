@@ -25,9 +25,9 @@ returns-2 c =
     let r = c .before .before .before .before .before .before in
     let joined = r .before .before .before .before in
     let start = joined .before .before .before .before .before .before in (
-      r .run .ensures .0,
+      r .by-run .ensures .0,
       (
-        r .run .ensures .1,
+        r .by-run .ensures .1,
         other-pair (start .pre .some-f) (start .pre .some-g) (λ p q. ⊎-elim (λ x. x .1 .left q) (λ y. y .left p) (joined .if1 .came)),
       ),
     )

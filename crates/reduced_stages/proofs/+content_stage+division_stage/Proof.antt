@@ -191,7 +191,7 @@ division-stage-divide-keeping-requires t c κs = let s = c .before .before in
     let q = st .places in
     let e = st .within in
     let o = st .above in
-    ((omega arith, (omega arith, (omega arith, (omega arith, omega arith)))), (step-pair _ _ _ _ _ _ _ _ _ _ _ (s .pre .1 .shorter) (s .pre .1 .degree) st, s .pre .1 .inverse))
+    (omega arith, (step-pair _ _ _ _ _ _ _ _ _ _ _ (s .pre .1 .shorter) (s .pre .1 .degree) st, s .pre .1 .inverse))
 
 division-stage-take-product-requires : (t : ℕ) → division-stage-lts.Need-take-product-requires (division-stage-claims t) (division-stage-at t) division-stage.Post
 division-stage-take-product-requires t c κs = let s = c .before .before .before .before .before .before .before in
@@ -202,7 +202,7 @@ division-stage-take-product-requires t c κs = let s = c .before .before .before
     let e = st .within in
     let o = st .above in
     let g = dv .around .same in (
-      (omega arith, (omega arith, (omega arith, (omega arith, (omega arith, omega arith))))),
+      omega arith,
       record {
         factors = step-factors _ _ _ _ _ _ _ _ _ _ _ (s .pre .1 .shorter) (s .pre .1 .degree) st _ dv;
         degree = omega arith;

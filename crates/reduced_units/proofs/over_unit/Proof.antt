@@ -8,7 +8,7 @@ take-product-requires : tie.Need-take-product-requires
 take-product-requires c κs = let s = c .before .before .before .before .before .before in
     let r = c .before .before .before .clear .ensures in
     let g = r .same in (
-      (omega arith, (omega arith, (omega arith, (omega arith, (omega arith, omega arith))))),
+      omega arith,
       record {
         factors = over-factors _ _ _ _ _ _ _ _ _ (s .pre) r;
         degree = s .pre .degree;

@@ -1,39 +1,36 @@
-use borrow.Author.Tests.{not-true, not-false}
-use mathlib.Core.Path.{_≡_, refl, sym, _∙_}
+use mathlib.Core.Path.{sym, ap₂, _∙_}
+use mathlib.Core.Bool.{not}
+use mathlib.Core.List.{List, [], _∷_}
 use borrow.Author.Needs.{needs}
+use Rattle.refusals.specs.Refusals.{Tested, narrow, bad-modulus, bad-length, all-below, first-of}
+use Rattle.refusals.proofs.Statuses.{row-applies, row-passes, first-append}
 use Rattle.refusals.proofs.refusal_two.Statement.{statement}
 use Rattle.refusals.proofs.refusal_two.Tie as tie
 
 returns : tie.Need-returns
-returns c = simp (sym (c .before .bad-modulus .ensures) ∙ c .if1 .taken) refl
+returns c =
+    let a = c .before .before .before .before .args in
+    let f = a .f .now in
+    let g = a .g .now in
+    row-applies 0 (bad-modulus narrow (a .n))
+    ((2, bad-length f) ∷ (2, bad-length g) ∷ (3, not (all-below (a .n) f)) ∷ (3, not (all-below (a .n) g)) ∷ [])
+    (sym (c .before .bad-modulus .ensures) ∙ c .if1 .taken)
 
 returns-2 : tie.Need-returns-2
-returns-2 c = simp (sym (c .before .before .before .bad-modulus .ensures) ∙ c .before .before .if1 .left, sym (c .before .bad-length .ensures) ∙ c .if2 .taken) refl
-
-returns-3 : tie.Need-returns-3
-returns-3 c = simp (sym (c .before .before .before .before .before .bad-modulus .ensures) ∙ c .before .before .before .before .if1 .left, sym (c .before .before .before .bad-length .ensures) ∙ c .before .before .if2 .left, sym (c .before .bad-length2 .ensures) ∙ c .if3 .taken) refl
-
-returns-4 : tie.Need-returns-4
-returns-4 c = simp (sym (c .before .before .before .before .before .before .before .bad-modulus .ensures) ∙ c .before .before .before .before .before .before .if1 .left, sym (c .before .before .before .before .before .bad-length .ensures) ∙ c .before .before .before .before .if2 .left, sym (c .before .before .before .bad-length2 .ensures) ∙ c .before .before .if3 .left, sym (c .before .all-below .ensures) ∙ not-true _ (c .if4 .taken)) refl
-
-returns-5 : tie.Need-returns-5
-returns-5 c = simp (sym (c .before .before .before .before .before .before .before .before .before .bad-modulus .ensures) ∙ c .before .before .before .before .before .before .before .before .if1 .left, sym (c .before .before .before .before .before .before .before .bad-length .ensures) ∙ c .before .before .before .before .before .before .if2 .left, sym (c .before .before .before .before .before .bad-length2 .ensures) ∙ c .before .before .before .before .if3 .left, sym (c .before .before .before .all-below .ensures) ∙ not-false _ (c .before .before .if4 .left), sym (c .before .all-below2 .ensures) ∙ c .if5 .taken) refl
-
-returns-6 : tie.Need-returns-6
-returns-6 c = simp (sym (c .before .before .before .before .before .before .before .before .before .bad-modulus .ensures) ∙ c .before .before .before .before .before .before .before .before .if1 .left, sym (c .before .before .before .before .before .before .before .bad-length .ensures) ∙ c .before .before .before .before .before .before .if2 .left, sym (c .before .before .before .before .before .bad-length2 .ensures) ∙ c .before .before .before .before .if3 .left, sym (c .before .before .before .all-below .ensures) ∙ not-false _ (c .before .before .if4 .left), sym (c .before .all-below2 .ensures) ∙ c .if5 .left) refl
+returns-2 c =
+    let t = c .before in
+    let l = t .before in
+    let m = l .before in
+    let a = m .before .before .before .before .args in
+    let f = a .f .now in
+    let g = a .g .now in
+    let lengths : List Tested = (2, bad-length f) ∷ (2, bad-length g) ∷ [] in
+    let words : List Tested = (3, not (all-below (a .n) f)) ∷ (3, not (all-below (a .n) g)) ∷ [] in
+    row-passes 1 (bad-modulus narrow (a .n)) ((2, bad-length f) ∷ (2, bad-length g) ∷ words) _
+    (sym (m .before .bad-modulus .ensures) ∙ m .if1 .left)
+    (c .first-of .ensures ∙ ap₂ first-of (l .refusal-lengths .ensures) (t .refusal-words .ensures) ∙ sym (first-append lengths words))
 
 pub refusal-two-spec : {M : Type 1} → statement M
 refusal-two-spec =
     tie.close
-    (tie.spec
-    (λ c κs. search needs)
-    returns
-    (λ c κs. search needs)
-    returns-2
-    (λ c κs. search needs)
-    returns-3
-    (λ c κs. search needs)
-    returns-4
-    (λ c κs. search needs)
-    returns-5
-    returns-6)
+    (tie.spec (λ c κs. search needs) returns (λ c κs. search needs) (λ c κs. search needs) (λ c κs. search needs) returns-2)

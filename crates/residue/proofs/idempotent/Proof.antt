@@ -9,10 +9,10 @@ mul-result : tie.Need-mul-result
 mul-result c = omega (arith, mul-le-mul-right (c .before .before .args .n2) (c .before .cofactor .ensures .at-most))
 
 rem-result : tie.Need-rem-result
-rem-result c = let p = c .before .before .pre in mul-pos (p .0) (p .1 .0)
+rem-result c = let p = c .before .before .pre in mul-pos (p .some₁) (p .some₂)
 
 returns : tie.Need-returns
-returns c = let p = c .before .before .pre in idempotent-ends (p .0) (p .1 .0) (p .1 .1 .1) (c .before .cofactor .ensures)
+returns c = let p = c .before .before .pre in idempotent-ends (p .some₁) (p .some₂) (p .coprime) (c .before .cofactor .ensures)
 
 pub idempotent-spec : {M : Type 1} → statement M
 idempotent-spec = tie.close (tie.spec (λ c κs. search needs) mul-result (λ c. search needs) rem-result returns)

@@ -5,10 +5,10 @@ use Rattle.residue.proofs.join.Statement.{statement}
 use Rattle.residue.proofs.join.Tie as tie
 
 sub-mod-requires : tie.Need-sub-mod-requires
-sub-mod-requires c κs = let p = c .before .pre in let l = second-below (p .0 .0) (p .1 .1) in (l .0, omega (arith, l .1))
+sub-mod-requires c κs = let p = c .before .pre in let l = second-below (p .0 .some₁) (p .1 .1) in (l .0, omega (arith, l .1))
 
 returns : tie.Need-returns
-returns c = let p = c .before .before .before .pre in join-ends (p .0 .0) (p .0 .1 .0) (p .1 .0) (p .1 .1) (c .before .before .idempotent .ensures) (c .before .sub-mod .ensures) (c .mul-add-mod .ensures)
+returns c = let p = c .before .before .before .pre in join-ends (p .0 .some₁) (p .0 .some₂) (p .1 .0) (p .1 .1) (c .before .before .idempotent .ensures) (c .before .sub-mod .ensures) (c .mul-add-mod .ensures)
 
 pub join-spec : {M : Type 1} → statement M
 join-spec =

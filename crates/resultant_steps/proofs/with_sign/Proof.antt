@@ -1,4 +1,4 @@
-use Rattle.resultant_steps.proofs.Signs.{sign-first, sign-second, sign-both}
+use Rattle.resultant_turns.specs.Signs.{sign-first, sign-second, sign-both}
 use native.Mathlib.Omega.{arith}
 use mathlib.Core.Path.{_∙_}
 use borrow.Author.Needs.{needs}

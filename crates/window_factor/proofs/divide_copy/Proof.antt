@@ -13,7 +13,13 @@ returns c = let s = c .before .before .before .before .before .before in
 divide-keeping-requires : tie.Need-divide-keeping-requires
 divide-keeping-requires c κs = let s = c .before .before .before .before .before .before .before in
     let m = c .before .before .before .before .copy .ensures in (
-      (s .pre .positive, (omega (arith, c .before .if1 .left), (omega arith, (omega (arith, m .same), omega (arith, m .same))))),
+      record {
+        modulus = s .pre .positive;
+        degree = omega (arith, c .before .if1 .left);
+        near = omega arith;
+        divisor = omega (arith, m .same);
+        dividend = omega (arith, m .same);
+      },
       ready (s .args .n) (s .args .d) (s .args .t) (s .args .w .now) (c .before .before .before .before .copy .last .0) (s .pre .within)
           (s .pre .fits) m (s .pre .below-f) (s .pre .below-h) (s .pre .monic),
     )

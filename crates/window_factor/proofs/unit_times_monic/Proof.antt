@@ -3,12 +3,12 @@ use Prim.Native.Nat.{ℕ, _+_, _-_, _≤_}
 use native.Mathlib.Omega.{arith}
 use lib.ListN.{length}
 use Rattle.windows.specs.Window.{piece, Around}
-use Rattle.window_factor.proofs.Rounds.{Held, held-less, enter, again, leave, all-zero, not-zero}
+use Rattle.window_factor.proofs.Rounds.{RoundHolds, held-less, enter, again, leave, all-zero, not-zero}
 use Rattle.window_factor.proofs.unit_times_monic.Statement.{statement}
 use Rattle.window_factor.proofs.unit_times_monic.Tie as tie
 
 abbrev Inv-loop : tie.InvT-loop
-Inv-loop w₀ n d t i h v k₀ w k = Around (d + 1) (t + 1 + (d + 1)) w₀ w × Held n d t k i (piece w₀ 0 (d + 1)) w
+Inv-loop w₀ n d t i h v k₀ w k = Around (d + 1) (t + 1 + (d + 1)) w₀ w × RoundHolds n d t k i (piece w₀ 0 (d + 1)) w
 
 abbrev μ-loop : tie.MeasureT-loop
 μ-loop w₀ n d t i h v k₀ w k = n - k

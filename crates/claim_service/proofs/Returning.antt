@@ -1,0 +1,91 @@
+-- The promise of `check_claim` at each place where it returns, and what the tests ask. s is the first refusal, k the first of the three
+-- that fails.
+use mathlib.Core.Path.{_≡_, refl, sym, ap₂, subst, _∙_}
+use mathlib.Core.List.{List, [], _∷_, _++_}
+use Prim.Native.Nat.{ℕ, zero, suc, _≤_}
+use native.Mathlib.Omega.{arith}
+use lib.ListN.{length, replicate}
+use Rattle.refusals.specs.Refusals.{narrow, short, first-of, first-refusal}
+use Rattle.refusals.specs.Conditions.{status-zero}
+use Rattle.refusals.proofs.Statuses.{first-append, left-refused}
+use Rattle.claims.specs.Claims.{Judged, ClaimAsked}
+use Rattle.claim_service.specs.declared.Claim.{Claim}
+use Rattle.claim_service.specs.declared.Claim.the-variants.{Accepted, Fails, Refused}
+use Rattle.claim_service.specs.ClaimService.{size-refusals, word-refusals, claim-refusals, claim-status}
+use Rattle.claim_service.specs.ClaimService.{claim-conditions, claim-listed}
+use Rattle.claim_service.specs.ClaimService.{claim-number, claim-value, told, ClaimSaid, ClaimAnswer, ClaimCase}
+
+pub first-zero : (a b : ℕ) → a ≡ 0 → b ≡ first-of a b
+first-zero zero b e = refl
+first-zero (suc a) b e = absurd (omega arith)
+
+pub first-some : (a b : ℕ) → (a ≡ 0 → ⊥) → a ≡ first-of a b
+first-some zero b h = absurd (h refl)
+first-some (suc a) b h = refl
+
+pub all-refusals : (n : ℕ) (f g u v : List ℕ) (l a b c p q : ℕ) → a ≡ first-refusal (size-refusals narrow n f g u v)
+    → b ≡ first-refusal (word-refusals n f g u v) → c ≡ first-refusal ((7, short l 8192) ∷ []) → p ≡ first-of b c → q ≡ first-of a p
+    → q ≡ claim-status narrow n f g u v l
+all-refusals n f g u v l a b c p q ea eb ec ep eq =
+    eq ∙ ap₂ first-of ea (ep ∙ ap₂ first-of eb ec ∙ sym (first-append (word-refusals n f g u v) ((7, short l 8192) ∷ [])))
+    ∙ sym (first-append (size-refusals narrow n f g u v) (word-refusals n f g u v ++ ((7, short l 8192) ∷ [])))
+
+refused-told : (s : ℕ) → (s ≡ 0 → ⊥) → Refused s ≡ told s 0
+refused-told zero h = absurd (h refl)
+refused-told (suc s) h = refl
+
+fails-told : (k : ℕ) → (k ≡ 0 → ⊥) → Fails k ≡ told 0 k
+fails-told zero h = absurd (h refl)
+fails-told (suc k) h = refl
+
+nothing-said : (s n : ℕ) (f g : List ℕ) (D : ℕ) (u v : List ℕ) → (s ≡ 0 → ⊥) → ClaimSaid s 0 n f g D u v
+nothing-said zero n f g D u v h = absurd (h refl)
+nothing-said (suc s) n f g D u v h = refl
+
+module _ (n : ℕ) (f g : List ℕ) (D : ℕ) (u v work : List ℕ) (s : ℕ) (e : s ≡ claim-status narrow n f g u v (length work)) where
+  pub refused : (s ≡ 0 → ⊥) → ClaimCase narrow n f g D u v work work (Refused s)
+  refused h = record {
+    case-is = refused-told s h;
+    answer = record { status-is = e; said = nothing-said s n f g D u v h; work-is = left-refused s work h };
+  }
+
+  module _ (z : s ≡ 0) where
+    pub asked : ClaimAsked n f g u v × (8192 ≤ length work)
+    asked =
+        let p = status-zero (claim-refusals narrow n f g u v (length work)) (claim-conditions narrow n f g u v (length work))
+        (claim-listed narrow n f g u v (length work)) .0 (sym e ∙ z) in (
+          record {
+            modulus = p .0 .least;
+            lengths = record {
+              least-f = p .1 .0 .some;
+              most-f = p .1 .0 .few;
+              least-g = p .1 .1 .0 .some;
+              most-g = p .1 .1 .0 .few;
+              most-u = p .1 .1 .1 .0 .few;
+              most-v = p .1 .1 .1 .1 .0 .few;
+            };
+            residues-f = p .1 .1 .1 .1 .1 .0;
+            residues-g = p .1 .1 .1 .1 .1 .1 .0;
+          },
+          p .1 .1 .1 .1 .1 .1 .1 .1 .1 .0,
+        )
+
+    module _ (k x : ℕ) (work' : List ℕ) (judged : Judged k n f g D u v) (same : x ≡ k) (wiped : work' ≡ replicate (length work) 0) where
+      said-here : ClaimAnswer narrow n f g D u v work work' x 0
+      said-here = record {
+        status-is = sym z ∙ e;
+        said = subst (λ (j : ℕ). Judged j n f g D u v) (sym same) judged;
+        work-is = wiped;
+      }
+
+      pub accepted : x ≡ 0 → ClaimCase narrow n f g D u v work work' Accepted
+      accepted h = record { case-is = refl; answer = subst (λ (j : ℕ). ClaimAnswer narrow n f g D u v work work' j 0) h said-here }
+
+      pub failed : (x ≡ 0 → ⊥) → ClaimCase narrow n f g D u v work work' (Fails x)
+      failed h = record { case-is = fails-told x h; answer = said-here }
+
+-- the words of the case r
+pub words-answered : {n D : ℕ} {f g u v work work' : List ℕ} (r c : Claim) → ClaimCase narrow n f g D u v work work' r → r ≡ c
+    → ClaimAnswer narrow n f g D u v work work' (claim-value c) (claim-number c)
+words-answered {n} {D} {f} {g} {u} {v} {work} {work'} r c a e =
+    subst (λ (x : Claim). ClaimAnswer narrow n f g D u v work work' (claim-value x) (claim-number x)) e (a .answer)

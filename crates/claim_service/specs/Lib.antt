@@ -1,0 +1,2 @@
+pub mod ClaimService
+pub mod OwnAnswers

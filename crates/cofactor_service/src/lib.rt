@@ -1,0 +1,65 @@
+// The cofactors of the resultant as a service: from any words and lengths an answer, or a numbered refusal.
+//
+//   refusal                the number of the first refusal that applies, 0 where none does
+//   resultant_cofactors    the service
+ghost use mathlib.Core.Path.{_≡_};
+ghost use lib.ListN.{length, replicate};
+ghost use Rattle.refusals.specs.Refusals.{narrow};
+ghost use Rattle.cofactor_service.specs.CofactorService.{cofactor-status, CofactorAnswer};
+use refusals::Answer;
+
+// "It refuses with 9 the pair d = e = 0, tested after 3 and before 6, and 7 comes last." The last three are the lengths of the buffers.
+fn refusal(n: u32, f: &[u32], g: &[u32], first: usize, second: usize, working: usize) -> u32
+    ensures { λ r. ⌜ r ≡ cofactor-status narrow n (now (f .entry)) (now (g .entry)) first second working ⌝ }
+{
+    let s = refusals::refusal_two(n, f, g);
+    if s != 0 {
+        return s;
+    }
+    let d = f.len() - 1;
+    let e = g.len() - 1;
+    if d + e < 1 {
+        return 9;
+    }
+    if first < e {
+        return 6;
+    }
+    if second < d {
+        return 6;
+    }
+    if working < 8192 {
+        return 7;
+    }
+    0
+}
+
+// "After an answered call the whole working buffer is zero."
+fn answered(value: u32, work: &mut [u32]) -> Answer
+    ensures { λ r. ⌜ (r .value ≡ value) × (r .status ≡ 0) ⌝ }
+    ensures { λ _. ⌜ now (work .exit) ≡ replicate (length (now (work .entry))) 0 ⌝ }
+{
+    windows::wipe(work);
+    Answer { value, status: 0 }
+}
+
+// The resultant of f and g modulo n, with u in the first e words of one buffer and v in the first d words of the other: u f + v g is it.
+pub fn resultant_cofactors(
+    n: u32,
+    f: &[u32],
+    g: &[u32],
+    u: &mut [u32],
+    v: &mut [u32],
+    work: &mut [u32],
+) -> Answer
+    ensures { λ r. ⌜ CofactorAnswer narrow n (now (f .entry)) (now (g .entry)) (now (u .entry)) (now (u .exit)) (now (v .entry))
+        (now (v .exit)) (now (work .entry)) (now (work .exit)) (r .value) (r .status) ⌝ }
+{
+    let status = refusal(n, f, g, u.len(), v.len(), work.len());
+    if status != 0 {
+        return Answer { value: 0, status };
+    }
+    let d = f.len() - 1;
+    let e = g.len() - 1;
+    let value = cofactor_quick::cofactors(&mut u[0..e], &mut v[0..d], work, n, f, g);
+    answered(value, work)
+}

@@ -1,0 +1,3 @@
+pub mod Common
+pub mod CommonLaws
+pub mod Searches

@@ -1,0 +1,240 @@
+-- The half of an attempt that gives the first polynomial a leading unit: words over the common content, and back.
+use mathlib.Core.Path.{_≡_, refl, sym, ap, ap₂, subst, _∙_}
+use mathlib.Core.List.{List, []}
+use mathlib.Core.Logic.{⊎-elim}
+use Prim.Native.Nat.{ℕ, zero, suc, max, _+_, _-_, _*_, _/_, _%_, _≤_, _<_, _∣_}
+use native.Mathlib.Omega.{arith}
+use native.Mathlib.Nat.{mod-lt, mod-mod, zero-mod, zero-add, zero-div, div-one, mul-one, mul-le-mul, mul-le-mul-left, mul-le-mul-right, mul-div-cancel', dvd-mul-left, mod-eq-zero-of-dvd, mul-mod-right}
+use lib.ListN.{length, getD}
+use Rattle.definitions.specs.Residues.{IsNilpotent}
+use Rattle.definitions.specs.Polynomials.{coef}
+use Rattle.definitions.specs.Resultants.{Reduced}
+use Rattle.theory.specs.ReachedSteps.{Times, coef-beyond}
+use Rattle.theory.specs.ReducedLaws.{reduced-content, reduced-one, reduced-flip, reduced-coprime}
+use Rattle.windows.specs.Window.{piece, Moved, quotient-by, zeroed, Loaded, Below, Scratch}
+use Rattle.windows.proofs.Leaf.{lt-or-le, piece-at, piece-over, piece-same}
+use Rattle.window_factor.specs.Factors.{SplitOf, AllNilpotents}
+use Rattle.reduced_units.specs.States.{Splitter}
+use Rattle.reduced_attempt.specs.Attempts.{CommonContent, NilpotentOver, Parted}
+use Rattle.reduced_attempt.proofs.Halves.{common-positive, common-whole, common-above}
+use Rattle.divisor_stages.specs.Leads.{LeadAsked, Leading}
+use Rattle.divisor_stages.specs.Stages.{DivisionAsked, DivisorOrSplit}
+use Rattle.divisor_stages.proofs.Contents.{splitter-dvd}
+use Rattle.residue.specs.declared.Attempt.{Attempt}
+use Rattle.residue.specs.declared.Attempt.the-variants.{Value, Splits}
+use Rattle.divisor.specs.Sizes.{DivisorSizes}
+use Rattle.divisor.specs.Attempts.{ArrangeAsked, Padded, HalfAsked, Attempted}
+
+-- ---- both polynomials in the buffer
+
+pub over-one : (c len : ℕ) (w : List ℕ) → c ≡ 1 → Moved (quotient-by c) 0 0 len w w
+over-one c len w e = record {
+  same = refl;
+  low = λ k h. refl;
+  mid = λ i h. sym (ap (λ (x : ℕ). getD w (0 + i) 0 / x) e ∙ div-one (getD w (0 + i) 0));
+  high = λ k h. refl;
+}
+
+module _ (n c m : ℕ) (f g w w₁ w₂ w₃ w₄ : List ℕ) (ar : ArrangeAsked n c f g w) (is-m : m ≡ max (length f) (length g))
+    (cl : Moved zeroed 0 0 (2 * m) w w₁) (lg : Loaded n 0 g w₁ w₂) (lf : Loaded n m f w₂ w₃) (dv : Moved (quotient-by c) 0 0 (2 * m) w₃ w₄) where
+  within-f : length f ≤ m
+  within-f = omega arith
+
+  within-g : length g ≤ m
+  within-g = omega arith
+
+  nought : (k : ℕ) → k < 2 * m → getD w₁ k 0 ≡ 0
+  nought k h = ap (λ (x : ℕ). getD w₁ x 0) (sym (zero-add k)) ∙ cl .mid k h
+
+  nothing : (f : List ℕ) (k : ℕ) → length f ≤ k → 0 ≡ coef f k % n
+  nothing f k h = sym (ap (λ (x : ℕ). x % n) (coef-beyond f k h) ∙ zero-mod n)
+
+  word-g : (k : ℕ) → k < m → getD w₃ k 0 ≡ coef g k % n
+  word-g k h = lf .low k h ∙ ⊎-elim
+      (λ l. ap (λ (x : ℕ). getD w₂ x 0) (sym (zero-add k)) ∙ lg .mid k l)
+      (λ l. lg .high k (omega arith) ∙ nought k (omega arith) ∙ nothing g k l)
+      (lt-or-le k (length g))
+
+  word-f : (k : ℕ) → k < m → getD w₃ (m + k) 0 ≡ coef f k % n
+  word-f k h = ⊎-elim
+      (λ l. lf .mid k l)
+      (λ l. lf .high (m + k) (omega arith) ∙ lg .high (m + k) (omega (arith, within-g)) ∙ nought (m + k) (omega arith) ∙ nothing f k l)
+      (lt-or-le k (length f))
+
+  divided : (k : ℕ) → k < 2 * m → getD w₄ k 0 ≡ getD w₃ k 0 / c
+  divided k h = ap (λ (x : ℕ). getD w₄ x 0) (sym (zero-add k)) ∙ dv .mid k h ∙ ap (λ (x : ℕ). getD w₃ x 0 / c) (zero-add k)
+
+  pub padded : Padded n c m f g w w₄
+  padded = record {
+    same = dv .same ∙ lf .same ∙ lg .same ∙ cl .same;
+    words = is-m;
+    first = λ k h. divided (m + k) (omega arith) ∙ ap (λ (x : ℕ). x / c) (word-f k h);
+    second = λ k h. divided k (omega arith) ∙ ap (λ (x : ℕ). x / c) (word-g k h);
+  }
+
+-- ---- modulo n / c
+
+module _ (n c m : ℕ) (f g w w₁ : List ℕ) (ha : HalfAsked n c f g w) (pd : Padded n c m f g w w₁) where
+  two : 2 ≤ n
+  two = ha .modulus
+
+  cm : CommonContent n f g c
+  cm = ha .content
+
+  pub half-positive : 0 < c
+  half-positive = common-positive n c f g two cm
+
+  whole : n ≡ c * (n / c)
+  whole = common-whole n c f g two cm
+
+  pub half-above : 2 ≤ n / c
+  half-above = common-above n c f g two cm (ha .proper)
+
+  pub half-dvd : n / c ∣ n
+  half-dvd = subst (λ (x : ℕ). n / c ∣ x) (sym whole) (dvd-mul-left (n / c) c)
+
+  le-f : length f ≤ m
+  le-f = omega (arith, pd .words, go (length f) (length g))
+    where
+      go : (a b : ℕ) → a ≤ max a b
+      go a b = omega arith
+
+  le-g : length g ≤ m
+  le-g = omega (arith, pd .words, go (length f) (length g))
+    where
+      go : (a b : ℕ) → b ≤ max a b
+      go a b = omega arith
+
+  few : m ≤ 49
+  few = omega (arith, pd .words, go (length f) (length g) (ha .sizes .most-f) (ha .sizes .most-g))
+    where
+      go : (a b : ℕ) → a ≤ 49 → b ≤ 49 → max a b ≤ 49
+      go a b p q = omega arith
+
+  pub some : 1 ≤ m
+  some = omega (arith, le-f, ha .sizes .least-f)
+
+  one-more : m - 1 + 1 ≡ m
+  one-more = omega (arith, some)
+
+  long : 5 * m ≤ length w₁
+  long = omega (arith, few, ha .sizes .working, pd .same)
+
+  beyond : (f : List ℕ) (k : ℕ) → length f ≤ k → 0 ≡ (coef f k % n) / c
+  beyond f k h = sym (ap (λ (x : ℕ). x % n / c) (coef-beyond f k h) ∙ ap (λ (x : ℕ). x / c) (zero-mod n) ∙ zero-div c)
+
+  -- the words as polynomials
+  first-at : (k : ℕ) → coef (piece w₁ m m) k ≡ (coef f k % n) / c
+  first-at k = ⊎-elim
+      (λ h. piece-at w₁ m m k h ∙ pd .first k h)
+      (λ h. piece-over w₁ m m k h ∙ beyond f k (omega (arith, le-f)))
+      (lt-or-le k m)
+
+  second-at : (k : ℕ) → coef (piece w₁ 0 m) k ≡ (coef g k % n) / c
+  second-at k = ⊎-elim
+      (λ h. piece-at w₁ 0 m k h ∙ ap (λ (x : ℕ). getD w₁ x 0) (zero-add k) ∙ pd .second k h)
+      (λ h. piece-over w₁ 0 m k h ∙ beyond g k (omega (arith, le-g)))
+      (lt-or-le k m)
+
+  -- y / c is below n / c
+  small : (y : ℕ) → c ∣ y % n → (y % n) / c < n / c
+  small y d = less c ((y % n) / c) (n / c) half-positive
+      (subst (λ (x : ℕ). x < c * (n / c)) (sym (mul-div-cancel' c d)) (subst (λ (x : ℕ). y % n < x) whole (mod-lt y (omega (arith, two)))))
+    where
+      less : (c x y : ℕ) → 0 < c → c * x < c * y → x < y
+      less c x y p q = ⊎-elim (λ h. h) (λ h. absurd (omega (arith, mul-le-mul-left c h))) (lt-or-le x y)
+
+  pub half-lead : LeadAsked (n / c) m m (2 * m) w₁
+  half-lead = record {
+    two = half-above;
+    within = omega arith;
+    fits = omega (arith, long);
+    below = record { at = λ k h. subst (λ (x : ℕ). x < n / c) (sym (pd .first k h)) (small (coef f k) (cm .divides-f k)) };
+  }
+
+  pub half-nilpotents : AllNilpotents (n / c) (piece w₁ m m) → NilpotentOver n c f
+  half-nilpotents x = record { at = λ k. subst (IsNilpotent (n / c)) (first-at k) (x .at k) }
+
+  times : (f h : List ℕ) → ((k : ℕ) → coef h k ≡ (coef f k % n) / c) → ((k : ℕ) → c ∣ coef f k % n) → Times (c * (n / c)) c f h
+  times f h at d = record {
+    at = λ k. subst (λ (x : ℕ). coef f k % x ≡ (c * coef h k) % x) whole
+        (sym (ap (λ (x : ℕ). (c * x) % n) (at k) ∙ ap (λ (x : ℕ). x % n) (mul-div-cancel' c (d k)) ∙ mod-mod (coef f k) n));
+  }
+
+  module _ (t i : ℕ) (w₂ : List ℕ) (ld : Leading (n / c) m m t i (2 * m) w₁ w₂) where
+    kept : (k : ℕ) → k < m → getD w₂ k 0 ≡ getD w₁ k 0
+    kept k h = ld .beyond .at k (omega arith) (λ x p e. omega arith)
+
+    pub half-division : DivisionAsked (n / c) 0 (m - 1) m t i (2 * m) w₂
+    half-division = record {
+      two = half-above;
+      near = omega (arith, ld .shorter);
+      first = omega (arith, some);
+      second = omega (arith, ld .shorter);
+      fits = omega (arith, ld .shorter, long, ld .beyond .same);
+      below-first = record { at = λ k h. subst (λ (x : ℕ). x < n / c) (sym (ap (λ (x : ℕ). getD w₂ x 0) (zero-add k) ∙ kept k (omega (arith, some)) ∙ pd .second k (omega (arith, some)))) (small (coef g k) (cm .divides-g k)) };
+      below-second = ld .below;
+      apart = record { ok = λ x y p q e. omega (arith, some) };
+      inverse = ld .inverse;
+    }
+
+    same-second : piece w₂ 0 (m - 1 + 1) ≡ piece w₁ 0 m
+    same-second =
+        ap (λ (l : ℕ). piece w₂ 0 l) one-more
+        ∙ piece-same w₁ w₂ 0 m (omega (arith, long)) (ld .beyond .same) (λ k h. ap (λ (x : ℕ). getD w₂ x 0) (zero-add k) ∙ kept k h ∙ ap (λ (x : ℕ). getD w₁ x 0) (sym (zero-add k)))
+
+    module _ (D : ℕ) (x : Reduced (n / c) (piece w₂ 0 (m - 1 + 1)) (piece w₂ m (t + 1)) D) where
+      pub half-most : c * D ≤ n
+      half-most = subst (λ (z : ℕ). c * D ≤ z) (sym whole) (mul-le-mul-left c (x .most))
+
+      pub half-reduced : Reduced n f g (c * D)
+      half-reduced =
+          let positive : 1 ≤ n / c = omega (arith, half-above) in
+          subst (λ (z : ℕ). Reduced z f g (c * D)) (sym whole)
+          (reduced-content c (n / c) D f (piece w₁ m m) g (piece w₁ 0 m) half-positive positive
+          (times f (piece w₁ m m) first-at (cm .divides-f)) (times g (piece w₁ 0 m) second-at (cm .divides-g))
+          (ld .constants (piece w₁ 0 m) D (reduced-flip (n / c) positive (piece w₁ 0 m) (piece w₂ m (t + 1)) D
+          (subst (λ (h : List ℕ). Reduced (n / c) h (piece w₂ m (t + 1)) D) same-second x))))
+
+-- ---- both polynomials are 0 modulo n
+
+pub none-reduced : (n : ℕ) (f g : List ℕ) → 2 ≤ n → CommonContent n f g n → Reduced n f g n
+none-reduced n f g two cm =
+    subst (λ (z : ℕ). Reduced z f g z) (mul-one n)
+    (reduced-content n 1 1 f [] g [] (omega arith) (omega arith) (times f (cm .divides-f)) (times g (cm .divides-g)) (reduced-one [] []))
+  where
+    times : (f : List ℕ) → ((k : ℕ) → n ∣ coef f k % n) → Times (n * 1) n f []
+    times f d = record {
+      at = λ k. subst (λ (z : ℕ). coef f k % z ≡ (n * coef [] k) % z) (sym (mul-one n))
+          (sym (mod-mod (coef f k) n) ∙ mod-eq-zero-of-dvd n (d k) ∙ sym (mul-mod-right n (coef [] k)));
+    }
+
+pub parted-attempted : (n : ℕ) (f g : List ℕ) (r : Attempt) → Parted n r → Attempted n f g r
+parted-attempted n f g (Value D) x = absurd x
+parted-attempted n f g (Splits p q) x = x
+
+pub sizes-same : {f g w w' : List ℕ} → Scratch w w' → DivisorSizes f g w → DivisorSizes f g w'
+sizes-same h s = record {
+  least-f = s .least-f;
+  most-f = s .most-f;
+  least-g = s .least-g;
+  most-g = s .most-g;
+  working = omega (arith, h .same, s .working);
+}
+
+-- ---- two coprime factors
+
+module _ (n p q : ℕ) (s : SplitOf n p q) where
+  pub split-falls : (p < n) × (q < n)
+  split-falls =
+      let a : p * 2 ≤ p * q = mul-le-mul-left p (s .above₂) in
+      let b : 2 * q ≤ p * q = mul-le-mul-right q (s .above₁) in
+      (omega (arith, s .product, s .above₁), omega (arith, s .product, s .above₂))
+
+  module _ (f g : List ℕ) (D₁ D₂ : ℕ) (x : Reduced p f g D₁) (y : Reduced q f g D₂) where
+    pub product-most : D₁ * D₂ ≤ n
+    product-most = subst (λ (z : ℕ). D₁ * D₂ ≤ z) (s .product) (mul-le-mul (x .most) (y .most))
+
+    pub product-reduced : Reduced n f g (D₁ * D₂)
+    product-reduced = subst (λ (z : ℕ). Reduced z f g (D₁ * D₂)) (s .product)
+        (reduced-coprime (omega (arith, s .above₁)) (omega (arith, s .above₂)) (s .coprime) f g D₁ D₂ x y)

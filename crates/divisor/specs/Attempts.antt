@@ -1,0 +1,52 @@
+-- What an attempt at D asks and promises. f and g are the sent polynomials, whose words may be any numbers; c is their common content.
+--
+--   ArrangeAsked, Padded    both polynomials over c, m words each
+--   HalfAsked               of the half of an attempt that factors the first polynomial: what it asks
+--   TrialAnswers            what it promises
+--   Attempted               D, or n as a product of two coprime factors
+use mathlib.Core.Path.{_≡_}
+use mathlib.Core.List.{List}
+use Prim.Native.Nat.{ℕ, max, _+_, _*_, _/_, _%_, _<_, _≤_}
+use lib.ListN.{length, getD}
+use Rattle.definitions.specs.Polynomials.{coef}
+use Rattle.definitions.specs.Resultants.{Reduced}
+use Rattle.window_factor.specs.Factors.{SplitOf}
+use Rattle.reduced_units.specs.States.{Splitter}
+use Rattle.residue.specs.declared.Attempt.{Attempt}
+use Rattle.residue.specs.declared.Attempt.the-variants.{Value, Splits}
+use Rattle.reduced_attempt.specs.Attempts.{CommonContent, NilpotentOver}
+use Rattle.reduced_attempt.specs.declared.Trial.{Trial}
+use Rattle.reduced_attempt.specs.declared.Trial.the-variants.{Found, Divisors, Nilpotent}
+use Rattle.divisor.specs.Sizes.{DivisorSizes}
+
+pub record ArrangeAsked (n c : ℕ) (f g w : List ℕ) : Type 0 where
+  pub modulus : 1 ≤ n
+  pub content : 1 ≤ c
+  pub few-f : length f ≤ 49
+  pub few-g : length g ≤ 49
+  pub fits : 98 ≤ length w
+
+-- m words each: g over c at 0, f over c at m; a word beyond a polynomial is 0
+pub record Padded (n c m : ℕ) (f g w w' : List ℕ) : Type 0 where
+  pub same : length w' ≡ length w
+  pub words : m ≡ max (length f) (length g)
+  pub first : (k : ℕ) → k < m → getD w' (m + k) 0 ≡ (coef f k % n) / c
+  pub second : (k : ℕ) → k < m → getD w' k 0 ≡ (coef g k % n) / c
+
+-- a half is tried where the common content c of f and g is not all of n
+pub record HalfAsked (n c : ℕ) (f g w : List ℕ) : Type 0 where
+  pub modulus : 2 ≤ n
+  pub sizes : DivisorSizes f g w
+  pub content : CommonContent n f g c
+  pub proper : c ≡ n → ⊥
+
+-- D; two coprime divisors of n; or no coefficient of f over c is more than nilpotent
+abbrev pub TrialAnswers : ℕ → ℕ → List ℕ → List ℕ → Trial → Type 0
+TrialAnswers n c f g (Found D) = Reduced n f g D
+TrialAnswers n c f g (Divisors p q) = Splitter n p q
+TrialAnswers n c f g Nilpotent = NilpotentOver n c f
+
+-- "At a splitting coefficient, each of the two factors is worked as a modulus of its own": D, or the two factors
+abbrev pub Attempted : ℕ → List ℕ → List ℕ → Attempt → Type 0
+Attempted n f g (Value D) = Reduced n f g D
+Attempted n f g (Splits p q) = SplitOf n p q

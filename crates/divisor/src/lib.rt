@@ -1,0 +1,145 @@
+// The reduced resultant D of two polynomials modulo n, without cofactors.
+//
+//   f, g   the sent words; c is the content of both together
+//   w      the working window: g over c from 0 on, f over c from m on, m words each, zeros above; room from 2 m on
+//
+//   longer    the larger of two numbers of words
+//   over      words over a content
+//   arrange   both polynomials over their common content
+//   half      the attempt where the first polynomial gets a leading unit
+//   general   both halves in turn
+//   attempt   D = 1 where that shows at once; else the general way
+//   joined    D modulo a product of two coprime factors
+//   run       D; a split of n is worked on each factor, and the answers are multiplied
+ghost use mathlib.Core.Path.{_≡_};
+ghost use Prim.Native.Nat.{max, _*_, _<_, _≤_};
+ghost use Rattle.definitions.specs.Resultants.{Reduced};
+ghost use lib.ListN.{length};
+ghost use Rattle.windows.specs.Window.{Moved, quotient-by, Scratch};
+ghost use Rattle.divisor.specs.Sizes.{DivisorSizes};
+ghost use Rattle.divisor.specs.Attempts.{ArrangeAsked, Padded, HalfAsked, TrialAnswers, Attempted};
+use reduced_attempt::Trial;
+use residue::Attempt;
+
+// The larger of a and b.
+fn longer(a: usize, b: usize) -> usize
+    ensures { λ r. ⌜ r ≡ max a b ⌝ }
+{
+    if a < b {
+        return b;
+    }
+    a
+}
+
+// The first len words over c. Over 1 there is nothing to do.
+fn over(w: &mut [u32], c: u32, len: usize)
+    requires { ⌜ (1 ≤ c) × (len ≤ length (now w)) ⌝ }
+    ensures { λ _. ⌜ Moved (quotient-by c) 0 0 len (now (w .entry)) (now (w .exit)) ⌝ }
+{
+    if c == 1 {
+        return;
+    }
+    windows::divide_words(w, c, 0, len);
+}
+
+// The words of g over c, and then those of f, each followed by zeros up to as many as the longer one has. Answers that number.
+fn arrange(w: &mut [u32], n: u32, c: u32, f: &[u32], g: &[u32]) -> usize
+    requires { ⌜ ArrangeAsked n c (now f) (now g) (now w) ⌝ }
+    ensures { λ r. ⌜ Padded n c r (now (f .entry)) (now (g .entry)) (now (w .entry)) (now (w .exit)) ⌝ }
+{
+    let m = longer(f.len(), g.len());
+    windows::clear(w, 0, 2 * m);
+    windows::load(w, 0, g, n);
+    windows::load(w, m, f, n);
+    over(w, c, 2 * m);
+    m
+}
+
+// D of f and g, c their common content, if f over c has a coefficient that is not nilpotent.
+fn half(w: &mut [u32], n: u32, c: u32, f: &[u32], g: &[u32]) -> Trial
+    requires { ⌜ HalfAsked n c (now f) (now g) (now w) ⌝ }
+    ensures { λ r. ⌜ TrialAnswers n c (now (f .entry)) (now (g .entry)) r ⌝ }
+    ensures { λ _. ⌜ Scratch (now (w .entry)) (now (w .exit)) ⌝ }
+{
+    let m = arrange(w, n, c, f, g);
+    match divisor_stages::unit_lead(w, n / c, m, m, 2 * m) {
+        window_factor::Highest::UnitAt(t, i) => match divisor_stages::division_stage(
+            w,
+            n / c,
+            0,
+            m - 1,
+            m,
+            t,
+            i,
+            2 * m,
+        ) {
+            Attempt::Value(d) => Trial::Found(c * d),
+            Attempt::Splits(p, q) => Trial::Divisors(p, q),
+        },
+        window_factor::Highest::Splits(p, q) => Trial::Divisors(p, q),
+        window_factor::Highest::AllNilpotent => Trial::Nilpotent,
+    }
+}
+
+// D of f and g, or n as a product of two coprime factors, by contents, leading units and divisions.
+fn general(w: &mut [u32], n: u32, f: &[u32], g: &[u32]) -> Attempt
+    requires { ⌜ (2 ≤ n) × DivisorSizes (now f) (now g) (now w) ⌝ }
+    ensures { λ r. ⌜ Attempted n (now (f .entry)) (now (g .entry)) r ⌝ }
+    ensures { λ _. ⌜ Scratch (now (w .entry)) (now (w .exit)) ⌝ }
+{
+    let c = reduced_attempt::common_content(w, n, f, g);
+    if c == n {
+        return Attempt::Value(n);
+    }
+    match half(w, n, c, f, g) {
+        Trial::Found(d) => {
+            return Attempt::Value(d);
+        }
+        Trial::Divisors(p, q) => {
+            return reduced_attempt::split(n, p, q);
+        }
+        Trial::Nilpotent => {}
+    }
+    match half(w, n, c, g, f) {
+        Trial::Found(d) => Attempt::Value(d),
+        Trial::Divisors(p, q) => reduced_attempt::split(n, p, q),
+        Trial::Nilpotent => Attempt::Value(n),
+    }
+}
+
+// The same; where Euclid without inverses ends in a unit, D is 1 and nothing else is to know.
+fn attempt(w: &mut [u32], n: u32, f: &[u32], g: &[u32]) -> Attempt
+    requires { ⌜ (2 ≤ n) × DivisorSizes (now f) (now g) (now w) ⌝ }
+    ensures { λ r. ⌜ Attempted n (now (f .entry)) (now (g .entry)) r ⌝ }
+    ensures { λ _. ⌜ Scratch (now (w .entry)) (now (w .exit)) ⌝ }
+{
+    if coprime_test::shows_coprime(w, n, f, g) {
+        return Attempt::Value(1);
+    }
+    general(w, n, f, g)
+}
+
+// D modulo a product of two coprime factors, from D modulo each of them.
+fn joined(a: u32, b: u32) -> u32
+    requires { ⌜ a * b < 4294967296 ⌝ }
+    ensures { λ r. ⌜ r ≡ a * b ⌝ }
+{
+    a * b
+}
+
+// "each of the two factors is worked as a modulus of its own": D is the product of the two. The words of f and g may be any; they count
+// modulo n.
+pub fn run(w: &mut [u32], n: u32, f: &[u32], g: &[u32]) -> u32
+    requires { ⌜ (2 ≤ n) × DivisorSizes (now f) (now g) (now w) ⌝ }
+    ensures { λ r. ⌜ Reduced n (now (f .entry)) (now (g .entry)) r ⌝ }
+    ensures { λ _. ⌜ Scratch (now (w .entry)) (now (w .exit)) ⌝ }
+{
+    match attempt(w, n, f, g) {
+        Attempt::Value(d) => d,
+        Attempt::Splits(p, q) => {
+            let a = run(w, p, f, g);
+            let b = run(w, q, f, g);
+            joined(a, b)
+        }
+    }
+}

@@ -1,0 +1,2 @@
+pub mod DivisorService
+pub mod Agreement

@@ -1,0 +1,217 @@
+-- The promise of the resultant of two variables at each place where it returns.
+--
+--   accepted, room-accepted    what is known once none of the refusals 1, 2 and 3, or 12, 11, 6 and 7, applies
+--   small-products   the products of degrees that B is made of
+--   prepared, prepared-turned    what the run asks, once none applies, whichever of f and g comes first
+--   refused-sent, refused-room, done
+use mathlib.Core.Path.{_≡_, refl, sym, ap, subst, _∙_}
+use mathlib.Core.Bool.{Bool, true, false, not, cond}
+use mathlib.Core.List.{List, [], _∷_, _++_}
+use Prim.Native.Nat.{ℕ, zero, suc, _+_, _-_, _*_, _≤_, _<_}
+use native.Mathlib.Decide.{decLt}
+use native.Mathlib.Nat.{mul-le-mul}
+use native.Mathlib.Omega.{arith}
+use lib.Dec.{ltb, eqb}
+use borrow.Author.Tests.{lt-ltb, le-ltb}
+use lib.ListN.{length, getD, drop, replicate, List·getD-append}
+use lib.Seq.{ext-getD}
+use Rattle.definitions.specs.Polynomials.{coef, tabulate, Residues}
+use Rattle.definitions.specs.TwoVariables.{resultant-two, degree-two}
+use Rattle.numbers.specs.PrimeTable.{NoSmallPrime, none-differences}
+use Rattle.theory.specs.Words.{coef-tabulate, length-tabulate}
+use Rattle.refusals.specs.Refusals.{narrow, short, first-refusal, replaced}
+use Rattle.refusals.specs.Conditions.{ServedModulus, status-zero, modulus-fails, words-fail, short-fails}
+use Rattle.refusals.proofs.Statuses.{refused-early, passed-on, left-refused, replaced-refused}
+use Rattle.windows.specs.Window.{Written}
+use Rattle.two_variables.specs.PairSizes.{Prepared}
+use Rattle.two_service.specs.TwoService.{bad-shape, two-sent, two-room, ServedShape, shape-fails, above-fails, prime-fails, TwoAnswer}
+
+-- the first words written: the list is replaced
+written-front : (F : ℕ → ℕ) (l : ℕ) (w w' : List ℕ) → l ≤ length w → Written F 0 l w w' → w' ≡ replaced 0 (tabulate l F) w
+written-front F l w w' r h =
+    ext-getD 0 w' (x ++ drop (length x) w) (h .same ∙ sym (front-length x w (subst (λ (k : ℕ). k ≤ length w) (sym long) r)))
+    (λ i _. go i (decLt i l))
+  where
+    x : List ℕ
+    x = tabulate l F
+
+    long : length x ≡ l
+    long = length-tabulate l F
+
+    plus : (k : ℕ) → 0 + k ≡ k
+    plus k = omega arith
+
+    front-length : (x w : List ℕ) → length x ≤ length w → length (x ++ drop (length x) w) ≡ length w
+    front-length [] w r = refl
+    front-length (y ∷ x) [] r = absurd (omega arith)
+    front-length (y ∷ x) (z ∷ w) r = ap suc (front-length x w (omega arith))
+
+    front-beyond : (x w : List ℕ) (i : ℕ) → length x ≤ length w → length x ≤ i → coef (x ++ drop (length x) w) i ≡ coef w i
+    front-beyond [] w i r l = refl
+    front-beyond (y ∷ x) [] i r l = absurd (omega arith)
+    front-beyond (y ∷ x) (z ∷ w) zero r l = absurd (omega arith)
+    front-beyond (y ∷ x) (z ∷ w) (suc i) r l = front-beyond x w i (omega arith) (omega arith)
+
+    go : (i : ℕ) → Dec (i < l) → getD w' i 0 ≡ getD (x ++ drop (length x) w) i 0
+    go i (yes q) =
+        ap (λ (k : ℕ). getD w' k 0) (sym (plus i)) ∙ h .mid i q ∙ sym (coef-tabulate l F i q)
+        ∙ sym (List·getD-append x (drop (length x) w) 0 i (subst (λ (k : ℕ). i < k) (sym long) q))
+    go i (no q) =
+        h .high i (omega arith)
+        ∙ sym (front-beyond x w i (subst (λ (k : ℕ). k ≤ length w) (sym long) r) (subst (λ (k : ℕ). k ≤ i) (sym long) (omega arith)))
+
+-- n, f and g are served
+pub record TwoAccepted (n : ℕ) (f : List ℕ) (d a : ℕ) (g : List ℕ) (e b : ℕ) : Type 0 where
+  pub modulus : 2 ≤ n
+  pub first : ServedShape d a f
+  pub second : ServedShape e b g
+
+pub accepted : (n : ℕ) (f : List ℕ) (d a : ℕ) (g : List ℕ) (e b : ℕ) (s : ℕ) → s ≡ first-refusal (two-sent narrow n f d a g e b) → s ≡ 0
+    → TwoAccepted n f d a g e b
+accepted n f d a g e b s is z =
+    let p = status-zero (two-sent narrow n f d a g e b)
+    (ServedModulus narrow n ∷ ServedShape d a f ∷ ServedShape e b g ∷ Residues n f ∷ Residues n g ∷ []) (
+      (omega arith, modulus-fails narrow n),
+      (
+        (omega arith, shape-fails d a f),
+        (
+          (omega arith, shape-fails e b g),
+          ((omega arith, words-fail n f), ((omega arith, words-fail n g), tt)),
+        ),
+      ),
+    ) .0 (sym is ∙ z) in
+    record { modulus = p .0 .least; first = p .1 .0; second = p .1 .1 .0 }
+
+pub record RoomAccepted (n B l m : ℕ) : Type 0 where
+  pub most : B ≤ 60
+  pub none : NoSmallPrime n B
+  pub out : suc B ≤ l
+  pub working : 8192 ≤ m
+
+pub room-accepted : (n B l m t : ℕ) → t ≡ first-refusal (two-room narrow n B l m) → t ≡ 0 → RoomAccepted n B l m
+room-accepted n B l m t is z =
+    let p = status-zero (two-room narrow n B l m) ((B ≤ 60) ∷ NoSmallPrime n B ∷ (suc B ≤ l) ∷ (8192 ≤ m) ∷ []) (
+      (omega arith, above-fails 60 B),
+      (
+        (omega arith, prime-fails n B),
+        (
+          (omega arith, short-fails l (suc B)),
+          ((omega arith, short-fails m 8192), tt),
+        ),
+      ),
+    ) .0 (sym is ∙ z) in
+    record { most = p .0; none = p .1 .0; out = p .1 .1 .0; working = p .1 .1 .1 .0 }
+
+-- the length that fits the degrees, as the code has it
+pub shape-last : (f : List ℕ) (d a : ℕ) → d ≤ 48 → a ≤ 48 → not (eqb (length f) ((d + 1) * (a + 1))) ≡ bad-shape d a f
+shape-last f d a p q =
+    ap (λ (x : ℕ). not (eqb (length f) x)) (same d a)
+    ∙ sym (ap (λ (t : Bool). cond t true (cond (ltb 48 a) true z)) (le-ltb 48 d p) ∙ ap (λ (t : Bool). cond t true z) (le-ltb 48 a q))
+  where
+    same : (d a : ℕ) → (d + 1) * (a + 1) ≡ suc d * suc a
+    same d a = omega arith
+
+    z : Bool
+    z = not (eqb (length f) (suc d * suc a))
+
+pub shape-most : (d a : ℕ) → d ≤ 48 → a ≤ 48 → (d + 1) * (a + 1) ≤ 2401
+shape-most d a p q = mul-le-mul (more d p) (more a q)
+  where
+    more : (d : ℕ) → d ≤ 48 → d + 1 ≤ 49
+    more d p = omega arith
+
+-- the length that B asks for, as the code has it
+pub lacks-room : (l b : ℕ) → l < b + 1 → short l (suc b) ≡ true
+lacks-room l b h = lt-ltb l (suc b) (omega arith)
+
+pub has-room : (l b : ℕ) → b + 1 ≤ l → short l (suc b) ≡ false
+has-room l b h = le-ltb l (suc b) (omega arith)
+
+-- the products of a degree in y and one in z
+pub record SmallProducts (d a e b : ℕ) : Type 0 where
+  pub of-da : d * a ≤ 2304
+  pub of-db : d * b ≤ 2304
+  pub of-ea : e * a ≤ 2304
+  pub of-eb : e * b ≤ 2304
+
+pub small-products : {n d a e b : ℕ} {f g : List ℕ} → TwoAccepted n f d a g e b → SmallProducts d a e b
+small-products {n} {d} {a} {e} {b} t = record {
+  of-da = mul-le-mul (t .first .most-y) (t .first .most-z);
+  of-db = mul-le-mul (t .first .most-y) (t .second .most-z);
+  of-ea = mul-le-mul (t .second .most-y) (t .first .most-z);
+  of-eb = mul-le-mul (t .second .most-y) (t .second .most-z);
+}
+
+module _ (n : ℕ) (f : List ℕ) (d a : ℕ) (g : List ℕ) (e b : ℕ) (out work : List ℕ) (s : ℕ)
+    (is : s ≡ first-refusal (two-sent narrow n f d a g e b)) where
+  pub refused-sent : (s ≡ 0 → ⊥) → TwoAnswer narrow n f d a g e b out out work work 0 s
+  refused-sent z = record {
+    status-is = refused-early (two-sent narrow n f d a g e b) (two-room narrow n (degree-two d a e b) (length out) (length work)) s is z;
+    value-is = refl;
+    out-is = replaced-refused s (tabulate (suc (degree-two d a e b)) (resultant-two n d a e b f g)) out z;
+    work-is = left-refused s work z;
+  }
+
+  module _ (z : s ≡ 0) (t : ℕ) (it : t ≡ first-refusal (two-room narrow n (degree-two d a e b) (length out) (length work))) where
+    pub refused-room : (t ≡ 0 → ⊥) → TwoAnswer narrow n f d a g e b out out work work 0 t
+    refused-room y = record {
+      status-is = passed-on (two-sent narrow n f d a g e b) (two-room narrow n (degree-two d a e b) (length out) (length work)) s t is z it;
+      value-is = refl;
+      out-is = replaced-refused t (tabulate (suc (degree-two d a e b)) (resultant-two n d a e b f g)) out y;
+      work-is = left-refused t work y;
+    }
+
+    -- "values, the evaluated pair and the run's room fit": 7538 of 8192 words
+    pub prepared : t ≡ 0 → Prepared n (degree-two d a e b) f d a g e b out work
+    prepared y =
+        let p = accepted n f d a g e b s is z in
+        let r = room-accepted n (degree-two d a e b) (length out) (length work) t it y in
+        record {
+          two = p .modulus;
+          sizes = record {
+            most-d = p .first .most-y;
+            most-e = p .second .most-y;
+            words-f = p .first .words;
+            words-g = p .second .words;
+            working = omega (arith, r .working);
+          };
+          degree = refl;
+          inside = r .out;
+          apart = none-differences (omega (arith, p .modulus)) (r .none);
+        }
+
+    -- the same for g and f
+    pub prepared-turned : t ≡ 0 → Prepared n (degree-two d a e b) g e b f d a out work
+    prepared-turned y =
+        let p = prepared y in
+        record {
+          two = p .two;
+          sizes = record {
+            most-d = p .sizes .most-e;
+            most-e = p .sizes .most-d;
+            words-f = p .sizes .words-g;
+            words-g = p .sizes .words-f;
+            working = p .sizes .working;
+          };
+          degree = turned d a e b;
+          inside = p .inside;
+          apart = p .apart;
+        }
+      where
+        turned : (d a e b : ℕ) → degree-two d a e b ≡ degree-two e b d a
+        turned d a e b = omega arith
+
+    pub done : (y : t ≡ 0) (out' work' : List ℕ) → Written (resultant-two n d a e b f g) 0 (degree-two d a e b + 1) out out'
+        → work' ≡ replicate (length work) 0 → TwoAnswer narrow n f d a g e b out out' work work' 0 0
+    done y out' work' h k = record {
+      status-is = passed-on (two-sent narrow n f d a g e b) (two-room narrow n (degree-two d a e b) (length out) (length work)) s 0 is z
+          (sym y ∙ it);
+      value-is = refl;
+      out-is = written-front (resultant-two n d a e b f g) (suc (degree-two d a e b)) out out'
+          (room-accepted n (degree-two d a e b) (length out) (length work) t it y .out)
+          (subst (λ (l : ℕ). Written (resultant-two n d a e b f g) 0 l out out') (more (degree-two d a e b)) h);
+      work-is = k;
+    }
+      where
+        more : (x : ℕ) → x + 1 ≡ suc x
+        more x = omega arith

@@ -1,0 +1,2 @@
+pub mod TwoAnswers
+pub mod TwoService

@@ -1,0 +1,180 @@
+-- What the resultant of two variables answers, and what it leaves in every lent word, over any width W. f is of degrees d in y and a in z,
+-- g of e and b; B is the degree in z of the resultant.
+--
+--   bad-shape d a f         a degree above 48, or a length that does not fit the degrees
+--   small-factor n b        some number from 2 to b divides n
+--   two-sent, two-room      the refusals of what is sent, and those of B and the buffers
+--   two-refusals, two-status    all of them in their order, and the number of the first that applies
+--   TwoAnswer               all that is promised of a call
+--   ServedShape, shape-fails, prime-fails    what passes the refusals 2 and 11
+--   two-listed              each refusal under its condition and no other
+use mathlib.Core.Path.{_≡_, refl, sym, subst, _∙_}
+use mathlib.Core.Bool.{Bool, true, false, not, cond}
+use mathlib.Core.List.{List, [], _∷_, _++_}
+use Prim.Native.Nat.{ℕ, zero, suc, _+_, _-_, _*_, _%_, _<_, _≤_, _∣_}
+use native.Mathlib.Decide.{decLt}
+use native.Mathlib.Nat.{dvd-of-mod-eq-zero, mod-eq-zero-of-dvd, dvd-trans, le-of-dvd}
+use native.Mathlib.Omega.{arith}
+use lib.Dec.{T, ltb, eqb, ltb→lt, nltb→le}
+use lib.ListN.{length}
+use borrow.Author.Tests.{eqb-true, eq-eqb}
+use Rattle.definitions.specs.Polynomials.{tabulate, Residues}
+use Rattle.definitions.specs.TwoVariables.{resultant-two, degree-two}
+use Rattle.numbers.specs.PrimeTable.{NoSmallPrime}
+use Rattle.numbers.specs.Primes.{prime-of}
+use Rattle.refusals.specs.Refusals.{Width, Tested, bad-modulus, all-below, short, first-refusal, left, replaced}
+use Rattle.refusals.specs.Conditions.{Listed, Fails, ServedModulus, modulus-fails, words-fail, short-fails}
+
+-- "A degree above 48, or a length that does not fit the degrees, is refused with 2": the words are d + 1 groups of a + 1
+abbrev pub bad-shape : (d a : ℕ) → List ℕ → Bool
+bad-shape d a f = cond (ltb 48 d) true (cond (ltb 48 a) true (not (eqb (length f) (suc d * suc a))))
+
+-- some number from 2 to k + 1 divides n
+abbrev pub divided-to : ℕ → ℕ → Bool
+divided-to n zero = false
+divided-to n (suc k) = cond (eqb (n % suc (suc k)) 0) true (divided-to n k)
+
+-- "a modulus that some prime up to B divides": where a number from 2 to b divides n, so does a prime
+abbrev pub small-factor : (n b : ℕ) → Bool
+small-factor n b = divided-to n (b - 1)
+
+-- 1, 2 and 3, f before g
+abbrev pub two-sent : Width → ℕ → List ℕ → (d a : ℕ) → List ℕ → (e b : ℕ) → List Tested
+two-sent W n f d a g e b =
+    (1, bad-modulus W n) ∷ (2, bad-shape d a f) ∷ (2, bad-shape e b g) ∷ (3, not (all-below n f)) ∷ (3, not (all-below n g)) ∷ []
+
+-- "It refuses with 12 a B above 60, then with 11 a modulus that some prime up to B divides, both after 3 and before 6 and 7." l and m are
+-- the lengths of the result buffer and of the working buffer. "Its buffer needs B + 1 words."
+abbrev pub two-room : Width → (n B l m : ℕ) → List Tested
+two-room W n B l m = (12, ltb 60 B) ∷ (11, small-factor n B) ∷ (6, short l (suc B)) ∷ (7, short m (W .working)) ∷ []
+
+abbrev pub two-refusals : Width → ℕ → List ℕ → (d a : ℕ) → List ℕ → (e b : ℕ) → (l m : ℕ) → List Tested
+two-refusals W n f d a g e b l m = two-sent W n f d a g e b ++ two-room W n (degree-two d a e b) l m
+
+abbrev pub two-status : Width → ℕ → List ℕ → (d a : ℕ) → List ℕ → (e b : ℕ) → (l m : ℕ) → ℕ
+two-status W n f d a g e b l m = first-refusal (two-refusals W n f d a g e b l m)
+
+-- "The answer is the resultant in y, a polynomial in z of B + 1 words"; "words beyond are unchanged". The value is 0: the words are the
+-- answer.
+pub record TwoAnswer (W : Width) (n : ℕ) (f : List ℕ) (d a : ℕ) (g : List ℕ) (e b : ℕ) (out out' work work' : List ℕ)
+    (value status : ℕ) : Type 0 where
+  pub status-is : status ≡ two-status W n f d a g e b (length out) (length work)
+  pub value-is : value ≡ 0
+  pub out-is : out' ≡ replaced status (tabulate (suc (degree-two d a e b)) (resultant-two n d a e b f g)) out
+  pub work-is : work' ≡ left status work
+
+-- ---- what the tests mean
+
+-- "d in y and a in z, … each at most 48"; "d + 1 groups of a + 1 words"
+pub record ServedShape (d a : ℕ) (f : List ℕ) : Type 0 where
+  pub most-y : d ≤ 48
+  pub most-z : a ≤ 48
+  pub words : length f ≡ suc d * suc a
+
+yes-no : {b : Bool} {A : Type 0} → b ≡ true → b ≡ false → A
+yes-no {b} p q = absurd (subst T (sym p ∙ q) tt)
+
+below : (a b : ℕ) → ltb a b ≡ true → a < b
+below a b e = ltb→lt a b (subst T (sym e) tt)
+
+not-below : (a b : ℕ) → ltb a b ≡ false → b ≤ a
+not-below a b e = nltb→le a b (subst (λ (t : Bool). T (not t)) (sym e) tt)
+
+pub above-fails : (a b : ℕ) → Fails (ltb a b) (b ≤ a)
+above-fails a b = record { passed = not-below a b; failed = λ e h. let l = below a b e in omega arith }
+
+pub shape-fails : (d a : ℕ) (f : List ℕ) → Fails (bad-shape d a f) (ServedShape d a f)
+shape-fails d a f = go (ltb 48 d) (ltb 48 a) (eqb (length f) (suc d * suc a)) refl refl refl
+  where
+    go : (x y t : Bool) → ltb 48 d ≡ x → ltb 48 a ≡ y → eqb (length f) (suc d * suc a) ≡ t
+        → Fails (cond x true (cond y true (not t))) (ServedShape d a f)
+    go true y t p q r = record { passed = λ z. yes-no refl z; failed = λ z s. let l = below 48 d p in let h = s .most-y in omega arith }
+    go false true t p q r = record { passed = λ z. yes-no refl z; failed = λ z s. let l = below 48 a q in let h = s .most-z in omega arith }
+    go false false true p q r = record {
+      passed = λ z. record { most-y = not-below 48 d p; most-z = not-below 48 a q; words = eqb-true (length f) (suc d * suc a) r };
+      failed = λ z. yes-no z refl;
+    }
+    go false false false p q r = record {
+      passed = λ z. yes-no refl z;
+      failed = λ z s. yes-no (eq-eqb (length f) (suc d * suc a) (s .words)) r;
+    }
+
+-- no number from 2 to k + 1 divides n
+none-divides : (n k : ℕ) → divided-to n k ≡ false → (t : ℕ) → 2 ≤ t → t ≤ suc k → t ∣ n → ⊥
+none-divides n zero h t l q d = omega arith
+none-divides n (suc k) h t l q d =
+    go (eqb (n % suc (suc k)) 0) refl h (decLt t (suc (suc k))) (λ r s. none-divides n k r t l s d)
+  where
+    go : (x : Bool) → eqb (n % suc (suc k)) 0 ≡ x → cond x true (divided-to n k) ≡ false → Dec (t < suc (suc k))
+        → (divided-to n k ≡ false → t ≤ suc k → ⊥) → ⊥
+    go true e r c ih = yes-no refl r
+    go false e r (yes c) ih = ih r (omega arith)
+    go false e r (no c) ih =
+        let s : t ≡ suc (suc k) = omega arith in
+        yes-no (eq-eqb (n % suc (suc k)) 0 (mod-eq-zero-of-dvd (suc (suc k)) (subst (λ (x : ℕ). x ∣ n) s d))) e
+
+-- some number from 2 to k + 1 does
+record Divisor (n k : ℕ) : Type 0 where
+  pub t : ℕ
+  pub least : 2 ≤ t
+  pub most : t ≤ suc k
+  pub divides : t ∣ n
+
+some-divides : (n k : ℕ) → divided-to n k ≡ true → Divisor n k
+some-divides n zero h = yes-no h refl
+some-divides n (suc k) h = go (eqb (n % suc (suc k)) 0) refl h (some-divides n k)
+  where
+    go : (x : Bool) → eqb (n % suc (suc k)) 0 ≡ x → cond x true (divided-to n k) ≡ true → (divided-to n k ≡ true → Divisor n k)
+        → Divisor n (suc k)
+    go true e r ih = record {
+      t = suc (suc k);
+      least = omega arith;
+      most = omega arith;
+      divides = dvd-of-mod-eq-zero (suc (suc k)) (eqb-true (n % suc (suc k)) 0 e);
+    }
+    go false e r ih =
+        let s = ih r in
+        record { t = s .t; least = s .least; most = let l = s .most in omega arith; divides = s .divides }
+
+pub prime-fails : (n b : ℕ) → Fails (small-factor n b) (NoSmallPrime n b)
+prime-fails n b = record {
+  passed = λ h. record { none = λ p r l d. let big = r .above in none-divides n (b - 1) h p (omega arith) (omega arith) d };
+  failed = λ h r.
+      let s = some-divides n (b - 1) h in
+      let low = s .least in
+      let high = s .most in
+      let q = prime-of (s .t) (omega arith) in
+      let l : q .p ≤ s .t = le-of-dvd (omega arith) (q .divides) in
+      r .none (q .p) (q .prime) (omega arith) (dvd-trans (q .p) (q .divides) (s .divides));
+}
+
+-- the conditions of an answer: so `status-zero` and `status-is` (refusals/Conditions) say when the status is 0, and when it is k
+abbrev pub two-conditions : Width → ℕ → List ℕ → (d a : ℕ) → List ℕ → (e b : ℕ) → (l m : ℕ) → List (Type 0)
+two-conditions W n f d a g e b l m =
+    ServedModulus W n ∷ ServedShape d a f ∷ ServedShape e b g ∷ Residues n f ∷ Residues n g ∷ (degree-two d a e b ≤ 60)
+    ∷ NoSmallPrime n (degree-two d a e b) ∷ (suc (degree-two d a e b) ≤ l) ∷ (W .working ≤ m) ∷ []
+
+pub two-listed : (W : Width) (n : ℕ) (f : List ℕ) (d a : ℕ) (g : List ℕ) (e b : ℕ) (l m : ℕ)
+    → Listed (two-refusals W n f d a g e b l m) (two-conditions W n f d a g e b l m)
+two-listed W n f d a g e b l m = (
+  (omega arith, modulus-fails W n),
+  (
+    (omega arith, shape-fails d a f),
+    (
+      (omega arith, shape-fails e b g),
+      (
+        (omega arith, words-fail n f),
+        (
+          (omega arith, words-fail n g),
+          (
+            (omega arith, above-fails 60 (degree-two d a e b)),
+            (
+              (omega arith, prime-fails n (degree-two d a e b)),
+              ((omega arith, short-fails l (suc (degree-two d a e b))), ((omega arith, short-fails m (W .working)), tt)),
+            ),
+          ),
+        ),
+      ),
+    ),
+  ),
+)

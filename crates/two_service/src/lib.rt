@@ -1,0 +1,155 @@
+// The resultant of two polynomials in y and z as a service: from any words, degrees and lengths an answer, or a numbered refusal.
+//
+//   f, g          the sent words: d + 1 groups of a + 1 words, e + 1 groups of b + 1 words, constant first in y and in z
+//   last          B, the degree in z of the resultant
+//
+//   bad_shape, sent_refusal         the refusals 1, 2 and 3
+//   prime, prime_divides, room_refusal     the refusals 12, 11, 6 and 7
+//   resultant_two                   the service
+ghost use mathlib.Core.Path.{_≡_};
+ghost use Prim.Native.Nat.{_<_, _≤_};
+ghost use lib.ListN.{getD};
+ghost use Rattle.numbers.specs.PrimeTable.{table};
+ghost use Rattle.refusals.specs.Refusals.{narrow, first-refusal};
+ghost use Rattle.two_service.specs.TwoService.{bad-shape, small-factor, two-sent, two-room, TwoAnswer};
+use refusals::Answer;
+
+// "The primes up to 59 stand in a fixed table."
+const PRIMES: [u32; 17] = [
+    2,
+    3,
+    5,
+    7,
+    11,
+    13,
+    17,
+    19,
+    23,
+    29,
+    31,
+    37,
+    41,
+    43,
+    47,
+    53,
+    59,
+];
+
+// Whether a degree is above 48, or f is not d + 1 groups of a + 1 words.
+fn bad_shape(f: &[u32], d: usize, a: usize) -> bool
+    ensures { λ r. ⌜ r ≡ bad-shape d a (now (f .entry)) ⌝ }
+{
+    if 48 < d {
+        return true;
+    }
+    if 48 < a {
+        return true;
+    }
+    f.len() != (d + 1) * (a + 1)
+}
+
+// Refusals 1, 2 and 3; 0 where none applies.
+fn sent_refusal(n: u32, f: &[u32], d: usize, a: usize, g: &[u32], e: usize, b: usize) -> u32
+    ensures { λ r. ⌜ r ≡ first-refusal (two-sent narrow n (now (f .entry)) d a (now (g .entry)) e b) ⌝ }
+{
+    if refusals::bad_modulus(n) {
+        return 1;
+    }
+    if bad_shape(f, d, a) {
+        return 2;
+    }
+    if bad_shape(g, e, b) {
+        return 2;
+    }
+    if !refusals::all_below(n, f) {
+        return 3;
+    }
+    if refusals::all_below(n, g) {
+        return 0;
+    }
+    3
+}
+
+// Prime i of the table.
+fn prime(i: usize) -> u32
+    requires { ⌜ i < 17 ⌝ }
+    ensures { λ r. ⌜ r ≡ getD table i 0 ⌝ }
+{
+    PRIMES[i]
+}
+
+// Whether some prime up to last divides n: the table's primes that are not above last are tested.
+fn prime_divides(n: u32, last: usize) -> bool
+    requires { ⌜ last ≤ 60 ⌝ }
+    ensures { λ r. ⌜ r ≡ small-factor n last ⌝ }
+{
+    let mut i: usize = 0;
+    while i < 17 {
+        let p = prime(i);
+        if last < p as usize {
+            return false;
+        }
+        if n % p == 0 {
+            return true;
+        }
+        i += 1;
+    }
+    false
+}
+
+// Refusals 12, 11, 6 and 7; 0 where none applies. l and m are the lengths of the result buffer and of the working buffer.
+fn room_refusal(n: u32, last: usize, l: usize, m: usize) -> u32
+    ensures { λ r. ⌜ r ≡ first-refusal (two-room narrow n last l m) ⌝ }
+{
+    if 60 < last {
+        return 12;
+    }
+    if prime_divides(n, last) {
+        return 11;
+    }
+    if l < last + 1 {
+        return 6;
+    }
+    if m < 8192 {
+        return 7;
+    }
+    0
+}
+
+// "The answer is the resultant in y, a polynomial in z of B + 1 words with B = e times a plus d times b."
+pub fn resultant_two(
+    n: u32,
+    f: &[u32],
+    d: usize,
+    a: usize,
+    g: &[u32],
+    e: usize,
+    b: usize,
+    out: &mut [u32],
+    work: &mut [u32],
+) -> Answer
+    ensures { λ r. ⌜ TwoAnswer narrow n (now (f .entry)) d a (now (g .entry)) e b (now (out .entry)) (now (out .exit))
+        (now (work .entry)) (now (work .exit)) (r .value) (r .status) ⌝ }
+{
+    let s = sent_refusal(n, f, d, a, g, e, b);
+    if s != 0 {
+        return Answer {
+            value: 0,
+            status: s,
+        };
+    }
+    let last = e * a + d * b;
+    let t = room_refusal(n, last, out.len(), work.len());
+    if t != 0 {
+        return Answer {
+            value: 0,
+            status: t,
+        };
+    }
+    two_variables::resultant_in_y(out, work, n, f, d, a, g, e, b, last);
+    windows::wipe(work);
+    Answer {
+        value: 0,
+        status: 0,
+    }
+}

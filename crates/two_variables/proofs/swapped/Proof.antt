@@ -1,0 +1,12 @@
+use Rattle.resultant_steps.proofs.Turned.{followed}
+use Rattle.two_variables.proofs.Evaluating.{turned-sign}
+use borrow.Author.Needs.{needs}
+use Rattle.two_variables.proofs.swapped.Statement.{statement}
+use Rattle.two_variables.proofs.swapped.Tie as tie
+
+returns : tie.Need-returns
+returns c = let s = c .before .before .before .before .before .before .before .before in
+    followed (c .times-sign .ensures) (c .before .before .before .ordered .ensures) (turned-sign (s .args .z) (s .pre .0) (s .pre .1 .0))
+
+pub swapped-spec : {M : Type 1} → statement M
+swapped-spec = tie.close (tie.spec (λ c κs. search needs) (λ c κs. search needs) (λ c. search needs) returns)

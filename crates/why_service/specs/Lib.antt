@@ -1,0 +1,3 @@
+pub mod WhyService
+pub mod Asked
+pub mod WhyLaws
