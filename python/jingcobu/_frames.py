@@ -3,7 +3,7 @@ from __future__ import annotations
 
 import operator
 import re
-from typing import Iterable, List, NamedTuple, Sequence
+from typing import Iterable, List, NamedTuple, Sequence, Union
 
 from ._refusals import MEANING
 
@@ -41,22 +41,24 @@ def frame(kind: str, n: int, f: Sequence[int], g: Sequence[int]) -> str:
     """
     if kind not in _KINDS:
         raise ValueError("a frame's kind is resultant or reduced, not %r" % kind)
-    words = [operator.index(w) for w in (*f, *g)]
+    n, words = operator.index(n), [operator.index(w) for w in (*f, *g)]
     if not (1 <= len(f) <= 49 and 1 <= len(g) <= 49):
         raise ValueError("a frame's polynomials have 1 to 49 words each")
-    if any(not 0 <= w < 2 ** 32 for w in (operator.index(n), *words)):
+    if any(not 0 <= w < 2 ** 32 for w in (n, *words)):
         raise ValueError("a frame's numbers are from 0 to 4294967295")
     return "%02x%08x%02x%02x" % (_KINDS[kind], n, len(f) - 1, len(g) - 1) + "".join("%08x" % w for w in words)
 
 
-def answers(lines: Iterable[str]) -> List[Answer]:
-    """The answers that answer lines spell, in order.
+def answers(lines: Union[str, Iterable[str]]) -> List[Answer]:
+    """The answers that answer lines spell, in order; the lines of one text, or of a list or an open file.
 
     >>> answers(["010000000002", "ff0800000000"])
     [Answer(kind=1, status=0, value=2), Answer(kind=255, status=8, value=0)]
+    >>> answers("020000000001\\n")
+    [Answer(kind=2, status=0, value=1)]
     """
     found = []
-    for number, line in enumerate(lines, 1):
+    for number, line in enumerate(lines.splitlines() if isinstance(lines, str) else lines, 1):
         match = _LINE.fullmatch(line.rstrip("\n"))
         if not match:
             raise ValueError("line %d is no answer line: %r" % (number, line))
