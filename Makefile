@@ -74,6 +74,7 @@ check: check-host check-install check-python check-gp check-sage check-scaling c
 
 check-host:
 	$(MAKE) -C tests
+	$(MAKE) -C examples
 
 check-install: all
 	tests/install.sh $(VERSION)

@@ -1,7 +1,7 @@
 /* Time against degree, 6 to 48, of the engine, FLINT and PARI in one run: the resultant at a prime, and at a composite n with zero
  * divisors, where the other way is the resultant over the integers, reduced modulo n. Each figure is the best of several passes over a
- * pool of different pairs, in microseconds a call. It exits with 1 where two values differ. make -C bench plot runs it and draws
- * docs/time-prime.svg and docs/time-composite.svg from what it writes. */
+ * pool of different pairs, in microseconds of the processor a call; each uses one thread. It exits with 1 where two values differ.
+ * make -C bench plot runs it and draws docs/time-prime.svg and docs/time-composite.svg from what it writes. */
 #include <stdio.h>
 #include <stdlib.h>
 #include <time.h>
@@ -28,10 +28,11 @@ static uint32_t draw(void)
     return (uint32_t) (state >> 16);
 }
 
+/* time of the processor, so that other work on the machine does not count */
 static double now(void)
 {
     struct timespec t;
-    clock_gettime(CLOCK_MONOTONIC, &t);
+    clock_gettime(CLOCK_PROCESS_CPUTIME_ID, &t);
     return t.tv_sec * 1e6 + t.tv_nsec / 1e3;
 }
 
@@ -104,7 +105,7 @@ static double flint_integers(uint32_t n, int d)
         fmpz_poly_resultant(r, f[p], g[p]);
         compare("FLINT fmpz_poly_resultant modulo n", n, d, p, (uint32_t) fmpz_fdiv_ui(r, n));
     }
-    TIME(best, 3, 1, fmpz_poly_resultant(r, f[p], g[p]); sink = (uint32_t) fmpz_fdiv_ui(r, n));
+    TIME(best, 7, 1, fmpz_poly_resultant(r, f[p], g[p]); sink = (uint32_t) fmpz_fdiv_ui(r, n));
     for (int p = 0; p < POOL; p++) { fmpz_poly_clear(f[p]); fmpz_poly_clear(g[p]); }
     fmpz_clear(r);
     return best;
@@ -136,16 +137,26 @@ static double pari(uint32_t n, int d)
         f[p] = of_words(n, first[p], d); g[p] = of_words(n, second[p], d);
         compare("PARI polresultant", n, d, p, pari_value(n, f[p], g[p]));
     }
-    TIME(best, n == PRIME ? 15 : 3, n == PRIME ? 10 : 1, sink = pari_value(n, f[p], g[p]));
+    TIME(best, n == PRIME ? 15 : 7, n == PRIME ? 10 : 1, sink = pari_value(n, f[p], g[p]));
     set_avma(av);
     return best;
+}
+
+/* how busy the machine is with other work */
+static double load(void)
+{
+    double x = 0;
+    FILE *file = fopen("/proc/loadavg", "r");
+    if (file) { if (fscanf(file, "%lf", &x) != 1) x = 0; fclose(file); }
+    return x;
 }
 
 int main(void)
 {
     pari_init(256000000, 500000);
-    printf("# microseconds a call, the mean over %d pairs, the best of several passes; d = e\n", POOL);
-    printf("# FLINT %s, PARI %s\n", FLINT_VERSION, paricfg_version);
+    setdefault("nbthreads", "1", d_SILENT);
+    printf("# microseconds of the processor a call, the mean over %d pairs, the best of several passes; d = e; load %.2f before the run\n", POOL, load());
+    printf("# FLINT %s, %s\n", FLINT_VERSION, paricfg_version);
     printf("# n = %u (prime): degree, jingcobu_resultant, FLINT nmod_poly_resultant, PARI polresultant over t_INTMOD\n", PRIME);
     for (int d = 6; d <= 48; d += 6) {
         fill(PRIME, d);
@@ -153,7 +164,8 @@ int main(void)
         printf("%d %.2f %.2f %.2f\n", d, a, b, c);
         fflush(stdout);
     }
-    printf("\n\n# n = %u (6^12), zero divisors: degree, jingcobu_resultant, FLINT fmpz_poly_resultant modulo n, PARI polresultant over t_INT modulo n\n", COMPOSITE);
+    printf("\n\n# n = %u (6^12), zero divisors: degree, jingcobu_resultant, FLINT fmpz_poly_resultant modulo n, "
+           "PARI polresultant over t_INT modulo n\n", COMPOSITE);
     for (int d = 6; d <= 48; d += 6) {
         fill(COMPOSITE, d);
         double a = engine(COMPOSITE, d), b = flint_integers(COMPOSITE, d), c = pari(COMPOSITE, d);

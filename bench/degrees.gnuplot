@@ -1,7 +1,7 @@
 # Draws docs/time-prime.svg and docs/time-composite.svg from docs/time-degrees.txt: make -C bench plot
 set terminal svg size 720,440 font "sans-serif,13" background "#ffffff"
 set xlabel "degree of f and of g"
-set ylabel "microseconds a call"
+set ylabel "microseconds of the processor a call"
 set xtics 6
 set xrange [4:50]
 set key left top
