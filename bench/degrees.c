@@ -155,7 +155,8 @@ int main(void)
 {
     pari_init(256000000, 500000);
     setdefault("nbthreads", "1", d_SILENT);
-    printf("# microseconds of the processor a call, the mean over %d pairs, the best of several passes; d = e; load %.2f before the run\n", POOL, load());
+    printf("# microseconds of the processor a call, the mean over %d pairs, the best of several passes; d = e; ", POOL);
+    printf("load %.2f before the run\n", load());
     printf("# FLINT %s, %s\n", FLINT_VERSION, paricfg_version);
     printf("# n = %u (prime): degree, jingcobu_resultant, FLINT nmod_poly_resultant, PARI polresultant over t_INTMOD\n", PRIME);
     for (int d = 6; d <= 48; d += 6) {
