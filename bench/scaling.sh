@@ -5,10 +5,10 @@ cd "$(dirname "$0")/.."
 desk=$PWD/target/bin/desk
 folder=$(mktemp -d)
 trap 'rm -rf "$folder"' EXIT
-# the microseconds of the best of three passes
+# the microseconds of the best of nine passes
 best_time() {
     local best=1000000000 t pass
-    for pass in 1 2 3; do
+    for pass in 1 2 3 4 5 6 7 8 9; do
         t=$(date +%s%N)
         "$@" > "$folder/out"
         t=$((($(date +%s%N) - t) / 1000))
@@ -18,7 +18,7 @@ best_time() {
 }
 alone() { "$desk" < "$folder/frames"; }
 workers() { parallel --will-cite --pipe-part -a "$folder/frames" --block -1 --jobs "$1" --keep-order "$desk"; }
-echo "$(nproc) cores, load $(cut -d' ' -f1 /proc/loadavg) before the run; the best of three passes"
+echo "$(nproc) cores, load $(cut -d' ' -f1 /proc/loadavg) before the run; the best of nine passes"
 for job in "200000 8" "40000 48"; do
     set -- $job
     python3 tools/draw_frames.py "$1" "$2" > "$folder/drawn"
