@@ -183,8 +183,11 @@ class Refusals(unittest.TestCase):
         self.refused(3, jingcobu.gcd, 7, 7, 1)
         self.refused(3, jingcobu.gcd, 7, 1, 7)
         self.refused(1, jingcobu.read_text, 0, "x")
-        for text in ("", "x", "1*x^1", "5+1*x", "1*x+0", "01", "7", "1*x^49", "1 ", "1\0", "\u00e9", "2*x+"):
+        for text in ("", "x", "1*x^1", "5+1*x", "1*x+0", "01", "7", "1*x^49", "1*x+2*x", "1*x^2+1*x^2", "1+1", "0+1", "1*x^0", "1 ", "1\0", "\u00e9", "2*x+"):
             self.refused(17, jingcobu.read_text, 7, text)
+            if text != "7":
+                with self.assertRaises(ValueError):
+                    jingcobu.unspell(text, 49)
         for frames in (0, 1025, 4294967295):
             self.refused(15, jingcobu.shares, frames, [1, 1, 1, 1])
 
