@@ -1,12 +1,14 @@
-# What rt builds for the Makefiles of tests, examples and bench. An archive or a program is built anew when any crate has changed:
-# every file, and every folder, whose time changes when a file comes or goes.
+# What rt builds for the Makefiles of the root, tests, examples and bench. An archive or a program is built anew when any crate has
+# changed: every file, and every folder, whose time changes when a file comes or goes. ROOT is the way to the root.
+ROOT ?= ..
 PARTS = src specs proofs proofs/*
-CRATES := ../crates.txt $(wildcard ../crates ../crates/* $(PARTS:%=../crates/*/%) $(PARTS:%=../crates/*/%/*.rt) $(PARTS:%=../crates/*/%/*.antt))
+CRATES := $(ROOT)/crates.txt $(wildcard $(ROOT)/crates $(ROOT)/crates/* $(PARTS:%=$(ROOT)/crates/*/%) \
+    $(PARTS:%=$(ROOT)/crates/*/%/*.rt) $(PARTS:%=$(ROOT)/crates/*/%/*.antt))
 
-../target/staticlib/lib%.a: $(CRATES)
-	cd .. && rt staticlib $*
+$(ROOT)/target/staticlib/lib%.a: $(CRATES)
+	cd $(ROOT) && rt staticlib $*
 
-../target/bin/%: $(CRATES)
-	cd .. && rt check $* && touch target/bin/$*
+$(ROOT)/target/bin/%: $(CRATES)
+	cd $(ROOT) && rt check $* && touch target/bin/$*
 
 .NOTPARALLEL:

@@ -1,0 +1,127 @@
+"""Finds and loads the shared library, and knows what its functions take and answer (include/jingcobu.h)."""
+from __future__ import annotations
+
+import ctypes
+import functools
+import os
+import sys
+from pathlib import Path
+from typing import Any, Iterator, List
+
+WORK = 8192          # working words
+COFACTOR = 1489      # words that always suffice for a cofactor of D
+COMMON = 49          # words of a common divisor
+WORDS = 49           # words of a polynomial read from text
+TEXT = 800           # bytes of a text
+MOST_TWO = 61        # words of a resultant in two variables
+INTERFACE = "libjingcobu.so.1"
+
+_word = ctypes.c_uint32
+_place = ctypes.c_void_p
+_size = ctypes.c_size_t
+
+
+class LibraryMissing(ImportError):
+    """There is no shared library, or it has not the service that was called."""
+
+
+class Answer(ctypes.Structure):
+    _fields_ = [("value", _word), ("status", _word)]
+
+
+class Degree(ctypes.Structure):
+    _fields_ = [("some", _word), ("degree", _word), ("status", _word)]
+
+
+class Reason(ctypes.Structure):
+    _fields_ = [("ground", _word), ("m", _word), ("degree", _word), ("status", _word)]
+
+
+class Cofactors(ctypes.Structure):
+    _fields_ = [("g", _word), ("s", _word), ("t", _word), ("status", _word)]
+
+
+class State(ctypes.Structure):
+    _fields_ = [("n", _word), ("h_len", _word), ("h", _word * 49), ("number", ctypes.c_uint16 * 16), ("degree", _word * 16),
+                ("resultant", _word * 16)]
+
+
+class Held(ctypes.Structure):
+    _fields_ = [("factors", State), ("status", _word)]
+
+
+class Plan(ctypes.Structure):
+    _fields_ = [("share", _word * 4), ("status", _word)]
+
+
+_lent = [_place, _size]      # a buffer and its length
+_pair = [_word] + _lent * 2  # n, f and g
+
+SIGNATURES = {
+    "product": (Answer, _pair + _lent),
+    "product_word": (Answer, _pair + _lent + [_size]),
+    "true_degree": (Degree, [_word] + _lent),
+    "resultant": (Answer, _pair + _lent),
+    "reduced_resultant": (Answer, _pair + _lent * 3),
+    "divisor": (Answer, _pair + _lent),
+    "resultant_cofactors": (Answer, _pair + _lent * 3),
+    "why": (Reason, _pair + _lent * 2),
+    "check_claim": (Answer, _pair + [_word] + _lent * 3),
+    "resultant_two": (Answer, [_word] + _lent + [_size, _size] + _lent + [_size, _size] + _lent * 2),
+    "gcd": (Cofactors, [_word, _word, _word]),
+    "factors_start": (Held, [_word] + _lent),
+    "factors_arrive": (Held, [State, ctypes.c_uint16] + _lent * 2),
+    "factors_leave": (Held, [State, ctypes.c_uint16]),
+    "factors_read": (Answer, [State]),
+    "read_text": (Answer, [_word] + _lent * 2),
+    "write_text": (Answer, [_word] + _lent * 2),
+    "shares": (Plan, [_word] * 5),
+}
+
+
+def candidates() -> Iterator[str]:
+    """The files that are tried, in order. JINGCOBU_LIBRARY, where it is set, is the only one."""
+    named = os.environ.get("JINGCOBU_LIBRARY")
+    if named:
+        yield named
+        return
+    here = Path(__file__).resolve().parent
+    yield str(here / "libjingcobu.so")
+    yield str(here / INTERFACE)
+    yield str(here.parent.parent / "build" / "libjingcobu.so")
+    yield INTERFACE                                        # where the system's loader looks
+    for prefix in dict.fromkeys([sys.prefix, sys.base_prefix, "/usr/local"]):
+        yield str(Path(prefix) / "lib" / INTERFACE)
+
+
+@functools.lru_cache(maxsize=None)
+def library() -> ctypes.CDLL:
+    """The shared library."""
+    tried: List[str] = []
+    for name in candidates():
+        if os.sep in name and not os.path.exists(name):
+            tried.append(name)
+            continue
+        try:
+            return ctypes.CDLL(name)
+        except OSError as error:
+            tried.append("%s (%s)" % (name, error))
+    raise LibraryMissing(
+        "the shared library of Jingcobu was not found. Run `make` at the root of its sources and use the package from there, or "
+        "`make install`, or name the file in the environment variable JINGCOBU_LIBRARY. Tried: " + "; ".join(tried))
+
+
+def has(name: str) -> bool:
+    """Whether the library has the service jingcobu_NAME."""
+    return hasattr(library(), "jingcobu_" + name)
+
+
+@functools.lru_cache(maxsize=None)
+def service(name: str) -> Any:
+    """The function jingcobu_NAME, ready to be called."""
+    try:
+        function = getattr(library(), "jingcobu_" + name)
+    except AttributeError:
+        raise LibraryMissing("%s has no jingcobu_%s: it is older than this package" % (library()._name, name)) from None
+    function.restype, function.argtypes = SIGNATURES[name]
+    return function

@@ -1,0 +1,513 @@
+"""Tests of the package: examples in docstrings, the stored vectors, every refusal, the law of products, drawn pairs against PARI, the
+command line. Where JINGCOBU_ALL is 0, tests of services that the library has not are skipped; otherwise they fail."""
+import ast
+import ctypes
+import doctest
+import io
+import math
+import os
+import random
+import re
+import shutil
+import subprocess
+import sys
+import tempfile
+import threading
+import unittest
+from array import array
+from contextlib import redirect_stderr, redirect_stdout
+from pathlib import Path
+
+import jingcobu
+from jingcobu import Claim, Factors, Ground, Refused, __main__, _frames, _library, _notation, _refusals
+
+HERE = Path(__file__).resolve().parent
+ROOT = HERE.parent.parent
+MODULI = [2, 4, 6, 8, 9, 12, 30, 36, 210, 2147483648, 3486784401, 223092870, 2176782336, 4294967291, 4294967295]
+
+
+def needs(*names):
+    """Skips a test where the library has not these services, unless every one is asked for."""
+    missing = [name for name in names if not _library.has(name)]
+    skip = missing and os.environ.get("JINGCOBU_ALL", "1") == "0"
+    return unittest.skipIf(skip, "the library has not " + ", ".join(missing))
+
+
+def times(n, f, g):
+    """The product of f and g, worked here."""
+    words = [0] * max(len(f) + len(g) - 1, 0)
+    for i, x in enumerate(f):
+        for j, y in enumerate(g):
+            words[i + j] = (words[i + j] + x * y) % n
+    return words
+
+
+def combined(n, u, f, v, g):
+    """u f + v g modulo n, without zeros on top."""
+    x, y = times(n, u, f), times(n, v, g)
+    words = [(a + b) % n for a, b in zip(x + [0] * (len(y) - len(x)), y + [0] * (len(x) - len(y)))]
+    while words and not words[-1]:
+        words.pop()
+    return words
+
+
+def constant(n, c):
+    return [c % n] if c % n else []
+
+
+def drawn(generator, n, d, sparse=4):
+    """d + 1 words, some of them zero divisors or zero, the top too."""
+    small = generator.randrange(1, 31)
+    return [generator.randrange(n) * generator.choice([1, small]) % n * (generator.randrange(sparse) != 0) for _ in range(d + 1)]
+
+
+class Examples(unittest.TestCase):
+    def test_docstrings(self):
+        for module in (jingcobu, _frames, _library, _notation, _refusals, __main__):
+            for test in doctest.DocTestFinder().find(module):
+                with self.subTest(test.name):
+                    name = test.name.rpartition(".")[2]
+                    if name in _library.SIGNATURES and not _library.has(name) and os.environ.get("JINGCOBU_ALL", "1") == "0":
+                        self.skipTest("the library has not " + name)
+                    self.assertEqual(doctest.DocTestRunner(verbose=False).run(test).failed, 0)
+
+    def test_readme(self):
+        self.assertEqual(doctest.testfile(str(HERE.parent / "README.md"), module_relative=False, verbose=False).failed, 0)
+
+    def test_one_function_a_service(self):
+        header = (ROOT / "include" / "jingcobu.h").read_text()
+        services = set(re.findall(r"^\w+ jingcobu_(\w+)\(", header, re.M))
+        self.assertEqual(services, set(_library.SIGNATURES))
+        for name in services:
+            self.assertTrue(hasattr(jingcobu, name) or name.startswith("factors_"), name)
+
+    def test_statuses(self):
+        header = (ROOT / "include" / "jingcobu.h").read_text()
+        statuses = {int(x) for x in re.findall(r"^    JINGCOBU_\w+ = (\d+)", header, re.M)}
+        self.assertEqual(statuses, set(jingcobu.MEANING) | {0})
+
+    def test_versions(self):
+        version = os.environ.get("JINGCOBU_VERSION") or jingcobu.__version__
+        self.assertEqual(jingcobu.__version__, version)
+        self.assertIn('version = "%s"' % version, (HERE.parent / "pyproject.toml").read_text())
+
+    def test_older_python(self):
+        for file in (HERE.parent / "jingcobu").glob("*.py"):
+            ast.parse(file.read_text(), feature_version=(3, 9))
+
+    def test_everything_is_there(self):
+        missing = [name for name in _library.SIGNATURES if not _library.has(name)]
+        if missing and os.environ.get("JINGCOBU_ALL", "1") == "0":
+            self.skipTest("the library has not " + ", ".join(missing))
+        self.assertEqual(missing, [])
+
+
+class Vectors(unittest.TestCase):
+    def pairs(self):
+        folder = ROOT / "crates" / "vectors"
+        frames, numbers = (folder / "stdin").read_text().split("\n"), (folder / "stdout").read_text().split("\n")
+        self.assertEqual(len(frames), len(numbers))
+        for line, number in zip(frames, numbers):
+            if not line:
+                continue
+            n, d = int(line[2:10], 16), int(line[10:12], 16)
+            words = [int(line[i:i + 8], 16) for i in range(14, len(line), 8)]
+            value, reduced = (int(x, 16) for x in number.split())
+            yield n, words[:d + 1], words[d + 1:], value, reduced
+
+    def test_stored(self):
+        count = 0
+        for n, f, g, value, reduced in self.pairs():
+            with self.subTest(n=n, f=f, g=g):
+                self.assertEqual(jingcobu.resultant(n, f, g), value)
+                D, u, v = jingcobu.reduced_resultant(n, f, g)
+                self.assertEqual(D, reduced)
+                self.assertEqual(combined(n, u, f, v, g), constant(n, D))
+            count += 1
+        self.assertGreaterEqual(count, 639)
+
+    @needs("divisor", "check_claim")
+    def test_stored_divisors_and_claims(self):
+        for n, f, g, _, reduced in self.pairs():
+            self.assertEqual(jingcobu.divisor(n, f, g), reduced)
+            D, u, v = jingcobu.reduced_resultant(n, f, g)
+            self.assertEqual(jingcobu.check_claim(n, f, g, D, u, v), Claim.TRUE)
+
+    def test_many(self):
+        by_modulus = {}
+        for n, f, g, value, _ in self.pairs():
+            by_modulus.setdefault(n, []).append(((f, g), value))
+        for n, rows in by_modulus.items():
+            self.assertEqual(jingcobu.resultants(n, (pair for pair, _ in rows)), [value for _, value in rows])
+
+
+class Refusals(unittest.TestCase):
+    def refused(self, number, function, *arguments):
+        with self.assertRaises(Refused) as caught:
+            function(*arguments)
+        self.assertEqual(caught.exception.number, number)
+        self.assertEqual(caught.exception.sentence, jingcobu.MEANING[number])
+        self.assertIn("refused with %d: " % number, str(caught.exception))
+
+    def test_pairs(self):
+        names = ["resultant", "reduced_resultant", "divisor", "resultant_cofactors", "why", "product"]
+        for name in names:
+            if not _library.has(name) and os.environ.get("JINGCOBU_ALL", "1") == "0":
+                continue
+            with self.subTest(name):
+                function = getattr(jingcobu, name)
+                for n in (0, 1):
+                    self.refused(1, function, n, [], [9] * 50)
+                self.refused(2, function, 5, [], [1, 1])
+                self.refused(2, function, 5, [1, 1], [])
+                self.refused(2, function, 5, [9] * 50, [1])
+                self.refused(2, function, 5, [1], [1] * 50)
+                self.refused(3, function, 5, [5, 1], [1, 1])
+                self.refused(3, function, 5, [1, 1], [1, 4294967295])
+
+    def test_product(self):
+        self.refused(2, jingcobu.product, 5, [1] * 25, [1] * 26)
+        self.assertEqual(len(jingcobu.product(5, [1] * 25, [1] * 25)), 49)
+        for n, f, g in ((1, [1], [1]), (5, [], [1]), (5, [1] * 49, [1, 1]), (5, [1], [6])):
+            with self.assertRaises(Refused) as one:
+                jingcobu.product_word(n, f, g, 0)
+            self.refused(one.exception.number, jingcobu.product, n, f, g)
+
+    def test_one(self):
+        for function in (jingcobu.true_degree, jingcobu.write_text, Factors):
+            self.refused(1, function, 1, [])
+            self.refused(2, function, 5, [])
+            self.refused(2, function, 5, [0] * 50)
+            self.refused(3, function, 5, [1, 5])
+        self.refused(1, jingcobu.gcd, 1, 7, 7)
+        self.refused(3, jingcobu.gcd, 7, 7, 1)
+        self.refused(3, jingcobu.gcd, 7, 1, 7)
+        self.refused(1, jingcobu.read_text, 0, "x")
+        for text in ("", "x", "1*x^1", "5+1*x", "1*x+0", "01", "7", "1*x^49", "1*x+2*x", "1*x^2+1*x^2", "1+1", "0+1", "1*x^0", "1 ", "1\0", "\u00e9", "2*x+"):
+            self.refused(17, jingcobu.read_text, 7, text)
+            if text != "7":
+                with self.assertRaises(ValueError):
+                    jingcobu.unspell(text, 49)
+        for frames in (0, 1025, 4294967295):
+            self.refused(15, jingcobu.shares, frames, [1, 1, 1, 1])
+
+    def test_factors(self):
+        held = Factors(12, [1, 4])
+        self.refused(2, held.arrive, 1, [])
+        self.refused(3, held.arrive, 0, [12])
+        self.refused(14, held.arrive, 0, [1])
+        self.refused(14, held.leave, 0)
+        self.refused(14, held.leave, 5)
+        held.arrive(5, [3] + [0] * 47 + [1])
+        self.refused(14, held.arrive, 5, [1])
+        self.refused(13, held.arrive, 6, [1, 1])
+        for number in range(100, 115):
+            held.arrive(number, [1])
+        before = held.resultant()
+        self.refused(13, held.arrive, 6, [1])
+        self.assertEqual(held.resultant(), before)
+        held.leave(100)
+        held.arrive(6, [1])
+
+    def test_short_buffers(self):
+        """6 and 7 belong to buffers, which callers of the package never see: they are tried below it."""
+        work = (ctypes.c_uint32 * 8192)()
+        words = (ctypes.c_uint32 * 2)(1, 1)
+        product = _library.service("product")
+        self.assertEqual(product(5, words, 2, words, 2, (ctypes.c_uint32 * 2)(), 2).status, 6)
+        self.assertEqual(_library.service("resultant")(5, words, 2, words, 2, work, 8191).status, 7)
+        self.assertEqual(jingcobu.MEANING[6], "a result buffer is too short")
+
+    @needs("resultant_cofactors")
+    def test_no_cofactors(self):
+        self.refused(9, jingcobu.resultant_cofactors, 5, [1], [2])
+        self.refused(3, jingcobu.resultant_cofactors, 5, [1], [5])
+
+    @needs("check_claim")
+    def test_claims(self):
+        check = jingcobu.check_claim
+        self.refused(1, check, 1, [], [], 0, [], [])
+        self.refused(2, check, 5, [], [1], 0, [], [])
+        self.refused(16, check, 5, [9], [1], 0, [], [1])
+        self.refused(16, check, 5, [9], [1], 0, [1], [])
+        self.refused(16, check, 5, [1], [1], 0, [1] * 4097, [1])
+        self.refused(3, check, 5, [1], [1], 0, [1] * 4096, [5])
+        self.refused(3, check, 5, [9], [1], 0, [1], [1])
+
+    @needs("resultant_two")
+    def test_two(self):
+        two = jingcobu.resultant_two
+        self.refused(1, two, 1, [], [])
+        self.refused(2, two, 61, [], [[1]])
+        self.refused(2, two, 61, [[1]], [[], []])
+        self.refused(2, two, 61, [[1]] * 50, [[1]])
+        self.refused(2, two, 61, [[1]], [[1] * 50])
+        self.refused(3, two, 61, [[61]], [[1]])
+        self.refused(12, two, 61, [[1] * 9] * 9, [[1] * 9] * 9)
+        self.refused(11, two, 6, [[1, 1], [1, 1]], [[1, 1], [1, 1]])
+
+    def test_numbers_that_fit_no_word(self):
+        for bad in (-1, 2 ** 32, 10 ** 30):
+            for call in (lambda: jingcobu.resultant(bad, [1], [1]), lambda: jingcobu.resultant(5, [bad], [1]),
+                         lambda: jingcobu.gcd(5, bad, 1), lambda: jingcobu.shares(bad, [1, 1, 1, 1]),
+                         lambda: jingcobu.resultants(5, [([1], [bad])])):
+                with self.assertRaises(ValueError) as caught:
+                    call()
+                self.assertNotIsInstance(caught.exception, Refused)
+        held = Factors(5, [1])
+        with self.assertRaises(ValueError):
+            held.arrive(65536, [1])
+        with self.assertRaises(ValueError):
+            jingcobu.shares(4, [1, 1, 1])
+        for bad in (1.0, "1", None):
+            with self.assertRaises(TypeError):
+                jingcobu.resultant(5, [bad], [1])
+            with self.assertRaises(TypeError):
+                jingcobu.resultant(bad, [1], [1])
+
+    def test_place(self):
+        with self.assertRaises(Refused) as caught:
+            jingcobu.resultants(5, [([1], [1]), ([1], [7])])
+        self.assertEqual((caught.exception.number, caught.exception.place), (3, 1))
+        self.assertEqual(str(caught.exception), "pair 1 refused with 3: a word or a residue is n or more")
+
+    def test_other_integers(self):
+        class Whole:
+            def __init__(self, x):
+                self.x = x
+
+            def __index__(self):
+                return self.x
+
+        self.assertEqual(jingcobu.resultant(Whole(12), [Whole(3), 2], (1, Whole(4))), 2)
+        self.assertEqual(jingcobu.resultant(12, array("I", [3, 2]), range(1, 5, 3)), 2)
+
+
+class Laws(unittest.TestCase):
+    def test_products(self):
+        generator = random.Random(3)
+        for _ in range(1000):
+            n = generator.choice(MODULI)
+            f, g, h = (drawn(generator, n, generator.randrange(9)) for _ in range(3))
+            p = jingcobu.product(n, f, g)
+            self.assertEqual(p, times(n, f, g))
+            rp, rf, rg = jingcobu.resultants(n, [(p, h), (f, h), (g, h)])
+            self.assertEqual(rp, rf * rg % n)
+            Dp, Df, Dg = (jingcobu.reduced_resultant(n, x, h).D for x in (p, f, g))
+            self.assertEqual((Dp % Df, Dp % Dg, Df * Dg % Dp), (0, 0, 0))
+            held = Factors(n, h)
+            held.arrive(1, f)
+            alone = held.copy()
+            held.arrive(2, g)
+            self.assertEqual((held.resultant(), alone.resultant()), (rp, rf))
+            held.leave(1)
+            self.assertEqual(held.resultant(), rg)
+            self.assertEqual([jingcobu.product_word(n, f, g, k) for k in range(len(p) + 1)], p + [None])
+
+    def test_texts(self):
+        generator = random.Random(4)
+        for _ in range(500):
+            n = generator.choice(MODULI)
+            f = drawn(generator, n, generator.randrange(49))
+            text = jingcobu.write_text(n, f)
+            self.assertEqual(text, jingcobu.spell(f))
+            words = jingcobu.read_text(n, text)
+            self.assertEqual(words, jingcobu.unspell(text, 49))
+            degree = jingcobu.true_degree(n, f)
+            self.assertEqual(words, [0] if degree is None else f[:degree + 1])
+
+    def test_gcds(self):
+        for n in (2, 6, 12, 36):
+            for a in range(n):
+                for b in range(n):
+                    g, s, t = jingcobu.gcd(n, a, b)
+                    self.assertEqual(g, math.gcd(a, b, n))
+                    fits = [(x, y) for x in range(n) for y in range(n) if (x * a + y * b - g) % n == 0]
+                    self.assertEqual((s, t), min(fits))
+
+    @needs("resultant_cofactors")
+    def test_cofactors(self):
+        generator = random.Random(5)
+        for _ in range(300):
+            n, d, e = generator.choice(MODULI), generator.randrange(5), generator.randrange(5)
+            if d + e == 0:
+                continue
+            f, g = drawn(generator, n, d), drawn(generator, n, e)
+            r, u, v = jingcobu.resultant_cofactors(n, f, g)
+            self.assertEqual(r, jingcobu.resultant(n, f, g))
+            self.assertEqual((len(u), len(v)), (e, d))
+            self.assertEqual(combined(n, u, f, v, g), constant(n, r))
+
+    @needs("why")
+    def test_grounds(self):
+        generator, seen = random.Random(6), set()
+        for _ in range(600):
+            n = generator.choice([4, 6, 8, 9, 12, 30, 36, 210])
+            f, g = drawn(generator, n, generator.randrange(5)), drawn(generator, n, generator.randrange(5))
+            ground, m, w = jingcobu.why(n, f, g)
+            D = jingcobu.reduced_resultant(n, f, g).D
+            seen.add(ground)
+            self.assertEqual(ground is Ground.COPRIME, D == 1)
+            if ground is Ground.COPRIME:
+                self.assertEqual((m, w), (0, []))
+                continue
+            self.assertTrue(m > 1 and D % m == 0)
+            if ground is Ground.ZERO:
+                self.assertTrue(all(x % m == 0 for x in f + g) and w == [])
+                continue
+            self.assertTrue(len(w) >= 2 and w[-1] == 1)
+            for p in (f, g):
+                rest = [x % m for x in p]
+                while len(rest) >= len(w):
+                    top = rest[-1]
+                    for k, x in enumerate(w):
+                        rest[len(rest) - len(w) + k] -= top * x
+                    rest.pop()
+                self.assertTrue(all(x % m == 0 for x in rest))
+        self.assertEqual(seen, set(Ground))
+
+    @needs("check_claim")
+    def test_claims(self):
+        n, f, g = 12, [3, 2], [1, 4]
+        D, u, v = jingcobu.reduced_resultant(n, f, g)
+        check = jingcobu.check_claim
+        self.assertIs(check(n, f, g, D, u, v), Claim.TRUE)
+        self.assertIs(check(n, f, g, 0, u, v), Claim.NO_DIVISOR)
+        self.assertIs(check(n, f, g, 5, u, v), Claim.NO_DIVISOR)
+        self.assertIs(check(n, f, g, 2, u, v), Claim.NOT_COMBINED)
+        self.assertIs(check(n, f, g, 2, [2 * x % n for x in u], [2 * x % n for x in v]), Claim.NOT_REDUCED)
+        self.assertIs(check(n, f, g, D, u + [0] * (4096 - len(u)), v), Claim.TRUE)
+
+    @needs("resultant_two")
+    def test_two_variables(self):
+        generator = random.Random(7)
+        for _ in range(60):
+            n = generator.choice([61, 3721, 4087, 4294967291])
+            d, e, a, b = (generator.randrange(4) for _ in range(4))
+            f = [drawn(generator, n, a) for _ in range(d + 1)]
+            g = [drawn(generator, n, b) for _ in range(e + 1)]
+            answer = jingcobu.resultant_two(n, f, g)
+            self.assertEqual(len(answer), e * a + d * b + 1)
+            for z in range(20):
+                def at(words):
+                    return sum(x * z ** k for k, x in enumerate(words)) % n
+                self.assertEqual(at(answer), jingcobu.resultant(n, [at(row) for row in f], [at(row) for row in g]))
+        with self.assertRaises(ValueError):
+            jingcobu.resultant_two(61, [[1, 2], [3]], [[1]])
+
+    def test_threads(self):
+        generator = random.Random(8)
+        jobs = [(4294967291, drawn(generator, 4294967291, 24), drawn(generator, 4294967291, 24)) for _ in range(200)]
+        right, wrong = [jingcobu.resultant(*job) for job in jobs], []
+
+        def run():
+            for job, value in zip(jobs, right):
+                if jingcobu.resultant(*job) != value:
+                    wrong.append(job)
+
+        threads = [threading.Thread(target=run) for _ in range(4)]
+        for thread in threads:
+            thread.start()
+        for thread in threads:
+            thread.join()
+        self.assertEqual(wrong, [])
+
+
+@unittest.skipUnless(shutil.which("gp"), "PARI's gp is not installed")
+class Pari(unittest.TestCase):
+    def test_integer_determinants(self):
+        """A thousand drawn pairs against PARI's determinant of the integer Sylvester matrix in the sent degrees."""
+        generator, jobs, script = random.Random(9), [], []
+        script.append("syl(f,g)={my(d=#f-1,e=#g-1);matrix(d+e,d+e,i,j,my(p=if(i<=e,f,g),s=if(i<=e,i,i-e),k=#p-1-(j-s));"
+                      "if(k>=0&&k<#p,p[k+1],0))};")
+        for _ in range(1000):
+            n = generator.choice(MODULI)
+            f, g = drawn(generator, n, generator.randrange(9), 6), drawn(generator, n, generator.randrange(9), 6)
+            jobs.append((n, f, g))
+            script.append("print(matdet(syl(%s,%s))%%%d)" % (f, g, n))
+        said = subprocess.run(["gp", "-q", "-f"], input="\n".join(script) + "\n", capture_output=True, text=True, check=True).stdout.split()
+        self.assertEqual(len(said), len(jobs))
+        for job, value in zip(jobs, said):
+            self.assertEqual(jingcobu.resultant(*job), int(value), job)
+
+
+class CommandLine(unittest.TestCase):
+    def run_main(self, *arguments, status=0):
+        out, error = io.StringIO(), io.StringIO()
+        with redirect_stdout(out), redirect_stderr(error):
+            self.assertEqual(__main__.main(list(arguments)), status, error.getvalue())
+        return error.getvalue() if status else out.getvalue()
+
+    def test_resultant(self):
+        self.assertEqual(self.run_main("resultant", "12", "2*x+3", "4*x+1"), "2\n")
+        self.assertEqual(self.run_main("resultant", "5", "2,1,0", "1*x+1"), "1\n")
+        self.assertEqual(self.run_main("resultant", "1", "0", "0", status=1), "jingcobu resultant: refused with 1: n is 0 or 1\n")
+        self.assertIn("refused with 17", self.run_main("resultant", "12", "x", "1", status=1))
+
+    def test_reduced(self):
+        self.assertEqual(self.run_main("reduced", "6", "2", "4"), "D = 2\nu = 0\nv = 2\nu f + v g = 2 modulo 6\n")
+
+    @needs("resultant_cofactors", "why", "check_claim")
+    def test_new(self):
+        said = self.run_main("cofactors", "12", "2*x+3", "4*x+1")
+        self.assertTrue(said.startswith("resultant 2\nu = ") and said.endswith("u f + v g = 2 modulo 12\n"))
+        self.assertIn("refused with 9", self.run_main("cofactors", "12", "2", "3", status=1))
+        self.assertEqual(self.run_main("why", "12", "2*x+3", "4*x+1"), "coprime\n")
+        self.assertEqual(self.run_main("why", "7", "1*x^2+6", "1*x+1"), "1*x+1 divides both modulo 7\n")
+        self.assertEqual(self.run_main("why", "9", "3*x+3", "6"), "both are zero modulo 3\n")
+        self.assertEqual(self.run_main("check", "6", "2", "4", "2", "0", "2"), "true\n")
+        self.assertEqual(self.run_main("check", "6", "2", "4", "5", "0", "2"), "false: 5 does not divide 6\n")
+        self.assertEqual(self.run_main("check", "6", "2", "4", "2", "0", "1"), "false: u f + v g is not 2 modulo 6\n")
+        self.assertEqual(self.run_main("check", "6", "2", "4", "6", "0", "0"), "false: 6 is not the reduced resultant\n")
+
+    def test_frames(self):
+        lines = [self.run_main("frame", kind, "12", "2*x+3", "4*x+1") for kind in ("resultant", "reduced")]
+        self.assertEqual("".join(lines) + "zz\n010000000101000000000000000000", (ROOT / "examples" / "frames").read_text().rstrip("\n"))
+        with tempfile.TemporaryDirectory() as folder:
+            file = Path(folder) / "answers"
+            file.write_text("010000000002\n020000000001\nff0800000000\n010a00000000\n")
+            self.assertEqual(self.run_main("answers", str(file)), "resultant 2\nreduced resultant 1\nrefused with 8: the line is not a frame\n"
+                             "refused with 10: the top word of f or g is zero\n")
+            file.write_text("01000000000\n")
+            self.assertIn("line 1 is no answer line", self.run_main("answers", str(file), status=1))
+            self.assertIn("No such file", self.run_main("answers", str(file) + "s", status=1))
+        for bad in (("other", 5, [1], [1]), ("resultant", 5, [], [1]), ("resultant", 5, [1] * 50, [1]), ("resultant", 2 ** 32, [1], [1])):
+            with self.assertRaises(ValueError):
+                jingcobu.frame(*bad)
+
+    @unittest.skipUnless((ROOT / "build" / "jingcobu-desk").exists(), "build/jingcobu-desk is not there")
+    def test_through_the_frame_program(self):
+        generator, lines, right = random.Random(10), [], []
+        for _ in range(300):
+            n, kind = generator.choice(MODULI), generator.choice(["resultant", "reduced"])
+            f, g = drawn(generator, n, generator.randrange(49)), drawn(generator, n, generator.randrange(49))
+            lines.append(jingcobu.frame(kind, n, f, g))
+            empty = not f[-1] or not g[-1]
+            value = 0 if empty else jingcobu.resultant(n, f, g) if kind == "resultant" else jingcobu.reduced_resultant(n, f, g).D
+            right.append((1 if kind == "resultant" else 2, 10 if empty else 0, value))
+        said = subprocess.run([str(ROOT / "build" / "jingcobu-desk")], input="\n".join(lines) + "\n", capture_output=True, text=True, check=True)
+        self.assertEqual(jingcobu.answers(said.stdout.splitlines()), right)
+
+    def test_as_a_program(self):
+        said = subprocess.run([sys.executable, "-m", "jingcobu", "resultant", "12", "2*x+3", "4*x+1"], capture_output=True, text=True)
+        self.assertEqual((said.returncode, said.stdout, said.stderr), (0, "2\n", ""))
+
+    def test_without_a_library(self):
+        said = subprocess.run([sys.executable, "-m", "jingcobu", "resultant", "12", "2*x+3", "4*x+1"], capture_output=True, text=True,
+                              env={**os.environ, "JINGCOBU_LIBRARY": "/nowhere/libjingcobu.so"})
+        self.assertEqual(said.returncode, 1)
+        self.assertIn("the shared library of Jingcobu was not found. Run `make`", said.stderr)
+        self.assertIn("/nowhere/libjingcobu.so", said.stderr)
+
+    def test_beside_the_package(self):
+        with tempfile.TemporaryDirectory() as folder:
+            shutil.copytree(HERE.parent / "jingcobu", Path(folder) / "jingcobu")
+            shutil.copy(_library.library()._name, Path(folder) / "jingcobu" / "libjingcobu.so")
+            environment = {k: x for k, x in os.environ.items() if k != "JINGCOBU_LIBRARY"}
+            said = subprocess.run([sys.executable, "-c", "import jingcobu._library as l; print(l.library()._name)"], capture_output=True,
+                                  text=True, cwd=folder, env={**environment, "PYTHONPATH": folder})
+            self.assertEqual(said.stdout.strip(), str(Path(folder).resolve() / "jingcobu" / "libjingcobu.so"))
+
+
+if __name__ == "__main__":
+    unittest.main()
