@@ -647,7 +647,7 @@ static uint32_t stored_pair(uint32_t n, const uint32_t *f, size_t fl, const uint
     int still = 1;
     for (size_t i = 0; i < fl; i++) if (f[i] % n) still = 0;
     expect(claim(n, f, fl, g, gl, D, l, l, 9000, JINGCOBU_OK, where) == (still ? 0 : 2), "claim: a changed multiplier", where);
-    first_multiplier[0] = (first_multiplier[0] + n - 1) % n;
+    first_multiplier[0] = (first_multiplier[0] ? first_multiplier[0] : n) - 1;
     if (D < n && n % 2 == 0 && (n / D) % 2 == 0) {
         for (size_t i = 0; i < l; i++) {
             first_multiplier[i] = (uint32_t) (2 * (uint64_t) first_multiplier[i] % n);
@@ -1578,7 +1578,7 @@ static void small_pairs(void)
 
 static void points(void)
 {
-    static const uint32_t moduli[] = { 61, 67, 3481, 4087, 4294967291u, 2147483647u, 61u * 61u * 61u * 61u };
+    static const uint32_t moduli[] = { 61, 67, 3721, 4087, 4294967291u, 2147483647u, 61u * 61u * 61u * 61u };
     static uint32_t f[2500], g[2500];
     uint32_t answer[61], x[MOST], y[MOST];
     long jobs = 0, full = 0, values = 0;

@@ -88,7 +88,7 @@ enum {
     CLAIM_REFUSES_4096_WORDS, CLAIM_16_AFTER_3, CLAIM_16_BEFORE_2, CLAIM_TAKES_LARGE_WORDS_OF_V, CLAIM_WORK_BEFORE_WORDS,
     CLAIM_TAKES_8191_WORDS, CLAIM_LEAVES_THE_LAST_WORKING_WORD, CLAIM_REFUSED_WIPES_WORK, CLAIM_REFUSED_HAS_A_VALUE, CLAIM_WRITES_V,
     TWO_POINTS_ONE_OFF, TWO_TOP_FIRST_IN_Y, TWO_TOP_FIRST_IN_Z, TWO_GROUPS_OF_Z, TWO_OF_EXCHANGED, TWO_WITHOUT_ZERO_TOPS, TWO_OF_CONSTANTS_IN_Z,
-    TWO_B_FROM_D_A, TWO_LEAVES_THE_TOP, TWO_WRITES_ONE_MORE, TWO_TAKES_B_WORDS, TWO_REFUSES_ENOUGH_WORDS, TWO_TAKES_B_61, TWO_REFUSES_B_60,
+    TWO_B_FROM_D_A, TWO_LEAVES_THE_TOP, TWO_TOP_IS_0, TWO_WRITES_ONE_MORE, TWO_TAKES_B_WORDS, TWO_REFUSES_ENOUGH_WORDS, TWO_TAKES_B_61, TWO_REFUSES_B_60,
     TWO_11_BEFORE_12, TWO_12_BEFORE_3, TWO_WITHOUT_53, TWO_PRIMES_BELOW_B, TWO_PRIMES_UP_TO_59, TWO_TAKES_LONGER_F, TWO_TAKES_DEGREE_49,
     TWO_WORK_BEFORE_RESULT, TWO_TAKES_8191_WORDS, TWO_LEAVES_THE_LAST_WORKING_WORD, TWO_REFUSED_WIPES_OUT, TWO_REFUSED_WIPES_WORK,
     TWO_HAS_A_VALUE, TWO_WRITES_F,
@@ -681,12 +681,11 @@ jingcobu_answer __wrap_jingcobu_check_claim(uint32_t n, const uint32_t *f, size_
     int w = version();
     static uint32_t zeros[4096];
     uint32_t D = d;
-    size_t a_len = ul, b_len = vl, count = ul + fl > vl + gl ? ul + fl - 1 : vl + gl - 1;
+    size_t count = ul + fl > vl + gl ? ul + fl - 1 : vl + gl - 1;
     if (w == CLAIM_0_FOR_N && !d) D = n;
     if (w == CLAIM_OF_D_MODULO_N && n > 1 && d > n) D = d % n;
-    if (w == CLAIM_READS_1489_WORDS && ul <= 4096 && vl <= 4096) { if (ul > 1489) a_len = 1489; if (vl > 1489) b_len = 1489; }
     jingcobu_answer a = w == CLAIM_OF_EXCHANGED ? __real_jingcobu_check_claim(n, f, fl, g, gl, D, v, vl, u, ul, work, wl)
-                                                : __real_jingcobu_check_claim(n, f, fl, g, gl, D, u, a_len, v, b_len, work, wl);
+                                                : __real_jingcobu_check_claim(n, f, fl, g, gl, D, u, ul, v, vl, work, wl);
     if (a.status == 16) {
         if (w == CLAIM_TAKES_4097_WORDS && ul && vl)
             a = __real_jingcobu_check_claim(n, f, fl, g, gl, d, u, ul > 4096 ? 4096 : ul, v, vl > 4096 ? 4096 : vl, work, wl);
@@ -708,7 +707,9 @@ jingcobu_answer __wrap_jingcobu_check_claim(uint32_t n, const uint32_t *f, size_
     if (w == CLAIM_ALWAYS_ACCEPTED) a.value = 0;
     if (w == CLAIM_SECOND_BEFORE_FIRST && a.value == 1 && !combines(n, f, fl, g, gl, d, u, ul, v, vl, count)) a.value = 2;
     if (w == CLAIM_WITHOUT_THE_FIRST && a.value == 1) a.value = combines(n, f, fl, g, gl, d, u, ul, v, vl, count) ? 3 : 2;
-    if (w == CLAIM_TOP_NOT_COMPARED && a.value == 2 && combines(n, f, fl, g, gl, d, u, ul, v, vl, count - 1)) a.value = 0;
+    if (w == CLAIM_READS_1489_WORDS)
+        a = __real_jingcobu_check_claim(n, f, fl, g, gl, d, u, ul > 1489 ? 1489 : ul, v, vl > 1489 ? 1489 : vl, work, wl);
+    if (w == CLAIM_TOP_NOT_COMPARED && a.value == 2 && count > 1 && combines(n, f, fl, g, gl, d, u, ul, v, vl, count - 1)) a.value = 0;
     if (w == CLAIM_CONSTANT_ALONE_COMPARED && a.value == 2 && combines(n, f, fl, g, gl, d, u, ul, v, vl, 1)) a.value = 0;
     if (w == CLAIM_WITHOUT_THE_SECOND && a.value == 2) a.value = __real_jingcobu_divisor(n, f, fl, g, gl, work, wl).value == d ? 0 : 3;
     if (w == CLAIM_THIRD_BEFORE_SECOND && a.value == 2 && __real_jingcobu_divisor(n, f, fl, g, gl, work, wl).value != d) a.value = 3;
@@ -798,6 +799,7 @@ jingcobu_answer __wrap_jingcobu_resultant_two(uint32_t n, const uint32_t *f, siz
     if (w == TWO_POINTS_ONE_OFF)
         for (size_t i = 0; i < B; i++) for (size_t k = B; k-- > i;) out[k] = (uint32_t) (((uint64_t) out[k] + out[k + 1]) % n);
     if (w == TWO_LEAVES_THE_TOP) out[B] = top;
+    if (w == TWO_TOP_IS_0) out[B] = 0;
     if (w == TWO_WRITES_ONE_MORE && B + 1 < ol) out[B + 1] = 0;
     if (w == TWO_B_FROM_D_A && ol < d * a + e * b + 1) r.status = 6;
     if (w == TWO_REFUSES_ENOUGH_WORDS && ol == B + 1) r.status = 6;
