@@ -1,7 +1,8 @@
-/* A C host that tries the services through the header: the stored pairs with their numbers, cofactors, products word by word, true
- * degrees, least cofactors of two residues, factors that come and go, texts written, read and damaged, shares of runs, what becomes
- * of every word and byte of every buffer, each refusal and their order, the ends of the ranges, and the law of products on drawn
- * triples.
+/* A C host that tries the services through the header: the stored pairs with their numbers, D alone, cofactors of both numbers, why
+ * two are not coprime, claims true and false, resultants in two variables, products word by word, true degrees, least cofactors of
+ * two residues, factors that come and go, texts written, read and damaged, shares of runs, what becomes of every word and byte of
+ * every buffer, each refusal and their order, the ends of the ranges, the law of products on drawn triples, and every pair of
+ * degrees up to 2 modulo some small n.
  * It reads stdin and stdout in the folder that its first word names (crates/vectors), and says "FAILED" and exits with 1 where
  * something is not as it should be; the second word, 100 if there is none, says after how many of these it stops.
  * Build and run: make -C tests (under a stack of 256 KiB; the output is held to the file `expected`). */
