@@ -1,9 +1,11 @@
-/* A C host that tries the services through the header: the stored pairs with their numbers, cofactors, products word by word, true
- * degrees, least cofactors of two residues, factors that come and go, texts written, read and damaged, shares of runs, what becomes
- * of every word and byte of every buffer, each refusal and their order, the ends of the ranges, and the law of products on drawn
- * triples.
- * It reads crates/vectors/stdin and crates/vectors/stdout, and says "FAILED" and exits with 1 where something is not as it should
- * be. Build and run: make -C tests (under a stack of 256 KiB; the output is held to the file `expected`). */
+/* A C host that tries the services through the header: the stored pairs with their numbers, D alone, cofactors of both numbers, why
+ * two are not coprime, claims true and false, resultants in two variables, products word by word, true degrees, least cofactors of
+ * two residues, factors that come and go, texts written, read and damaged, shares of runs, what becomes of every word and byte of
+ * every buffer, each refusal and their order, the ends of the ranges, the law of products on drawn triples, and every pair of
+ * degrees up to 2 modulo some small n.
+ * It reads stdin and stdout in the folder that its first word names (crates/vectors), and says "FAILED" and exits with 1 where
+ * something is not as it should be; the second word, 100 if there is none, says after how many of these it stops.
+ * Build and run: make -C tests (under a stack of 256 KiB; the output is held to the file `expected`). */
 #include <stdio.h>
 #include <stdlib.h>
 #include <string.h>
@@ -27,7 +29,7 @@ static uint32_t work[WORK_ROOM], u[COFACTOR_ROOM], v[COFACTOR_ROOM], out[PRODUCT
 static uint32_t first_multiplier[MULTIPLIER_ROOM], second_multiplier[MULTIPLIER_ROOM];
 static uint8_t written[TEXT_ROOM];
 
-static long tried, failed;
+static long tried, failed, most_failed = 100;
 
 static void expect(int ok, const char *what, const char *where)
 {
@@ -35,7 +37,7 @@ static void expect(int ok, const char *what, const char *where)
     if (!ok) {
         failed++;
         if (failed <= 20) printf("FAILED: %s (%s)\n", what, where);
-        if (failed == 100) { printf("100 failed, the rest is not tried\n"); exit(1); }
+        if (failed == most_failed) { printf("%ld failed, the rest is not tried\n", failed); exit(1); }
     }
 }
 
@@ -306,7 +308,8 @@ static uint32_t resultant(uint32_t n, const uint32_t *f, size_t fl, const uint32
     return a.value;
 }
 
-static uint32_t reduced(uint32_t n, const uint32_t *f, size_t fl, const uint32_t *g, size_t gl, size_t ul, size_t vl, size_t wl, uint32_t status, const char *where)
+static uint32_t reduced(uint32_t n, const uint32_t *f, size_t fl, const uint32_t *g, size_t gl, size_t ul, size_t vl, size_t wl, uint32_t status,
+                        const char *where)
 {
     mark(work, WORK_ROOM); mark(u, COFACTOR_ROOM); mark(v, COFACTOR_ROOM);
     copy(f, fl, g, gl);
@@ -351,7 +354,8 @@ static uint32_t divisor(uint32_t n, const uint32_t *f, size_t fl, const uint32_t
     return a.value;
 }
 
-static uint32_t with_cofactors(uint32_t n, const uint32_t *f, size_t fl, const uint32_t *g, size_t gl, size_t ul, size_t vl, size_t wl, uint32_t status, const char *where)
+static uint32_t with_cofactors(uint32_t n, const uint32_t *f, size_t fl, const uint32_t *g, size_t gl, size_t ul, size_t vl, size_t wl,
+                               uint32_t status, const char *where)
 {
     mark(work, WORK_ROOM); mark(u, COFACTOR_ROOM); mark(v, COFACTOR_ROOM);
     copy(f, fl, g, gl);
@@ -386,7 +390,8 @@ static int multiple_of(uint32_t m, const uint32_t *b, size_t l, const uint32_t *
 }
 
 /* The ground; D is what it must agree with, or 0 where it is not known. The buffer for w is out. */
-static uint32_t why(uint32_t n, const uint32_t *f, size_t fl, const uint32_t *g, size_t gl, size_t ol, size_t wl, uint32_t D, uint32_t status, const char *where)
+static uint32_t why(uint32_t n, const uint32_t *f, size_t fl, const uint32_t *g, size_t gl, size_t ol, size_t wl, uint32_t D, uint32_t status,
+                    const char *where)
 {
     mark(work, WORK_ROOM); mark(out, PRODUCT_ROOM);
     copy(f, fl, g, gl);
@@ -428,14 +433,20 @@ static uint32_t why(uint32_t n, const uint32_t *f, size_t fl, const uint32_t *g,
 }
 
 /* The answer to a claim, with multipliers of ul and vl words. */
-static uint32_t claim(uint32_t n, const uint32_t *f, size_t fl, const uint32_t *g, size_t gl, uint32_t d, size_t ul, size_t vl, size_t wl, uint32_t status, const char *where)
+static uint32_t claim(uint32_t n, const uint32_t *f, size_t fl, const uint32_t *g, size_t gl, uint32_t d, size_t ul, size_t vl, size_t wl,
+                      uint32_t status, const char *where)
 {
+    static uint32_t copies[2][MULTIPLIER_ROOM];
     mark(work, WORK_ROOM);
     copy(f, fl, g, gl);
+    memcpy(copies[0], first_multiplier, sizeof first_multiplier);
+    memcpy(copies[1], second_multiplier, sizeof second_multiplier);
     jingcobu_answer a = jingcobu_check_claim(n, f, fl, g, gl, d, ul ? first_multiplier : NULL, ul, vl ? second_multiplier : NULL, vl,
                                              lent(work, wl), wl);
     expect(a.status == status, "claim: the status", where);
     expect(same(f, fl, g, gl), "claim: f and g are only read", where);
+    expect(!memcmp(copies[0], first_multiplier, sizeof first_multiplier) && !memcmp(copies[1], second_multiplier, sizeof second_multiplier),
+           "claim: the multipliers are only read", where);
     if (status != JINGCOBU_OK) {
         expect(a.value == 0, "claim refused: the value is 0", where);
         expect(kept_but(work, WORK_ROOM, 0), "claim refused: the working words are as found", where);
@@ -448,11 +459,17 @@ static uint32_t claim(uint32_t n, const uint32_t *f, size_t fl, const uint32_t *
 }
 
 /* The resultant in y; f has (d + 1)(a + 1) words, where the lengths are right. The answer's buffer is out. */
-static void two(uint32_t n, const uint32_t *f, size_t fl, size_t d, size_t a, const uint32_t *g, size_t gl, size_t e, size_t b, size_t ol, size_t wl, uint32_t status, const char *where)
+static void two(uint32_t n, const uint32_t *f, size_t fl, size_t d, size_t a, const uint32_t *g, size_t gl, size_t e, size_t b, size_t ol,
+                size_t wl, uint32_t status, const char *where)
 {
+    static uint32_t copies[2][2500];
     mark(work, WORK_ROOM); mark(out, PRODUCT_ROOM);
+    if (fl) memcpy(copies[0], f, fl * sizeof *f);
+    if (gl) memcpy(copies[1], g, gl * sizeof *g);
     jingcobu_answer r = jingcobu_resultant_two(n, f, fl, d, a, g, gl, e, b, lent(out, ol), ol, lent(work, wl), wl);
     expect(r.status == status, "two variables: the status", where);
+    expect((!fl || !memcmp(copies[0], f, fl * sizeof *f)) && (!gl || !memcmp(copies[1], g, gl * sizeof *g)),
+           "two variables: f and g are only read", where);
     expect(r.value == 0, "two variables: the value is 0", where);
     if (status != JINGCOBU_OK) {
         expect(kept_but(work, WORK_ROOM, 0), "two variables refused: the working words are as found", where);
@@ -624,12 +641,14 @@ static uint32_t stored_pair(uint32_t n, const uint32_t *f, size_t fl, const uint
     memcpy(second_multiplier, v + MARGIN, l * sizeof *v);
     expect(claim(n, f, fl, g, gl, D, l, l, 9000, JINGCOBU_OK, where) == 0, "claim: the engine's own answer is accepted", where);
     expect(claim(n, f, fl, g, gl, 0, l, l, 9000, JINGCOBU_OK, where) == 1, "claim: 0 divides no n", where);
-    if (D > 1) expect(claim(n, f, fl, g, gl, D / common_divisor(D, 2) + (D % 2 ? n : 0), l, l, 9000, JINGCOBU_OK, where) != 0, "claim: another D is not accepted", where);
+    if (D > 1)
+        expect(claim(n, f, fl, g, gl, D / common_divisor(D, 2) + (D % 2 ? n : 0), l, l, 9000, JINGCOBU_OK, where) != 0,
+               "claim: another D is not accepted", where);
     first_multiplier[0] = (first_multiplier[0] + 1) % n;
     int still = 1;
     for (size_t i = 0; i < fl; i++) if (f[i] % n) still = 0;
     expect(claim(n, f, fl, g, gl, D, l, l, 9000, JINGCOBU_OK, where) == (still ? 0 : 2), "claim: a changed multiplier", where);
-    first_multiplier[0] = (first_multiplier[0] + n - 1) % n;
+    first_multiplier[0] = (first_multiplier[0] ? first_multiplier[0] : n) - 1;
     if (D < n && n % 2 == 0 && (n / D) % 2 == 0) {
         for (size_t i = 0; i < l; i++) {
             first_multiplier[i] = (uint32_t) (2 * (uint64_t) first_multiplier[i] % n);
@@ -714,7 +733,7 @@ static void orders(void)
             divisor(n, fl ? f : NULL, fl, gl ? g : NULL, gl, wl, three ? three : short_work, where);
             why(n, fl ? f : NULL, fl, gl ? g : NULL, gl, set & U ? last ? 0 : 48 : 49, wl, 0,
                 three ? three : set & U ? JINGCOBU_SHORT_RESULT : short_work, where);
-            with_cofactors(n, fl ? f : NULL, fl, gl ? g : NULL, gl, e - 1 - (set & U ? 1 : 0), d - 1 - (set & V ? 1 : 0), wl,
+            with_cofactors(n, fl ? f : NULL, fl, gl ? g : NULL, gl, e - 1 - (set & U && e > 1 ? 1 : 0), d - 1 - (set & V && d > 1 ? 1 : 0), wl,
                            three ? three : short_cofactor ? short_cofactor : short_work, where);
             with_cofactors(n, f, 1, g, 1, 0, 0, wl, set & N ? JINGCOBU_BAD_MODULUS : f[0] >= n || g[0] >= n ? JINGCOBU_BAD_WORD : JINGCOBU_NO_COFACTORS, where);
             if (!common && (set & SUM)) common = JINGCOBU_BAD_LENGTH;
@@ -1544,7 +1563,8 @@ static void small_pairs(void)
                             ok = y.m > 1 && D % y.m == 0;
                             for (size_t k = 0; ok && y.ground == 1 && k < 3; k++) if ((k < fl && f[k] % y.m) || (k < gl && g[k] % y.m)) ok = 0;
                             if (ok && y.ground == 2)
-                                ok = y.degree >= 1 && y.degree <= 2 && w[y.degree] == 1 && multiple_of(y.m, f, fl, w, y.degree) && multiple_of(y.m, g, gl, w, y.degree);
+                                ok = y.degree >= 1 && y.degree <= 2 && w[y.degree] == 1 && multiple_of(y.m, f, fl, w, y.degree)
+                                    && multiple_of(y.m, g, gl, w, y.degree);
                         }
                         if (!ok) wrong++;
                         grounds[y.ground % 3]++;
@@ -1559,7 +1579,7 @@ static void small_pairs(void)
 
 static void points(void)
 {
-    static const uint32_t moduli[] = { 61, 67, 3481, 4087, 4294967291u, 2147483647u, 61u * 61u * 61u * 61u };
+    static const uint32_t moduli[] = { 61, 67, 3721, 4087, 4294967291u, 2147483647u, 61u * 61u * 61u * 61u };
     static uint32_t f[2500], g[2500];
     uint32_t answer[61], x[MOST], y[MOST];
     long jobs = 0, full = 0, values = 0;
@@ -1603,6 +1623,12 @@ static void points(void)
             two(primes[i] * 61, lines, (d + 1) * (a + 1), d, a, b ? lines : other, 2 * (b + 1), 1, b, 61, 8192,
                 primes[i] <= B ? JINGCOBU_PRIME_DIVIDES : JINGCOBU_OK, where);
         }
+    /* B above 60 */
+    memset(f, 0, sizeof f);
+    for (size_t B = 61; B <= 96; B++) {
+        snprintf(where, sizeof where, "B = %zu", B);
+        two(67, f, 98, 1, 48, f, 2 * (B - 47), 1, B - 48, 100, 8192, JINGCOBU_TOO_MANY_POINTS, where);
+    }
     printf("%ld pairs in two variables, %ld of them with 61 words, %ld values at points\n", jobs, full, values);
 }
 
@@ -1612,7 +1638,7 @@ static void claims(void)
 {
     uint32_t f[9], g[9];
     long given[4] = { 0, 0, 0, 0 };
-    char where[40];
+    char where[60];
     for (int t = 0; t < 600; t++) {
         static const uint32_t moduli[] = { 4, 6, 12, 30, 36, 210, 2147483648u, 223092870u, 4294967295u };
         uint32_t n = moduli[draw() % (sizeof moduli / sizeof *moduli)], small = 1 + draw() % 6;
@@ -1652,11 +1678,33 @@ static void claims(void)
         expect(a == 1, "claim: no divisor of n", where);
         given[a & 3]++;
     }
+    /* every coefficient counts: one multiplier is 1 for the polynomial 1, the other is 6 x^k for x^d, k at either end and between */
+    static const size_t lengths[] = { 1, 2, 49, 1489, 1490, 4095, 4096 };
+    for (size_t i = 0; i < 5 * sizeof lengths / sizeof *lengths; i++)
+        for (size_t d = 0; d <= 48; d += 16)
+            for (int second = 0; second < 2; second++) {
+                size_t l = lengths[i / 5], k = i % 5 == 0 ? 0 : i % 5 == 1 ? 1 : i % 5 == 2 ? l / 2 : l - (i % 5 == 3 ? 1 : 2);
+                uint32_t x[MOST] = { 0 }, one = 1, *multiplier = second ? second_multiplier : first_multiplier;
+                if (k >= l) continue;
+                x[d] = 1;
+                memset(first_multiplier, 0, sizeof first_multiplier);
+                memset(second_multiplier, 0, sizeof second_multiplier);
+                (second ? first_multiplier : second_multiplier)[0] = 1;
+                snprintf(where, sizeof where, "6 x^%zu of %zu words, d = %zu", k, l, d);
+                for (int changed = 0; changed < 2; changed++) {
+                    multiplier[k] = changed ? 6 : 0;
+                    uint32_t a = second ? claim(12, &one, 1, x, d + 1, 1, 1, l, 8192, JINGCOBU_OK, where)
+                                        : claim(12, x, d + 1, &one, 1, 1, l, 1, 8192, JINGCOBU_OK, where);
+                    expect(a == (changed ? 2 : 0), "claim: every coefficient counts", where);
+                    given[a & 3]++;
+                }
+            }
     printf("claims: %ld accepted, the first test failed in %ld, the second in %ld, the third in %ld\n", given[0], given[1], given[2], given[3]);
 }
 
 int main(int argc, char **argv)
 {
+    if (argc > 2) most_failed = atol(argv[2]);
     pairs(argc > 1 ? argv[1] : "../crates/vectors");
     orders();
     orders_of_claims();
@@ -1673,9 +1721,9 @@ int main(int argc, char **argv)
     factor_orders();
     histories();
     any_states();
-    small_pairs();
     points();
     claims();
+    small_pairs();
     printf("%ld passed, %ld failed\n", tried - failed, failed);
     return failed != 0;
 }

@@ -19,6 +19,14 @@ jingcobu_held __real_jingcobu_factors_start(uint32_t, const uint32_t *, size_t);
 jingcobu_held __real_jingcobu_factors_arrive(jingcobu_factors, uint16_t, const uint32_t *, size_t, uint32_t *, size_t);
 jingcobu_held __real_jingcobu_factors_leave(jingcobu_factors, uint16_t);
 jingcobu_answer __real_jingcobu_factors_read(jingcobu_factors);
+jingcobu_answer __real_jingcobu_divisor(uint32_t, const uint32_t *, size_t, const uint32_t *, size_t, uint32_t *, size_t);
+jingcobu_answer __real_jingcobu_resultant_cofactors(uint32_t, const uint32_t *, size_t, const uint32_t *, size_t, uint32_t *, size_t,
+                                                    uint32_t *, size_t, uint32_t *, size_t);
+jingcobu_reason __real_jingcobu_why(uint32_t, const uint32_t *, size_t, const uint32_t *, size_t, uint32_t *, size_t, uint32_t *, size_t);
+jingcobu_answer __real_jingcobu_check_claim(uint32_t, const uint32_t *, size_t, const uint32_t *, size_t, uint32_t, const uint32_t *, size_t,
+                                            const uint32_t *, size_t, uint32_t *, size_t);
+jingcobu_answer __real_jingcobu_resultant_two(uint32_t, const uint32_t *, size_t, size_t, size_t, const uint32_t *, size_t, size_t, size_t,
+                                              uint32_t *, size_t, uint32_t *, size_t);
 
 enum {
     RIGHT,
@@ -60,6 +68,30 @@ enum {
     LEAVING_UNHELD_ANSWERED, LEAVING_0_ANSWERED, LEAVING_NUMBER_BEFORE_MODULUS, LEAVING_REFUSED_IS_ZEROS, LEAVING_MODULO_1,
     READING_0_OF_NONE, READING_WITHOUT_THE_LAST_PLACE, READING_ABOVE_N, READING_MODULO_1, READING_REFUSED_HAS_A_VALUE, READING_OF_THE_SUM,
     READING_OF_DIVISORS,
+    DIVISOR_OF_N_ALWAYS, DIVISOR_OF_ONE_ALWAYS, DIVISOR_0_FOR_N, DIVISOR_DOUBLED, DIVISOR_IS_GCD_WITH_RESULTANT, DIVISOR_OF_THE_CONTENT_OF_F,
+    DIVISOR_OF_BOTH_CONTENTS, DIVISOR_LEAVES_THE_LAST_WORKING_WORD, DIVISOR_WRITES_BEHIND_WORK, DIVISOR_TAKES_8191_WORDS,
+    DIVISOR_REFUSES_8192_WORDS, DIVISOR_WORK_BEFORE_WORDS, DIVISOR_TAKES_LARGE_WORDS_OF_G, DIVISOR_REFUSES_DEGREE_48,
+    DIVISOR_REFUSED_WIPES_WORK, DIVISOR_REFUSED_HAS_A_VALUE, DIVISOR_WRITES_G,
+    COFACTORS_OF_D, COFACTORS_EXCHANGED, COFACTORS_OF_EXCHANGED, COFACTORS_OF_ZERO_ALWAYS, COFACTORS_NEGATED, COFACTORS_WITHOUT_ZERO_TOPS,
+    COFACTORS_LEAVE_THE_TOP_OF_U, COFACTORS_LEAVE_THE_TOP_OF_V, COFACTORS_WIPE_BEYOND_E, COFACTORS_WIPE_BEYOND_D, COFACTORS_ABOVE_N,
+    COFACTORS_REFUSE_SUM_1, COFACTORS_TAKE_SUM_0, COFACTORS_9_BEFORE_3, COFACTORS_9_AFTER_7, COFACTORS_WORK_BEFORE_RESULTS,
+    COFACTORS_NEED_D_AND_E, COFACTORS_TAKE_SHORT_U, COFACTORS_TAKE_SHORT_V, COFACTORS_REFUSE_NO_WORDS, COFACTORS_REFUSED_WIPE_U,
+    COFACTORS_REFUSED_WIPE_V, COFACTORS_REFUSED_WIPE_WORK, COFACTORS_REFUSED_HAVE_A_VALUE, COFACTORS_LEAVE_THE_LAST_WORKING_WORD,
+    COFACTORS_TAKE_8191_WORDS, COFACTORS_WRITE_F,
+    WHY_COPRIME_ALWAYS, WHY_M_IS_N, WHY_M_IS_1, WHY_M_IS_D, WHY_ZERO_BY_F_ALONE, WHY_W_NOT_MONIC, WHY_W_OF_DEGREE_0, WHY_W_IS_F, WHY_W_TOP_FIRST,
+    WHY_DEGREE_COUNTS_WORDS, WHY_SECOND_FOR_FIRST, WHY_M_WHERE_COPRIME, WHY_DEGREE_FOR_THE_FIRST, WHY_LEAVES_W_FOR_THE_FIRST,
+    WHY_LEAVES_W_WHERE_COPRIME, WHY_LEAVES_WORDS_ABOVE, WHY_WIPES_BEYOND_49, WHY_TAKES_48_WORDS, WHY_REFUSES_49_WORDS, WHY_WORK_BEFORE_RESULT,
+    WHY_TAKES_8191_WORDS, WHY_LEAVES_THE_LAST_WORKING_WORD, WHY_REFUSED_WIPES_W, WHY_REFUSED_WIPES_WORK, WHY_REFUSED_HAS_A_GROUND, WHY_WRITES_F,
+    CLAIM_ALWAYS_ACCEPTED, CLAIM_0_FOR_N, CLAIM_OF_D_MODULO_N, CLAIM_D_OF_N_REFUSED, CLAIM_SECOND_BEFORE_FIRST, CLAIM_THIRD_BEFORE_SECOND,
+    CLAIM_WITHOUT_THE_FIRST, CLAIM_WITHOUT_THE_SECOND, CLAIM_WITHOUT_THE_THIRD, CLAIM_THIRD_OF_GCD_WITH_RESULTANT, CLAIM_TOP_NOT_COMPARED,
+    CLAIM_CONSTANT_ALONE_COMPARED, CLAIM_READS_1489_WORDS, CLAIM_OF_EXCHANGED, CLAIM_TAKES_4097_WORDS, CLAIM_TAKES_NO_WORD,
+    CLAIM_REFUSES_4096_WORDS, CLAIM_16_AFTER_3, CLAIM_16_BEFORE_2, CLAIM_TAKES_LARGE_WORDS_OF_V, CLAIM_WORK_BEFORE_WORDS,
+    CLAIM_TAKES_8191_WORDS, CLAIM_LEAVES_THE_LAST_WORKING_WORD, CLAIM_REFUSED_WIPES_WORK, CLAIM_REFUSED_HAS_A_VALUE, CLAIM_WRITES_V,
+    TWO_POINTS_ONE_OFF, TWO_TOP_FIRST_IN_Y, TWO_TOP_FIRST_IN_Z, TWO_GROUPS_OF_Z, TWO_OF_EXCHANGED, TWO_WITHOUT_ZERO_TOPS, TWO_OF_CONSTANTS_IN_Z,
+    TWO_B_FROM_D_A, TWO_LEAVES_THE_TOP, TWO_TOP_IS_0, TWO_WRITES_ONE_MORE, TWO_TAKES_B_WORDS, TWO_REFUSES_ENOUGH_WORDS, TWO_TAKES_B_61, TWO_REFUSES_B_60,
+    TWO_11_BEFORE_12, TWO_12_BEFORE_3, TWO_WITHOUT_53, TWO_PRIMES_BELOW_B, TWO_PRIMES_UP_TO_59, TWO_TAKES_LONGER_F, TWO_TAKES_DEGREE_49,
+    TWO_WORK_BEFORE_RESULT, TWO_TAKES_8191_WORDS, TWO_LEAVES_THE_LAST_WORKING_WORD, TWO_REFUSED_WIPES_OUT, TWO_REFUSED_WIPES_WORK,
+    TWO_HAS_A_VALUE, TWO_WRITES_F,
     VERSIONS
 };
 
@@ -490,4 +522,290 @@ jingcobu_answer __wrap_jingcobu_factors_read(jingcobu_factors s)
     if (w == READING_OF_THE_SUM && held) a.value = (uint32_t) (sum % s.n);
     if (w == READING_OF_DIVISORS && held) a.value = divisor(a.value, s.n) % s.n;
     return a;
+}
+
+/* ---- D alone, and cofactors of the resultant */
+
+static uint32_t spare[8192];                                                                /* working words beside the host's */
+
+/* the greatest common divisor of n and the words of f */
+static uint32_t content(uint32_t n, const uint32_t *f, size_t fl)
+{
+    for (size_t i = 0; i < fl; i++) n = divisor(n, f[i]);
+    return n;
+}
+
+jingcobu_answer __wrap_jingcobu_divisor(uint32_t n, const uint32_t *f, size_t fl, const uint32_t *g, size_t gl, uint32_t *work, size_t wl)
+{
+    int w = version();
+    jingcobu_answer a = __real_jingcobu_divisor(n, f, fl, g, gl, work, wl);
+    if (w == DIVISOR_TAKES_8191_WORDS && a.status == 7 && wl == 8191) {
+        wipe(work, wl);
+        return __real_jingcobu_divisor(n, f, fl, g, gl, spare, 8192);
+    }
+    if (w == DIVISOR_WORK_BEFORE_WORDS && a.status == 3 && wl < 8192) a.status = 7;
+    if (w == DIVISOR_TAKES_LARGE_WORDS_OF_G && a.status == 3 && !large(n, f, fl)) { a.value = n; a.status = 0; return a; }
+    if (w == DIVISOR_REFUSED_WIPES_WORK && a.status) wipe(work, wl);
+    if (w == DIVISOR_REFUSED_HAS_A_VALUE && a.status) a.value = 1;
+    if (a.status) return a;
+    if (w == DIVISOR_OF_N_ALWAYS) a.value = n;
+    if (w == DIVISOR_OF_ONE_ALWAYS) a.value = 1;
+    if (w == DIVISOR_0_FOR_N) a.value %= n;
+    if (w == DIVISOR_DOUBLED && n % 2 == 0 && n / 2 % a.value == 0) a.value *= 2;
+    if (w == DIVISOR_IS_GCD_WITH_RESULTANT) a.value = divisor(n, __real_jingcobu_resultant(n, f, fl, g, gl, work, wl).value);
+    if (w == DIVISOR_OF_THE_CONTENT_OF_F) a.value = content(n, f, fl);
+    if (w == DIVISOR_OF_BOTH_CONTENTS) a.value = content(content(n, f, fl), g, gl);
+    if (w == DIVISOR_LEAVES_THE_LAST_WORKING_WORD) work[wl - 1] = 1;
+    if (w == DIVISOR_WRITES_BEHIND_WORK) work[wl] = 0;
+    if (w == DIVISOR_REFUSES_8192_WORDS && wl == 8192) { a.value = 0; a.status = 7; }
+    if (w == DIVISOR_REFUSES_DEGREE_48 && gl == 49) { a.value = 0; a.status = 2; }
+    if (w == DIVISOR_WRITES_G) ((uint32_t *) g)[0] = 0;
+    return a;
+}
+
+jingcobu_answer __wrap_jingcobu_resultant_cofactors(uint32_t n, const uint32_t *f, size_t fl, const uint32_t *g, size_t gl, uint32_t *u,
+                                                    size_t ul, uint32_t *v, size_t vl, uint32_t *work, size_t wl)
+{
+    int w = version();
+    size_t d = fl ? fl - 1 : 0, e = gl ? gl - 1 : 0, l = fl, m = gl;
+    uint32_t top_u = e && e <= ul ? u[e - 1] : 0, top_v = d && d <= vl ? v[d - 1] : 0;
+    jingcobu_answer a = w == COFACTORS_OF_EXCHANGED ? __real_jingcobu_resultant_cofactors(n, g, gl, f, fl, v, vl, u, ul, work, wl)
+                                                    : __real_jingcobu_resultant_cofactors(n, f, fl, g, gl, u, ul, v, vl, work, wl);
+    if (w == COFACTORS_TAKE_SUM_0 && a.status == 9 && wl >= 8192) { wipe(work, wl); a.value = 1; a.status = 0; return a; }
+    if (w == COFACTORS_TAKE_SHORT_U && a.status == 6 && vl >= d && wl >= 8192) { wipe(work, wl); a.status = 0; return a; }
+    if (w == COFACTORS_TAKE_SHORT_V && a.status == 6 && ul >= e && wl >= 8192) { wipe(work, wl); a.status = 0; return a; }
+    if (w == COFACTORS_TAKE_8191_WORDS && a.status == 7 && wl == 8191) {
+        wipe(work, wl);
+        return __real_jingcobu_resultant_cofactors(n, f, fl, g, gl, u, ul, v, vl, spare, 8192);
+    }
+    if (w == COFACTORS_9_BEFORE_3 && a.status == 3 && d + e == 0) a.status = 9;
+    if (w == COFACTORS_9_AFTER_7 && a.status == 9 && wl < 8192) a.status = 7;
+    if (w == COFACTORS_WORK_BEFORE_RESULTS && a.status == 6 && wl < 8192) a.status = 7;
+    if (w == COFACTORS_REFUSED_WIPE_U && a.status) wipe(u, ul);
+    if (w == COFACTORS_REFUSED_WIPE_V && a.status) wipe(v, vl);
+    if (w == COFACTORS_REFUSED_WIPE_WORK && a.status) wipe(work, wl);
+    if (w == COFACTORS_REFUSED_HAVE_A_VALUE && a.status) a.value = 1;
+    if (a.status) return a;
+    if (w == COFACTORS_OF_D) a.value = __real_jingcobu_divisor(n, f, fl, g, gl, work, wl).value % n;
+    if (w == COFACTORS_EXCHANGED) for (size_t i = 0; i < d && i < e; i++) { uint32_t x = u[i]; u[i] = v[i]; v[i] = x; }
+    if (w == COFACTORS_OF_ZERO_ALWAYS) { wipe(u, e); wipe(v, d); a.value = 0; }
+    if (w == COFACTORS_NEGATED) {
+        for (size_t i = 0; i < e; i++) u[i] = (n - u[i]) % n;
+        for (size_t i = 0; i < d; i++) v[i] = (n - v[i]) % n;
+    }
+    if (w == COFACTORS_WITHOUT_ZERO_TOPS) {
+        while (l > 1 && f[l - 1] == 0) l--;
+        while (m > 1 && g[m - 1] == 0) m--;
+        a.value = __real_jingcobu_resultant(n, f, l, g, m, work, wl).value;
+    }
+    if (w == COFACTORS_LEAVE_THE_TOP_OF_U && e) u[e - 1] = top_u;
+    if (w == COFACTORS_LEAVE_THE_TOP_OF_V && d) v[d - 1] = top_v;
+    if (w == COFACTORS_WIPE_BEYOND_E && e < ul) u[e] = 0;
+    if (w == COFACTORS_WIPE_BEYOND_D && d < vl) v[vl - 1] = 0;
+    if (w == COFACTORS_ABOVE_N && e && u[0] <= 4294967295u - n) u[0] += n;
+    if (w == COFACTORS_REFUSE_SUM_1 && d + e == 1) { a.value = 0; a.status = 9; }
+    if (w == COFACTORS_NEED_D_AND_E && (ul < d || vl < e)) { a.value = 0; a.status = 6; }
+    if (w == COFACTORS_REFUSE_NO_WORDS && !ul) { a.value = 0; a.status = 6; }
+    if (w == COFACTORS_LEAVE_THE_LAST_WORKING_WORD) work[wl - 1] = 1;
+    if (w == COFACTORS_WRITE_F) ((uint32_t *) f)[fl - 1] = 0;
+    return a;
+}
+
+/* ---- grounds */
+
+jingcobu_reason __wrap_jingcobu_why(uint32_t n, const uint32_t *f, size_t fl, const uint32_t *g, size_t gl, uint32_t *out, size_t ol,
+                                    uint32_t *work, size_t wl)
+{
+    int w = version();
+    uint32_t found[49], other[49];
+    size_t kept = ol < 49 ? ol : 49;
+    if (kept) memcpy(found, out, kept * sizeof *found);
+    jingcobu_reason a = __real_jingcobu_why(n, f, fl, g, gl, out, ol, work, wl);
+    if (w == WHY_TAKES_48_WORDS && a.status == 6 && ol == 48) {
+        a = __real_jingcobu_why(n, f, fl, g, gl, other, 49, work, wl);
+        if (!a.status) memcpy(out, other, 48 * sizeof *other);
+        return a;
+    }
+    if (w == WHY_TAKES_8191_WORDS && a.status == 7 && wl == 8191) {
+        wipe(work, wl);
+        return __real_jingcobu_why(n, f, fl, g, gl, out, ol, spare, 8192);
+    }
+    if (w == WHY_WORK_BEFORE_RESULT && a.status == 6 && wl < 8192) a.status = 7;
+    if (w == WHY_REFUSED_WIPES_W && a.status) wipe(out, ol);
+    if (w == WHY_REFUSED_WIPES_WORK && a.status) wipe(work, wl);
+    if (w == WHY_REFUSED_HAS_A_GROUND && a.status) a.ground = 1;
+    if (a.status) return a;
+    uint32_t zero = content(n, f, fl);
+    if (w == WHY_COPRIME_ALWAYS) { wipe(out, 49); a.ground = a.m = a.degree = 0; }
+    if (w == WHY_M_IS_N && a.ground) a.m = n;
+    if (w == WHY_M_IS_1 && a.ground) a.m = 1;
+    if (w == WHY_M_IS_D && a.ground) a.m = __real_jingcobu_divisor(n, f, fl, g, gl, work, wl).value;
+    if (w == WHY_ZERO_BY_F_ALONE && a.ground && zero > 1) { wipe(out, 49); a.ground = 1; a.m = zero; a.degree = 0; }
+    if (w == WHY_W_NOT_MONIC && a.ground == 2) for (size_t i = 0; i <= a.degree; i++) out[i] = (a.m - out[i] % a.m) % a.m;
+    if (w == WHY_W_OF_DEGREE_0 && a.ground == 2) { wipe(out, 49); out[0] = 1; a.degree = 0; }
+    if (w == WHY_W_IS_F && a.ground == 2 && fl > 1 && f[fl - 1] == 1) { memcpy(out, f, fl * sizeof *f); a.degree = (uint32_t) fl - 1; }
+    if (w == WHY_W_TOP_FIRST && a.ground == 2)
+        for (size_t i = 0; 2 * i < a.degree; i++) { uint32_t x = out[i]; out[i] = out[a.degree - i]; out[a.degree - i] = x; }
+    if (w == WHY_DEGREE_COUNTS_WORDS && a.ground == 2) a.degree++;
+    if (w == WHY_SECOND_FOR_FIRST && a.ground == 1) { out[0] = 1; a.ground = 2; }
+    if (w == WHY_M_WHERE_COPRIME && !a.ground) a.m = 1;
+    if (w == WHY_DEGREE_FOR_THE_FIRST && a.ground == 1) a.degree = (uint32_t) fl;
+    if (w == WHY_LEAVES_W_FOR_THE_FIRST && a.ground == 1) memcpy(out, found, sizeof found);
+    if (w == WHY_LEAVES_W_WHERE_COPRIME && !a.ground) memcpy(out, found, sizeof found);
+    if (w == WHY_LEAVES_WORDS_ABOVE && a.ground == 2) memcpy(out + a.degree + 1, found + a.degree + 1, (48 - a.degree) * sizeof *found);
+    if (w == WHY_WIPES_BEYOND_49 && ol > 49) out[ol - 1] = 0;
+    if (w == WHY_REFUSES_49_WORDS && ol == 49) { a.ground = a.m = a.degree = 0; a.status = 6; }
+    if (w == WHY_LEAVES_THE_LAST_WORKING_WORD) work[wl - 1] = 1;
+    if (w == WHY_WRITES_F) ((uint32_t *) f)[0] = 0;
+    return a;
+}
+
+/* ---- claims */
+
+/* whether the first `count` words of u f + v g are those of the constant d modulo n */
+static int combines(uint32_t n, const uint32_t *f, size_t fl, const uint32_t *g, size_t gl, uint32_t d, const uint32_t *u, size_t ul,
+                    const uint32_t *v, size_t vl, size_t count)
+{
+    for (size_t k = 0; k < count; k++) {
+        uint64_t s = 0;
+        for (size_t i = 0; i < fl && i <= k; i++) if (k - i < ul) s = (s + (uint64_t) f[i] * u[k - i]) % n;
+        for (size_t i = 0; i < gl && i <= k; i++) if (k - i < vl) s = (s + (uint64_t) g[i] * v[k - i]) % n;
+        if (s != (k ? 0 : d % n)) return 0;
+    }
+    return 1;
+}
+
+jingcobu_answer __wrap_jingcobu_check_claim(uint32_t n, const uint32_t *f, size_t fl, const uint32_t *g, size_t gl, uint32_t d,
+                                            const uint32_t *u, size_t ul, const uint32_t *v, size_t vl, uint32_t *work, size_t wl)
+{
+    int w = version();
+    static uint32_t zeros[4096];
+    uint32_t D = d;
+    size_t count = ul + fl > vl + gl ? ul + fl - 1 : vl + gl - 1;
+    if (w == CLAIM_0_FOR_N && !d) D = n;
+    if (w == CLAIM_OF_D_MODULO_N && n > 1 && d > n) D = d % n;
+    jingcobu_answer a = w == CLAIM_OF_EXCHANGED ? __real_jingcobu_check_claim(n, f, fl, g, gl, D, v, vl, u, ul, work, wl)
+                                                : __real_jingcobu_check_claim(n, f, fl, g, gl, D, u, ul, v, vl, work, wl);
+    if (a.status == 16) {
+        if (w == CLAIM_TAKES_4097_WORDS && ul && vl)
+            a = __real_jingcobu_check_claim(n, f, fl, g, gl, d, u, ul > 4096 ? 4096 : ul, v, vl > 4096 ? 4096 : vl, work, wl);
+        if (w == CLAIM_TAKES_NO_WORD && ul < 4097 && vl < 4097)
+            a = __real_jingcobu_check_claim(n, f, fl, g, gl, d, ul ? u : zeros, ul ? ul : 1, vl ? v : zeros, vl ? vl : 1, work, wl);
+        if (w == CLAIM_16_AFTER_3 && (large(n, f, fl) || large(n, g, gl))) a.status = 3;
+    }
+    if (w == CLAIM_16_BEFORE_2 && a.status == 2 && (ul < 1 || ul > 4096 || vl < 1 || vl > 4096)) a.status = 16;
+    if (w == CLAIM_TAKES_LARGE_WORDS_OF_V && a.status == 3 && !large(n, f, fl) && !large(n, g, gl) && !large(n, u, ul))
+        a = __real_jingcobu_check_claim(n, f, fl, g, gl, d, u, ul, zeros, vl, work, wl);
+    if (w == CLAIM_WORK_BEFORE_WORDS && a.status == 3 && wl < 8192) a.status = 7;
+    if (w == CLAIM_TAKES_8191_WORDS && a.status == 7 && wl == 8191) {
+        wipe(work, wl);
+        return __real_jingcobu_check_claim(n, f, fl, g, gl, d, u, ul, v, vl, spare, 8192);
+    }
+    if (w == CLAIM_REFUSED_WIPES_WORK && a.status) wipe(work, wl);
+    if (w == CLAIM_REFUSED_HAS_A_VALUE && a.status) a.value = 1;
+    if (a.status) return a;
+    if (w == CLAIM_ALWAYS_ACCEPTED) a.value = 0;
+    if (w == CLAIM_SECOND_BEFORE_FIRST && a.value == 1 && !combines(n, f, fl, g, gl, d, u, ul, v, vl, count)) a.value = 2;
+    if (w == CLAIM_WITHOUT_THE_FIRST && a.value == 1) a.value = combines(n, f, fl, g, gl, d, u, ul, v, vl, count) ? 3 : 2;
+    if (w == CLAIM_READS_1489_WORDS)
+        a = __real_jingcobu_check_claim(n, f, fl, g, gl, d, u, ul > 1489 ? 1489 : ul, v, vl > 1489 ? 1489 : vl, work, wl);
+    if (w == CLAIM_TOP_NOT_COMPARED && a.value == 2 && count > 1 && combines(n, f, fl, g, gl, d, u, ul, v, vl, count - 1)) a.value = 0;
+    if (w == CLAIM_CONSTANT_ALONE_COMPARED && a.value == 2 && combines(n, f, fl, g, gl, d, u, ul, v, vl, 1)) a.value = 0;
+    if (w == CLAIM_WITHOUT_THE_SECOND && a.value == 2) a.value = __real_jingcobu_divisor(n, f, fl, g, gl, work, wl).value == d ? 0 : 3;
+    if (w == CLAIM_THIRD_BEFORE_SECOND && a.value == 2 && __real_jingcobu_divisor(n, f, fl, g, gl, work, wl).value != d) a.value = 3;
+    if (w == CLAIM_WITHOUT_THE_THIRD && a.value == 3) a.value = 0;
+    if (w == CLAIM_THIRD_OF_GCD_WITH_RESULTANT && (a.value == 0 || a.value == 3))
+        a.value = divisor(n, __real_jingcobu_resultant(n, f, fl, g, gl, work, wl).value) == d ? 0 : 3;
+    if (w == CLAIM_D_OF_N_REFUSED && d == n) { a.value = 0; a.status = 3; }
+    if (w == CLAIM_REFUSES_4096_WORDS && (ul == 4096 || vl == 4096)) { a.value = 0; a.status = 16; }
+    if (w == CLAIM_LEAVES_THE_LAST_WORKING_WORD) work[wl - 1] = 1;
+    if (w == CLAIM_WRITES_V) ((uint32_t *) v)[vl - 1] = (v[vl - 1] + 1) % n;
+    return a;
+}
+
+/* ---- two variables */
+
+/* whether a prime from `from` to `to` divides n */
+static int prime_between(uint32_t n, size_t from, size_t to)
+{
+    static const uint32_t primes[] = { 2, 3, 5, 7, 11, 13, 17, 19, 23, 29, 31, 37, 41, 43, 47, 53, 59 };
+    for (size_t i = 0; i < 17; i++) if (primes[i] >= from && primes[i] <= to && n % primes[i] == 0) return 1;
+    return 0;
+}
+
+/* the words of a polynomial of degrees d in y and a in z in another order */
+enum { AS_SENT, TOP_FIRST_IN_Y, TOP_FIRST_IN_Z, GROUPS_OF_Z, CONSTANTS_IN_Z };
+static void ordered(int order, const uint32_t *f, size_t d, size_t a, uint32_t *other)
+{
+    for (size_t i = 0; i <= d; i++)
+        for (size_t k = 0; k <= a; k++)
+            other[i * (a + 1) + k] = order == TOP_FIRST_IN_Y ? f[(d - i) * (a + 1) + k] : order == TOP_FIRST_IN_Z ? f[i * (a + 1) + a - k]
+                : order == GROUPS_OF_Z ? f[k * (d + 1) + i] : order == CONSTANTS_IN_Z && k ? 0 : f[i * (a + 1) + k];
+}
+
+/* the degree in y without the top groups of zeros */
+static size_t without_zero_tops(const uint32_t *f, size_t d, size_t a)
+{
+    while (d && content(0, f + d * (a + 1), a + 1) == 0) d--;
+    return d;
+}
+
+jingcobu_answer __wrap_jingcobu_resultant_two(uint32_t n, const uint32_t *f, size_t fl, size_t d, size_t a, const uint32_t *g, size_t gl,
+                                              size_t e, size_t b, uint32_t *out, size_t ol, uint32_t *work, size_t wl)
+{
+    int w = version();
+    int order = w == TWO_TOP_FIRST_IN_Y ? TOP_FIRST_IN_Y : w == TWO_TOP_FIRST_IN_Z ? TOP_FIRST_IN_Z : w == TWO_GROUPS_OF_Z ? GROUPS_OF_Z
+        : w == TWO_OF_CONSTANTS_IN_Z ? CONSTANTS_IN_Z : AS_SENT;
+    static uint32_t f_other[2500], g_other[2500], longer[61];
+    size_t B = e * a + d * b;                                                               /* right where no degree is above 48 */
+    uint32_t top = B < ol ? out[B] : 0;
+    jingcobu_answer r = __real_jingcobu_resultant_two(n, f, fl, d, a, g, gl, e, b, out, ol, work, wl);
+    if (r.status == 2) {
+        if (w == TWO_TAKES_LONGER_F && d < 49 && a < 49 && fl > (d + 1) * (a + 1))
+            return __real_jingcobu_resultant_two(n, f, (d + 1) * (a + 1), d, a, g, gl, e, b, out, ol, work, wl);
+        if (w == TWO_TAKES_DEGREE_49 && d < 50 && a < 50 && fl == (d + 1) * (a + 1) && e < 49 && b < 49 && gl == (e + 1) * (b + 1)) r.status = 12;
+    }
+    if (w == TWO_12_BEFORE_3 && r.status == 3 && B > 60) r.status = 12;
+    if (w == TWO_11_BEFORE_12 && r.status == 12 && prime_between(n, 2, 59)) r.status = 11;
+    if (w == TWO_TAKES_B_61 && r.status == 12 && B == 61) r.status = prime_between(n, 2, 59) ? 11 : 0;
+    if (w == TWO_WITHOUT_53 && r.status == 11 && n % 53 == 0 && !prime_between(n, 2, 47) && (B < 59 || n % 59)) r.status = 0;
+    if (w == TWO_PRIMES_BELOW_B && r.status == 11 && !prime_between(n, 2, B - 1)) r.status = 0;
+    if (w == TWO_TAKES_B_WORDS && r.status == 6 && ol == B && wl >= 8192) {
+        r = __real_jingcobu_resultant_two(n, f, fl, d, a, g, gl, e, b, longer, 61, work, wl);
+        if (ol) memcpy(out, longer, ol * sizeof *out);
+        return r;
+    }
+    if (w == TWO_WORK_BEFORE_RESULT && r.status == 6 && wl < 8192) r.status = 7;
+    if (w == TWO_TAKES_8191_WORDS && r.status == 7 && wl == 8191) {
+        wipe(work, wl);
+        return __real_jingcobu_resultant_two(n, f, fl, d, a, g, gl, e, b, out, ol, spare, 8192);
+    }
+    if (w == TWO_REFUSED_WIPES_OUT && r.status) wipe(out, ol);
+    if (w == TWO_REFUSED_WIPES_WORK && r.status) wipe(work, wl);
+    if (w == TWO_HAS_A_VALUE) r.value = 1;
+    if (r.status || w == TWO_TAKES_B_61 || w == TWO_WITHOUT_53 || w == TWO_PRIMES_BELOW_B) return r;
+    if (order != AS_SENT) {
+        ordered(order, f, d, a, f_other);
+        ordered(order, g, e, b, g_other);
+        __real_jingcobu_resultant_two(n, f_other, fl, d, a, g_other, gl, e, b, out, ol, work, wl);
+    }
+    if (w == TWO_OF_EXCHANGED) __real_jingcobu_resultant_two(n, g, gl, e, b, f, fl, d, a, out, ol, work, wl);
+    if (w == TWO_WITHOUT_ZERO_TOPS) {
+        size_t k = without_zero_tops(f, d, a), l = without_zero_tops(g, e, b);
+        wipe(out, B + 1);
+        __real_jingcobu_resultant_two(n, f, (k + 1) * (a + 1), k, a, g, (l + 1) * (b + 1), l, b, out, ol, work, wl);
+    }
+    /* the answer at z + 1 */
+    if (w == TWO_POINTS_ONE_OFF)
+        for (size_t i = 0; i < B; i++) for (size_t k = B; k-- > i;) out[k] = (uint32_t) (((uint64_t) out[k] + out[k + 1]) % n);
+    if (w == TWO_LEAVES_THE_TOP) out[B] = top;
+    if (w == TWO_TOP_IS_0) out[B] = 0;
+    if (w == TWO_WRITES_ONE_MORE && B + 1 < ol) out[B + 1] = 0;
+    if (w == TWO_B_FROM_D_A && ol < d * a + e * b + 1) r.status = 6;
+    if (w == TWO_REFUSES_ENOUGH_WORDS && ol == B + 1) r.status = 6;
+    if (w == TWO_REFUSES_B_60 && B == 60) r.status = 12;
+    if (w == TWO_PRIMES_UP_TO_59 && prime_between(n, 2, 59)) r.status = 11;
+    if (w == TWO_LEAVES_THE_LAST_WORKING_WORD) work[wl - 1] = 1;
+    if (w == TWO_WRITES_F) ((uint32_t *) f)[0] = 0;
+    return r;
 }

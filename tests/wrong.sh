@@ -12,7 +12,7 @@ WRONG=0 ../target/host_wrong $pairs > "$folder/output" || { echo "the library it
 diff -u expected "$folder/output" || exit 1
 version=1
 while true; do
-    WRONG=$version ../target/host_wrong $pairs > "$folder/output"
+    WRONG=$version ../target/host_wrong $pairs 1 > "$folder/output"
     status=$?
     [ $status = 99 ] && break
     if [ $status != 1 ] || ! grep -q '^FAILED' "$folder/output"; then say "version $version (status $status)"; fi
@@ -21,7 +21,7 @@ done
 echo "$((version - 1)) wrong versions tried"
 
 # try NAME: the pairs in $folder/stdin and $folder/stdout
-try() { ./host "$folder" > "$folder/output"; if [ $? != 1 ] || ! grep -q '^FAILED' "$folder/output"; then say "$1"; fi; }
+try() { ./host "$folder" 1 > "$folder/output"; if [ $? != 1 ] || ! grep -q '^FAILED' "$folder/output"; then say "$1"; fi; }
 fresh() { cp $pairs/stdin $pairs/stdout "$folder"; }
 rm -f "$folder/stdin" "$folder/stdout"; try "no files"
 fresh; : > "$folder/stdin"; : > "$folder/stdout"; try "empty files"
