@@ -1711,7 +1711,6 @@ int main(int argc, char **argv)
     orders_of_two();
     orders_of_one();
     words();
-    ends();
     products();
     degrees();
     texts();
@@ -1721,6 +1720,7 @@ int main(int argc, char **argv)
     factor_orders();
     histories();
     any_states();
+    ends();
     points();
     claims();
     small_pairs();

@@ -10,15 +10,25 @@ say() { echo "NOT FOUND OUT: $1"; wrong=1; }
 
 WRONG=0 ../target/host_wrong $pairs > "$folder/output" || { echo "the library itself does not pass"; exit 1; }
 diff -u expected "$folder/output" || exit 1
-version=1
-while true; do
-    WRONG=$version ../target/host_wrong $pairs 1 > "$folder/output"
-    status=$?
-    [ $status = 99 ] && break
-    if [ $status != 1 ] || ! grep -q '^FAILED' "$folder/output"; then say "version $version (status $status)"; fi
-    version=$((version + 1))
-done
-echo "$((version - 1)) wrong versions tried"
+# versions FIRST STEP: every STEP-th version from FIRST on; the host stops at the first failure
+versions() {
+    local version=$1 output="$folder/output.$1" status
+    while true; do
+        WRONG=$version ../target/host_wrong $pairs 1 > "$output"
+        status=$?
+        [ $status = 99 ] && break
+        if [ $status = 1 ] && grep -q '^FAILED' "$output"; then echo $version >> "$folder/found"
+        else echo "version $version (status $status)" >> "$folder/missed"; fi
+        version=$((version + $2))
+    done
+}
+: > "$folder/found"
+: > "$folder/missed"
+step=$(nproc)
+for first in $(seq "$step"); do versions "$first" "$step" & done
+wait
+while read -r missed; do say "$missed"; done < "$folder/missed"
+echo "$(cat "$folder/found" "$folder/missed" | wc -l) wrong versions tried, $(wc -l < "$folder/found") found out"
 
 # try NAME: the pairs in $folder/stdin and $folder/stdout
 try() { ./host "$folder" 1 > "$folder/output"; if [ $? != 1 ] || ! grep -q '^FAILED' "$folder/output"; then say "$1"; fi; }
