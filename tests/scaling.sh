@@ -37,17 +37,18 @@ killed_once() {
         kill -9 $worker
         wait $worker
     else
+        sleep 0.1                                     # so that parts are left when the worker is killed, on a quick machine too
         tools/frames_parts work "$1"
     fi
 }
 export -f killed_once
-if parallel --will-cite --joblog "$folder/log" --halt soon,fail=1 killed_once ::: "$folder"/parts/*.frames 2> /dev/null; then
+if parallel --will-cite --jobs 2 --joblog "$folder/log" --halt soon,fail=1 killed_once ::: "$folder"/parts/*.frames 2> /dev/null; then
     fail "parallel does not tell that a worker was killed"
 fi
 if tools/frames_parts join "$folder/parts" > /dev/null 2>&1; then fail "an incomplete part is not found out"; fi
 before=$(awk 'NR > 1 && $7 == 0 && $8 == 0' "$folder/log" | wc -l)
 [ "$before" -lt 39 ] || fail "the run did not stop"
-parallel --will-cite --joblog "$folder/log" --resume-failed killed_once ::: "$folder"/parts/*.frames
+parallel --will-cite --jobs 2 --joblog "$folder/log" --resume-failed killed_once ::: "$folder"/parts/*.frames
 tools/frames_parts join "$folder/parts" > "$folder/joined"
 cmp "$folder/whole" "$folder/joined" || fail "the parts answer something else"
 [ -d "$KILLED" ] || fail "no worker was killed"
