@@ -3,7 +3,7 @@
 --   turned-set, zeroed-turned    a word put, and words cleared, turned back
 --   started-held                 the words after clearing, loading and the two words that stand for 1
 --   finished-held                the constant and its multipliers
-use mathlib.Core.Path.{_≡_, refl, sym, ap, ap₂, subst, _∙_}
+use mathlib.Core.Path.{_≡_, sym, ap, ap₂, subst, _∙_}
 use mathlib.Core.List.{List}
 use mathlib.Core.Logic.{⊎-elim}
 use Prim.Native.Nat.{ℕ, _+_, _-_, _*_, _%_, _^_, _≤_, _<_}
@@ -20,7 +20,7 @@ use Rattle.held_windows.specs.Turned.{turned}
 use Rattle.held_windows.proofs.Turning.{turned-length, turned-at, turned-kept, loaded-turned}
 use Rattle.cofactor_euclid.specs.Rows.{Asked, Started, Led, Multipliers}
 use Rattle.cofactor_euclid.proofs.Starting.{started, finished}
-use Rattle.cofactor_held.specs.HeldRows.{HeldRows, HeldPlaced, HeldLed, HeldStarted, HeldMultipliers}
+use Rattle.cofactor_held.specs.HeldRows.{HeldLed, HeldStarted, HeldMultipliers}
 use Rattle.cofactor_held.specs.declared.Places.{Places}
 use Rattle.cofactor_held.proofs.Carried.{below-after}
 
@@ -63,18 +63,15 @@ module _ (n : ℕ) (odd : n % 2 ≡ 1) where
   asked-turned : (f g w : List ℕ) → Asked n f g w → Asked n f g (turned n w)
   asked-turned f g w k = record { modulus = k .modulus; some = k .some; order = k .order; room = omega (arith, k .room, turned-length n w) }
 
-  module _ (f g w w₁ w₂ w₃ : List ℕ) (r : ℕ) (k : Asked n f g w)
+  module _ (f g w w₁ w₂ w₃ : List ℕ) (k : Asked n f g w)
       (mv : Moved zeroed 0 0 (length g + length g + length g + (length g + length g + length g)) w w₁)
       (lf : Written (λ (i : ℕ). held n (getD f i 0)) 0 (length f) w₁ w₂)
-      (lg : Written (λ (i : ℕ). held n (getD g i 0)) (length g + length g + length g) (length g) w₂ w₃) (is : r ≡ held n 1) where
+      (lg : Written (λ (i : ℕ). held n (getD g i 0)) (length g + length g + length g) (length g) w₂ w₃) where
     abbrev h : ℕ
     h = length g
 
     abbrev b : ℕ
     b = length g + length g + length g
-
-    abbrev w' : List ℕ
-    w' = set (set w₃ (length g) r) (length g + length g + length g + (length g + length g)) r
 
     one-word : 1 ≤ length g
     one-word = omega (arith, k .some, k .order)
@@ -82,55 +79,55 @@ module _ (n : ℕ) (odd : n % 2 ≡ 1) where
     same₃ : length w₃ ≡ length w
     same₃ = lg .same ∙ lf .same ∙ mv .same
 
-    pub first-place : h < length w₃
+    first-place : h < length w₃
     first-place = omega (arith, same₃, k .room, one-word)
 
-    pub second-place : b + (h + h) < length (set w₃ h r)
-    second-place = omega (arith, length-set w₃ h r, same₃, k .room, one-word)
+    -- whatever words are put
+    pub second-place : (r : ℕ) → b + (h + h) < length (set w₃ h r)
+    second-place r = omega (arith, length-set w₃ h r, same₃, k .room, one-word)
 
-    pub held-same : length w' ≡ length w
-    held-same = length-set (set w₃ h r) (b + (h + h)) r ∙ length-set w₃ h r ∙ same₃
+    pub held-same : (r s : ℕ) → length (set (set w₃ h r) (b + (h + h)) s) ≡ length w
+    held-same r s = length-set (set w₃ h r) (b + (h + h)) s ∙ length-set w₃ h r ∙ same₃
 
-    residues : Below n 0 (b + b) w'
-    residues =
-        below-set {i = b + (h + h)} (below-set {i = h} (below-after (below-after cleared lf (λ i. held-below n odd (getD f i 0))) lg (λ i. held-below n odd (getD g i 0)))
-        small first-place) small second-place
-      where
-        small : r < n
-        small = subst (λ (x : ℕ). x < n) (sym is) (held-below n odd 1)
+    module _ (r : ℕ) (is : r ≡ held n 1) where
+      abbrev w' : List ℕ
+      w' = set (set w₃ (length g) r) (length g + length g + length g + (length g + length g)) r
 
-        cleared : Below n 0 (b + b) w₁
-        cleared = record { at = λ i l. subst (λ (x : ℕ). x < n) (sym (mv .mid i l)) (omega arith) }
+      residues : Below n 0 (b + b) w'
+      residues =
+          below-set {i = b + (h + h)} (below-set {i = h} (below-after (below-after cleared lf (λ i. held-below n odd (getD f i 0))) lg (λ i. held-below n odd (getD g i 0)))
+          small first-place) small (second-place r)
+        where
+          small : r < n
+          small = subst (λ (x : ℕ). x < n) (sym is) (held-below n odd 1)
 
-    one : plain n r ≡ 1
-    one = ap (plain n) is ∙ leave-enter n odd 1 ∙ mod-eq-of-lt (k .modulus)
+          cleared : Below n 0 (b + b) w₁
+          cleared = record { at = λ i l. subst (λ (x : ℕ). x < n) (sym (mv .mid i l)) (omega arith) }
 
-    turned-words : turned n w' ≡ set (set (turned n w₃) h 1) (b + (h + h)) 1
-    turned-words =
-        turned-set (set w₃ h r) (b + (h + h)) r second-place
-        ∙ ap₂ (λ (v : List ℕ) (x : ℕ). set v (b + (h + h)) x) (turned-set w₃ h r first-place ∙ ap (λ (x : ℕ). set (turned n w₃) h x) one) one
+      one : plain n r ≡ 1
+      one = ap (plain n) is ∙ leave-enter n odd 1 ∙ mod-eq-of-lt (k .modulus)
 
-    pub started-held : HeldStarted n f g w w'
-    started-held = record {
-      rows = record {
-        inside-a = omega (arith, held-same, k .room);
-        inside-b = omega (arith, held-same, k .room);
-        below-a = record { at = λ i l. residues .at i (omega arith) };
-        below-b = record { at = λ i l. subst (λ (x : ℕ). getD w' x 0 < n) (place i) (residues .at (b + i) (omega arith)) };
-        apart = record { ok = λ i j p q e. omega arith };
-      };
-      started = subst (λ (v : List ℕ). Started n f g (turned n w) v) (sym turned-words)
-          (started n f g (turned n w) (turned n w₁) (turned n w₂) (turned n w₃) (asked-turned f g w k) (zeroed-turned 0 (b + b) w w₁ mv) (loaded-turned n odd lf)
-          (loaded-turned n odd lg));
-    }
-      where
-        place : (i : ℕ) → 0 + (b + i) ≡ b + i
-        place i = omega arith
+      turned-words : turned n w' ≡ set (set (turned n w₃) h 1) (b + (h + h)) 1
+      turned-words =
+          turned-set (set w₃ h r) (b + (h + h)) r (second-place r)
+          ∙ ap₂ (λ (v : List ℕ) (x : ℕ). set v (b + (h + h)) x) (turned-set w₃ h r first-place ∙ ap (λ (x : ℕ). set (turned n w₃) h x) one) one
 
-  -- the rows at the start
-  pub started-placed : {f g w w' : List ℕ} → HeldStarted n f g w w'
-      → HeldPlaced n (length g) (length f) (record { a = 0; d = length f - 1; b = length g + length g + length g; e = length g - 1 }) w'
-  started-placed s = record { rows = s .rows; placed = s .started .placed }
+      pub started-held : HeldStarted n f g w w'
+      started-held = record {
+        rows = record {
+          inside-a = omega (arith, held-same r r, k .room);
+          inside-b = omega (arith, held-same r r, k .room);
+          below-a = record { at = λ i l. residues .at i (omega arith) };
+          below-b = record { at = λ i l. subst (λ (x : ℕ). getD w' x 0 < n) (place i) (residues .at (b + i) (omega arith)) };
+          apart = record { ok = λ i j p q e. omega arith };
+        };
+        started = subst (λ (v : List ℕ). Started n f g (turned n w) v) (sym turned-words)
+            (started n f g (turned n w) (turned n w₁) (turned n w₂) (turned n w₃) (asked-turned f g w k) (zeroed-turned 0 (b + b) w w₁ mv) (loaded-turned n odd lf)
+            (loaded-turned n odd lg));
+      }
+        where
+          place : (i : ℕ) → 0 + (b + i) ≡ b + i
+          place i = omega arith
 
   pub finished-held : (f g w₀ w v : List ℕ) (y : Places) → Asked n f g w₀ → HeldStarted n f g w₀ w
       → HeldLed n (length g) (length f) (record { a = 0; d = length f - 1; b = length g + length g + length g; e = length g - 1 }) w y v → y .d ≡ 0

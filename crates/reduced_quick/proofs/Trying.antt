@@ -2,6 +2,8 @@
 --
 --   Putting, putting-start, putting-step, putting-end    the loop that writes a cofactor
 --   certified-quick     multipliers of a unit, times its inverse, are cofactors of D = 1
+--   put-word, certified-held    the same on held words
+--   asked-at, tried-at  what is asked and promised modulo the n of a form
 --   tried-flip          f and g exchanged
 --   tried-true, tried-false, attempted-from    what each answer says
 --   quick-asked, quick-swapped    what the quick attempt asks, from what an attempt asks; f and g exchanged
@@ -11,7 +13,7 @@ use mathlib.Core.Logic.{⊎-elim}
 use mathlib.Core.Bool.{Bool, true, false}
 use Prim.Native.Nat.{ℕ, zero, suc, max, _+_, _-_, _*_, _%_, _≤_, _<_}
 use native.Mathlib.Omega.{arith}
-use native.Mathlib.Nat.{mod-lt, mul-zero, zero-mod, one-dvd, mul-le-mul}
+use native.Mathlib.Nat.{mod-lt, mul-zero, mul-comm, zero-mod, one-dvd, mul-le-mul}
 use lib.ListN.{length, getD, set, replicate, length-set, length-replicate}
 use lib.Seq.{getD-set-same, getD-set-other}
 use Rattle.definitions.specs.Residues.{K}
@@ -21,10 +23,14 @@ use Rattle.numbers.specs.Congruence.{Cong, c-refl, c-trans, c-eq, c-add, c-mul,
 use Rattle.numbers.specs.Logarithm.{K-positive}
 use Rattle.theory.specs.ReachedLaws.{reduced-from}
 use Rattle.theory.specs.ReachedSteps.{convolve-mod, convolve-scale-left, constant-scale}
-use Rattle.windows.specs.Window.{piece, Scratch}
+use Rattle.windows.specs.Window.{piece}
 use Rattle.windows.proofs.Leaf.{lt-or-le, piece-at, piece-over}
+use Rattle.montgomery.specs.Held.{plain, Fits, Fitting}
+use Rattle.held_windows.specs.Turned.{turned}
+use Rattle.held_windows.proofs.Turning.{turned-at, scaled-word}
 use Rattle.cofactor_euclid.specs.Rows.{Multipliers}
 use Rattle.cofactor_euclid.specs.declared.State.{State}
+use Rattle.cofactor_held.specs.HeldRows.{HeldMultipliers}
 use Rattle.residue.specs.declared.Attempt.{Attempt}
 use Rattle.reduced_cofactors.specs.Cofactors.{Certified}
 use Rattle.reduced_quotients.proofs.Divisions.{zeros-at}
@@ -107,38 +113,29 @@ combination-scaled n i c f g u v u' v' pos e hu hv x = record {
     ends zero = record { same = e }
     ends (suc k) = c-refl
 
-pub certified-quick : (n : ℕ) (f g u v w u' v' : List ℕ) (y : State) (w' : List ℕ) (i s : ℕ) → QuickAsked n f g u v w → length f ≤ length g
-    → Multipliers n f g y w' → i ≡ 1 → (s * getD w' (y .a) 0) % n ≡ i % n → Put n s (y .a + length g) (length g) w' u u'
-    → Put n s (y .a + (length g + length g)) (length g) w' v v' → Certified n (L n (length f - 1) (length g - 1)) f g u' v' 1
-certified-quick n f g u v w u' v' y w' i s k l mu is inverse pu pv = record {
+pub certified-quick : (n : ℕ) (f g u v w u' v' : List ℕ) (a : ℕ) (w' : List ℕ) (i s : ℕ) → QuickAsked n f g u v w → length f ≤ length g
+    → Combination n f g (piece w' (a + length g) (length g)) (piece w' (a + (length g + length g)) (length g)) (getD w' a 0) → i ≡ 1
+    → (s * getD w' a 0) % n ≡ i % n → Put n s (a + length g) (length g) w' u u' → Put n s (a + (length g + length g)) (length g) w' v v'
+    → Certified n (L n (length f - 1) (length g - 1)) f g u' v' 1
+certified-quick n f g u v w u' v' a w' i s k l mu is inverse pu pv = record {
   reduced = reduced-from n 1 f g pos (one-dvd n) (omega arith) pos (record { u = u'; v = v'; combination = both }) (λ c _. one-dvd c);
   combination = both;
   below-u = λ j. subst (λ (x : ℕ). x < n) (sym (pu .words j)) (mod-lt _ pos);
   below-v = λ j. subst (λ (x : ℕ). x < n) (sym (pv .words j)) (mod-lt _ pos);
-  short-u = λ j h. pu .words j ∙ above (y .a + length g) j h;
-  short-v = λ j h. pv .words j ∙ above (y .a + (length g + length g)) j h;
+  short-u = λ j h. pu .words j ∙ above (a + length g) j h;
+  short-v = λ j h. pv .words j ∙ above (a + (length g + length g)) j h;
 }
   where
     pos : 1 ≤ n
     pos = omega (arith, k .modulus)
 
     both : Combination n f g u' v' 1
-    both = combination-scaled n s (getD w' (y .a) 0) f g (piece w' (y .a + length g) (length g)) (piece w' (y .a + (length g + length g)) (length g))
-        u' v' pos (inverse ∙ ap (λ (x : ℕ). x % n) is) (pu .words) (pv .words) (mu .combination)
+    both = combination-scaled n s (getD w' a 0) f g (piece w' (a + length g) (length g)) (piece w' (a + (length g + length g)) (length g)) u' v' pos
+        (inverse ∙ ap (λ (x : ℕ). x % n) is) (pu .words) (pv .words) mu
 
     above : (at j : ℕ) → L n (length f - 1) (length g - 1) ≤ j → (s * coef (piece w' at (length g)) j) % n ≡ 0
     above at j h = ap (λ (x : ℕ). (s * x) % n) (piece-over w' at (length g) j (omega (arith, long n (length f) (length g) (k .modulus) (k .some-g) l)))
         ∙ ap (λ (x : ℕ). x % n) (mul-zero s) ∙ zero-mod n
-
--- the windows of the multipliers lie in the buffer
-pub inside-first : {n : ℕ} {f g : List ℕ} {y : State} {w : List ℕ} → Multipliers n f g y w → y .a + length g + length g ≤ length w
-inside-first m = omega (arith, m .inside)
-
-pub inside-second : {n : ℕ} {f g : List ℕ} {y : State} {w : List ℕ} → Multipliers n f g y w → y .a + (length g + length g) + length g ≤ length w
-inside-second m = omega (arith, m .inside)
-
-pub place-fits : {n x : ℕ} {f g : List ℕ} {y : State} {w w' : List ℕ} → Multipliers n f g y w' → Scratch w w' → length w < x → y .a + length g < x
-place-fits m s l = omega (arith, m .inside, s .same)
 
 pub long-enough : {n : ℕ} {f g u v w : List ℕ} {x : ℕ} → QuickAsked n f g u v w → length f ≤ length g → L n (length f - 1) (length g - 1) ≤ x
     → length g ≤ x
@@ -149,9 +146,36 @@ pub certified-at : (n N : ℕ) (f g u v w u' v' : List ℕ) (y : State) (w' : Li
     → Multipliers n f g y w' → i ≡ 1 → (s * getD w' (y .a) 0) % n ≡ i % n → Put N s (y .a + length g) (length g) w' u u'
     → Put N s (y .a + (length g + length g)) (length g) w' v v' → Certified n (L n (length f - 1) (length g - 1)) f g u' v' 1
 certified-at n N f g u v w u' v' y w' i s e k l mu is inverse pu pv =
-    certified-quick n f g u v w u' v' y w' i s k l mu is inverse
+    certified-quick n f g u v w u' v' (y .a) w' i s k l (mu .combination) is inverse
     (subst (λ (x : ℕ). Put x s (y .a + length g) (length g) w' u u') e pu)
     (subst (λ (x : ℕ). Put x s (y .a + (length g + length g)) (length g) w' v v') e pv)
+
+-- ---- held words
+
+-- a held word, times c, is c times what it stands for
+pub put-word : (n : ℕ) → n % 2 ≡ 1 → (c k x : ℕ) (w : List ℕ) → x ≡ plain n (c * getD w k 0) → x ≡ (c * getD (turned n w) k 0) % n
+put-word n odd c k x w e =
+    scaled-word n odd (getD w k 0) c x (e ∙ ap (plain n) (mul-comm c (getD w k 0)))
+    ∙ ap (λ (y : ℕ). y % n) (mul-comm (plain n (getD w k 0)) c ∙ ap (λ (y : ℕ). c * y) (sym (turned-at n odd w k)))
+
+-- the constant c is turned back
+pub certified-held : (n : ℕ) → n % 2 ≡ 1 → (f g u v w u' v' : List ℕ) (a : ℕ) (w' : List ℕ) (c i s : ℕ) → QuickAsked n f g u v w
+    → length f ≤ length g → HeldMultipliers n f g a w' → c ≡ plain n (getD w' a 0) → i ≡ 1 → (s * c) % n ≡ i % n
+    → Put n s (a + length g) (length g) (turned n w') u u' → Put n s (a + (length g + length g)) (length g) (turned n w') v v'
+    → Certified n (L n (length f - 1) (length g - 1)) f g u' v' 1
+certified-held n odd f g u v w u' v' a w' c i s k l mu e is inverse pu pv =
+    certified-quick n f g u v w u' v' a (turned n w') i s k l (mu .combination) is
+    (ap (λ (x : ℕ). (s * x) % n) (turned-at n odd w' a ∙ sym e) ∙ inverse) pu pv
+
+pub fitting-true : (n : ℕ) (r : Bool) → r ≡ true → Fitting n r → Fits n
+fitting-true n r e t = subst (λ (x : Bool). Fitting n x) e t
+
+-- what is asked and promised modulo the form's n
+pub asked-at : {n N : ℕ} {f g u v w : List ℕ} → N ≡ n → QuickAsked n f g u v w → QuickAsked N f g u v w
+asked-at {n} {N} {f} {g} {u} {v} {w} e k = subst (λ (x : ℕ). QuickAsked x f g u v w) (sym e) k
+
+pub tried-at : (n N : ℕ) (f g u v u' v' : List ℕ) (r : Bool) → N ≡ n → Tried N f g u v u' v' r → Tried n f g u v u' v' r
+tried-at n N f g u v u' v' r e t = subst (λ (x : ℕ). Tried x f g u v u' v' r) e t
 
 -- ---- f and g exchanged
 
