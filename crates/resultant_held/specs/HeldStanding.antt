@@ -11,6 +11,7 @@
 use mathlib.Core.Path.{_≡_}
 use mathlib.Core.List.{List}
 use Prim.Native.Nat.{ℕ, _+_, _<_}
+use lib.ListN.{length}
 use Rattle.montgomery.specs.Held.{plain}
 use Rattle.held_windows.specs.Turned.{turned}
 use Rattle.resultant_pseudo.specs.Standing.{Placed, PlacedState, Led, Descended, Answers}
@@ -43,8 +44,10 @@ HeldStepped n x w y v = (HeldLedTo n x w y v) × (y .d + y .e < x .d + x .e)
 abbrev pub HeldFinished : ℕ → State → List ℕ → State → List ℕ → Type 0
 HeldFinished n x w y v = (HeldLedTo n x w y v) × (y .d ≡ 0)
 
-abbrev pub HeldDescended : ℕ → ℕ → ℕ → ℕ → ℕ → List ℕ → State → List ℕ → Type 0
-HeldDescended n a d b e w y v = Descended n a d b e (turned n w) (turned-state n y) (turned n v)
+pub record HeldDescended (n a d b e : ℕ) (w : List ℕ) (y : State) (v : List ℕ) : Type 0 where
+  pub same : length v ≡ length w
+  pub inside : y .a < length v
+  pub back : Descended n a d b e (turned n w) (turned-state n y) (turned n v)
 
 abbrev pub HeldAnswers : ℕ → State → List ℕ → Tried → Type 0
 HeldAnswers n y w r = Answers n (turned-state n y) (turned n w) r
