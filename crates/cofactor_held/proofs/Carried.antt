@@ -38,7 +38,8 @@ turn-cong n l c l' c' i w p r k e q =
 pub pair-cong : (n l c m c' m' : ℕ) (w : List ℕ) (p r k : ℕ) → Cong n c c' → Cong n m m' → paired n l c m w p r k ≡ paired n l c' m' w p r k
 unfolding combination
 pair-cong n l c m c' m' w p r k e q =
-    c-add (c-add (c-refl {a = l * getD w (r + k) 0}) (c-mul e (c-refl {a = behind (λ (j : ℕ). getD w (p + j) 0) k}))) (c-mul q (c-refl {a = getD w (p + k) 0})) .same
+    c-add (c-add (c-refl {a = l * getD w (r + k) 0}) (c-mul e (c-refl {a = behind (λ (j : ℕ). getD w (p + j) 0) k}))) (c-mul q
+    (c-refl {a = getD w (p + k) 0})) .same
 
 module _ (n : ℕ) (odd : n % 2 ≡ 1) where
   -- l x + c y
@@ -57,7 +58,8 @@ module _ (n : ℕ) (odd : n % 2 ≡ 1) where
     where
       higher : plain n (risen i (λ (j : ℕ). getD w (p + j) 0) k) ≡ risen i (λ (j : ℕ). getD (turned n w) (p + j) 0) k
       higher =
-          ⊎-elim (λ b. ap (plain n) (risen-low i (λ (j : ℕ). getD w (p + j) 0) k b) ∙ plain-none n odd ∙ sym (risen-low i (λ (j : ℕ). getD (turned n w) (p + j) 0) k b))
+          ⊎-elim (λ b. ap (plain n) (risen-low i (λ (j : ℕ). getD w (p + j) 0) k b) ∙ plain-none n odd ∙ sym
+          (risen-low i (λ (j : ℕ). getD (turned n w) (p + j) 0) k b))
           (λ b. ap (plain n) (risen-at i (λ (j : ℕ). getD w (p + j) 0) k (k - i) (omega arith)) ∙ sym (turned-at n odd w (p + (k - i)))
           ∙ sym (risen-at i (λ (j : ℕ). getD (turned n w) (p + j) 0) k (k - i) (omega arith))) (lt-or-le k i)
 
@@ -65,7 +67,8 @@ module _ (n : ℕ) (odd : n % 2 ≡ 1) where
   unfolding combination
   pair-carried l c m w p r k =
       plain-three n odd l (getD w (r + k) 0) c (behind (λ (j : ℕ). getD w (p + j) 0) k) m (getD w (p + k) 0)
-      ∙ ap₂ (λ (x y : ℕ). (x + m * y) % n) (ap₂ (λ (x y : ℕ). l * x + c * y) (sym (turned-at n odd w (r + k))) (before k)) (sym (turned-at n odd w (p + k)))
+      ∙ ap₂ (λ (x y : ℕ). (x + m * y) % n) (ap₂ (λ (x y : ℕ). l * x + c * y) (sym (turned-at n odd w (r + k))) (before k)) (sym
+      (turned-at n odd w (p + k)))
     where
       before : (k : ℕ) → plain n (behind (λ (j : ℕ). getD w (p + j) 0) k) ≡ behind (λ (j : ℕ). getD (turned n w) (p + j) 0) k
       before zero = plain-none n odd
@@ -113,7 +116,8 @@ rows-swapped k = record {
 pub below-after : {F : ℕ → ℕ} {n a m r l : ℕ} {w w' : List ℕ} → Below n a m w → Written F r l w w' → ((k : ℕ) → F k < n) → Below n a m w'
 below-after {F} {n} {a} {m} {r} {l} {w} {w'} be wr small = record {
   at = λ j g. ⊎-elim (λ u. kept j g (wr .low (a + j) u))
-      (λ u. ⊎-elim (λ v. new (a + j) (a + j - r) (omega arith) (omega arith)) (λ v. kept j g (wr .high (a + j) v)) (lt-or-le (a + j) (r + l))) (lt-or-le (a + j) r);
+      (λ u. ⊎-elim (λ v. new (a + j) (a + j - r) (omega arith) (omega arith)) (λ v. kept j g (wr .high (a + j) v)) (lt-or-le (a + j)
+      (r + l))) (lt-or-le (a + j) r);
 }
   where
     kept : (j : ℕ) → j < m → getD w' (a + j) 0 ≡ getD w (a + j) 0 → getD w' (a + j) 0 < n
@@ -122,7 +126,8 @@ below-after {F} {n} {a} {m} {r} {l} {w} {w'} be wr small = record {
     new : (i k : ℕ) → i ≡ r + k → k < l → getD w' i 0 < n
     new i k q g = subst (λ (x : ℕ). x < n) (sym (ap (λ (x : ℕ). getD w' x 0) q ∙ wr .mid k g)) (small k)
 
-pub rows-after : {F : ℕ → ℕ} {n h a b r l : ℕ} {w w' : List ℕ} (y : ℕ) → HeldRows n h a b w → Written F r l w w' → ((k : ℕ) → F k < n) → r ≡ b + y
+pub rows-after : {F : ℕ → ℕ} {n h a b r l : ℕ} {w w' : List ℕ} (y : ℕ) → HeldRows n h a b w → Written F r l w w' → ((k : ℕ) → F k < n)
+    → r ≡ b + y
     → y + l ≤ h + h + h → HeldRows n h a b w'
 rows-after {F} {n} {h} {a} {b} {r} {l} {w} {w'} y k wr small e le = record {
   inside-a = asked .inside-a;
@@ -170,16 +175,21 @@ turn-after n l c i least src r w y k wr e le = rows-after y k wr (λ j. turn-sma
 
 -- what the word loop asks after the scaling
 pub scaled-held : (n l src dst i len : ℕ) (w w₁ : List ℕ)
-    → ((src + len ≤ length w) × (dst + (i + len) ≤ length w)) × ((Apart src len dst (i + len)) × ((Below n src len w) × (Below n dst (i + len) w)))
+    → ((src + len ≤ length w) × (dst + (i + len) ≤ length w)) × ((Apart src len dst (i + len)) ×
+    ((Below n src len w) × (Below n dst (i + len) w)))
     → Moved (mulBy n l) dst dst i w w₁
-    → ((src + len ≤ length w₁) × (dst + i + len ≤ length w₁)) × ((Apart src len (dst + i) len) × ((Below n src len w₁) × (Below n (dst + i) len w₁)))
+    → ((src + len ≤ length w₁) × (dst + i + len ≤ length w₁)) × ((Apart src len (dst + i) len) ×
+    ((Below n src len w₁) × (Below n (dst + i) len w₁)))
 scaled-held n l src dst i len w w₁ k mv = (
   asked .0,
   (
     asked .1 .0,
     (
       asked .1 .1,
-      record { at = λ j g. subst (λ (v : ℕ). v < n) (sym (mv .high (dst + i + j) (omega arith) ∙ ap (λ (v : ℕ). getD w v 0) (place j))) (k .1 .1 .1 .at (i + j) (omega arith)) },
+      record {
+        at = λ j g. subst (λ (v : ℕ). v < n) (sym (mv .high (dst + i + j) (omega arith) ∙ ap (λ (v : ℕ). getD w v 0) (place j)))
+            (k .1 .1 .1 .at (i + j) (omega arith));
+      },
     ),
   ),
 )
@@ -191,7 +201,8 @@ scaled-held n l src dst i len w w₁ k mv = (
     place j = omega arith
 
 -- 0 is held as 0
-pub turn-written : (n : ℕ) → n % 2 ≡ 1 → (l c src dst i len : ℕ) (w w₁ w' : List ℕ) → Apart src len dst (i + len) → Moved (mulBy n l) dst dst i w w₁
+pub turn-written : (n : ℕ) → n % 2 ≡ 1 → (l c src dst i len : ℕ) (w w₁ w' : List ℕ) → Apart src len dst (i + len) → Moved
+    (mulBy n l) dst dst i w w₁
     → Written (combination n l (plain n 0) c src (dst + i) w₁) (dst + i) len w₁ w' → Written (turn n l c i w src dst) dst (i + len) w w'
 turn-written n odd l c src dst i len w w₁ w' free mv wr =
     turned-written n l c src dst i len w w₁ w' free mv

@@ -43,14 +43,17 @@ module _ (n : ℕ) (odd : n % 2 ≡ 1) where
       ext-getD 0 (turned n (set w i x)) (set (turned n w) i (plain n x))
       (turned-length n (set w i x) ∙ length-set w i x ∙ sym (turned-length n w) ∙ sym (length-set (turned n w) i (plain n x)))
       (λ k l. turned-at n odd (set w i x) k
-      ∙ ⊎-elim (λ p. other k (λ e. omega arith)) (λ p. ⊎-elim (λ q. other k (λ e. omega arith)) (λ q. same k (omega arith)) (lt-or-le i k)) (lt-or-le k i))
+      ∙ ⊎-elim (λ p. other k (λ e. omega arith)) (λ p. ⊎-elim (λ q. other k (λ e. omega arith)) (λ q. same k (omega arith)) (lt-or-le i k))
+      (lt-or-le k i))
     where
       other : (k : ℕ) → (k ≡ i → ⊥) → plain n (getD (set w i x) k 0) ≡ getD (set (turned n w) i (plain n x)) k 0
-      other k d = ap (plain n) (getD-set-other w i k x 0 (λ e. d e)) ∙ sym (turned-at n odd w k) ∙ sym (getD-set-other (turned n w) i k (plain n x) 0 (λ e. d e))
+      other k d = ap (plain n) (getD-set-other w i k x 0 (λ e. d e)) ∙ sym (turned-at n odd w k) ∙ sym
+          (getD-set-other (turned n w) i k (plain n x) 0 (λ e. d e))
 
       same : (k : ℕ) → k ≡ i → plain n (getD (set w i x) k 0) ≡ getD (set (turned n w) i (plain n x)) k 0
       same k e = ap (λ (v : ℕ). plain n (getD (set w i x) v 0)) e ∙ ap (plain n) (getD-set-same w i x 0 inside)
-          ∙ sym (getD-set-same (turned n w) i (plain n x) 0 (omega (arith, turned-length n w))) ∙ ap (λ (v : ℕ). getD (set (turned n w) i (plain n x)) v 0) (sym e)
+          ∙ sym (getD-set-same (turned n w) i (plain n x) 0 (omega (arith, turned-length n w))) ∙ ap
+          (λ (v : ℕ). getD (set (turned n w) i (plain n x)) v 0) (sym e)
 
   pub zeroed-turned : (a l : ℕ) (w w' : List ℕ) → Moved zeroed a a l w w' → Moved zeroed a a l (turned n w) (turned n w')
   zeroed-turned a l w w' mv = record {
@@ -95,7 +98,8 @@ module _ (n : ℕ) (odd : n % 2 ≡ 1) where
 
       residues : Below n 0 (b + b) w'
       residues =
-          below-set {i = b + (h + h)} (below-set {i = h} (below-after (below-after cleared lf (λ i. held-below n odd (getD f i 0))) lg (λ i. held-below n odd (getD g i 0)))
+          below-set {i = b + (h + h)} (below-set {i = h} (below-after (below-after cleared lf (λ i. held-below n odd (getD f i 0))) lg
+          (λ i. held-below n odd (getD g i 0)))
           small first-place) small (second-place r)
         where
           small : r < n
@@ -110,7 +114,8 @@ module _ (n : ℕ) (odd : n % 2 ≡ 1) where
       turned-words : turned n w' ≡ set (set (turned n w₃) h 1) (b + (h + h)) 1
       turned-words =
           turned-set (set w₃ h r) (b + (h + h)) r (second-place r)
-          ∙ ap₂ (λ (v : List ℕ) (x : ℕ). set v (b + (h + h)) x) (turned-set w₃ h r first-place ∙ ap (λ (x : ℕ). set (turned n w₃) h x) one) one
+          ∙ ap₂ (λ (v : List ℕ) (x : ℕ). set v (b + (h + h)) x) (turned-set w₃ h r first-place ∙ ap
+          (λ (x : ℕ). set (turned n w₃) h x) one) one
 
       pub started-held : HeldStarted n f g w w'
       started-held = record {
@@ -122,7 +127,8 @@ module _ (n : ℕ) (odd : n % 2 ≡ 1) where
           apart = record { ok = λ i j p q e. omega arith };
         };
         started = subst (λ (v : List ℕ). Started n f g (turned n w) v) (sym turned-words)
-            (started n f g (turned n w) (turned n w₁) (turned n w₂) (turned n w₃) (asked-turned f g w k) (zeroed-turned 0 (b + b) w w₁ mv) (loaded-turned n odd lf)
+            (started n f g (turned n w) (turned n w₁) (turned n w₂) (turned n w₃) (asked-turned f g w k) (zeroed-turned 0 (b + b) w w₁ mv)
+            (loaded-turned n odd lf)
             (loaded-turned n odd lg));
       }
         where
@@ -130,12 +136,14 @@ module _ (n : ℕ) (odd : n % 2 ≡ 1) where
           place i = omega arith
 
   pub finished-held : (f g w₀ w v : List ℕ) (y : Places) → Asked n f g w₀ → HeldStarted n f g w₀ w
-      → HeldLed n (length g) (length f) (record { a = 0; d = length f - 1; b = length g + length g + length g; e = length g - 1 }) w y v → y .d ≡ 0
+      → HeldLed n (length g) (length f) (record { a = 0; d = length f - 1; b = length g + length g + length g; e = length g - 1 }) w y v
+      → y .d ≡ 0
       → HeldMultipliers n f g (y .a) v
   finished-held f g w₀ w v y k st l z = record { inside = l .rows .inside-a; combination = all .combination }
     where
       -- of the resultant nothing is known: 0 = 0
-      led : Led n (length g) (length f) 0 (length f - 1) (length g + length g + length g) (length g - 1) 1 1 1 (turned n w) (y .a) (y .d) (y .b) (y .e) 0 0 0
+      led : Led n (length g) (length f) 0 (length f - 1) (length g + length g + length g) (length g - 1) 1 1 1 (turned n w) (y .a) (y .d)
+          (y .b) (y .e) 0 0 0
           (turned n v)
       led = record {
         placed = l .led .placed;

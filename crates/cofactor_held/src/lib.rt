@@ -158,12 +158,7 @@ fn turn_step(w: &mut [u32], form: Form, h: usize, z: usize, x: Places) -> Places
     let l = w[a + d];
     let c = w[b + e];
     turn_rows(w, form, l, n - c, a, b, h, e - d, d);
-    Places {
-        a,
-        d,
-        b,
-        e: e - 1,
-    }
+    Places { a, d, b, e: e - 1 }
 }
 
 // A zero leading word is dropped; any other is divided by, whether it is a unit or not. 0 is held as 0.

@@ -43,7 +43,8 @@ fn over(w: &mut [u32], c: u32, len: usize)
     windows::divide_words(w, c, 0, len);
 }
 
-// The words of g over c, and then those of f, times a unit, each followed by zeros up to as many as the longer one has. Answers that number.
+// The words of g over c, and then those of f, times a unit, each followed by zeros up to as many as the longer one has. Answers how
+// many.
 fn arrange(w: &mut [u32], n: u32, c: u32, f: &[u32], g: &[u32]) -> usize
     requires { ⌜ ArrangeAsked n c (now f) (now g) (now w) ⌝ }
     ensures { λ r. ⌜ Padded n c r (now (f .entry)) (now (g .entry)) (now (w .entry)) (now (w .exit)) ⌝ }

@@ -12,7 +12,8 @@ use mathlib.Core.List.{List, map}
 use mathlib.Core.Logic.{⊎-elim}
 use Prim.Native.Nat.{ℕ, _+_, _*_, _/_, _%_, _^_, _≤_, _<_, _∣_}
 use native.Mathlib.Omega.{arith}
-use native.Mathlib.Nat.{mod-eq-of-lt, zero-mod, zero-add, mul-zero, mul-one, one-mul, mul-comm, mul-assoc, dvd-mod-iff, dvd-mul-left, dvd-mul-left-of-dvd, mul-div-cancel'}
+use native.Mathlib.Nat.{mod-eq-of-lt, zero-mod, zero-add, mul-zero, mul-one, one-mul, mul-comm, mul-assoc, dvd-mod-iff, dvd-mul-left}
+use native.Mathlib.Nat.{dvd-mul-left-of-dvd, mul-div-cancel'}
 use lib.ListN.{length, getD, List·getD-map}
 use Rattle.definitions.specs.Residues.{IsUnit, IsNilpotent}
 use Rattle.definitions.specs.Polynomials.{coef, convolve}
@@ -45,9 +46,11 @@ scaled-times n r f = record { at = λ k. ap (λ (x : ℕ). x % n) (scaled-at r f
 back : (n r : ℕ) (u : IsUnit n r) (f f′ : List ℕ) → Times n r f′ f → (k : ℕ) → coef f k % n ≡ (u .inverse * coef f′ k) % n
 back n r u f f′ t k =
     c-sym (c-trans (c-mul (c-refl {a = u .inverse}) (record { same = t .at k }))
-    (c-trans (c-eq (sym (mul-assoc (u .inverse) r (coef f k)))) (c-trans (c-mul (inverse-times u) (c-refl {a = coef f k})) (c-eq (one-mul (coef f k)))))) .same
+    (c-trans (c-eq (sym (mul-assoc (u .inverse) r (coef f k)))) (c-trans (c-mul (inverse-times u) (c-refl {a = coef f k}))
+    (c-eq (one-mul (coef f k)))))) .same
 
-pub reduced-unscaled : (n r D : ℕ) → 1 ≤ n → IsUnit n r → (f f′ g g′ : List ℕ) → Times n r f′ f → Times n r g′ g → Reduced n f′ g′ D → Reduced n f g D
+pub reduced-unscaled : (n r D : ℕ) → 1 ≤ n → IsUnit n r → (f f′ g g′ : List ℕ) → Times n r f′ f → Times n r g′ g → Reduced n f′ g′ D
+    → Reduced n f g D
 reduced-unscaled n r D pos u f f′ g g′ tf tg x =
     reduced-scaled n (u .inverse) r pos f f′ g D one (back n r u f f′ tf)
     (reduced-flip n pos g f′ D (reduced-scaled n (u .inverse) r pos g g′ f′ D one (back n r u g g′ tg) (reduced-flip n pos f′ g′ D x)))
@@ -55,14 +58,21 @@ reduced-unscaled n r D pos u f f′ g g′ tf tg x =
     one : (r * u .inverse) % n ≡ 1 % n
     one = c-trans (c-eq (mul-comm r (u .inverse))) (inverse-times u) .same
 
-pub combination-unscaled : (n r D : ℕ) → 1 ≤ n → (f f′ g g′ u v u′ v′ : List ℕ) → Times n r f′ f → Times n r g′ g → ((k : ℕ) → coef u′ k ≡ (r * coef u k) % n)
+pub combination-unscaled : (n r D : ℕ) → 1 ≤ n → (f f′ g g′ u v u′ v′ : List ℕ) → Times n r f′ f → Times n r g′ g → ((k : ℕ)
+    → coef u′ k ≡ (r * coef u k) % n)
     → ((k : ℕ) → coef v′ k ≡ (r * coef v k) % n) → Combination n f′ g′ u v D → Combination n f g u′ v′ D
-combination-unscaled n r D pos f f′ g g′ u v u′ v′ tf tg hu hv x = record { sum = λ k. c-add (part f f′ u u′ tf hu k) (part g g′ v v′ tg hv k) .same ∙ x .sum k }
+combination-unscaled n r D pos f f′ g g′ u v u′ v′ tf tg hu hv x = record {
+  sum = λ k. c-add (part f f′ u u′ tf hu k)
+      (part g g′ v v′ tg hv k) .same ∙ x .sum k;
+}
   where
     part : (f f′ u u′ : List ℕ) → Times n r f′ f → ((k : ℕ) → coef u′ k ≡ (r * coef u k) % n) → (k : ℕ)
         → Cong n (convolve (coef u′) (coef f) k) (convolve (coef u) (coef f′) k)
     part f f′ u u′ t h k =
-        c-trans (record { same = convolve-mod n pos (coef u′) (λ i. r * coef u i) (coef f) (coef f) (λ i. c-trans (c-eq (h i)) (c-mod (r * coef u i)) .same) (λ i. refl) k })
+        c-trans (record {
+          same = convolve-mod n pos (coef u′) (λ i. r * coef u i) (coef f) (coef f) (λ i. c-trans (c-eq (h i))
+              (c-mod (r * coef u i)) .same) (λ i. refl) k;
+        })
         (c-trans (c-eq (convolve-scale-left r (coef u) (coef f) k ∙ sym (convolve-scale r (coef u) (coef f) k)))
         (c-sym (record { same = convolve-mod n pos (coef u) (coef u) (coef f′) (λ i. r * coef f i) (λ i. refl) (t .at) k })))
 
@@ -71,25 +81,31 @@ combination-unscaled n r D pos f f′ g g′ u v u′ v′ tf tg hu hv x = recor
 pub divides-scaled : (n c r x : ℕ) → c ∣ n → c ∣ x % n → c ∣ (r * x) % n
 divides-scaled n c r x d h = dvd-mod-iff c {m = r * x} {n = n} d .1 (dvd-mul-left-of-dvd c (dvd-mod-iff c {m = x} {n = n} d .0 h) r)
 
-pub nilpotent-unscaled : (n c m r x : ℕ) → n ≡ c * m → 1 ≤ c → 1 ≤ m → IsUnit n r → c ∣ n → c ∣ x % n → (x % n) / c < m → IsNilpotent m (((r * x) % n) / c)
+pub nilpotent-unscaled : (n c m r x : ℕ) → n ≡ c * m → 1 ≤ c → 1 ≤ m → IsUnit n r → c ∣ n → c ∣ x % n → (x % n) / c < m → IsNilpotent m
+    (((r * x) % n) / c)
     → IsNilpotent m ((x % n) / c)
 nilpotent-unscaled n c m r x whole c-pos m-pos u d h small nil =
-    radical-nilpotent m-pos (subst (InRadical m) (word .same ∙ mod-eq-of-lt small) (radical-mod (radical-mul (u .inverse) (nilpotent-radical nil))))
+    radical-nilpotent m-pos (subst (InRadical m) (word .same ∙ mod-eq-of-lt small) (radical-mod
+    (radical-mul (u .inverse) (nilpotent-radical nil))))
   where
     over : Cong n (c * (((r * x) % n) / c)) (c * (r * ((x % n) / c)))
     over =
         c-trans (c-eq (mul-div-cancel' c (divides-scaled n c r x d h)))
-        (c-trans (c-mod (r * x)) (c-trans (c-mul (c-refl {a = r}) (c-trans (c-sym (c-mod x)) (c-eq (sym (mul-div-cancel' c h))))) (c-eq (swap ((x % n) / c)))))
+        (c-trans (c-mod (r * x)) (c-trans (c-mul (c-refl {a = r}) (c-trans (c-sym (c-mod x)) (c-eq (sym (mul-div-cancel' c h))))) (c-eq
+        (swap ((x % n) / c)))))
       where
         swap : (v : ℕ) → r * (c * v) ≡ c * (r * v)
         swap v = simp ring
 
     word : Cong m (u .inverse * (((r * x) % n) / c)) ((x % n) / c)
     word =
-        c-trans (c-mul (c-refl {a = u .inverse}) (record { same = drop-mod c m (((r * x) % n) / c) (r * ((x % n) / c)) c-pos m-pos
-            (subst (λ (v : ℕ). (c * (((r * x) % n) / c)) % v ≡ (c * (r * ((x % n) / c))) % v) whole (over .same)) }))
+        c-trans (c-mul (c-refl {a = u .inverse}) (record {
+          same = drop-mod c m (((r * x) % n) / c) (r * ((x % n) / c)) c-pos m-pos
+              (subst (λ (v : ℕ). (c * (((r * x) % n) / c)) % v ≡ (c * (r * ((x % n) / c))) % v) whole (over .same));
+        }))
         (c-trans (c-eq (sym (mul-assoc (u .inverse) r ((x % n) / c))))
-        (c-trans (c-mul (c-dvd (subst (λ (v : ℕ). m ∣ v) (sym whole) (dvd-mul-left m c)) (inverse-times u)) (c-refl {a = (x % n) / c})) (c-eq (one-mul ((x % n) / c)))))
+        (c-trans (c-mul (c-dvd (subst (λ (v : ℕ). m ∣ v) (sym whole) (dvd-mul-left m c)) (inverse-times u)) (c-refl {a = (x % n) / c}))
+        (c-eq (one-mul ((x % n) / c)))))
 
 -- ---- words loaded
 
@@ -105,7 +121,8 @@ unit-held n pos odd r e = subst (IsUnit n) (sym e) (unit-of ((n / 2 + 1) ^ 32) p
 held-word : (n : ℕ) → n % 2 ≡ 1 → (r x : ℕ) → r ≡ held n 1 → held n x ≡ (r * x) % n
 held-word n odd r x e =
     sym (mod-eq-of-lt (held-below n odd x))
-    ∙ c-trans (held-cong n odd x) (c-trans (c-eq (swap 4294967296)) (c-mul (c-trans (c-sym (held-cong n odd 1)) (c-eq (sym e))) (c-refl {a = x}))) .same
+    ∙ c-trans (held-cong n odd x) (c-trans (c-eq (swap 4294967296)) (c-mul (c-trans (c-sym (held-cong n odd 1)) (c-eq (sym e)))
+    (c-refl {a = x}))) .same
   where
     swap : (v : ℕ) → x * v ≡ 1 * v * x
     swap v = mul-comm x v ∙ ap (λ (s : ℕ). s * x) (sym (one-mul v))
@@ -128,14 +145,17 @@ pair-loaded n r j f g F G {w} {w₁} {w₂} u le wf wg hf hg = record {
 }
 
 pub pair-held : (n N r j : ℕ) (f g : List ℕ) {w w₁ w₂ : List ℕ} → N ≡ n → 1 ≤ N → N % 2 ≡ 1 → r ≡ held N 1 → length f ≤ j
-    → Written (λ (k : ℕ). held N (getD f k 0)) 0 (length f) w w₁ → Written (λ (k : ℕ). held N (getD g k 0)) j (length g) w₁ w₂ → PairLoaded n r j f g w w₂
+    → Written (λ (k : ℕ). held N (getD f k 0)) 0 (length f) w w₁ → Written (λ (k : ℕ). held N (getD g k 0)) j (length g) w₁ w₂
+    → PairLoaded n r j f g w w₂
 pair-held n N r j f g {w} {w₁} {w₂} e pos odd is le wf wg =
     subst (λ (x : ℕ). PairLoaded x r j f g w w₂) e (pair-loaded N r j f g _ _ (unit-held N pos odd r is) le wf wg
     (λ k. held-word N odd r (getD f k 0) is) (λ k. held-word N odd r (getD g k 0) is))
 
-pub pair-plain : (n j : ℕ) (f g : List ℕ) {w w₁ w₂ : List ℕ} → 1 ≤ n → length f ≤ j → Loaded n 0 f w w₁ → Loaded n j g w₁ w₂ → PairLoaded n 1 j f g w w₂
+pub pair-plain : (n j : ℕ) (f g : List ℕ) {w w₁ w₂ : List ℕ} → 1 ≤ n → length f ≤ j → Loaded n 0 f w w₁ → Loaded n j g w₁ w₂
+    → PairLoaded n 1 j f g w w₂
 pair-plain n j f g pos le lf lg =
-    pair-loaded n 1 j f g _ _ (unit-one n pos) le (loaded-written lf) (loaded-written lg) (λ k. plain-word n (getD f k 0)) (λ k. plain-word n (getD g k 0))
+    pair-loaded n 1 j f g _ _ (unit-one n pos) le (loaded-written lf) (loaded-written lg) (λ k. plain-word n (getD f k 0))
+    (λ k. plain-word n (getD g k 0))
 
 -- ---- words that leave
 
@@ -143,7 +163,8 @@ pub left-scaled : (n r : ℕ) (x x' : List ℕ) → Moved (mulBy n r) 0 0 (lengt
 left-scaled n r x x' mv = record {
   same = mv .same;
   at = λ k. ⊎-elim (λ h. ap (λ (v : ℕ). getD x' v 0) (sym (zero-add k)) ∙ mv .mid k h ∙ ap (λ (v : ℕ). (r * getD x v 0) % n) (zero-add k))
-      (λ h. coef-beyond x' k (omega (arith, mv .same)) ∙ sym (ap (λ (v : ℕ). (r * v) % n) (coef-beyond x k h) ∙ ap (λ (v : ℕ). v % n) (mul-zero r) ∙ zero-mod n))
+      (λ h. coef-beyond x' k (omega (arith, mv .same)) ∙ sym (ap (λ (v : ℕ). (r * v) % n) (coef-beyond x k h) ∙ ap (λ (v : ℕ). v % n)
+      (mul-zero r) ∙ zero-mod n))
       (lt-or-le k (length x));
 }
 

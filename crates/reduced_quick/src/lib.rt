@@ -69,10 +69,18 @@ fn ordered_plain(u: &mut [u32], v: &mut [u32], w: &mut [u32], n: u32, f: &[u32],
 
 // The same with Euclid on held words. The constant is turned back, so its inverse times a held word is the inverse times the word, and held
 // no more.
-fn ordered_held(u: &mut [u32], v: &mut [u32], w: &mut [u32], form: Form, f: &[u32], g: &[u32]) -> bool
+fn ordered_held(
+    u: &mut [u32],
+    v: &mut [u32],
+    w: &mut [u32],
+    form: Form,
+    f: &[u32],
+    g: &[u32],
+) -> bool
     requires { ⌜ Formed form ⌝ }
     requires { ⌜ (QuickAsked (form .n) (now f) (now g) (now u) (now v) (now w)) × (length (now f) ≤ length (now g)) ⌝ }
-    ensures { λ r. ⌜ Tried (form .n) (now (f .entry)) (now (g .entry)) (now (u .entry)) (now (v .entry)) (now (u .exit)) (now (v .exit)) r ⌝ }
+    ensures { λ r. ⌜ Tried (form .n) (now (f .entry)) (now (g .entry)) (now (u .entry)) (now (v .entry)) (now (u .exit))
+        (now (v .exit)) r ⌝ }
     ensures { λ _. ⌜ Scratch (now (w .entry)) (now (w .exit)) ⌝ }
 {
     let a = cofactor_held::multipliers(w, form, f, g);
