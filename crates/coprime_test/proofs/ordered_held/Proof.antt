@@ -1,8 +1,6 @@
-use mathlib.Core.Path.{refl, sym, subst, _∙_}
+use mathlib.Core.Path.{refl, subst, _∙_}
 use Prim.Native.Nat.{ℕ}
 use lib.Dec.{eqb}
-use lib.ListN.{getD}
-use Rattle.numbers.specs.Divisors.{IsGcd}
 use Rattle.coprime_test.specs.Shown.{Shown}
 use Rattle.coprime_test.proofs.Descents.{held-placed, held-shown}
 use borrow.Author.Needs.{needs}
@@ -22,7 +20,7 @@ returns c = let s = c .before .before .before .before .before .before .before .b
     let f = s .args .f .now in
     let g = s .args .g .now in (
       subst (λ (x : ℕ). Shown x f g (eqb (c .gcd .result) 1)) (m .ensures .0) (held-shown (m .result .n) f g (s .args .w .now) (c .before .before .before .before .before .before .before .before .before .before .before .before .load .last .0) (c .before .before .before .before .before .before .before .before .load2 .last .0) (m .ensures .1 .fits) (s .pre .1 .0) (s .pre .1 .1)
-      (c .before .before .before .before .before .before .before .before .before .before .before .before .load .ensures) (c .before .before .before .before .before .before .before .before .load2 .ensures) (d .last .0) (d .result .a) (c .gcd .result) (eqb (c .gcd .result) 1) (subst (λ (x : ℕ). IsGcd x (getD (d .last .0) (d .result .a) 0) (c .gcd .result)) (sym (m .ensures .0)) (c .gcd .ensures)) refl (d .ensures .back .reached)),
+      (c .before .before .before .before .before .before .before .before .before .before .before .before .load .ensures) (c .before .before .before .before .before .before .before .before .load2 .ensures) (d .last .0) (d .result .a) (c .gcd .result) (eqb (c .gcd .result) 1) (c .gcd .ensures) refl (d .ensures .back .reached)),
       record { same = d .ensures .same ∙ c .before .before .before .before .before .before .before .before .load2 .ensures .same ∙ c .before .before .before .before .before .before .before .before .before .before .before .before .load .ensures .same },
     )
 
