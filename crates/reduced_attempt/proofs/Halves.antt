@@ -70,6 +70,7 @@ pub arranged-of : (n c r : ℕ) (f g w w₂ w₃ : List ℕ) → length f + leng
     → Moved (quotient-by c) 0 0 (length f + length g) w₂ w₃ → Arranged n c r g f w w₃
 arranged-of n c r f g w w₂ w₃ fits ld mv = record {
   unit = ld .unit;
+  form = ld .form;
   same = mv .same ∙ ld .same;
   first = λ k h. word (length f + k) (omega arith) ∙ ap (λ (x : ℕ). x / c) (ld .second k h);
   second = λ k h. word k (omega arith) ∙ ap (λ (x : ℕ). x / c) (ld .first k h);
@@ -195,11 +196,11 @@ module _ (n c : ℕ) (a b : List ℕ) (two : 2 ≤ n) (cm : CommonContent n a b 
       pub product-most : c * D ≤ n
       product-most = subst (λ (z : ℕ). c * D ≤ z) (sym common-whole) (mul-le-mul-left c (ce .reduced .most))
 
-      pub leave-first : LeaveAsked n x
-      leave-first = record { modulus = omega arith; below = λ k. omega (arith, ce .below-u k, common-most) }
+      pub leave-first : LeaveAsked n r x
+      leave-first = record { form = ar .form; below = λ k. omega (arith, ce .below-u k, common-most) }
 
-      pub leave-second : LeaveAsked n y
-      leave-second = record { modulus = omega arith; below = λ k. omega (arith, ce .below-v k, common-most) }
+      pub leave-second : LeaveAsked n r y
+      leave-second = record { form = ar .form; below = λ k. omega (arith, ce .below-v k, common-most) }
 
       pub half-certified : (x′ y′ : List ℕ) → Left n r x x′ → Left n r y y′ → Certified n (L n (length a - 1) (length b - 1)) a b x′ y′
           (c * D)

@@ -25,8 +25,8 @@ use Rattle.theory.specs.ReachedSteps.{Times, coef-beyond, convolve-mod, convolv
 use Rattle.theory.specs.ReducedLaws.{reduced-flip}
 use Rattle.windows.specs.Window.{Written, Moved, mulBy, Loaded}
 use Rattle.windows.proofs.Leaf.{lt-or-le}
-use Rattle.montgomery.specs.Held.{held}
-use Rattle.montgomery.specs.Turning.{held-below, held-cong, radix-back}
+use Rattle.montgomery.specs.Held.{held, plain, Fits}
+use Rattle.montgomery.specs.Turning.{held-below, held-cong, radix-back, leave-enter}
 use Rattle.reduced_multipliers.specs.Reductions.{reduced-scaled}
 use Rattle.reduced_attempt.specs.Attempts.{PairLoaded, LeaveAsked, Left}
 
@@ -133,10 +133,12 @@ plain-word n x = ap (λ (v : ℕ). v % n) (sym (one-mul x))
 loaded-written : {n a : ℕ} {f w w' : List ℕ} → Loaded n a f w w' → Written (λ (k : ℕ). getD f k 0 % n) a (length f) w w'
 loaded-written l = record { same = l .same; low = l .low; mid = l .mid; high = l .high }
 
-pair-loaded : (n r j : ℕ) (f g : List ℕ) (F G : ℕ → ℕ) {w w₁ w₂ : List ℕ} → IsUnit n r → length f ≤ j → Written F 0 (length f) w w₁
+pair-loaded : (n r j : ℕ) (f g : List ℕ) (F G : ℕ → ℕ) {w w₁ w₂ : List ℕ} → IsUnit n r → ((r ≡ 1 → ⊥) → Fits n) → length f ≤ j
+    → Written F 0 (length f) w w₁
     → Written G j (length g) w₁ w₂ → ((k : ℕ) → F k ≡ (r * coef f k) % n) → ((k : ℕ) → G k ≡ (r * coef g k) % n) → PairLoaded n r j f g w w₂
-pair-loaded n r j f g F G {w} {w₁} {w₂} u le wf wg hf hg = record {
+pair-loaded n r j f g F G {w} {w₁} {w₂} u fo le wf wg hf hg = record {
   unit = u;
+  form = fo;
   same = wg .same ∙ wf .same;
   first = λ k h. wg .low k (omega arith) ∙ ap (λ (x : ℕ). getD w₁ x 0) (sym (zero-add k)) ∙ wf .mid k h ∙ hf k;
   second = λ k h. wg .mid k h ∙ hg k;
@@ -144,31 +146,38 @@ pair-loaded n r j f g F G {w} {w₁} {w₂} u le wf wg hf hg = record {
   high = λ k p. wg .high k p ∙ wf .high k (omega arith);
 }
 
-pub pair-held : (n N r j : ℕ) (f g : List ℕ) {w w₁ w₂ : List ℕ} → N ≡ n → 1 ≤ N → N % 2 ≡ 1 → r ≡ held N 1 → length f ≤ j
+pub pair-held : (n N r j : ℕ) (f g : List ℕ) {w w₁ w₂ : List ℕ} → N ≡ n → Fits N → r ≡ held N 1 → length f ≤ j
     → Written (λ (k : ℕ). held N (getD f k 0)) 0 (length f) w w₁ → Written (λ (k : ℕ). held N (getD g k 0)) j (length g) w₁ w₂
     → PairLoaded n r j f g w w₂
-pair-held n N r j f g {w} {w₁} {w₂} e pos odd is le wf wg =
-    subst (λ (x : ℕ). PairLoaded x r j f g w w₂) e (pair-loaded N r j f g _ _ (unit-held N pos odd r is) le wf wg
-    (λ k. held-word N odd r (getD f k 0) is) (λ k. held-word N odd r (getD g k 0) is))
+pair-held n N r j f g {w} {w₁} {w₂} e fits is le wf wg =
+    subst (λ (x : ℕ). PairLoaded x r j f g w w₂) e
+    (pair-loaded N r j f g _ _ (unit-held N (omega (arith, fits .least)) (fits .odd) r is) (λ _. fits) le wf wg
+    (λ k. held-word N (fits .odd) r (getD f k 0) is) (λ k. held-word N (fits .odd) r (getD g k 0) is))
 
 pub pair-plain : (n j : ℕ) (f g : List ℕ) {w w₁ w₂ : List ℕ} → 1 ≤ n → length f ≤ j → Loaded n 0 f w w₁ → Loaded n j g w₁ w₂
     → PairLoaded n 1 j f g w w₂
 pair-plain n j f g pos le lf lg =
-    pair-loaded n 1 j f g _ _ (unit-one n pos) le (loaded-written lf) (loaded-written lg) (λ k. plain-word n (getD f k 0))
-    (λ k. plain-word n (getD g k 0))
+    pair-loaded n 1 j f g _ _ (unit-one n pos) (λ ne. absurd (ne refl)) le (loaded-written lf) (loaded-written lg)
+    (λ k. plain-word n (getD f k 0)) (λ k. plain-word n (getD g k 0))
 
 -- ---- words that leave
 
-pub left-scaled : (n r : ℕ) (x x' : List ℕ) → Moved (mulBy n r) 0 0 (length x) x x' → Left n r x x'
-left-scaled n r x x' mv = record {
+pub left-scaled : (n N r c : ℕ) (x x' : List ℕ) → N ≡ n → Fits N → c ≡ held N r → Moved (mulBy N (plain N c)) 0 0 (length x) x x'
+    → Left n r x x'
+left-scaled n N r c x x' e fits is mv = subst (λ (v : ℕ). Left v r x x') e (record {
   same = mv .same;
-  at = λ k. ⊎-elim (λ h. ap (λ (v : ℕ). getD x' v 0) (sym (zero-add k)) ∙ mv .mid k h ∙ ap (λ (v : ℕ). (r * getD x v 0) % n) (zero-add k))
-      (λ h. coef-beyond x' k (omega (arith, mv .same)) ∙ sym (ap (λ (v : ℕ). (r * v) % n) (coef-beyond x k h) ∙ ap (λ (v : ℕ). v % n)
-      (mul-zero r) ∙ zero-mod n))
+  at = λ k. ⊎-elim (λ h. ap (λ (v : ℕ). getD x' v 0) (sym (zero-add k)) ∙ mv .mid k h ∙ ap (λ (v : ℕ). (plain N c * getD x v 0) % N)
+      (zero-add k)
+      ∙ c-mul factor (c-refl {a = getD x k 0}) .same)
+      (λ h. coef-beyond x' k (omega (arith, mv .same))
+      ∙ sym (ap (λ (v : ℕ). (r * v) % N) (coef-beyond x k h) ∙ ap (λ (v : ℕ). v % N) (mul-zero r) ∙ zero-mod N))
       (lt-or-le k (length x));
-}
+})
+  where
+    factor : Cong N (plain N c) r
+    factor = c-trans (c-eq (ap (plain N) is ∙ leave-enter N (fits .odd) r)) (c-mod r)
 
-pub left-one : (n r : ℕ) (x : List ℕ) → LeaveAsked n x → r ≡ 1 → Left n r x x
+pub left-one : (n r : ℕ) (x : List ℕ) → LeaveAsked n r x → r ≡ 1 → Left n r x x
 left-one n r x k e = record {
   same = refl;
   at = λ i. sym (ap (λ (v : ℕ). (v * coef x i) % n) e ∙ ap (λ (v : ℕ). v % n) (one-mul (coef x i)) ∙ mod-eq-of-lt (k .below i));

@@ -15,6 +15,7 @@ use Prim.Native.Nat.{ℕ, max, _+_, _-_, _*_, _/_, _%_, _<_, _≤_, _∣_}
 use lib.ListN.{length, getD}
 use Rattle.definitions.specs.Residues.{K, IsUnit, IsNilpotent}
 use Rattle.definitions.specs.Polynomials.{coef, L}
+use Rattle.montgomery.specs.Held.{Fits}
 use Rattle.window_factor.specs.Factors.{SplitOf}
 use Rattle.reduced_units.specs.States.{Splitter}
 use Rattle.residue.specs.declared.Attempt.{Attempt}
@@ -30,9 +31,11 @@ pub record CommonContent (n : ℕ) (f g : List ℕ) (c : ℕ) : Type 0 where
   pub divides-g : (k : ℕ) → c ∣ coef g k % n
   pub greatest : (x : ℕ) → x ∣ n → ((k : ℕ) → x ∣ coef f k % n) → ((k : ℕ) → x ∣ coef g k % n) → x ∣ c
 
--- "A polynomial held as R f … is another polynomial modulo n, and R is a unit": the words are those of r f and r g, r a unit
+-- "A polynomial held as R f … is another polynomial modulo n, and R is a unit": the words are those of r f and r g, r a unit, and 1 unless
+-- n has the form
 pub record PairLoaded (n r j : ℕ) (f g w w' : List ℕ) : Type 0 where
   pub unit : IsUnit n r
+  pub form : (r ≡ 1 → ⊥) → Fits n
   pub same : length w' ≡ length w
   pub first : (k : ℕ) → k < length f → getD w' k 0 ≡ (r * coef f k) % n
   pub second : (k : ℕ) → k < length g → getD w' (j + k) 0 ≡ (r * coef g k) % n
@@ -42,13 +45,14 @@ pub record PairLoaded (n r j : ℕ) (f g w w' : List ℕ) : Type 0 where
 -- as the core of an attempt wants them; of the words after these nothing is promised
 pub record Arranged (n c r : ℕ) (a b w w' : List ℕ) : Type 0 where
   pub unit : IsUnit n r
+  pub form : (r ≡ 1 → ⊥) → Fits n
   pub same : length w' ≡ length w
   pub first : (k : ℕ) → k < length a → getD w' (length b + k) 0 ≡ ((r * coef a k) % n) / c
   pub second : (k : ℕ) → k < length b → getD w' k 0 ≡ ((r * coef b k) % n) / c
 
--- words that are residues
-pub record LeaveAsked (n : ℕ) (x : List ℕ) : Type 0 where
-  pub modulus : 1 ≤ n
+-- words that are residues; r is 1 unless n has the form
+pub record LeaveAsked (n r : ℕ) (x : List ℕ) : Type 0 where
+  pub form : (r ≡ 1 → ⊥) → Fits n
   pub below : (k : ℕ) → coef x k < n
 
 -- "cofactors leave times R": each word times r

@@ -70,14 +70,16 @@ fn arrange(w: &mut [u32], n: u32, c: u32, a: &[u32], b: &[u32]) -> u32
 
 // The words of x times r modulo n. Times 1 there is nothing to do.
 fn leave(x: &mut [u32], n: u32, r: u32)
-    requires { ⌜ LeaveAsked n (now x) ⌝ }
+    requires { ⌜ LeaveAsked n r (now x) ⌝ }
     ensures { λ _. ⌜ Left n r (now (x .entry)) (now (x .exit)) ⌝ }
 {
     if r == 1 {
         return;
     }
+    let form = montgomery::form_of(n);
+    let c = montgomery::enter(form, r);
     let z = x.len();
-    windows::scale(x, n, r, 0, 0, z);
+    held_windows::scale(x, form, c, 0, 0, z);
 }
 
 // The reduced resultant of a and b, c their common content, with the cofactors x of a and y of b, if a can be factored.
