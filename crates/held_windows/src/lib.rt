@@ -1,5 +1,5 @@
-// The word loops of a division without inverses with held multipliers: the contracts of `window_combining` and `windows`, of the multipliers
-// turned back. The words themselves may be held or not: what a loop makes of them, it makes of what they stand for.
+// The word loops of a division without inverses with held multipliers: the contracts of `window_combining` and `windows`, of the
+// multipliers turned back. The words themselves may be held or not: what a loop makes of them, it makes of what they stand for.
 //
 //   combine_pair    the words at dst, times l, with c and m times the words at src
 //   scale           words times c
@@ -28,8 +28,8 @@ pub fn combine_pair(
     requires { ⌜ Formed form ⌝ }
     requires { ⌜ (l ≤ form .n) × ((c ≤ form .n) × ((m ≤ form .n) × ((src + len ≤ length (now w)) × (dst + len ≤ length (now w))))) ⌝ }
     requires { ⌜ (Apart src len dst len) × ((Below (form .n) src len (now w)) × (Below (form .n) dst len (now w))) ⌝ }
-    ensures { λ _. ⌜ Written (combination (form .n) (plain (form .n) l) (plain (form .n) c) (plain (form .n) m) src dst (now (w .entry))) dst len
-        (now (w .entry)) (now (w .exit)) ⌝ }
+    ensures { λ _. ⌜ Written (combination (form .n) (plain (form .n) l) (plain (form .n) c) (plain (form .n) m) src dst (now (w .entry)))
+        dst len (now (w .entry)) (now (w .exit)) ⌝ }
 {
     let mut j: usize = 0;
     let mut y: u32 = 0;
@@ -58,7 +58,8 @@ pub fn scale(w: &mut [u32], form: Form, c: u32, src: usize, dst: usize, len: usi
 // w[at + j] = f[j] held, for each word of f, whatever it is.
 pub fn load(w: &mut [u32], at: usize, f: &[u32], form: Form)
     requires { ⌜ (Formed form) × (at + length (now f) ≤ length (now w)) ⌝ }
-    ensures { λ _. ⌜ Written (λ (k : ℕ). held (form .n) (getD (now (f .entry)) k 0)) at (length (now (f .entry))) (now (w .entry)) (now (w .exit)) ⌝ }
+    ensures { λ _. ⌜ Written (λ (k : ℕ). held (form .n) (getD (now (f .entry)) k 0)) at (length (now (f .entry)))
+        (now (w .entry)) (now (w .exit)) ⌝ }
 {
     let mut j: usize = 0;
     while j < f.len() {

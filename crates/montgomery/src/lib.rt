@@ -11,10 +11,10 @@
 //   t             a sum of products, of 64 bits
 ghost use mathlib.Core.Path.{_≡_};
 ghost use Prim.Native.Nat.{ℕ, _+_, _-_, _*_, _%_, _<_, _≤_};
-ghost use Rattle.montgomery.specs.Held.{held, plain, Fits, Fitting, Formed, Multiple};
+ghost use Rattle.montgomery.specs.Held.{held, plain, Fits, Fitting, Formed, Multiple, Refined};
 
-// n, -n and the inverse of n modulo 2^32, and 2^64 modulo n. Of 64 bits, m stays a factor of a 64-bit product in a vectorised loop; and with -n
-// in a field of its own a sum is corrected there by a mask and not by a choice of two.
+// n, -n and the inverse of n modulo 2^32, and 2^64 modulo n. Of 64 bits, m stays a factor of a 64-bit product in a vectorised loop; and
+// with -n in a field of its own a sum is corrected there by a mask and not by a choice of two.
 pub struct Form {
     pub n: u32,
     pub k: u32,
@@ -38,18 +38,27 @@ pub fn fits_form(n: u32) -> bool
     true
 }
 
-// The inverse s of 2^32 modulo n is a half, 32 times; s 2^32 - 1 is i n, so n (2^32 - i) is 1 modulo 2^32.
+// Newton's step: m (2 - n m) is the inverse of n modulo the square of what m is one for, as far as 2^32.
+fn refine(n: u32, m: u64) -> u64
+    requires { ⌜ m < 4294967296 ⌝ }
+    ensures { λ r. ⌜ (r < 4294967296) × Refined n m r ⌝ }
+{
+    let x = (n as u64) * m % 4294967296;
+    let y = (4294967298 - x) % 4294967296;
+    m * y % 4294967296
+}
+
+// The inverse of n modulo 2^32: 1 is one modulo 2, and then modulo 4, 16, 256, 65536 and 2^32. Two divisions for 2^64 modulo n.
 pub fn form_of(n: u32) -> Form
     requires { ⌜ Fits n ⌝ }
     ensures { λ r. ⌜ (r .n ≡ n) × Formed r ⌝ }
 {
-    let s = arithmetic::power(n, n / 2 + 1, 32);
-    let i = ((s as u64) * 4294967296 - 1) / (n as u64);
+    let m = refine(n, refine(n, refine(n, refine(n, refine(n, 1)))));
     let r = arithmetic::reduce(n, 4294967296);
     Form {
         n,
         k: 4294967295 - n + 1,
-        m: 4294967296 - i,
+        m,
         r2: arithmetic::mul_mod(n, r, r),
     }
 }

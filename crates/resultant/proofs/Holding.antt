@@ -3,7 +3,7 @@
 --   pair-held, placed-held    what the two attempts at them ask
 --   held-tried                the attempt without inverses answers for what the words stand for, the sent polynomials
 --   held-modulo               held modulo an equal number
---   held-answer               the general attempt answers for the held polynomials, and with the power of the inverse of 2^32 for the sent ones
+--   held-answer               the general attempt answers for the held polynomials; with the power of the inverse of 2^32, for the sent ones
 use mathlib.Core.Path.{_≡_, refl, sym, ap, ap₂, subst, _∙_}
 use mathlib.Core.List.{List}
 use mathlib.Core.Logic.{⊎-elim}

@@ -81,16 +81,16 @@ module _ (n : ℕ) (odd : n % 2 ≡ 1) where
         → k ≡ plain n (y * r) → s' ≡ plain n (k * s) → HeldStep n a d b e s r t w b (d - 1) a d s' k t w'
     held-pair y p q h hy hp hq wr s r t k s' hk hs =
         let z = pair-stepped n a d b e (turned n w) (turned n w') (plain n y) (plain n p) (plain n q) (placed-turned n a d b e w odd pl) one h
-            (product-is _ _ y hy ∙ ap₂ (λ (u v : ℕ). (u * v) % n) (at (a + d)) (at (a + d)))
-            (product-is _ _ p hp ∙ ap (λ (u : ℕ). u % n) (mul-comm (plain n (getD w (b + (d + 1)) 0)) (plain n (getD w (a + d) 0)))
-            ∙ ap₂ (λ (u v : ℕ). (u * v) % n) (at (a + d)) (at (b + (d + 1))))
-            (ap (plain n) hq ∙ plain-three n odd (plain n (getD w (a + d) 0)) (getD w (b + d) 0) (plain n (n - getD w (b + (d + 1)) 0)) (getD w (a + (d - 1)) 0) (plain n 0) 0
-            ∙ c-add (c-add (c-eq (ap₂ (λ (u v : ℕ). u * v) (at (a + d)) (at (b + d))))
-            (c-mul (c-trans (plain-negative n odd (getD w (b + (d + 1)) 0) top) (c-eq (ap (λ (u : ℕ). n - u) (at (b + (d + 1)))))) (c-eq (at (a + (d - 1))))))
-            (c-eq (ap₂ (λ (u v : ℕ). u * v) (plain-none n odd) (plain-none n odd))) .same)
-            (written-turned n odd (plain n y) (n - plain n p) (n - plain n q) a c-refl (plain-negative n odd p (le-of-lt (residue-is _ hp)))
-            (plain-negative n odd q (le-of-lt (subst (λ (x : ℕ). x < n) (sym hq) (mod-lt _ (pl .pos))))) wr)
-            (plain n s) (plain n r) (plain n t) (plain n k) (plain n s') (product-is _ _ k hk) (product-is _ _ s' hs) in (
+        (product-is _ _ y hy ∙ ap₂ (λ (u v : ℕ). (u * v) % n) (at (a + d)) (at (a + d)))
+        (product-is _ _ p hp ∙ ap (λ (u : ℕ). u % n) (mul-comm (plain n (getD w (b + (d + 1)) 0)) (plain n (getD w (a + d) 0)))
+        ∙ ap₂ (λ (u v : ℕ). (u * v) % n) (at (a + d)) (at (b + (d + 1))))
+        (ap (plain n) hq ∙ plain-three n odd (plain n (getD w (a + d) 0)) (getD w (b + d) 0) (plain n (n - getD w (b + (d + 1)) 0)) (getD w (a + (d - 1)) 0) (plain n 0) 0
+        ∙ c-add (c-add (c-eq (ap₂ (λ (u v : ℕ). u * v) (at (a + d)) (at (b + d))))
+        (c-mul (c-trans (plain-negative n odd (getD w (b + (d + 1)) 0) top) (c-eq (ap (λ (u : ℕ). n - u) (at (b + (d + 1)))))) (c-eq (at (a + (d - 1))))))
+        (c-eq (ap₂ (λ (u v : ℕ). u * v) (plain-none n odd) (plain-none n odd))) .same)
+        (written-turned n odd (plain n y) (n - plain n p) (n - plain n q) a c-refl (plain-negative n odd p (le-of-lt (residue-is _ hp)))
+        (plain-negative n odd q (le-of-lt (subst (λ (x : ℕ). x < n) (sym hq) (mod-lt _ (pl .pos))))) wr)
+        (plain n s) (plain n r) (plain n t) (plain n k) (plain n s') (product-is _ _ k hk) (product-is _ _ s' hs) in (
           record {
             placed = next-placed n a d b e w w' pl one (around-more (omega arith) (written-around wr)) (combined-below n _ _ _ a b d w w' (pl .pos) wr);
             residue = residue-is _ hk;
@@ -106,10 +106,10 @@ module _ (n : ℕ) (odd : n % 2 ≡ 1) where
         → (s r t k s' : ℕ) → k ≡ plain n (getD w (a + d) 0 * r) → s' ≡ plain n (k * s) → HeldStep n a d b e s r t w b (d - 1) a d s' k t w'
     held-last h wr s r t k s' hk hs =
         let z = last-stepped n a d b e (turned n w) (turned n w') (placed-turned n a d b e w odd pl) one h
-            (written-turned n odd (getD (turned n w) (a + d) 0) 0 (n - getD (turned n w) (b + d) 0) a (c-eq (at (a + d))) (c-eq (plain-none n odd))
-            (c-trans (plain-negative n odd (getD w (b + d) 0) (le-of-lt (pl .pair .second .at d (omega arith)))) (c-eq (ap (λ (u : ℕ). n - u) (at (b + d))))) wr)
-            (plain n s) (plain n r) (plain n t) (plain n k) (plain n s')
-            (product-is _ _ k hk ∙ ap (λ (u : ℕ). (plain n r * u) % n) (at (a + d))) (product-is _ _ s' hs) in (
+        (written-turned n odd (getD (turned n w) (a + d) 0) 0 (n - getD (turned n w) (b + d) 0) a (c-eq (at (a + d))) (c-eq (plain-none n odd))
+        (c-trans (plain-negative n odd (getD w (b + d) 0) (le-of-lt (pl .pair .second .at d (omega arith)))) (c-eq (ap (λ (u : ℕ). n - u) (at (b + d))))) wr)
+        (plain n s) (plain n r) (plain n t) (plain n k) (plain n s')
+        (product-is _ _ k hk ∙ ap (λ (u : ℕ). (plain n r * u) % n) (at (a + d))) (product-is _ _ s' hs) in (
           record {
             placed = next-placed n a d b e w w' pl one (around-more (omega arith) (written-around wr)) (combined-below n _ _ _ a b d w w' (pl .pos) wr);
             residue = residue-is _ hk;
@@ -122,8 +122,8 @@ module _ (n : ℕ) (odd : n % 2 ≡ 1) where
         → t' ≡ plain n (y * t) → s' ≡ plain n (p * s) → HeldStep n a d b e s p t w a (d - 1) b e s' p t' w
     held-drop z y hy s p t t' s' lp ht hs =
         let x = drop-stepped n a d b e (turned n w) (placed-turned n a d b e w odd pl) one (turned-at n odd w (a + d) ∙ ap (plain n) z ∙ plain-none n odd) (plain n y)
-            (ap (plain n) hy ∙ signed-plain e (getD w (b + e) 0) (pl .pair .second .at e (omega arith)) ∙ ap (signed n e) (at (b + e)))
-            (plain n s) (plain n p) (plain n t) (plain n t') (plain n s') (product-is _ _ t' ht) (product-is _ _ s' hs) in (
+        (ap (plain n) hy ∙ signed-plain e (getD w (b + e) 0) (pl .pair .second .at e (omega arith)) ∙ ap (signed n e) (at (b + e)))
+        (plain n s) (plain n p) (plain n t) (plain n t') (plain n s') (product-is _ _ t' ht) (product-is _ _ s' hs) in (
           record {
             placed = record {
               pos = pl .pos;
@@ -165,10 +165,10 @@ module _ (n : ℕ) (odd : n % 2 ≡ 1) where
       pub held-turn : (s r t k : ℕ) → k ≡ plain n (getD w (a + d) 0 * r) → HeldStep n a d b e s r t w a d b (e - 1) s k t w'
       held-turn s r t k hk =
           let z = turn-stepped n a d b e i (turned n w) (turned n w₁) (turned n w') (placed-turned n a d b e w odd pl) one lt is
-              (moved-turned n odd (getD (turned n w) (a + d) 0) (c-eq (at (a + d))) mv)
-              (written-turned n odd (getD (turned n w) (a + d) 0) 0 (n - getD (turned n w) (b + e) 0) a (c-eq (at (a + d))) (c-eq (plain-none n odd))
-              (c-trans (plain-negative n odd (getD w (b + e) 0) (le-of-lt (pl .pair .second .at e (omega arith)))) (c-eq (ap (λ (u : ℕ). n - u) (at (b + e))))) wr)
-              (plain n s) (plain n r) (plain n t) (plain n k) (product-is _ _ k hk ∙ ap (λ (u : ℕ). (plain n r * u) % n) (at (a + d))) in (
+          (moved-turned n odd (getD (turned n w) (a + d) 0) (c-eq (at (a + d))) mv)
+          (written-turned n odd (getD (turned n w) (a + d) 0) 0 (n - getD (turned n w) (b + e) 0) a (c-eq (at (a + d))) (c-eq (plain-none n odd))
+          (c-trans (plain-negative n odd (getD w (b + e) 0) (le-of-lt (pl .pair .second .at e (omega arith)))) (c-eq (ap (λ (u : ℕ). n - u) (at (b + e))))) wr)
+          (plain n s) (plain n r) (plain n t) (plain n k) (product-is _ _ k hk ∙ ap (λ (u : ℕ). (plain n r * u) % n) (at (a + d))) in (
             record { placed = turned-placed n a d b e w w' pl one turn-around lt turn-below; residue = residue-is _ hk; led = z .0 },
             z .1,
           )
@@ -202,10 +202,12 @@ held-same {n} {w = w} {w' = w'} h = sym (turned-length n w') ∙ h .led .same �
 
 -- a state that begins, in the places of its pair
 pub begun : (n a d b e : ℕ) (w : List ℕ) (x : State) → Begins n a d b e x → Placed n a d b e w → Standing n x w
-begun n a d b e w x k pl =
-    (subst (λ (z : ℕ). Placed n z (x .d) (x .b) (x .e) w) (sym (k .first .0))
-    (subst (λ (z : ℕ). Placed n a z (x .b) (x .e) w) (sym (k .first .1))
-    (subst (λ (z : ℕ). Placed n a d z (x .e) w) (sym (k .second .0)) (subst (λ (z : ℕ). Placed n a d b z w) (sym (k .second .1)) pl))), k .residue)
+begun n a d b e w x k pl = (
+  subst (λ (z : ℕ). Placed n z (x .d) (x .b) (x .e) w) (sym (k .first .0))
+      (subst (λ (z : ℕ). Placed n a z (x .b) (x .e) w) (sym (k .first .1))
+      (subst (λ (z : ℕ). Placed n a d z (x .e) w) (sym (k .second .0)) (subst (λ (z : ℕ). Placed n a d b z w) (sym (k .second .1)) pl))),
+  k .residue,
+)
 
 led-at : {n a₁ d₁ b₁ e₁ s₁ p₁ t₁ a d b e s p t a' d' b' e' s' p' t' : ℕ} {w w' : List ℕ} → a₁ ≡ a → d₁ ≡ d → b₁ ≡ b → e₁ ≡ e → s₁ ≡ s → p₁ ≡ p → t₁ ≡ t
     → Led n a₁ d₁ b₁ e₁ s₁ p₁ t₁ w a' d' b' e' s' p' t' w' → Led n a d b e s p t w a' d' b' e' s' p' t' w'

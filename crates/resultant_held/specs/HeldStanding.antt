@@ -1,5 +1,5 @@
--- Where a run without inverses on held words stands: the notions of `resultant_pseudo`, of what the words and the products of a state x stand
--- for. The words themselves are residues, and so is p.
+-- Where a run without inverses on held words stands: the notions of `resultant_pseudo`, of what the words and the products of a state x
+-- stand for. The words themselves are residues, and so is p.
 --
 --   Standing        the pair of a state stands in the buffer, and its product p is a residue
 --   turned-state    the state with its products turned back

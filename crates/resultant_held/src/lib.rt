@@ -22,7 +22,8 @@ ghost use Rattle.windows.specs.Window.{piece, Scratch};
 ghost use Rattle.montgomery.specs.Held.{Formed};
 ghost use Rattle.held_windows.specs.Turned.{turned};
 ghost use Rattle.resultant_pseudo.specs.Standing.{Placed, TriedAnswer};
-ghost use Rattle.resultant_held.specs.HeldStanding.{Standing, Begins, HeldLedTo, HeldStepped, HeldFinished, HeldDescended, HeldAnswers};
+ghost use Rattle.resultant_held.specs.HeldStanding.{Standing, Begins, HeldLedTo, HeldStepped};
+ghost use Rattle.resultant_held.specs.HeldStanding.{HeldFinished, HeldDescended, HeldAnswers};
 use montgomery::Form;
 use resultant_pseudo::State;
 use resultant_pseudo::Tried;
@@ -195,8 +196,8 @@ pub fn descend(w: &mut [u32], form: Form, a: usize, d: usize, b: usize, e: usize
     finish(w, form, start(form, a, d, b, e))
 }
 
-// The value, from a state of degree 0: s times the resultant is p t times the power of the constant, and s is a unit. Of what is held, s and
-// the constant are turned back; a product of the held p t with the power that is not held is not held.
+// The value, from a state of degree 0: s times the resultant is p t times the power of the constant, and s is a unit. Of what is held,
+// s and the constant are turned back; a product of the held p t with the power that is not held is not held.
 fn value_of(w: &[u32], form: Form, y: State) -> Tried
     requires { ⌜ Formed form ⌝ }
     requires { ⌜ (Standing (form .n) y (now w)) × (y .d ≡ 0) ⌝ }
@@ -215,8 +216,8 @@ fn value_of(w: &[u32], form: Form, y: State) -> Tried
     Tried::Value(arithmetic::mul_mod(n, i.s, u))
 }
 
-// The resultant of what the words stand for: f of degree d at a and g of degree e at b; both are lost. As in `resultant_pseudo`, a test after
-// the second step may end it.
+// The resultant of what the words stand for: f of degree d at a and g of degree e at b; both are lost. As in `resultant_pseudo`, a test
+// after the second step may end it.
 pub fn attempt(w: &mut [u32], form: Form, a: usize, d: usize, b: usize, e: usize) -> Tried
     requires { ⌜ Formed form ⌝ }
     requires { ⌜ Placed (form .n) a d b e (now w) ⌝ }

@@ -19,9 +19,11 @@ loop-holds : tie.Need-loop-holds Inv-loop μ-loop
 loop-holds c = (omega arith, moved-none _ _ _ _)
 
 loop-again : tie.Need-loop-again Inv-loop μ-loop
-loop-again c = let s = c .before .before .before .before .before in
-    (search needs, moved-step (c .before .before .before .loop .inv .1) (s .pre .1 .1) (omega arith) (omega arith)
-    (scaled-word (s .args .form .n) (s .pre .0 .fits .odd) (s .args .c) _ _ (c .product .ensures)))
+loop-again c = let s = c .before .before .before .before .before in (
+  search needs,
+  moved-step (c .before .before .before .loop .inv .1) (s .pre .1 .1) (omega arith) (omega arith)
+      (scaled-word (s .args .form .n) (s .pre .0 .fits .odd) (s .args .c) _ _ (c .product .ensures)),
+)
 
 returns : tie.Need-returns Inv-loop μ-loop
 returns c = let e : c .before .loop .j ≡ c .before .before .before .args .len = omega arith in rw e at (c .before .loop .inv .1)

@@ -9,9 +9,11 @@ use Rattle.resultant.proofs.tried_held.Tie as tie
 
 attempt-requires : tie.Need-attempt-requires
 attempt-requires c κs = let s = c .before .before .before .before .before .before .before .before .before .before .before .before .before in
-    let m = c .before .before .before .before .before .before .before .before .before .form-of in
-    (m .ensures .1, pair-held (m .result .n) (s .args .f .now) (s .args .g .now) (s .args .w .now) (c .before .before .before .before .before .before .before .load .last .0) (c .before .before .before .load2 .last .0) (m .ensures .1 .fits) (s .pre .1 .0) (s .pre .1 .1)
-    (c .before .before .before .before .before .before .before .load .ensures) (c .before .before .before .load2 .ensures))
+    let m = c .before .before .before .before .before .before .before .before .before .form-of in (
+      m .ensures .1,
+      pair-held (m .result .n) (s .args .f .now) (s .args .g .now) (s .args .w .now) (c .before .before .before .before .before .before .before .load .last .0) (c .before .before .before .load2 .last .0) (m .ensures .1 .fits) (s .pre .1 .0) (s .pre .1 .1)
+          (c .before .before .before .before .before .before .before .load .ensures) (c .before .before .before .load2 .ensures),
+    )
 
 returns : tie.Need-returns
 returns c = let s = c .before .before .before .before .before .before .before .before .before .before .before .before .before .before .before .before in

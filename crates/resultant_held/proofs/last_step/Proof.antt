@@ -11,9 +11,11 @@ sub-combine-pair c = let s = c .before .before .before .before in le-of-lt (s .p
 
 combine-pair-requires : tie.Need-combine-pair-requires
 combine-pair-requires c κs = let s = c .before .before .before .before in
-    let v = s .args in
-    (s .pre .0, asked-here (v .form .n) (v .x .a) (v .x .d) (v .x .b) (v .x .e) _ _ _ (v .w .now) (s .pre .1 .0 .0)
-    (le-of-lt (s .pre .1 .0 .0 .pair .first .at (v .x .d) (omega arith))) (omega arith) (omega arith))
+    let v = s .args in (
+      s .pre .0,
+      asked-here (v .form .n) (v .x .a) (v .x .d) (v .x .b) (v .x .e) _ _ _ (v .w .now) (s .pre .1 .0 .0)
+          (le-of-lt (s .pre .1 .0 .0 .pair .first .at (v .x .d) (omega arith))) (omega arith) (omega arith),
+    )
 
 product-requires : tie.Need-product-requires
 product-requires c κs = let s = c .before .before .before .before .before .before .before in (s .pre .0, le-of-lt (s .pre .1 .0 .0 .pair .first .at (s .args .x .d) (omega arith)))

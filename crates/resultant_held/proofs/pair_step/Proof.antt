@@ -38,9 +38,11 @@ sub-combine-pair-2 c = let s = c .before .before .before .before .before .before
 
 combine-pair-requires : tie.Need-combine-pair-requires
 combine-pair-requires c κs = let s = c .before .before .before .before .before .before .before .before .before in
-    let v = s .args in
-    (s .pre .0, asked-here (v .form .n) (v .x .a) (v .x .d) (v .x .b) (v .x .e) _ _ _ (v .w .now) (s .pre .1 .0 .0)
-    (le-of-lt (residue-is (v .form .n) (s .pre .0 .fits .odd) _ (c .before .before .before .before .before .product .ensures))) (omega arith) (omega arith))
+    let v = s .args in (
+      s .pre .0,
+      asked-here (v .form .n) (v .x .a) (v .x .d) (v .x .b) (v .x .e) _ _ _ (v .w .now) (s .pre .1 .0 .0)
+          (le-of-lt (residue-is (v .form .n) (s .pre .0 .fits .odd) _ (c .before .before .before .before .before .product .ensures))) (omega arith) (omega arith),
+    )
 
 product-requires-3 : tie.Need-product-requires-3
 product-requires-3 c κs = let s = c .before .before .before .before .before .before .before .before .before .before .before .before in (s .pre .0, le-of-lt (residue-is (s .args .form .n) (s .pre .0 .fits .odd) _ (c .before .before .before .before .before .before .before .before .product .ensures)))

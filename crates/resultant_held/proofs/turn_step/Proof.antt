@@ -22,10 +22,12 @@ combine-pair-requires : tie.Need-combine-pair-requires
 combine-pair-requires c κs = let s = c .before .before .before .before .before .before .before .before in
     let v = s .args in
     let p = s .pre .1 .0 .0 in
-    let mv = c .before .before .before .scale .ensures in
-    (s .pre .0, asked (v .form .n) (v .x .a) (v .x .d) (v .x .b) (v .x .e) _ (v .x .e - v .x .d) _ _ _ (v .w .now) (c .before .before .before .scale .last .0) p refl (omega (arith, s .pre .1 .1 .1)) (mv .same)
-    (λ k h. apart-at (p .pair .apart) (around-wide (v .x .b) (v .x .e + 1) (omega arith) (omega arith) (moved-around mv)) k h) (λ k h. mv .high _ (omega arith))
-    (le-of-lt (p .pair .first .at (v .x .d) (omega arith))) (omega arith) (omega arith))
+    let mv = c .before .before .before .scale .ensures in (
+      s .pre .0,
+      asked (v .form .n) (v .x .a) (v .x .d) (v .x .b) (v .x .e) _ (v .x .e - v .x .d) _ _ _ (v .w .now) (c .before .before .before .scale .last .0) p refl (omega (arith, s .pre .1 .1 .1)) (mv .same)
+          (λ k h. apart-at (p .pair .apart) (around-wide (v .x .b) (v .x .e + 1) (omega arith) (omega arith) (moved-around mv)) k h) (λ k h. mv .high _ (omega arith))
+          (le-of-lt (p .pair .first .at (v .x .d) (omega arith))) (omega arith) (omega arith),
+    )
 
 product-requires : tie.Need-product-requires
 product-requires c κs = let s = c .before .before .before .before .before .before .before .before .before .before .before in (s .pre .0, le-of-lt (s .pre .1 .0 .0 .pair .first .at (s .args .x .d) (omega arith)))
