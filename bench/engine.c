@@ -287,6 +287,7 @@ int main(void)
 {
     const uint32_t two[] = { 2 }, three[] = { 3 }, many[] = { 2, 3, 5, 7, 11, 13, 17, 19, 23 }, six[] = { 2, 3 };
     for (int d = 12; d <= 48; d *= 2) prime_modulus(4294967291u, d);
+    for (int d = 12; d <= 48; d *= 2) prime_modulus(2147483647u, d);
     composite(2147483648u, "2^31", two, 1, 48);
     composite(3486784401u, "3^20", three, 1, 48);
     composite(223092870u, "223092870", many, 9, 48);

@@ -11,7 +11,7 @@
 #include <string.h>
 #include "../include/jingcobu.h"
 
-#define LEAST_PAIRS 639
+#define LEAST_PAIRS 739
 #define TRIPLES 3000
 #define HISTORIES 48
 #define MOST 49

@@ -17,6 +17,10 @@ MODULI = [2, 3, 4, 5, 6, 7, 8, 9, 10, 12, 16, 18, 24, 30, 36, 60, 64, 72, 210, 2
 MODULI = [n for n in MODULI if 2 <= n < 2**32]
 
 
+# odd and below 2^31: the engine holds the words modulo these multiplied by 2^32
+HELD = [3, 9, 3**19, 2**31 - 1, 2147483645, 15, 105, 15015, 111546435, 3**5 * 5**4 * 7**3, 11**3 * 13**2 * 17, 2147483629, 2147483643]
+
+
 STARRED = [(7, [1, 1], [2, 1]), (7, [2, 1], [1, 1]), (12, [3, 2], [1, 4]), (4, [1, 2], [3, 2]), (6, [2], [4]), (9, [3], [1, 0, 1]),
            (5, [2, 1, 0], [1, 1]), (5, [2, 1], [1, 1]), (5, [1, 0], [2, 0]), (10, [0, 0], [0]), (6, [5, 0, 1], [3, 1])]
 
@@ -99,6 +103,10 @@ def main():
     for n, c in ((2**31, 2**10), (3**20, 3**7), (6**12, 2**5 * 3**4), (223092870, 230), (4294967291, 4294967291), (4294967295, 771)):
         h = [random.randrange(n) for _ in range(7)]        # full degree, with a common factor of degree 6 modulo c
         rows.append((n, *([(x + c * random.randrange(n)) % n for x in product(n, h, polynomial(n, 42, True))] for _ in range(2))))
+    for k in range(100):                                   # every HELD modulus in turn; the first round in the greatest degrees
+        n, most = HELD[k % len(HELD)], 48 if k < len(HELD) else random.choice([0, 1, 2, 3, 4, 6, 12, 24, 48])
+        d, e = (48, 48) if k < 8 else (random.randrange(most + 1), random.randrange(most + 1))
+        rows.append((n, polynomial(n, d, k % 2 == 1), polynomial(n, e, k % 2 == 1)))
     determinants = gp(['print(%s);' % determinant(sylvester(f, g), n) for n, f, g in rows])
     assert len(determinants) == len(rows)
     os.makedirs(out, exist_ok=True)

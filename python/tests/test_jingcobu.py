@@ -124,7 +124,7 @@ class Vectors(unittest.TestCase):
                 self.assertEqual(D, reduced)
                 self.assertEqual(combined(n, u, f, v, g), constant(n, D))
             count += 1
-        self.assertGreaterEqual(count, 639)
+        self.assertGreaterEqual(count, 739)
 
     @needs("divisor", "check_claim")
     def test_stored_divisors_and_claims(self):

@@ -4,19 +4,20 @@ use mathlib.Core.List.{List, []}
 use mathlib.Core.Logic.{⊎-elim}
 use Prim.Native.Nat.{ℕ, zero, suc, max, _+_, _-_, _*_, _/_, _%_, _≤_, _<_, _∣_}
 use native.Mathlib.Omega.{arith}
-use native.Mathlib.Nat.{mod-lt, mod-mod, zero-mod, zero-add, zero-div, div-one, mul-one, mul-le-mul, mul-le-mul-left, mul-le-mul-right, mul-div-cancel', dvd-mul-left, mod-eq-zero-of-dvd, mul-mod-right}
+use native.Mathlib.Nat.{mod-lt, mod-mod, zero-mod, zero-add, zero-div, div-one, mul-zero, mul-one, mul-le-mul, mul-le-mul-left, mul-le-mul-right, mul-div-cancel', dvd-mul-left, mod-eq-zero-of-dvd, mul-mod-right}
 use lib.ListN.{length, getD}
 use Rattle.definitions.specs.Residues.{IsNilpotent}
 use Rattle.definitions.specs.Polynomials.{coef}
 use Rattle.definitions.specs.Resultants.{Reduced}
 use Rattle.theory.specs.ReachedSteps.{Times, coef-beyond}
 use Rattle.theory.specs.ReducedLaws.{reduced-content, reduced-one, reduced-flip, reduced-coprime}
-use Rattle.windows.specs.Window.{piece, Moved, quotient-by, zeroed, Loaded, Below, Scratch}
+use Rattle.windows.specs.Window.{piece, Moved, quotient-by, zeroed, Below, Scratch}
 use Rattle.windows.proofs.Leaf.{lt-or-le, piece-at, piece-over, piece-same}
 use Rattle.window_factor.specs.Factors.{SplitOf, AllNilpotents}
 use Rattle.reduced_units.specs.States.{Splitter}
-use Rattle.reduced_attempt.specs.Attempts.{CommonContent, NilpotentOver, Parted}
+use Rattle.reduced_attempt.specs.Attempts.{CommonContent, PairLoaded, NilpotentOver, Parted}
 use Rattle.reduced_attempt.proofs.Halves.{common-positive, common-whole, common-above}
+use Rattle.reduced_attempt.proofs.Scalings.{scaled, scaled-at, scaled-times, reduced-unscaled, divides-scaled, nilpotent-unscaled}
 use Rattle.divisor_stages.specs.Leads.{LeadAsked, Leading}
 use Rattle.divisor_stages.specs.Stages.{DivisionAsked, DivisorOrSplit}
 use Rattle.divisor_stages.proofs.Contents.{splitter-dvd}
@@ -35,30 +36,24 @@ over-one c len w e = record {
   high = λ k h. refl;
 }
 
-module _ (n c m : ℕ) (f g w w₁ w₂ w₃ w₄ : List ℕ) (ar : ArrangeAsked n c f g w) (is-m : m ≡ max (length f) (length g))
-    (cl : Moved zeroed 0 0 (2 * m) w w₁) (lg : Loaded n 0 g w₁ w₂) (lf : Loaded n m f w₂ w₃) (dv : Moved (quotient-by c) 0 0 (2 * m) w₃ w₄) where
-  within-f : length f ≤ m
-  within-f = omega arith
-
-  within-g : length g ≤ m
-  within-g = omega arith
-
+module _ (n c m r : ℕ) (f g w w₁ w₃ w₄ : List ℕ) (ar : ArrangeAsked n c f g w) (is-m : m ≡ max (length f) (length g))
+    (cl : Moved zeroed 0 0 (2 * m) w w₁) (ld : PairLoaded n r m g f w₁ w₃) (dv : Moved (quotient-by c) 0 0 (2 * m) w₃ w₄) where
   nought : (k : ℕ) → k < 2 * m → getD w₁ k 0 ≡ 0
   nought k h = ap (λ (x : ℕ). getD w₁ x 0) (sym (zero-add k)) ∙ cl .mid k h
 
-  nothing : (f : List ℕ) (k : ℕ) → length f ≤ k → 0 ≡ coef f k % n
-  nothing f k h = sym (ap (λ (x : ℕ). x % n) (coef-beyond f k h) ∙ zero-mod n)
+  nothing : (f : List ℕ) (k : ℕ) → length f ≤ k → 0 ≡ (r * coef f k) % n
+  nothing f k h = sym (ap (λ (x : ℕ). (r * x) % n) (coef-beyond f k h) ∙ ap (λ (x : ℕ). x % n) (mul-zero r) ∙ zero-mod n)
 
-  word-g : (k : ℕ) → k < m → getD w₃ k 0 ≡ coef g k % n
-  word-g k h = lf .low k h ∙ ⊎-elim
-      (λ l. ap (λ (x : ℕ). getD w₂ x 0) (sym (zero-add k)) ∙ lg .mid k l)
-      (λ l. lg .high k (omega arith) ∙ nought k (omega arith) ∙ nothing g k l)
+  word-g : (k : ℕ) → k < m → getD w₃ k 0 ≡ (r * coef g k) % n
+  word-g k h = ⊎-elim
+      (λ l. ld .first k l)
+      (λ l. ld .between k l h ∙ nought k (omega arith) ∙ nothing g k l)
       (lt-or-le k (length g))
 
-  word-f : (k : ℕ) → k < m → getD w₃ (m + k) 0 ≡ coef f k % n
+  word-f : (k : ℕ) → k < m → getD w₃ (m + k) 0 ≡ (r * coef f k) % n
   word-f k h = ⊎-elim
-      (λ l. lf .mid k l)
-      (λ l. lf .high (m + k) (omega arith) ∙ lg .high (m + k) (omega (arith, within-g)) ∙ nought (m + k) (omega arith) ∙ nothing f k l)
+      (λ l. ld .second k l)
+      (λ l. ld .high (m + k) (omega arith) ∙ nought (m + k) (omega arith) ∙ nothing f k l)
       (lt-or-le k (length f))
 
   divided : (k : ℕ) → k < 2 * m → getD w₄ k 0 ≡ getD w₃ k 0 / c
@@ -66,8 +61,10 @@ module _ (n c m : ℕ) (f g w w₁ w₂ w₃ w₄ : List ℕ) (ar : ArrangeAsked
 
   pub padded : Padded n c m f g w w₄
   padded = record {
-    same = dv .same ∙ lf .same ∙ lg .same ∙ cl .same;
+    same = dv .same ∙ ld .same ∙ cl .same;
     words = is-m;
+    factor = r;
+    unit = ld .unit;
     first = λ k h. divided (m + k) (omega arith) ∙ ap (λ (x : ℕ). x / c) (word-f k h);
     second = λ k h. divided k (omega arith) ∙ ap (λ (x : ℕ). x / c) (word-g k h);
   }
@@ -120,17 +117,20 @@ module _ (n c m : ℕ) (f g w w₁ : List ℕ) (ha : HalfAsked n c f g w) (pd : 
   long : 5 * m ≤ length w₁
   long = omega (arith, few, ha .sizes .working, pd .same)
 
-  beyond : (f : List ℕ) (k : ℕ) → length f ≤ k → 0 ≡ (coef f k % n) / c
-  beyond f k h = sym (ap (λ (x : ℕ). x % n / c) (coef-beyond f k h) ∙ ap (λ (x : ℕ). x / c) (zero-mod n) ∙ zero-div c)
+  abbrev r : ℕ
+  r = pd .factor
+
+  beyond : (f : List ℕ) (k : ℕ) → length f ≤ k → 0 ≡ ((r * coef f k) % n) / c
+  beyond f k h = sym (ap (λ (x : ℕ). (r * x) % n / c) (coef-beyond f k h) ∙ ap (λ (x : ℕ). x % n / c) (mul-zero r) ∙ ap (λ (x : ℕ). x / c) (zero-mod n) ∙ zero-div c)
 
   -- the words as polynomials
-  first-at : (k : ℕ) → coef (piece w₁ m m) k ≡ (coef f k % n) / c
+  first-at : (k : ℕ) → coef (piece w₁ m m) k ≡ ((r * coef f k) % n) / c
   first-at k = ⊎-elim
       (λ h. piece-at w₁ m m k h ∙ pd .first k h)
       (λ h. piece-over w₁ m m k h ∙ beyond f k (omega (arith, le-f)))
       (lt-or-le k m)
 
-  second-at : (k : ℕ) → coef (piece w₁ 0 m) k ≡ (coef g k % n) / c
+  second-at : (k : ℕ) → coef (piece w₁ 0 m) k ≡ ((r * coef g k) % n) / c
   second-at k = ⊎-elim
       (λ h. piece-at w₁ 0 m k h ∙ ap (λ (x : ℕ). getD w₁ x 0) (zero-add k) ∙ pd .second k h)
       (λ h. piece-over w₁ 0 m k h ∙ beyond g k (omega (arith, le-g)))
@@ -149,16 +149,21 @@ module _ (n c m : ℕ) (f g w w₁ : List ℕ) (ha : HalfAsked n c f g w) (pd : 
     two = half-above;
     within = omega arith;
     fits = omega (arith, long);
-    below = record { at = λ k h. subst (λ (x : ℕ). x < n / c) (sym (pd .first k h)) (small (coef f k) (cm .divides-f k)) };
+    below = record { at = λ k h. subst (λ (x : ℕ). x < n / c) (sym (pd .first k h)) (small (r * coef f k) (divides-scaled n c r (coef f k) (cm .divides-n) (cm .divides-f k))) };
   }
 
   pub half-nilpotents : AllNilpotents (n / c) (piece w₁ m m) → NilpotentOver n c f
-  half-nilpotents x = record { at = λ k. subst (IsNilpotent (n / c)) (first-at k) (x .at k) }
+  half-nilpotents x = record {
+    at = λ k. nilpotent-unscaled n c (n / c) r (coef f k) whole half-positive (omega (arith, half-above)) (pd .unit) (cm .divides-n) (cm .divides-f k)
+        (small (coef f k) (cm .divides-f k)) (subst (IsNilpotent (n / c)) (first-at k) (x .at k));
+  }
 
-  times : (f h : List ℕ) → ((k : ℕ) → coef h k ≡ (coef f k % n) / c) → ((k : ℕ) → c ∣ coef f k % n) → Times (c * (n / c)) c f h
+  -- the words, as r f and r g over c
+  times : (f h : List ℕ) → ((k : ℕ) → coef h k ≡ ((r * coef f k) % n) / c) → ((k : ℕ) → c ∣ coef f k % n) → Times (c * (n / c)) c (scaled r f) h
   times f h at d = record {
-    at = λ k. subst (λ (x : ℕ). coef f k % x ≡ (c * coef h k) % x) whole
-        (sym (ap (λ (x : ℕ). (c * x) % n) (at k) ∙ ap (λ (x : ℕ). x % n) (mul-div-cancel' c (d k)) ∙ mod-mod (coef f k) n));
+    at = λ k. subst (λ (x : ℕ). coef (scaled r f) k % x ≡ (c * coef h k) % x) whole
+        (ap (λ (x : ℕ). x % n) (scaled-at r f k) ∙ sym (ap (λ (x : ℕ). (c * x) % n) (at k)
+        ∙ ap (λ (x : ℕ). x % n) (mul-div-cancel' c (divides-scaled n c r (coef f k) (cm .divides-n) (d k))) ∙ mod-mod (r * coef f k) n));
   }
 
   module _ (t i : ℕ) (w₂ : List ℕ) (ld : Leading (n / c) m m t i (2 * m) w₁ w₂) where
@@ -172,7 +177,7 @@ module _ (n c m : ℕ) (f g w w₁ : List ℕ) (ha : HalfAsked n c f g w) (pd : 
       first = omega (arith, some);
       second = omega (arith, ld .shorter);
       fits = omega (arith, ld .shorter, long, ld .beyond .same);
-      below-first = record { at = λ k h. subst (λ (x : ℕ). x < n / c) (sym (ap (λ (x : ℕ). getD w₂ x 0) (zero-add k) ∙ kept k (omega (arith, some)) ∙ pd .second k (omega (arith, some)))) (small (coef g k) (cm .divides-g k)) };
+      below-first = record { at = λ k h. subst (λ (x : ℕ). x < n / c) (sym (ap (λ (x : ℕ). getD w₂ x 0) (zero-add k) ∙ kept k (omega (arith, some)) ∙ pd .second k (omega (arith, some)))) (small (r * coef g k) (divides-scaled n c r (coef g k) (cm .divides-n) (cm .divides-g k))) };
       below-second = ld .below;
       apart = record { ok = λ x y p q e. omega (arith, some) };
       inverse = ld .inverse;
@@ -190,11 +195,12 @@ module _ (n c m : ℕ) (f g w w₁ : List ℕ) (ha : HalfAsked n c f g w) (pd : 
       pub half-reduced : Reduced n f g (c * D)
       half-reduced =
           let positive : 1 ≤ n / c = omega (arith, half-above) in
-          subst (λ (z : ℕ). Reduced z f g (c * D)) (sym whole)
-          (reduced-content c (n / c) D f (piece w₁ m m) g (piece w₁ 0 m) half-positive positive
+          reduced-unscaled n r (c * D) (omega (arith, two)) (pd .unit) f (scaled r f) g (scaled r g) (scaled-times n r f) (scaled-times n r g)
+          (subst (λ (z : ℕ). Reduced z (scaled r f) (scaled r g) (c * D)) (sym whole)
+          (reduced-content c (n / c) D (scaled r f) (piece w₁ m m) (scaled r g) (piece w₁ 0 m) half-positive positive
           (times f (piece w₁ m m) first-at (cm .divides-f)) (times g (piece w₁ 0 m) second-at (cm .divides-g))
           (ld .constants (piece w₁ 0 m) D (reduced-flip (n / c) positive (piece w₁ 0 m) (piece w₂ m (t + 1)) D
-          (subst (λ (h : List ℕ). Reduced (n / c) h (piece w₂ m (t + 1)) D) same-second x))))
+          (subst (λ (h : List ℕ). Reduced (n / c) h (piece w₂ m (t + 1)) D) same-second x)))))
 
 -- ---- both polynomials are 0 modulo n
 

@@ -8,6 +8,7 @@ use mathlib.Core.Path.{_≡_}
 use mathlib.Core.List.{List}
 use Prim.Native.Nat.{ℕ, max, _+_, _*_, _/_, _%_, _<_, _≤_}
 use lib.ListN.{length, getD}
+use Rattle.definitions.specs.Residues.{IsUnit}
 use Rattle.definitions.specs.Polynomials.{coef}
 use Rattle.definitions.specs.Resultants.{Reduced}
 use Rattle.window_factor.specs.Factors.{SplitOf}
@@ -20,18 +21,20 @@ use Rattle.reduced_attempt.specs.declared.Trial.the-variants.{Found, Divisors, 
 use Rattle.divisor.specs.Sizes.{DivisorSizes}
 
 pub record ArrangeAsked (n c : ℕ) (f g w : List ℕ) : Type 0 where
-  pub modulus : 1 ≤ n
+  pub modulus : 2 ≤ n
   pub content : 1 ≤ c
   pub few-f : length f ≤ 49
   pub few-g : length g ≤ 49
   pub fits : 98 ≤ length w
 
--- m words each: g over c at 0, f over c at m; a word beyond a polynomial is 0
+-- m words each: g over c at 0, f over c at m, both times a unit; a word beyond a polynomial is 0
 pub record Padded (n c m : ℕ) (f g w w' : List ℕ) : Type 0 where
   pub same : length w' ≡ length w
   pub words : m ≡ max (length f) (length g)
-  pub first : (k : ℕ) → k < m → getD w' (m + k) 0 ≡ (coef f k % n) / c
-  pub second : (k : ℕ) → k < m → getD w' k 0 ≡ (coef g k % n) / c
+  pub factor : ℕ
+  pub unit : IsUnit n factor
+  pub first : (k : ℕ) → k < m → getD w' (m + k) 0 ≡ ((factor * coef f k) % n) / c
+  pub second : (k : ℕ) → k < m → getD w' k 0 ≡ ((factor * coef g k) % n) / c
 
 -- a half is tried where the common content c of f and g is not all of n
 pub record HalfAsked (n c : ℕ) (f g w : List ℕ) : Type 0 where

@@ -1,7 +1,8 @@
-// The reduced resultant D of two polynomials modulo n, without cofactors.
+// The reduced resultant D of two polynomials modulo n, without cofactors. For odd n below 2^31 the words of f and g are loaded held: D of
+// 2^32 f and 2^32 g is D of f and g.
 //
 //   f, g   the sent words; c is the content of both together
-//   w      the working window: g over c from 0 on, f over c from m on, m words each, zeros above; room from 2 m on
+//   w      the working window: g over c from 0 on, f over c from m on, both times a unit, m words each, zeros above; room from 2 m on
 //
 //   longer    the larger of two numbers of words
 //   over      words over a content
@@ -42,15 +43,15 @@ fn over(w: &mut [u32], c: u32, len: usize)
     windows::divide_words(w, c, 0, len);
 }
 
-// The words of g over c, and then those of f, each followed by zeros up to as many as the longer one has. Answers that number.
+// The words of g over c, and then those of f, times a unit, each followed by zeros up to as many as the longer one has. Answers how
+// many.
 fn arrange(w: &mut [u32], n: u32, c: u32, f: &[u32], g: &[u32]) -> usize
     requires { ⌜ ArrangeAsked n c (now f) (now g) (now w) ⌝ }
     ensures { λ r. ⌜ Padded n c r (now (f .entry)) (now (g .entry)) (now (w .entry)) (now (w .exit)) ⌝ }
 {
     let m = longer(f.len(), g.len());
     windows::clear(w, 0, 2 * m);
-    windows::load(w, 0, g, n);
-    windows::load(w, m, f, n);
+    reduced_attempt::load_pair(w, n, g, m, f);
     over(w, c, 2 * m);
     m
 }

@@ -4,7 +4,9 @@ use mathlib.Core.List.{List}
 use mathlib.Core.Logic.{⊎-elim}
 use Prim.Native.Nat.{ℕ, zero, suc, max, _+_, _-_, _*_, _/_, _%_, _^_, _≤_, _<_, _∣_}
 use native.Mathlib.Omega.{arith}
-use native.Mathlib.Nat.{mod-lt, mod-mod, zero-mod, zero-add, zero-div, mul-zero, mul-one, mul-le-mul-left, mul-le-mul-right, mul-div-cancel', mul-dvd-mul-left, dvd-zero, dvd-trans, dvd-refl, dvd-mul-left, pos-of-dvd-of-pos, le-of-dvd, dvd-of-mod-eq-zero}
+use native.Mathlib.Nat.{mod-lt, mod-mod, zero-mod, zero-add, zero-div, mul-zero, mul-one, mul-le-mul-left, mul-le-mul-right}
+use native.Mathlib.Nat.{mul-div-cancel', mul-dvd-mul-left, dvd-zero, dvd-trans, dvd-refl, dvd-mul-left, pos-of-dvd-of-pos, le-of-dvd}
+use native.Mathlib.Nat.{dvd-of-mod-eq-zero}
 use lib.ListN.{length, getD}
 use Rattle.definitions.specs.Residues.{K, Inverse, IsNilpotent, Splitting}
 use Rattle.definitions.specs.Polynomials.{coef, L}
@@ -22,11 +24,14 @@ use Rattle.window_factor.specs.Factors.{SplitOf, AllNilpotents as NilpotentWord
 use Rattle.reduced_multipliers.specs.Joining.{combination-content}
 use Rattle.reduced_units.specs.States.{Splitter}
 use Rattle.reduced_cofactors.specs.Cofactors.{Certified, core-room}
-use Rattle.reduced_attempt.specs.Attempts.{CommonContent, Arranged, NilpotentOver}
+use Rattle.reduced_attempt.specs.Attempts.{CommonContent, PairLoaded, Arranged, LeaveAsked, Left, NilpotentOver}
+use Rattle.reduced_attempt.proofs.Scalings.{scaled, scaled-at, scaled-times, reduced-unscaled, combination-unscaled, divides-scaled}
+use Rattle.reduced_attempt.proofs.Scalings.{nilpotent-unscaled}
 
 -- ---- two polynomials in the buffer
 
-module _ (n : ℕ) (f g w w₁ w₂ : List ℕ) (fits : length f + length g ≤ length w) (lf : Loaded n 0 f w w₁) (lg : Loaded n (length f) g w₁ w₂) where
+module _ (n : ℕ) (f g w w₁ w₂ : List ℕ) (fits : length f + length g ≤ length w) (lf : Loaded n 0 f w w₁) (lg : Loaded n
+    (length f) g w₁ w₂) where
   first-loaded : (k : ℕ) → k < length f → getD w₂ k 0 ≡ coef f k % n
   first-loaded k h = lg .low k h ∙ ap (λ (x : ℕ). getD w₁ x 0) (sym (zero-add k)) ∙ lf .mid k h
 
@@ -39,11 +44,15 @@ module _ (n : ℕ) (f g w w₁ w₂ : List ℕ) (fits : length f + length g ≤ 
   pub common-of : (c : ℕ) → Content n (piece w₂ 0 (length f + length g)) c → CommonContent n f g c
   common-of c ct = record {
     divides-n = ct .divides-n;
-    divides-f = λ k. ⊎-elim (λ h. subst (λ (x : ℕ). c ∣ x) (at k (omega arith) ∙ first-loaded k h) (ct .divides k (omega (arith, size)))) (λ h. beyond f k h c) (lt-or-le k (length f));
-    divides-g = λ k. ⊎-elim (λ h. subst (λ (x : ℕ). c ∣ x) (at (length f + k) (omega arith) ∙ second-loaded k h) (ct .divides (length f + k) (omega (arith, size)))) (λ h. beyond g k h c) (lt-or-le k (length g));
+    divides-f = λ k. ⊎-elim (λ h. subst (λ (x : ℕ). c ∣ x) (at k (omega arith) ∙ first-loaded k h) (ct .divides k (omega (arith, size))))
+        (λ h. beyond f k h c) (lt-or-le k (length f));
+    divides-g = λ k. ⊎-elim (λ h. subst (λ (x : ℕ). c ∣ x) (at (length f + k) (omega arith) ∙ second-loaded k h) (ct .divides
+        (length f + k) (omega (arith, size)))) (λ h. beyond g k h c) (lt-or-le k (length g));
     greatest = λ x d p q. ct .greatest x d (λ k h. ⊎-elim
         (λ b. subst (λ (y : ℕ). x ∣ y) (sym (at k (omega (arith, size)) ∙ first-loaded k b)) (p k))
-        (λ b. subst (λ (y : ℕ). x ∣ y) (sym (at k (omega (arith, size)) ∙ ap (λ (y : ℕ). getD w₂ y 0) (let z : k ≡ length f + (k - length f) = omega arith in z) ∙ second-loaded (k - length f) (omega (arith, size)))) (q (k - length f)))
+        (λ b. subst (λ (y : ℕ). x ∣ y) (sym (at k (omega (arith, size)) ∙ ap (λ (y : ℕ). getD w₂ y 0)
+        (let z : k ≡ length f + (k - length f) = omega arith in z) ∙ second-loaded (k - length f) (omega (arith, size)))) (q
+        (k - length f)))
         (lt-or-le k (length f)));
   }
     where
@@ -56,16 +65,19 @@ module _ (n : ℕ) (f g w w₁ w₂ : List ℕ) (fits : length f + length g ≤ 
       beyond : (f : List ℕ) (k : ℕ) → length f ≤ k → (c : ℕ) → c ∣ coef f k % n
       beyond f k h c = subst (λ (x : ℕ). c ∣ x) (sym (ap (λ (x : ℕ). x % n) (coef-beyond f k h) ∙ zero-mod n)) (dvd-zero c)
 
-  -- each word over c
-  pub arranged-of : (c : ℕ) (w₃ : List ℕ) → Moved (quotient-by c) 0 0 (length f + length g) w₂ w₃ → Arranged n c g f w w₃
-  arranged-of c w₃ mv = record {
-    same = mv .same ∙ long;
-    first = λ k h. word (length f + k) (omega arith) ∙ ap (λ (x : ℕ). x / c) (second-loaded k h);
-    second = λ k h. word k (omega arith) ∙ ap (λ (x : ℕ). x / c) (first-loaded k h);
-  }
-    where
-      word : (k : ℕ) → k < length f + length g → getD w₃ k 0 ≡ getD w₂ k 0 / c
-      word k h = ap (λ (x : ℕ). getD w₃ x 0) (sym (zero-add k)) ∙ mv .mid k h ∙ ap (λ (x : ℕ). getD w₂ x 0 / c) (zero-add k)
+-- each word over c
+pub arranged-of : (n c r : ℕ) (f g w w₂ w₃ : List ℕ) → length f + length g ≤ length w → PairLoaded n r (length f) f g w w₂
+    → Moved (quotient-by c) 0 0 (length f + length g) w₂ w₃ → Arranged n c r g f w w₃
+arranged-of n c r f g w w₂ w₃ fits ld mv = record {
+  unit = ld .unit;
+  form = ld .form;
+  same = mv .same ∙ ld .same;
+  first = λ k h. word (length f + k) (omega arith) ∙ ap (λ (x : ℕ). x / c) (ld .second k h);
+  second = λ k h. word k (omega arith) ∙ ap (λ (x : ℕ). x / c) (ld .first k h);
+}
+  where
+    word : (k : ℕ) → k < length f + length g → getD w₃ k 0 ≡ getD w₂ k 0 / c
+    word k h = ap (λ (x : ℕ). getD w₃ x 0) (sym (zero-add k)) ∙ mv .mid k h ∙ ap (λ (x : ℕ). getD w₂ x 0 / c) (zero-add k)
 
 -- ---- modulo n / c
 
@@ -100,7 +112,8 @@ module _ (n c : ℕ) (a b : List ℕ) (two : 2 ≤ n) (cm : CommonContent n a b 
   pub length-less : (ne : c ≡ n → ⊥) (d e x : ℕ) → L n d e ≤ x → L (n / c) d e ≤ x
   length-less ne d e x h = omega (arith, mul-le-mul-right (max d e) (fewer ne))
 
-  module _ (w w₁ : List ℕ) (one-a : 1 ≤ length a) (one-b : 1 ≤ length b) (room : core-room n (length a - 1) (length b - 1) ≤ length w) (ne : c ≡ n → ⊥) (ar : Arranged n c a b w w₁) where
+  module _ (w w₁ : List ℕ) (one-a : 1 ≤ length a) (one-b : 1 ≤ length b) (room : core-room n (length a - 1) (length b - 1) ≤ length w)
+      (ne : c ≡ n → ⊥) (r : ℕ) (ar : Arranged n c r a b w w₁) where
     more-a : length a - 1 + 1 ≡ length a
     more-a = omega arith
 
@@ -108,72 +121,110 @@ module _ (n c : ℕ) (a b : List ℕ) (two : 2 ≤ n) (cm : CommonContent n a b 
     more-b = omega arith
 
     -- the words as polynomials
-    first-at : (k : ℕ) → coef (piece w₁ (length b - 1 + 1) (length a - 1 + 1)) k ≡ (coef a k % n) / c
+    first-at : (k : ℕ) → coef (piece w₁ (length b - 1 + 1) (length a - 1 + 1)) k ≡ ((r * coef a k) % n) / c
     first-at k = ⊎-elim
         (λ h. piece-at w₁ (length b - 1 + 1) (length a - 1 + 1) k (omega arith) ∙ ap (λ (x : ℕ). getD w₁ (x + k) 0) more-b ∙ ar .first k h)
         (λ h. piece-over w₁ (length b - 1 + 1) (length a - 1 + 1) k (omega arith) ∙ sym (beyond a k h))
         (lt-or-le k (length a))
       where
-        beyond : (a : List ℕ) (k : ℕ) → length a ≤ k → (coef a k % n) / c ≡ 0
-        beyond a k h = ap (λ (x : ℕ). x % n / c) (coef-beyond a k h) ∙ ap (λ (x : ℕ). x / c) (zero-mod n) ∙ zero-div c
+        beyond : (a : List ℕ) (k : ℕ) → length a ≤ k → ((r * coef a k) % n) / c ≡ 0
+        beyond a k h = ap (λ (x : ℕ). (r * x) % n / c) (coef-beyond a k h) ∙ ap (λ (x : ℕ). x % n / c) (mul-zero r) ∙ ap (λ (x : ℕ). x / c)
+            (zero-mod n) ∙ zero-div c
 
-    second-at : (k : ℕ) → coef (piece w₁ 0 (length b - 1 + 1)) k ≡ (coef b k % n) / c
+    second-at : (k : ℕ) → coef (piece w₁ 0 (length b - 1 + 1)) k ≡ ((r * coef b k) % n) / c
     second-at k = ⊎-elim
         (λ h. piece-at w₁ 0 (length b - 1 + 1) k (omega arith) ∙ ap (λ (x : ℕ). getD w₁ x 0) (zero-add k) ∙ ar .second k h)
         (λ h. piece-over w₁ 0 (length b - 1 + 1) k (omega arith) ∙ sym (beyond b k h))
         (lt-or-le k (length b))
       where
-        beyond : (a : List ℕ) (k : ℕ) → length a ≤ k → (coef a k % n) / c ≡ 0
-        beyond a k h = ap (λ (x : ℕ). x % n / c) (coef-beyond a k h) ∙ ap (λ (x : ℕ). x / c) (zero-mod n) ∙ zero-div c
+        beyond : (a : List ℕ) (k : ℕ) → length a ≤ k → ((r * coef a k) % n) / c ≡ 0
+        beyond a k h = ap (λ (x : ℕ). (r * x) % n / c) (coef-beyond a k h) ∙ ap (λ (x : ℕ). x % n / c) (mul-zero r) ∙ ap (λ (x : ℕ). x / c)
+            (zero-mod n) ∙ zero-div c
 
     -- y / c is below n / c
     small : (y : ℕ) → c ∣ y % n → (y % n) / c < n / c
     small y d = less c ((y % n) / c) (n / c) common-positive
-        (subst (λ (x : ℕ). x < c * (n / c)) (sym (mul-div-cancel' c d)) (subst (λ (x : ℕ). y % n < x) common-whole (mod-lt y (omega arith))))
+        (subst (λ (x : ℕ). x < c * (n / c)) (sym (mul-div-cancel' c d)) (subst (λ (x : ℕ). y % n < x) common-whole
+        (mod-lt y (omega arith))))
       where
         less : (c x y : ℕ) → 0 < c → c * x < c * y → x < y
         less c x y p q = ⊎-elim (λ h. h) (λ h. absurd (omega (arith, mul-le-mul-left c h))) (lt-or-le x y)
 
     pub below-second : Below (n / c) 0 (length b - 1 + 1) w₁
-    below-second = record { at = λ k h. subst (λ (x : ℕ). x < n / c) (sym (ap (λ (x : ℕ). getD w₁ x 0) (zero-add k) ∙ ar .second k (omega arith))) (small (coef b k) (cm .divides-g k)) }
+    below-second = record {
+      at = λ k h. subst (λ (x : ℕ). x < n / c) (sym
+          (ap (λ (x : ℕ). getD w₁ x 0) (zero-add k) ∙ ar .second k (omega arith))) (small (r * coef b k)
+          (divides-scaled n c r (coef b k) (cm .divides-n) (cm .divides-g k)));
+    }
 
     pub below-first : Below (n / c) (length b - 1 + 1) (length a - 1 + 1) w₁
-    below-first = record { at = λ k h. subst (λ (x : ℕ). x < n / c) (sym (ap (λ (x : ℕ). getD w₁ (x + k) 0) more-b ∙ ar .first k (omega arith))) (small (coef a k) (cm .divides-f k)) }
+    below-first = record {
+      at = λ k h. subst (λ (x : ℕ). x < n / c) (sym
+          (ap (λ (x : ℕ). getD w₁ (x + k) 0) more-b ∙ ar .first k (omega arith))) (small (r * coef a k)
+          (divides-scaled n c r (coef a k) (cm .divides-n) (cm .divides-f k)));
+    }
 
     pub part-first : piece w₁ (length b) (length a) ≡ piece w₁ (length b - 1 + 1) (length a - 1 + 1)
     part-first = ap₂ (λ (x y : ℕ). piece w₁ x y) (sym more-b) (sym more-a)
 
     pub arranged-nilpotents : NilpotentWords (n / c) (piece w₁ (length b) (length a)) → NilpotentOver n c a
-    arranged-nilpotents x = record { at = λ k. subst (IsNilpotent (n / c)) (ap (λ (f : List ℕ). coef f k) part-first ∙ first-at k) (x .at k) }
-
-    times : (a f : List ℕ) → ((k : ℕ) → coef f k ≡ (coef a k % n) / c) → ((k : ℕ) → c ∣ coef a k % n) → Times (c * (n / c)) c a f
-    times a f at d = record {
-      at = λ k. subst (λ (x : ℕ). coef a k % x ≡ (c * coef f k) % x) common-whole
-          (sym (ap (λ (x : ℕ). (c * x) % n) (at k) ∙ ap (λ (x : ℕ). x % n) (mul-div-cancel' c (d k)) ∙ mod-mod (coef a k) n));
+    arranged-nilpotents x = record {
+      at = λ k. nilpotent-unscaled n c (n / c) r (coef a k) common-whole common-positive (omega (arith, common-above ne)) (ar .unit)
+          (cm .divides-n) (cm .divides-f k)
+          (small (coef a k) (cm .divides-f k)) (subst (IsNilpotent (n / c)) (ap (λ (f : List ℕ). coef f k) part-first ∙ first-at k)
+          (x .at k));
     }
 
-    times-first : Times (c * (n / c)) c a (piece w₁ (length b - 1 + 1) (length a - 1 + 1))
+    -- the words, as r a and r b over c
+    times : (a f : List ℕ) → ((k : ℕ) → coef f k ≡ ((r * coef a k) % n) / c) → ((k : ℕ) → c ∣ coef a k % n) → Times (c * (n / c)) c
+        (scaled r a) f
+    times a f at d = record {
+      at = λ k. subst (λ (x : ℕ). coef (scaled r a) k % x ≡ (c * coef f k) % x) common-whole
+          (ap (λ (x : ℕ). x % n) (scaled-at r a k) ∙ sym (ap (λ (x : ℕ). (c * x) % n) (at k)
+          ∙ ap (λ (x : ℕ). x % n) (mul-div-cancel' c (divides-scaled n c r (coef a k) (cm .divides-n) (d k))) ∙ mod-mod (r * coef a k) n));
+    }
+
+    times-first : Times (c * (n / c)) c (scaled r a) (piece w₁ (length b - 1 + 1) (length a - 1 + 1))
     times-first = times a (piece w₁ (length b - 1 + 1) (length a - 1 + 1)) first-at (cm .divides-f)
 
-    times-second : Times (c * (n / c)) c b (piece w₁ 0 (length b - 1 + 1))
+    times-second : Times (c * (n / c)) c (scaled r b) (piece w₁ 0 (length b - 1 + 1))
     times-second = times b (piece w₁ 0 (length b - 1 + 1)) second-at (cm .divides-g)
 
     module _ (x y : List ℕ) (D : ℕ)
-        (ce : Certified (n / c) (L (n / c) (length a - 1) (length b - 1)) (piece w₁ (length b - 1 + 1) (length a - 1 + 1)) (piece w₁ 0 (length b - 1 + 1)) x y D) where
+        (ce : Certified (n / c) (L (n / c) (length a - 1) (length b - 1)) (piece w₁ (length b - 1 + 1) (length a - 1 + 1)) (piece w₁ 0
+        (length b - 1 + 1)) x y D) where
       pub product-most : c * D ≤ n
       product-most = subst (λ (z : ℕ). c * D ≤ z) (sym common-whole) (mul-le-mul-left c (ce .reduced .most))
 
-      pub half-certified : Certified n (L n (length a - 1) (length b - 1)) a b x y (c * D)
-      half-certified = record {
-        reduced = subst (λ (z : ℕ). Reduced z a b (c * D)) (sym common-whole)
-            (reduced-content c (n / c) D a (piece w₁ (length b - 1 + 1) (length a - 1 + 1)) b (piece w₁ 0 (length b - 1 + 1)) common-positive (omega (arith, common-above ne)) times-first times-second (ce .reduced));
-        combination = subst (λ (z : ℕ). Combination z a b x y (c * D)) (sym common-whole)
-            (combination-content c (n / c) D common-positive (omega (arith, common-above ne)) a (piece w₁ (length b - 1 + 1) (length a - 1 + 1)) b (piece w₁ 0 (length b - 1 + 1)) x y times-first times-second (ce .combination));
-        below-u = λ k. omega (arith, ce .below-u k, common-most);
-        below-v = λ k. omega (arith, ce .below-v k, common-most);
-        short-u = λ k h. ce .short-u k (length-less ne (length a - 1) (length b - 1) k h);
-        short-v = λ k h. ce .short-v k (length-less ne (length a - 1) (length b - 1) k h);
+      pub leave-first : LeaveAsked n r x
+      leave-first = record { form = ar .form; below = λ k. omega (arith, ce .below-u k, common-most) }
+
+      pub leave-second : LeaveAsked n r y
+      leave-second = record { form = ar .form; below = λ k. omega (arith, ce .below-v k, common-most) }
+
+      pub half-certified : (x′ y′ : List ℕ) → Left n r x x′ → Left n r y y′ → Certified n (L n (length a - 1) (length b - 1)) a b x′ y′
+          (c * D)
+      half-certified x′ y′ lx ly = record {
+        reduced = reduced-unscaled n r (c * D) (omega arith) (ar .unit) a (scaled r a) b (scaled r b) (scaled-times n r a)
+            (scaled-times n r b)
+            (subst (λ (z : ℕ). Reduced z (scaled r a) (scaled r b) (c * D)) (sym common-whole)
+            (reduced-content c (n / c) D (scaled r a) (piece w₁ (length b - 1 + 1) (length a - 1 + 1)) (scaled r b) (piece w₁ 0
+            (length b - 1 + 1)) common-positive
+            (omega (arith, common-above ne)) times-first times-second (ce .reduced)));
+        combination = combination-unscaled n r (c * D) (omega arith) a (scaled r a) b (scaled r b) x y x′ y′ (scaled-times n r a)
+            (scaled-times n r b) (lx .at) (ly .at)
+            (subst (λ (z : ℕ). Combination z (scaled r a) (scaled r b) x y (c * D)) (sym common-whole)
+            (combination-content c (n / c) D common-positive (omega (arith, common-above ne)) (scaled r a) (piece w₁ (length b - 1 + 1)
+            (length a - 1 + 1)) (scaled r b)
+            (piece w₁ 0 (length b - 1 + 1)) x y times-first times-second (ce .combination)));
+        below-u = λ k. subst (λ (z : ℕ). z < n) (sym (lx .at k)) (mod-lt _ (omega arith));
+        below-v = λ k. subst (λ (z : ℕ). z < n) (sym (ly .at k)) (mod-lt _ (omega arith));
+        short-u = λ k h. lx .at k ∙ none (ce .short-u k (length-less ne (length a - 1) (length b - 1) k h));
+        short-v = λ k h. ly .at k ∙ none (ce .short-v k (length-less ne (length a - 1) (length b - 1) k h));
       }
+        where
+          none : {z : ℕ} → z ≡ 0 → (r * z) % n ≡ 0
+          none e = ap (λ (z : ℕ). (r * z) % n) e ∙ ap (λ (z : ℕ). z % n) (mul-zero r) ∙ zero-mod n
 
     pub part-divides : n / c ∣ n
     part-divides = subst (λ (x : ℕ). n / c ∣ x) (sym common-whole) (dvd-mul-left (n / c) c)
@@ -188,13 +239,15 @@ module _ (n c : ℕ) (a b : List ℕ) (two : 2 ≤ n) (cm : CommonContent n a b 
     }
 
 -- not all coefficients of both are nilpotent
-pub common-primitive : (n c : ℕ) (a b : List ℕ) → 2 ≤ n → CommonContent n a b c → (c ≡ n → ⊥) → NilpotentOver n c a → NilpotentOver n c b → ⊥
+pub common-primitive : (n c : ℕ) (a b : List ℕ) → 2 ≤ n → CommonContent n a b c → (c ≡ n → ⊥) → NilpotentOver n c a → NilpotentOver n c b
+    → ⊥
 common-primitive n c a b two cm ne na nb =
     let above = common-above n c a b two cm ne in
     let pos = common-positive n c a b two cm in
     let p = prime-of (n / c) (omega arith) in
     let go : (y : ℕ) → c ∣ y % n → IsNilpotent (n / c) ((y % n) / c) → c * p .p ∣ y % n = λ y d x.
-    subst (λ (z : ℕ). c * p .p ∣ z) (mul-div-cancel' c d) (mul-dvd-mul-left (p .p) c (nilpotent-radical x .at (p .p) (p .prime) (p .divides))) in
+    subst (λ (z : ℕ). c * p .p ∣ z) (mul-div-cancel' c d) (mul-dvd-mul-left (p .p) c (nilpotent-radical x .at (p .p) (p .prime)
+    (p .divides))) in
     let d : c * p .p ∣ c =
     cm .greatest (c * p .p) (subst (λ (x : ℕ). c * p .p ∣ x) (sym (common-whole n c a b two cm)) (mul-dvd-mul-left (p .p) c (p .divides)))
     (λ k. go (coef a k) (cm .divides-f k) (na .at k)) (λ k. go (coef b k) (cm .divides-g k) (nb .at k)) in

@@ -1,3 +1,4 @@
+pub mod Scalings
 pub mod Halves
 pub mod Whole
 pub mod Parting

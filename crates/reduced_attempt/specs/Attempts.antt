@@ -1,7 +1,9 @@
 -- What an attempt asks and promises. f and g are polynomials of sent degrees d and e, whose words may be any numbers.
 --
 --   CommonContent n f g c  c is the greatest common divisor of n and of all words of f and g modulo n
---   Arranged n c a b       the words of b and then those of a, modulo n and over c
+--   PairLoaded n r j f g   the words of f, and from j on those of g, times the unit r
+--   Arranged n c r a b     the words of b and then those of a, times r modulo n and over c
+--   LeaveAsked, Left       words times r
 --   HalfAsked              of the half of an attempt that factors the first polynomial: what it asks
 --   TrialAnswers           what it promises
 --   AttemptAsked           what an attempt asks
@@ -11,8 +13,9 @@ use mathlib.Core.Path.{_≡_}
 use mathlib.Core.List.{List}
 use Prim.Native.Nat.{ℕ, max, _+_, _-_, _*_, _/_, _%_, _<_, _≤_, _∣_}
 use lib.ListN.{length, getD}
-use Rattle.definitions.specs.Residues.{K, IsNilpotent}
+use Rattle.definitions.specs.Residues.{K, IsUnit, IsNilpotent}
 use Rattle.definitions.specs.Polynomials.{coef, L}
+use Rattle.montgomery.specs.Held.{Fits}
 use Rattle.window_factor.specs.Factors.{SplitOf}
 use Rattle.reduced_units.specs.States.{Splitter}
 use Rattle.residue.specs.declared.Attempt.{Attempt}
@@ -28,11 +31,34 @@ pub record CommonContent (n : ℕ) (f g : List ℕ) (c : ℕ) : Type 0 where
   pub divides-g : (k : ℕ) → c ∣ coef g k % n
   pub greatest : (x : ℕ) → x ∣ n → ((k : ℕ) → x ∣ coef f k % n) → ((k : ℕ) → x ∣ coef g k % n) → x ∣ c
 
--- as the core of an attempt wants them; of the words after these nothing is promised
-pub record Arranged (n c : ℕ) (a b w w' : List ℕ) : Type 0 where
+-- "A polynomial held as R f … is another polynomial modulo n, and R is a unit": the words are those of r f and r g, r a unit, and 1 unless
+-- n has the form
+pub record PairLoaded (n r j : ℕ) (f g w w' : List ℕ) : Type 0 where
+  pub unit : IsUnit n r
+  pub form : (r ≡ 1 → ⊥) → Fits n
   pub same : length w' ≡ length w
-  pub first : (k : ℕ) → k < length a → getD w' (length b + k) 0 ≡ (coef a k % n) / c
-  pub second : (k : ℕ) → k < length b → getD w' k 0 ≡ (coef b k % n) / c
+  pub first : (k : ℕ) → k < length f → getD w' k 0 ≡ (r * coef f k) % n
+  pub second : (k : ℕ) → k < length g → getD w' (j + k) 0 ≡ (r * coef g k) % n
+  pub between : (k : ℕ) → length f ≤ k → k < j → getD w' k 0 ≡ getD w k 0
+  pub high : (k : ℕ) → j + length g ≤ k → getD w' k 0 ≡ getD w k 0
+
+-- as the core of an attempt wants them; of the words after these nothing is promised
+pub record Arranged (n c r : ℕ) (a b w w' : List ℕ) : Type 0 where
+  pub unit : IsUnit n r
+  pub form : (r ≡ 1 → ⊥) → Fits n
+  pub same : length w' ≡ length w
+  pub first : (k : ℕ) → k < length a → getD w' (length b + k) 0 ≡ ((r * coef a k) % n) / c
+  pub second : (k : ℕ) → k < length b → getD w' k 0 ≡ ((r * coef b k) % n) / c
+
+-- words that are residues; r is 1 unless n has the form
+pub record LeaveAsked (n r : ℕ) (x : List ℕ) : Type 0 where
+  pub form : (r ≡ 1 → ⊥) → Fits n
+  pub below : (k : ℕ) → coef x k < n
+
+-- "cofactors leave times R": each word times r
+pub record Left (n r : ℕ) (x x' : List ℕ) : Type 0 where
+  pub same : length x' ≡ length x
+  pub at : (k : ℕ) → coef x' k ≡ (r * coef x k) % n
 
 -- all coefficients of a over c are nilpotent modulo n / c
 pub record NilpotentOver (n c : ℕ) (a : List ℕ) : Type 0 where

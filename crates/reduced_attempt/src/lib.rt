@@ -1,7 +1,13 @@
 // An attempt at the reduced resultant of two polynomials modulo n. It finishes, or it meets a coefficient that splits n into two coprime
 // factors.
 //
+// For odd n below 2^31 the words of f and g are loaded held, and what is worked on is 2^32 f and 2^32 g: D is the same, and cofactors leave
+// times 2^32. Elsewhere the factor is 1.
+//
 //   common_content   the content of both polynomials, which divides D
+//   load_pair        both polynomials, held where n has the form
+//   arrange          the same, over a content
+//   leave            a cofactor times what the polynomials were multiplied by
 //   half             the attempt where the first polynomial is the one that is factored
 //   split            two coprime divisors of n, made two coprime factors
 //   attempt          both halves in turn
@@ -9,7 +15,7 @@ ghost use Prim.Native.Nat.{_+_, _-_, _*_, _/_, _≤_};
 ghost use lib.ListN.{length};
 ghost use Rattle.windows.specs.Window.{Scratch};
 ghost use Rattle.reduced_units.specs.States.{Splitter};
-ghost use Rattle.reduced_attempt.specs.Attempts.{CommonContent, Arranged, HalfAsked, TrialAnswers};
+ghost use Rattle.reduced_attempt.specs.Attempts.{CommonContent, PairLoaded, Arranged, LeaveAsked, Left, HalfAsked, TrialAnswers};
 ghost use Rattle.reduced_attempt.specs.Attempts.{Parted, AttemptAsked, Attempted};
 use residue::Attempt;
 
@@ -34,16 +40,46 @@ pub fn common_content(w: &mut [u32], n: u32, f: &[u32], g: &[u32]) -> u32
     windows::content(&w[0..m], n)
 }
 
-// The words of b over c, and then those of a.
-fn arrange(w: &mut [u32], n: u32, c: u32, a: &[u32], b: &[u32])
-    requires { ⌜ (1 ≤ n) × ((1 ≤ c) × (length (now b) + length (now a) ≤ length (now w))) ⌝ }
-    ensures { λ _. ⌜ Arranged n c (now (a .entry)) (now (b .entry)) (now (w .entry)) (now (w .exit)) ⌝ }
+// The words of f from 0 on and those of g from j on, times the unit that is answered: held, or as they are modulo n.
+pub fn load_pair(w: &mut [u32], n: u32, f: &[u32], j: usize, g: &[u32]) -> u32
+    requires { ⌜ (2 ≤ n) × ((length (now f) ≤ j) × (j + length (now g) ≤ length (now w))) ⌝ }
+    ensures { λ r. ⌜ PairLoaded n r j (now (f .entry)) (now (g .entry)) (now (w .entry)) (now (w .exit)) ⌝ }
+{
+    if montgomery::fits_form(n) {
+        let form = montgomery::form_of(n);
+        held_windows::load(w, 0, f, form);
+        held_windows::load(w, j, g, form);
+        return montgomery::enter(form, 1);
+    }
+    windows::load(w, 0, f, n);
+    windows::load(w, j, g, n);
+    1
+}
+
+// The words of b over c, and then those of a, times the unit that is answered.
+fn arrange(w: &mut [u32], n: u32, c: u32, a: &[u32], b: &[u32]) -> u32
+    requires { ⌜ (2 ≤ n) × ((1 ≤ c) × (length (now b) + length (now a) ≤ length (now w))) ⌝ }
+    ensures { λ r. ⌜ Arranged n c r (now (a .entry)) (now (b .entry)) (now (w .entry)) (now (w .exit)) ⌝ }
 {
     let l = b.len();
     let m = l + a.len();
-    windows::load(w, 0, b, n);
-    windows::load(w, l, a, n);
+    let r = load_pair(w, n, b, l, a);
     windows::divide_words(w, c, 0, m);
+    r
+}
+
+// The words of x times r modulo n. Times 1 there is nothing to do.
+fn leave(x: &mut [u32], n: u32, r: u32)
+    requires { ⌜ LeaveAsked n r (now x) ⌝ }
+    ensures { λ _. ⌜ Left n r (now (x .entry)) (now (x .exit)) ⌝ }
+{
+    if r == 1 {
+        return;
+    }
+    let form = montgomery::form_of(n);
+    let c = montgomery::enter(form, r);
+    let z = x.len();
+    held_windows::scale(x, form, c, 0, 0, z);
 }
 
 // The reduced resultant of a and b, c their common content, with the cofactors x of a and y of b, if a can be factored.
@@ -53,7 +89,7 @@ fn half(x: &mut [u32], y: &mut [u32], w: &mut [u32], n: u32, c: u32, a: &[u32], 
         (now (x .exit)) (now (y .exit)) r ⌝ }
     ensures { λ _. ⌜ Scratch (now (w .entry)) (now (w .exit)) ⌝ }
 {
-    arrange(w, n, c, a, b);
+    let r = arrange(w, n, c, a, b);
     let l = b.len();
     let m = l + a.len();
     match window_factor::highest_of(&w[l..m], n / c) {
@@ -67,7 +103,11 @@ fn half(x: &mut [u32], y: &mut [u32], w: &mut [u32], n: u32, c: u32, a: &[u32], 
             t,
             i,
         ) {
-            Attempt::Value(d) => Trial::Found(c * d),
+            Attempt::Value(d) => {
+                leave(x, n, r);
+                leave(y, n, r);
+                Trial::Found(c * d)
+            }
             Attempt::Splits(p, q) => Trial::Divisors(p, q),
         },
         window_factor::Highest::Splits(p, q) => Trial::Divisors(p, q),

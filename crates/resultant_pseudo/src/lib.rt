@@ -41,7 +41,7 @@ pub struct State {
 }
 
 // x with the sign (-1)^e.
-fn with_sign(n: u32, e: usize, x: u32) -> u32
+pub fn with_sign(n: u32, e: usize, x: u32) -> u32
     requires { ⌜ x < n ⌝ }
     ensures { λ r. ⌜ r ≡ signed n e x ⌝ }
 {

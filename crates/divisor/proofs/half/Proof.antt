@@ -17,7 +17,7 @@ arrange-requires c κs =
     let p = s .pre in
     let z = p .sizes in
     let q = common-positive _ _ _ _ (p .modulus) (p .content) in
-    record { modulus = omega (arith, p .modulus); content = q; few-f = z .most-f; few-g = z .most-g; fits = omega (arith, z .working) }
+    record { modulus = p .modulus; content = q; few-f = z .most-f; few-g = z .most-g; fits = omega (arith, z .working) }
 
 div-unit-lead : tie.Need-div-unit-lead
 div-unit-lead c =

@@ -1,27 +1,20 @@
-use Rattle.resultant.proofs.Loading.{placed-asked, loaded-answer}
+use mathlib.Core.Path.{subst}
+use Rattle.montgomery.specs.Held.{Fitting}
 use borrow.Author.Needs.{needs}
 use Rattle.resultant.proofs.general.Statement.{statement}
 use Rattle.resultant.proofs.general.Tie as tie
 
-euclid-requires : tie.Need-euclid-requires
-euclid-requires c κs = let s = c .before .before .before .before .before .before .before .before .before .before .before .before .args in
-    let p = c .before .before .before .before .before .before .before .before .before .before .before .before .pre in
-    placed-asked (s .n) (s .f .now) (s .g .now) (s .w .now) (c .before .before .before .before .before .before .before .load .last .0) (c .before .before .before .load2 .last .0) (p .0) (p .1 .0) (p .1 .1) (c .before .before .before .before .before .before .before .load .ensures) (c .before .before .before .load2 .ensures)
-
-returns : tie.Need-returns
-returns c = let s = c .before .before .before .before .before .before .before .before .before .before .before .before .before .before .before .args in
-    let p = c .before .before .before .before .before .before .before .before .before .before .before .before .before .before .before .pre in
-    loaded-answer (s .n) (s .f .now) (s .g .now) (s .w .now) (c .before .before .before .before .before .before .before .before .before .before .load .last .0) (c .before .before .before .before .before .before .load2 .last .0) (p .0) (p .1 .0) (p .1 .1) (c .before .before .before .before .before .before .before .before .before .before .load .ensures) (c .before .before .before .before .before .before .load2 .ensures) (c .before .before .euclid .result) (c .before .before .euclid .ensures .0)
+general-held-requires : tie.Need-general-held-requires
+general-held-requires c κs = let s = c .before .before .before .before .before .before in (subst (Fitting (s .args .n)) (c .before .if1 .taken) (c .before .before .fits-form .ensures), s .pre .1)
 
 pub general-spec : {M : Type 1} → statement M
 general-spec =
     tie.close
     (tie.spec
     (λ c κs. search needs)
+    general-held-requires
+    (λ c. search needs)
+    (λ c. search needs)
     (λ c κs. search needs)
     (λ c. search needs)
-    (λ c. search needs)
-    (λ c. search needs)
-    euclid-requires
-    (λ c. search needs)
-    returns)
+    (λ c. search needs))

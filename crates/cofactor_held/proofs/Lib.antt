@@ -1,0 +1,3 @@
+pub mod Carried
+pub mod HeldSteps
+pub mod HeldStarts
