@@ -1,0 +1,10 @@
+use Rattle.words.specs.Digits.{product-fits}
+use borrow.Author.Needs.{needs}
+use Rattle.wide_convolution.proofs.times.Statement.{statement}
+use Rattle.wide_convolution.proofs.times.Tie as tie
+
+mul-result : tie.Need-mul-result
+mul-result c = record { fits = product-fits (search needs) (search needs) }
+
+pub times-spec : {M : Type 1} → statement M
+times-spec = tie.close (tie.spec mul-result (λ c. search needs))
