@@ -1,17 +1,19 @@
-// Kinds of residues, greatest common divisors with cofactors, joining residues of coprime moduli, and the modulus with its K. The
-// functions here ask for what they need; the services that refuse stand in `residue_services`.
+// Kinds of residues, greatest common divisors with cofactors, joining residues of coprime moduli, and the modulus with its K, in words
+// of 64 bits. The 32-bit twin `residue` has the laws. The functions here ask for what they need; the services that refuse stand in
+// `wide_residue_services`.
 //
 //   Attempt       a value, or a split of the modulus
 //   kind_of       what a residue is: a unit, nilpotent, or splitting
 //   idempotent    the residue modulo n1 n2 that is 1 modulo n1 and 0 modulo n2
 //   join          the residue modulo n1 n2 that is x modulo n1 and y modulo n2
 //   gcd_with_cofactors    gcd(a, b, n) as s a + t b modulo n, with the least s and then the least t
-//   modulus_of    n with K n
+//   modulus_of    n with K n, in the record that the words of 32 bits have too
 ghost use mathlib.Core.Path.{_≡_};
 ghost use Prim.Native.Nat.{ℕ, _+_, _-_, _*_, _/_, _%_, _<_, _≤_};
 ghost use Rattle.definitions.specs.Residues.{K, GcdWithCofactors, LeastCofactors};
-ghost use Rattle.residue.specs.Kinds.{KindOf};
 ghost use Rattle.residue.specs.Moduli.{CoprimeModuli};
+ghost use Rattle.wide_residue.specs.Kinds.{KindOf};
+use residue::Modulus;
 
 // "unit with its inverse, nilpotent, or splitting with two factors"
 pub enum Kind {
@@ -36,7 +38,7 @@ pub fn kind_of(n: u64, a: u64) -> Kind
     if e.g == 1 {
         return Kind::Unit(e.s);
     }
-    if wide_arithmetic::power(n, a, 32) == 0 {
+    if wide_arithmetic::power(n, a, 64) == 0 {
         return Kind::Nilpotent;
     }
     let mut m = n / e.g;
@@ -79,16 +81,6 @@ pub struct Cofactors {
     pub t: u64,
 }
 
-// (s a + (h - g)) / h, in 64 bits.
-fn multiple(s: u64, a: u64, h: u64, g: u64) -> u64
-    requires { ⌜ (1 ≤ h) × (g ≤ h) ⌝ }
-    ensures { λ r. ⌜ r ≡ (s * a + (h - g)) / h ⌝ }
-{
-    let p = (s as u64) * (a as u64);
-    let q = (h - g) as u64;
-    (p + q) / (h as u64)
-}
-
 // The least number that differs from s by a multiple of m / g.
 fn least(m: u64, g: u64, s: u64) -> u64
     requires { ⌜ (1 ≤ g) × (1 ≤ m / g) ⌝ }
@@ -100,7 +92,8 @@ fn least(m: u64, g: u64, s: u64) -> u64
 
 // "g = gcd(a, b, n) from 1 to n, with residues s and t so that s times a plus t times b is g modulo n." (01) "s is the least number from
 // 0 upward for which some t fits, and t is then the least that fits." (02, W7) The divisor h of n and b is t1 b modulo n, and g, that of h
-// and a, is s a + (1 - c) h. What differs from s by a multiple of h / g serves as well, and what differs from t by one of n / h.
+// and a, is s a modulo h: g - s a is a multiple of h, and so of b. What differs from s by a multiple of h / g serves as well, and what
+// differs from t by one of n / h. No product passes n.
 pub fn gcd_with_cofactors(n: u64, a: u64, b: u64) -> Cofactors
     requires { ⌜ 1 ≤ n ⌝ }
     ensures { λ r. ⌜ GcdWithCofactors n a b (r .g) (r .s) (r .t) × LeastCofactors n a b (r .g) (r .s) (r .t) ⌝ }
@@ -108,8 +101,9 @@ pub fn gcd_with_cofactors(n: u64, a: u64, b: u64) -> Cofactors
     let e = wide_bezout::cofactor(n, b);
     let f = wide_bezout::cofactor(e.g, a);
     let s = least(e.g, f.g, f.s);
-    let c = wide_arithmetic::reduce(n, multiple(s, a, e.g, f.g));
-    let t = wide_arithmetic::mul_mod(n, e.s, wide_arithmetic::sub_mod(n, 1, c));
+    let p = wide_arithmetic::mul_mod(n, s, a);
+    let r = wide_arithmetic::sub_mod(n, f.g, p);
+    let t = wide_arithmetic::mul_mod(n, e.s, r / e.g);
     Cofactors {
         g: f.g,
         s,
@@ -117,21 +111,15 @@ pub fn gcd_with_cofactors(n: u64, a: u64, b: u64) -> Cofactors
     }
 }
 
-// A modulus and its K. n has 64 bits, so that the record serves wider words too.
-pub struct Modulus {
-    pub n: u64,
-    pub k: u64,
-}
-
 // "K is the largest whole number with 2^K <= n."
 pub fn modulus_of(n: u64) -> Modulus
     ensures { λ r. ⌜ (r .n ≡ n) × (r .k ≡ K n) ⌝ }
 {
     let mut m = n;
-    let mut k: u64 = 0;
+    let mut k: u32 = 0;
     while m >= 2 {
         m = m / 2;
         k += 1;
     }
-    Modulus { n: n as u64, k }
+    Modulus { n, k }
 }

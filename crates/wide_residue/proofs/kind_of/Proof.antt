@@ -17,7 +17,7 @@ returns : tie.Need-returns Inv-loop μ-loop
 returns c = cofactor-inverse (c .before .before .before .pre) (c .before .before .cofactor .ensures) (c .if1 .taken)
 
 returns-2 : tie.Need-returns-2 Inv-loop μ-loop
-returns-2 c = record { exponent = 32; power = sym (c .before .power .ensures) ∙ c .if2 .taken }
+returns-2 c = record { exponent = 64; power = sym (c .before .power .ensures) ∙ c .if2 .taken }
 
 div-m : tie.Need-div-m Inv-loop μ-loop
 div-m c = pos-of-dvd-of-pos {n = c .before .before .before .before .before .before .args .n} (c .before .before .before .before .before .cofactor .ensures .gcd .left) (omega arith)

@@ -1,7 +1,7 @@
 use mathlib.Core.Path.{refl}
 use native.Mathlib.Omega.{arith}
 use borrow.Author.Needs.{needs}
-use Rattle.numbers.specs.Logarithm.{Halved, halved-start, halved-step, halved-end}
+use Rattle.numbers.specs.Logarithm.{K-below, Halved, halved-start, halved-step, halved-end}
 use Rattle.wide_residue.proofs.modulus_of.Statement.{statement}
 use Rattle.wide_residue.proofs.modulus_of.Tie as tie
 
@@ -15,7 +15,11 @@ loop-holds : tie.Need-loop-holds Inv-loop μ-loop
 loop-holds c = halved-start _
 
 add-k : tie.Need-add-k Inv-loop μ-loop
-add-k c = let h = c .before .loop .inv .few in record { fits = omega arith }
+add-k c =
+    let s = c .before .before in
+    let h = c .before .loop .inv in
+    let l = K-below (s .args .n) 64 (omega (arith, h .few)) (s .fits .n .fits) in
+    record { fits = omega (arith, h .is) }
 
 loop-again : tie.Need-loop-again Inv-loop μ-loop
 loop-again c = halved-step (c .loop-test .taken) (c .before .loop .inv)
