@@ -1,6 +1,5 @@
-// One word of a product of polynomials.
+// One word of a product of polynomials, words of 64 bits. Each term is reduced as it comes.
 //
-//   times, carries     a b, and whether a sum of two numbers of 64 bits passes 64 bits
 //   first, end         the range of places whose words meet in word k
 //   product_word_by    word k of f g, where the modulus comes with its reciprocal: for loops over k
 //   product_word       word k of f g
@@ -8,26 +7,7 @@ ghost use mathlib.Core.Path.{_≡_};
 ghost use Prim.Native.Nat.{min, _+_, _-_, _*_, _%_, _≤_};
 ghost use Rattle.definitions.specs.Polynomials.{coef, convolve, Residues};
 ghost use Rattle.wide_reduction.specs.Moduli.{Ready};
-ghost use Rattle.convolution.specs.Carries.{Carry};
 use wide_reduction::Modulus;
-
-// a b, of 64 bits.
-fn times(a: u64, b: u64) -> u64
-    ensures { λ r. ⌜ r ≡ a * b ⌝ }
-{
-    (a as u64) * (b as u64)
-}
-
-// 1 where x + p passes 64 bits, else 0.
-fn carries(x: u64, p: u64) -> u64
-    ensures { λ r. ⌜ Carry x p r ⌝ }
-{
-    let s = std::num::wrapping_add_u64(x, p);
-    if s < p {
-        return 1;
-    }
-    0
-}
 
 // The first place of f whose word meets one of g, of len words, in word k.
 fn first(k: usize, len: usize) -> usize
@@ -50,7 +30,7 @@ fn end(k: usize, len: usize) -> usize
     len
 }
 
-// Word k of the product of f and g. The sum is h 2^64 + x, reduced once.
+// Word k of the product of f and g.
 pub fn product_word_by(m: Modulus, f: &[u64], g: &[u64], k: usize) -> u64
     requires { ⌜ Ready m ⌝ }
     ensures { λ r. ⌜ r ≡ convolve (coef (now (f .entry))) (coef (now (g .entry))) k % m .n ⌝ }
@@ -64,14 +44,11 @@ pub fn product_word_by(m: Modulus, f: &[u64], g: &[u64], k: usize) -> u64
         return 0;
     }
     let mut x: u64 = 0;
-    let mut h: u64 = 0;
     while i < last {
-        let p = times(f[i], g[k - i]);
-        h += carries(x, p);
-        x = std::num::wrapping_add_u64(x, p);
+        x = wide_reduction::add_product(m, x, f[i], g[k - i]);
         i += 1;
     }
-    wide_reduction::reduce_wide(m, h, x)
+    x
 }
 
 // Word k of the product of f and g.

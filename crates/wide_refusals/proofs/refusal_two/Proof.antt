@@ -2,7 +2,8 @@ use mathlib.Core.Path.{sym, ap₂, _∙_}
 use mathlib.Core.Bool.{not}
 use mathlib.Core.List.{List, [], _∷_}
 use borrow.Author.Needs.{needs}
-use Rattle.refusals.specs.Refusals.{Tested, wide, bad-modulus, bad-length, all-below, first-of}
+use Rattle.refusals.specs.Refusals.{Tested, bad-modulus, bad-length, all-below, first-of}
+use Rattle.wide_refusals.specs.Wide.{wide}
 use Rattle.refusals.proofs.Statuses.{row-applies, row-passes, first-append}
 use Rattle.wide_refusals.proofs.refusal_two.Statement.{statement}
 use Rattle.wide_refusals.proofs.refusal_two.Tie as tie
