@@ -2,6 +2,7 @@
 // constant first.
 //
 //   division        quotient and remainder by a polynomial whose top word is a unit
+//   excess          by how much a degree is above another
 ghost use mathlib.Core.Path.{_≡_};
 ghost use mathlib.Core.Bool.{not};
 ghost use mathlib.Core.List.{[], _∷_};
@@ -17,7 +18,7 @@ use reduction::Modulus;
 use refusals::Answer;
 
 // a - b, or 0 where b is more.
-fn excess(a: usize, b: usize) -> usize
+pub fn excess(a: usize, b: usize) -> usize
     ensures { λ r. ⌜ r ≡ a - b ⌝ }
 {
     if a < b {
