@@ -13,7 +13,8 @@ kind-of-requires : tie.Need-kind-of-requires
 kind-of-requires c κs = residue-accepted wide _ _ (sym (c .before .refusal-residue .ensures) ∙ c .if1 .left) .0
 
 returns-2 : tie.Need-returns-2
-returns-2 c = kind-answered wide _ _ _ (kind-of (c .kind-of .result)) (c .before .before .refusal-residue .ensures) (c .before .if1 .left) (c .kind-of .ensures)
+returns-2 c = kind-answered wide _ _ _ (kind-of (c .kind-of .result)) (c .before .before .refusal-residue .ensures)
+    (c .before .if1 .left) (c .kind-of .ensures)
 
 pub classify-spec : {M : Type 1} → statement M
 classify-spec = tie.close (tie.spec (λ c κs. search needs) returns kind-of-requires returns-2)

@@ -13,7 +13,8 @@ gcd-with-cofactors-requires : tie.Need-gcd-with-cofactors-requires
 gcd-with-cofactors-requires c κs = le-of-lt (residues-accepted wide _ _ _ (sym (c .before .refusal-residues .ensures) ∙ c .if1 .left) .0)
 
 returns-2 : tie.Need-returns-2
-returns-2 c = gcd-answered wide _ _ _ _ _ _ _ (c .before .before .refusal-residues .ensures) (c .before .if1 .left) (c .gcd-with-cofactors .ensures)
+returns-2 c = gcd-answered wide _ _ _ _ _ _ _ (c .before .before .refusal-residues .ensures) (c .before .if1 .left)
+    (c .gcd-with-cofactors .ensures)
 
 pub gcd-with-cofactors-spec : {M : Type 1} → statement M
 gcd-with-cofactors-spec =
