@@ -1,5 +1,6 @@
-// The plain evaluator: a second way to the resultant, by elimination on Sylvester's matrix, for d + e up to 8. It serves to check the
-// resultant run, and shares no code with it but the arithmetic of residues.
+// The plain evaluator, words of 64 bits: a second way to the resultant, by elimination on Sylvester's matrix, for d + e up to 8. It serves
+// to check the resultant run, and shares no code with it but the arithmetic of residues. The promise is that of `evaluator`, at another
+// width.
 //
 //   sent_degree                     the words of a polynomial less 1
 //   shifted, sylvester_word, sylvester_row, sylvester_matrix

@@ -1,4 +1,4 @@
-// The resultant of two polynomials modulo n, in their sent degrees.
+// The resultant of two polynomials modulo n, in their sent degrees, words of 64 bits. The 32-bit twin `resultant` has the laws.
 //
 //   f, g   the sent words; l and m are their numbers
 //   w      the working window: f from 0 on, g after it, and the attempt's room from l + m on

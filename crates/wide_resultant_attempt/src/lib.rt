@@ -1,4 +1,5 @@
-// One attempt at a resultant modulo n: it ends in the value, or in a split of n. The degree d of f, at most that of g, falls.
+// One attempt at a resultant modulo n, words of 64 bits: it ends in the value, or in a split of n. The degree d of f, at most that of g,
+// falls. The 32-bit twin `resultant_attempt` has the laws.
 //
 //   w, n   the buffer and the modulus
 //   a, d   the place and the degree of f; b, e those of g; i the inverse of a leading word

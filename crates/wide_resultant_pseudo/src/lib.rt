@@ -1,4 +1,5 @@
-// The resultant modulo n by Euclid without inverses: pseudo-division, and one greatest common divisor at the end.
+// The resultant modulo n by Euclid without inverses, words of 64 bits: pseudo-division, and one greatest common divisor at the end. The
+// 32-bit twin `resultant_pseudo` has the laws.
 //
 //   w, m         the buffer, and the modulus n with its reciprocal
 //   x, y         states: the places and degrees of f and g, and what is known of the resultant by them
@@ -19,7 +20,8 @@ ghost use Rattle.definitions.specs.Resultants.{resultant};
 ghost use Rattle.theory.specs.ResultantLaws.{signed};
 ghost use Rattle.windows.specs.Window.{piece, Scratch};
 ghost use Rattle.wide_reduction.specs.Moduli.{Ready};
-ghost use Rattle.wide_resultant_pseudo.specs.Standing.{Placed, PlacedState, LedTo, Stepped, Finished, Descended, TriedAnswer, Answers};
+ghost use Rattle.wide_resultant_pseudo.specs.Standing.{Placed, PlacedState, LedTo, Stepped, Finished};
+ghost use Rattle.wide_resultant_pseudo.specs.Standing.{Descended, TriedAnswer, Answers};
 use wide_reduction::Modulus;
 
 // "if every lead was a unit, one inverse and the value"; otherwise a product of leading words that is no unit.

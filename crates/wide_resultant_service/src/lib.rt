@@ -1,4 +1,5 @@
-// The resultant as a service: from any words and lengths an answer, or a numbered refusal.
+// The resultant as a service, words of 64 bits: from any words and lengths an answer, or a numbered refusal. The promise is that of
+// `resultant_service`, at another width.
 ghost use mathlib.Core.Path.{_≡_};
 ghost use lib.ListN.{length, replicate};
 ghost use Rattle.wide_refusals.specs.Wide.{wide};

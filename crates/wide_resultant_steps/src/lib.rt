@@ -1,4 +1,4 @@
-// The steps of an attempt at a resultant that are no divisions.
+// The steps of an attempt at a resultant that are no divisions, words of 64 bits. The 32-bit twin `resultant_steps` has the laws.
 //
 //   w, n   the buffer and the modulus
 //   d, e   the degrees of f and g
