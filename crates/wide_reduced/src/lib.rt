@@ -1,8 +1,7 @@
-// The reduced resultant D of two polynomials modulo n, with cofactors u and v: u f + v g = D. The run makes an attempt modulo n; where n
-// splits, it calls itself on each of the two coprime factors and joins the answers by the Chinese remainder.
+// The reduced resultant D of two polynomials modulo n, with cofactors u and v, in words of 64 bits. The 32-bit twin `reduced` has the
+// description and the laws.
 //
 //   cofactor_length    L, the words of a cofactor
-//   save, merge, mix   the cofactors of the first factor are saved, and joined with those of the second
 //   run                D and the cofactors
 ghost use mathlib.Core.Path.{_≡_};
 ghost use Prim.Native.Nat.{_+_, _-_, _*_, _<_, _≤_};

@@ -9,7 +9,8 @@ use Prim.Native.Nat.{ℕ}
 pub use Rattle.reduced_attempt.specs.Attempts.{CommonContent, Arranged, NilpotentOver, HalfAsked, attempt-room, AttemptAsked}
 use Rattle.reduced_attempt.specs.Attempts.{TrialAnswers as NarrowTrialAnswers, Parted as NarrowParted, Attempted as NarrowAttempted}
 use Rattle.reduced_attempt.specs.declared.Trial.{Trial as NarrowTrial}
-use Rattle.reduced_attempt.specs.declared.Trial.the-variants.{Found as NarrowFound, Divisors as NarrowDivisors, Nilpotent as NarrowNilpotent}
+use Rattle.reduced_attempt.specs.declared.Trial.the-variants.{Found as NarrowFound, Divisors as NarrowDivisors}
+use Rattle.reduced_attempt.specs.declared.Trial.the-variants.{Nilpotent as NarrowNilpotent}
 use Rattle.wide_residue.specs.declared.Attempt.{Attempt}
 use Rattle.wide_residue.specs.Readings.{attempt-of}
 use Rattle.wide_reduced_attempt.specs.declared.Trial.{Trial}

@@ -1,10 +1,9 @@
-// An attempt at the reduced resultant of two polynomials modulo n. It finishes, or it meets a coefficient that splits n into two coprime
-// factors.
+// An attempt at the reduced resultant of two polynomials in words of 64 bits. The 32-bit twin `reduced_attempt` has the laws.
 //
-//   common_content   the content of both polynomials, which divides D
-//   half             the attempt where the first polynomial is the one that is factored
-//   split            two coprime divisors of n, made two coprime factors
-//   attempt          both halves in turn
+//   Trial             what the half of an attempt comes to
+//   common_content    the content of both polynomials, which divides D
+//   split             two coprime divisors of n, made two coprime factors
+//   attempt           D, or a coefficient that splits n into two coprime factors
 ghost use Prim.Native.Nat.{_+_, _-_, _*_, _/_, _≤_};
 ghost use lib.ListN.{length};
 ghost use Rattle.windows.specs.Window.{Scratch};

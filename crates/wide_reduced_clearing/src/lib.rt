@@ -1,10 +1,8 @@
-// The clearing of contents and unit factors in the reduced run, in a stage's window (reduced_units/specs/States has the layout).
+// The clearing of contents and unit factors in the reduced run, in words of 64 bits. The 32-bit twin `reduced_clearing` has the
+// description and the laws.
 //
-//   take_content      the content of B is taken out of it and of the modulus
+//   Clearing          what it comes to
 //   clear_contents    the content, then the unit factor
-//
-//   n, v    the modulus of the multipliers, and that of the polynomials A, of degree a, and B, of a words
-//   p       the places of A, of B and of their multipliers, of l words each
 ghost use Prim.Native.Nat.{_+_};
 ghost use Rattle.windows.specs.Window.{Kept};
 ghost use Rattle.reduced_units.specs.States.{StageAt};

@@ -1,16 +1,7 @@
-// The core of an attempt at the reduced resultant of F and G modulo n, where a coefficient of F is a unit and those above it are
-// nilpotent: F is factored, the stages find D with the multiplier of G, and the cofactor of F is had by division.
+// The core of an attempt at the reduced resultant in words of 64 bits. The 32-bit twin `reduced_cofactors` has the description and the
+// laws.
 //
-//   finish      the cofactors, from the multiplier that the stages found
-//   constant    F is a unit polynomial
-//   solve       F is not
-//   core        F is factored, and one of the two
-//
-//   d, e    the degrees of F and of G
-//   t       the degree of H, monic, where F = U H with a unit polynomial U of degree k = d - t
-//   q       the place of H, behind G at 0 and F at e + 1
-//   x, y    the cofactors of F and of G
-//   w       the window: what it holds afterwards is for no caller to use
+//   core    F is factored, the stages find D with the multiplier of G, and the cofactor of F is had by division
 ghost use Prim.Native.Nat.{_-_, _≤_};
 ghost use Rattle.windows.specs.Window.{Scratch};
 ghost use Rattle.wide_reduced_cofactors.specs.Cofactors.{CoreSpace, CoreAsked, CoreCertified, CoreAnswer};

@@ -1,11 +1,8 @@
-// Products of two windows of one buffer, taken from a third.
+// Products of two windows of one buffer of 64-bit words, taken from a third. The 32-bit twin `reduced_products` has the description and
+// the laws.
 //
 //   sub_product     a product is taken away
 //   take_product    a product is taken away, modulo a monic polynomial
-//
-//   p, lp    the place and the number of words of the first factor
-//   q, lq    those of the second
-//   dst      the place of the words that lose the product
 ghost use Rattle.reduced_products.specs.Products.{ProductRoom, Factors, Subtracted, FactorsModulo, TakenFrom};
 
 // The lp + lq - 1 words at dst lose the product of the lp words at p and the lq words at q. Two words of the first share one

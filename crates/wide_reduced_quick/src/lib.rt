@@ -1,10 +1,5 @@
-// The quick attempt at the reduced resultant: Euclid without inverses comes to a constant, and a constant that is a unit gives D = 1, with
-// its multipliers times one inverse as cofactors. No leading word is tested. Where the constant is no unit, the general attempt has to try,
-// from the sent words.
+// The quick attempt at the reduced resultant in words of 64 bits. The 32-bit twin `reduced_quick` has the description and the laws.
 //
-//   put        c times the words of a window, in a lent buffer, with zeros above
-//   ordered    the quick attempt where f is not the longer of the two
-//   quick      the quick attempt
 //   attempt    both attempts, the quick one first
 ghost use Prim.Native.Nat.{_+_, _≤_};
 ghost use lib.ListN.{length};

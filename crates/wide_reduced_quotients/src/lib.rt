@@ -1,7 +1,6 @@
-// Exact quotients, and the window of the stages made ready: the parts of the core of an attempt that divide.
+// Exact quotients, and the window of the stages made ready, in words of 64 bits. The 32-bit twin `reduced_quotients` has the laws.
 //
 //   over_first        a polynomial over a unit polynomial
-//   remainder         G modulo H
 //   prepare           H and G modulo H, with the multipliers 0 and 1, for the content stage
 //   exact_quotient    a constant less a product, by H
 ghost use mathlib.Core.Path.{_≡_};

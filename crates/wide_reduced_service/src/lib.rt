@@ -1,8 +1,7 @@
-// The reduced resultant with its cofactors as a service: from any words and lengths an answer, or a numbered refusal.
+// The reduced resultant with its cofactors as a service, in words of 64 bits: n up to 2^63 - 1, so that K is at most 62 and a cofactor has
+// at most 2977 words; 16384 working words. The 32-bit twin `reduced_service` has the description and the laws.
 //
-//   put_constant, constants    two polynomials of sent degree 0: D with the least cofactors
-//   by_run, worked             D with its cofactors, by the run; of constants or by the run
-//   reduced_resultant          the service
+//   reduced_resultant    the service
 ghost use mathlib.Core.Path.{_≡_};
 ghost use Prim.Native.Nat.{_-_, _≤_};
 ghost use lib.ListN.{length, replicate};

@@ -1,16 +1,7 @@
-// "The reduced run passes between two stages, each calling the other: one divides by a monic polynomial, one clears content and unit
-// factors." Each calls the other on a falling number built of the degree and the modulus.
+// The two stages of the reduced run in words of 64 bits. The 32-bit twin `reduced_stages` has the description and the laws.
 //
-// A stage's window w (reduced_units/specs/States has the whole layout):
-//
-//   p.t       the degree of H, monic, at 0: its t + 1 words, then the t words of the multiplier found
-//   p.pa      A, of degree a, with a leading unit
-//   p.pb      B, of a words for the content stage and of degree b for the division stage
-//   p.al      the multiplier of A
-//   p.be      the multiplier of B
-//
-// The multipliers have l words, modulo n; A and B are polynomials modulo v, a divisor of n. A stage keeps H and leaves the multiplier
-// found; the other words of the window are room, of which nothing is promised afterwards.
+//   content_stage     content and unit factor are cleared
+//   division_stage    A is divided by B
 ghost use Prim.Native.Nat.{_+_};
 ghost use Rattle.windows.specs.Window.{Kept};
 ghost use Rattle.reduced_units.specs.States.{StageAt};

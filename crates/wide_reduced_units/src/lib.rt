@@ -1,17 +1,8 @@
-// The unit factor of a polynomial in a stage's window, taken out of it and of its multiplier.
+// The unit factor of a polynomial in a stage's window of 64-bit words, taken out of it and of its multiplier. The 32-bit twin
+// `reduced_units` has the description, the laws and `Places`, which both share.
 //
-//   split_unit        B = U H: the monic H takes the place of B
 //   negate_inverse    -1 over a unit polynomial
-//   over_unit         a multiplier over a unit polynomial
-//   take_unit         the three together
-//
-// The places of a stage's window (specs/States has the whole layout), in `Places`:
-//
-//   t         the degree of the monic polynomial at 0
-//   pa, pb    the polynomials A and B
-//   al, be    the multiplier of A and that of B
-//
-// n is the modulus of the multipliers, v that of A and B; A has degree a, and B a words; the multipliers have l words, and zeros above.
+//   take_unit         the unit factor of B
 ghost use Prim.Native.Nat.{_+_, _*_, _<_, _≤_};
 ghost use lib.ListN.{length};
 ghost use Rattle.definitions.specs.Residues.{K};
