@@ -84,7 +84,8 @@ module _ (W : Width) (n s : ℕ) (f out work : List ℕ) (is : s ≡ first-refus
     -- the code tests what is asked
     late-is : first-refusal (late W g t (length out) (k * (length f - 1) + 1) (length work)) ≡ first-refusal tests
     unfolding tests
-    late-is = ap₂ (λ (b : Bool) (m : ℕ). first-refusal ((5, not b) ∷ (6, short (length out) m) ∷ (7, short (length work) (W .working)) ∷ []))
+    late-is =
+        ap₂ (λ (b : Bool) (m : ℕ). first-refusal ((5, not b) ∷ (6, short (length out) m) ∷ (7, short (length work) (W .working)) ∷ []))
         (sym unit-is) (length-is n k f ek)
 
     pub inverse-late : (r ≡ 0 → ⊥) → InverseAnswer W n f out out work work 0 r

@@ -92,7 +92,8 @@ module _ (W W' : Width) (n : ℕ) (below : n < W .bound) (below' : n < W' .bound
       e : s ≡ t
       e =
           p .status-is
-          ∙ none-follows (refusals-two W n f g) ((7, short (length a) (W .working)) ∷ []) (one-enough 7 (length a) (W .working) (omega arith) la)
+          ∙ none-follows (refusals-two W n f g) ((7, short (length a) (W .working)) ∷ [])
+          (one-enough 7 (length a) (W .working) (omega arith) la)
           ∙ same-two f g
           ∙ sym (none-follows (refusals-two W' n f g) ((7, short (length b) (W' .working)) ∷ [])
           (one-enough 7 (length b) (W' .working) (omega arith) lb))
