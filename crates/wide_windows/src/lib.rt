@@ -1,17 +1,42 @@
 // Leaves over windows of one lent buffer: places src and dst of one slice, len words each.
 //
-//   add_scaled, add_pair, scale, copy, copy_reversed    words made of those of another window
+//   add_scaled, add_scaled_by, add_pair_by, scale       words made of those of another window, times multipliers
+//   copy, copy_reversed                                 words of another window
 //   divide_words, reduce_words, clear, wipe             words made of themselves, or zeros
 //   residue, load                                       words of a lent polynomial, as residues
 //   zeros, content                                      what a polynomial's words have in front, and in common
 //
-// The loops that reduce a word find the reciprocal of n once and divide no more. Where such a loop tests a residue against n, the
-// test fails always: it keeps the back end from vector code, which has no upper half of a product.
+// The loops that multiply find the fraction of a multiplier once and divide no more; those that only reduce find the reciprocal of n.
 ghost use mathlib.Core.Path.{_≡_};
 ghost use Prim.Native.Nat.{_+_, _-_, _%_, _<_, _≤_};
 ghost use lib.ListN.{length, replicate};
+ghost use Rattle.wide_reduction.specs.Moduli.{Ready};
 ghost use Rattle.windows.specs.Window.{Moved, Clear, addMul, mulBy, second, quotient-by, reduced-by};
 ghost use Rattle.windows.specs.Window.{zeroed, PairAsked, Paired, Apart, Zeros, Content, Reversed, Loaded};
+use wide_reduction::Modulus;
+
+// w[dst + j] += c * w[src + j], for j < len, with the reciprocal of n.
+pub fn add_scaled_by(
+    w: &mut [u64],
+    n: u64,
+    m: Modulus,
+    c: u64,
+    src: usize,
+    dst: usize,
+    len: usize,
+)
+    requires { ⌜ (Ready m) × (m .n ≡ n) ⌝ }
+    requires { ⌜ (src + len ≤ length (now w)) × (dst + len ≤ length (now w)) ⌝ }
+    requires { ⌜ Clear src dst len ⌝ }
+    ensures { λ _. ⌜ Moved (addMul n c) src dst len (now (w .entry)) (now (w .exit)) ⌝ }
+{
+    let f = wide_multipliers::multiplier_of(m, c);
+    let mut j: usize = 0;
+    while j < len {
+        w[dst + j] = wide_multipliers::add_times(m, w[dst + j], f, w[src + j]);
+        j += 1;
+    }
+}
 
 // w[dst + j] += c * w[src + j], for j < len.
 pub fn add_scaled(w: &mut [u64], n: u64, c: u64, src: usize, dst: usize, len: usize)
@@ -20,15 +45,7 @@ pub fn add_scaled(w: &mut [u64], n: u64, c: u64, src: usize, dst: usize, len: us
     ensures { λ _. ⌜ Moved (addMul n c) src dst len (now (w .entry)) (now (w .exit)) ⌝ }
 {
     let m = wide_reduction::modulus_of(n);
-    let mut j: usize = 0;
-    while j < len {
-        let r = wide_reduction::add_product(m, w[dst + j], c, w[src + j]);
-        if r >= n {
-            return;
-        }
-        w[dst + j] = r;
-        j += 1;
-    }
+    add_scaled_by(w, n, m, c, src, dst, len);
 }
 
 // w[dst + j] = c * w[src + j], for j < len.
@@ -38,13 +55,10 @@ pub fn scale(w: &mut [u64], n: u64, c: u64, src: usize, dst: usize, len: usize)
     ensures { λ _. ⌜ Moved (mulBy n c) src dst len (now (w .entry)) (now (w .exit)) ⌝ }
 {
     let m = wide_reduction::modulus_of(n);
+    let f = wide_multipliers::multiplier_of(m, c);
     let mut j: usize = 0;
     while j < len {
-        let r = wide_reduction::product(m, c, w[src + j]);
-        if r >= n {
-            return;
-        }
-        w[dst + j] = r;
+        w[dst + j] = wide_multipliers::times(m, f, w[src + j]);
         j += 1;
     }
 }
@@ -76,21 +90,29 @@ pub fn zeros(s: &[u64]) -> usize
     j
 }
 
-// w[dst + j] += c * w[src + j - 1] + m * w[src + j], for j < len, one reduction a word; the word before the first counts as 0.
-pub fn add_pair(w: &mut [u64], n: u64, c: u64, m: u64, src: usize, dst: usize, len: usize)
-    requires { ⌜ PairAsked n m src dst len (now w) ⌝ }
-    ensures { λ _. ⌜ Paired n c m src dst len (now (w .entry)) (now (w .exit)) ⌝ }
+// w[dst + j] += c * w[src + j - 1] + e * w[src + j], for j < len, with the reciprocal of n; the word before the first counts as 0.
+pub fn add_pair_by(
+    w: &mut [u64],
+    n: u64,
+    m: Modulus,
+    c: u64,
+    e: u64,
+    src: usize,
+    dst: usize,
+    len: usize,
+)
+    requires { ⌜ (Ready m) × (m .n ≡ n) ⌝ }
+    requires { ⌜ PairAsked n e src dst len (now w) ⌝ }
+    ensures { λ _. ⌜ Paired n c e src dst len (now (w .entry)) (now (w .exit)) ⌝ }
 {
-    let modulus = wide_reduction::modulus_of(n);
+    let f = wide_multipliers::multiplier_of(m, c);
+    let g = wide_multipliers::multiplier_of(m, e);
     let mut j: usize = 0;
     let mut y: u64 = 0;
     while j < len {
         let z = w[src + j];
-        let r = wide_reduction::sum_two(modulus, w[dst + j], c, y, m, z);
-        if r >= n {
-            return;
-        }
-        w[dst + j] = r;
+        let x = wide_multipliers::add_times(m, w[dst + j], f, y);
+        w[dst + j] = wide_multipliers::add_times(m, x, g, z);
         y = z;
         j += 1;
     }

@@ -8,7 +8,7 @@ use Rattle.windows.proofs.Pairs.{next-behind}
 use Rattle.windows.proofs.Leaf.{written-none, written-step, written-source}
 use Rattle.window_combining.proofs.Steps.{combined}
 use Rattle.window_combining.specs.Combined.{combination}
-use Rattle.wide_window_combining.specs.Factors.{factors-as}
+use Rattle.wide_multipliers.specs.Multipliers.{three-as}
 use Rattle.wide_window_combining.proofs.combine_pair.Statement.{statement}
 use Rattle.wide_window_combining.proofs.combine_pair.Tie as tie
 
@@ -22,9 +22,9 @@ loop-holds : tie.Need-loop-holds Inv-loop μ-loop
 loop-holds c = (omega arith, (written-none _ _ _, refl))
 
 sum-of-requires : tie.Need-sum-of-requires Inv-loop μ-loop
-sum-of-requires c κs = let l = c .before .before .before .before .before .before .factor-of .ensures in
-    let k = c .before .before .before .before .before .factor-of2 .ensures in
-    let m = c .before .before .before .before .factor-of3 .ensures in
+sum-of-requires c κs = let l = c .before .before .before .before .before .before .multiplier-of .ensures in
+    let k = c .before .before .before .before .before .multiplier-of2 .ensures in
+    let m = c .before .before .before .before .multiplier-of3 .ensures in
     (c .before .before .before .before .before .before .before .before .pre .0, (l .fraction, (k .fraction, m .fraction)))
 
 loop-again : tie.Need-loop-again Inv-loop μ-loop
@@ -32,13 +32,13 @@ loop-again c = let s = c .before .before .before .before .before .before .before
     let i = c .before .before .before .before .loop in
     let v = s .args in
     let free = s .pre .1 .1 .0 in
-    let l = c .before .before .before .before .before .before .before .factor-of .ensures in
-    let k = c .before .before .before .before .before .before .factor-of2 .ensures in
-    let m = c .before .before .before .before .before .factor-of3 .ensures in (
+    let l = c .before .before .before .before .before .before .before .multiplier-of .ensures in
+    let k = c .before .before .before .before .before .before .multiplier-of2 .ensures in
+    let m = c .before .before .before .before .before .multiplier-of3 .ensures in (
       omega arith,
       (
         written-step (i .inv .1 .0) (omega arith)
-            (combined (v .modulus .n) (v .l) (v .c) (v .m) (v .src) (v .dst) (v .len) (i .j) (i .y) (c .sum-of .result) (v .w .now) (i .w) (i .inv .1 .0) free (omega arith) (i .inv .1 .1) (c .sum-of .ensures ∙ factors-as (v .modulus .n) (v .l) (v .c) (v .m) _ _ _ _ _ _ (l .residue) (k .residue) (m .residue))),
+            (combined (v .modulus .n) (v .l) (v .c) (v .m) (v .src) (v .dst) (v .len) (i .j) (i .y) (c .sum-of .result) (v .w .now) (i .w) (i .inv .1 .0) free (omega arith) (i .inv .1 .1) (c .sum-of .ensures ∙ three-as (v .modulus .n) (v .l) (v .c) (v .m) _ _ _ _ _ _ (l .residue) (k .residue) (m .residue))),
         written-source (i .inv .1 .0) (v .src) (v .len) free (omega arith) (i .j) (omega arith)
             ∙ sym (next-behind (λ (k : ℕ). getD (v .w .now) (v .src + k) 0) (i .j)),
       ),

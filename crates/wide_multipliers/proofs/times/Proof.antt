@@ -1,8 +1,8 @@
 use borrow.Author.Needs.{needs}
 use native.Mathlib.Omega.{arith}
-use Rattle.wide_window_combining.specs.Factors.{open-fraction}
-use Rattle.wide_window_combining.proofs.times.Statement.{statement}
-use Rattle.wide_window_combining.proofs.times.Tie as tie
+use Rattle.wide_multipliers.specs.Multipliers.{open-fraction}
+use Rattle.wide_multipliers.proofs.times.Statement.{statement}
+use Rattle.wide_multipliers.proofs.times.Tie as tie
 
 scaled-requires : tie.Need-scaled-requires
 scaled-requires c κs = let p = c .before .pre in (p .0, (omega (arith, c .if1 .left), open-fraction (p .1) (omega (arith, c .if1 .left))))

@@ -3,8 +3,8 @@ use mathlib.Core.Path.{_≡_, _∙_}
 use Prim.Native.Nat.{ℕ, _+_, _*_, _%_}
 use native.Mathlib.Nat.{mod-lt}
 use Rattle.wide_words.specs.Reciprocals.{sum-is}
-use Rattle.wide_window_combining.proofs.sum_of.Statement.{statement}
-use Rattle.wide_window_combining.proofs.sum_of.Tie as tie
+use Rattle.wide_multipliers.proofs.sum_of.Statement.{statement}
+use Rattle.wide_multipliers.proofs.sum_of.Tie as tie
 
 sum-requires : tie.Need-sum-requires
 sum-requires c κs = let p = c .before .before .before .pre .0 .pos in (rw (c .before .before .times .ensures) (mod-lt _ p), rw (c .before .times2 .ensures) (mod-lt _ p))
