@@ -1,7 +1,7 @@
 /* Times of the services with words of 64 bits beside FLINT's, in one run, in the manner of engine.c: n = 9223372036854775783, a prime,
- * and composite n with pairs full of zero divisors. Each figure is the best of several passes over a pool of pairs, in microseconds a
- * call. Where a value of the engine is not the one it is compared with, or a call is refused, the program says which and exits with 1.
- * Build and run: make -C bench */
+ * and composite n with pairs full of zero divisors. Each figure is the best of several passes over a pool of pairs, in microseconds of
+ * processor time a call; the passes of the engine and of FLINT take turns. Where a value of the engine is not the one it is compared
+ * with, or a call is refused, the program says which and exits with 1. Build and run: make -C bench */
 #include <stdio.h>
 #include <stdlib.h>
 #include <time.h>
@@ -31,7 +31,7 @@ static uint64_t draw(void)
 static double now(void)
 {
     struct timespec t;
-    clock_gettime(CLOCK_MONOTONIC, &t);
+    clock_gettime(CLOCK_PROCESS_CPUTIME_ID, &t);
     return t.tv_sec * 1e6 + t.tv_nsec / 1e3;
 }
 
@@ -53,26 +53,27 @@ static void compare(const char *what, uint64_t n, int d, int p, jingcobu64_answe
     printf("WRONG: n = %lu, d = e = %d, pair %d: %s %lu and status %u, FLINT %lu\n", n, d, p, what, a.value, a.status, right);
 }
 
-/* the best of the passes, each over the pool, of one of four calls */
-enum call { RESULTANT, REDUCED, FLINT_RESULTANT, FLINT_XGCD };
+/* the best of the passes, each over the pool, of two calls in turn: the engine's and FLINT's */
+enum service { RESULTANT, REDUCED };
 static nmod_poly_t f[POOL], g[POOL], h, s, t;
-static double best_of(enum call call, uint64_t n, int d)
+static void best(enum service service, uint64_t n, int d, double *ours, double *theirs)
 {
-    double best = 1e30;
+    *ours = *theirs = 1e30;
     for (int pass = 0; pass < PASSES; pass++) {
         double c = now();
         for (int r = 0; r < ROUNDS; r++)
-            for (int p = 0; p < POOL; p++)
-                switch (call) {
-                case RESULTANT: sink = resultant(n, d, p).value; break;
-                case REDUCED: sink = reduced(n, d, p).value; break;
-                case FLINT_RESULTANT: sink = nmod_poly_resultant(f[p], g[p]); break;
-                case FLINT_XGCD: nmod_poly_xgcd(h, s, t, f[p], g[p]); sink = (uint64_t) h->length; break;
-                }
+            for (int p = 0; p < POOL; p++) sink = (service == RESULTANT ? resultant(n, d, p) : reduced(n, d, p)).value;
         c = (now() - c) / (ROUNDS * POOL);
-        if (c < best) best = c;
+        if (c < *ours) *ours = c;
+        c = now();
+        for (int r = 0; r < ROUNDS; r++)
+            for (int p = 0; p < POOL; p++) {
+                if (service == RESULTANT) sink = nmod_poly_resultant(f[p], g[p]);
+                else { nmod_poly_xgcd(h, s, t, f[p], g[p]); sink = (uint64_t) h->length; }
+            }
+        c = (now() - c) / (ROUNDS * POOL);
+        if (c < *theirs) *theirs = c;
     }
-    return best;
 }
 
 static void prime_modulus(uint64_t n, int d)
@@ -92,9 +93,10 @@ static void prime_modulus(uint64_t n, int d)
         nmod_poly_gcd(h, f[p], g[p]);
         compare("D", n, d, p, reduced(n, d, p), h->length > 1 ? n : 1);
     }
-    double ours = best_of(RESULTANT, n, d), theirs = best_of(FLINT_RESULTANT, n, d);
+    double ours, theirs;
+    best(RESULTANT, n, d, &ours, &theirs);
     printf("n = %lu, d = e = %2d: resultant %8.2f us, FLINT nmod_poly_resultant %8.2f us, ratio %.2f\n", n, d, ours, theirs, ours / theirs);
-    ours = best_of(REDUCED, n, d); theirs = best_of(FLINT_XGCD, n, d);
+    best(REDUCED, n, d, &ours, &theirs);
     printf("n = %lu, d = e = %2d: reduced   %8.2f us, FLINT nmod_poly_xgcd      %8.2f us, ratio %.2f\n", n, d, ours, theirs, ours / theirs);
     for (int p = 0; p < POOL; p++) { nmod_poly_clear(f[p]); nmod_poly_clear(g[p]); }
     nmod_poly_clear(h); nmod_poly_clear(s); nmod_poly_clear(t);

@@ -280,6 +280,39 @@ fn try_pair(n: u64, f: &[u64], g: &[u64], l: usize, u: &mut [u64], v: &mut [u64]
     }
 }
 
+fn max(a: usize, b: usize) -> usize
+    requires { ⌜ (a ≤ 48) × (b ≤ 48) ⌝ }
+    ensures { λ r. ⌜ r ≤ 48 ⌝ }
+{
+    if a < b {
+        return b;
+    }
+    a
+}
+
+// The rest of a line, the words of f and g; whether it was there.
+fn try_words(
+    n: u64,
+    d: usize,
+    e: usize,
+    line: &mut [u8],
+    words: &mut [u64],
+    u: &mut [u64],
+    v: &mut [u64],
+    work: &mut [u64],
+) -> bool
+    requires { ⌜ (1 ≤ n) × ((d ≤ 48) × (e ≤ 48)) ⌝ }
+    requires { ⌜ (length (now line) ≡ 4096) × (length (now words) ≡ 98) ⌝ }
+{
+    if !next(&mut line[0..16 * (d + e + 2) + 1]) {
+        return false;
+    }
+    read_words(line, words);
+    let l = cofactor_words(n, max(d, e));
+    try_pair(n, &words[0..d + 1], &words[d + 1..d + e + 2], l, u, v, work);
+    true
+}
+
 // The next line of the input; whether there was one.
 fn try_line(
     line: &mut [u8],
@@ -305,13 +338,7 @@ fn try_line(
     if e > 48 {
         return false;
     }
-    if !next(&mut line[0..16 * (d + e + 2) + 1]) {
-        return false;
-    }
-    read_words(line, words);
-    let l = cofactor_words(n, if d < e { e } else { d });
-    try_pair(n, &words[0..d + 1], &words[d + 1..d + e + 2], l, u, v, work);
-    true
+    try_words(n, d, e, line, words, u, v, work)
 }
 
 // A proved loop has to end, and nothing says that an input does: it counts its turns down from a number that no run uses up.
