@@ -1,9 +1,20 @@
 // Products of two windows of one buffer of 64-bit words, taken from a third. The 32-bit twin `reduced_products` has the description and
 // the laws.
 //
+//   add_pair        two shifted multiples of a window added to another
 //   sub_product     a product is taken away
 //   take_product    a product is taken away, modulo a monic polynomial
+ghost use Rattle.windows.specs.Window.{PairAsked, Paired};
 ghost use Rattle.reduced_products.specs.Products.{ProductRoom, Factors, Subtracted, FactorsModulo, TakenFrom};
+
+// w[dst + j] += c * w[src + j - 1] + m * w[src + j], for j < len; the word before the first counts as 0.
+fn add_pair(w: &mut [u64], n: u64, c: u64, m: u64, src: usize, dst: usize, len: usize)
+    requires { ⌜ PairAsked n m src dst len (now w) ⌝ }
+    ensures { λ _. ⌜ Paired n c m src dst len (now (w .entry)) (now (w .exit)) ⌝ }
+{
+    let r = wide_reduction::modulus_of(n);
+    wide_windows::add_pair_by(w, n, r, c, m, src, dst, len);
+}
 
 // The lp + lq - 1 words at dst lose the product of the lp words at p and the lq words at q. Two words of the first share one
 // reduction.
@@ -16,7 +27,7 @@ pub fn sub_product(w: &mut [u64], n: u64, p: usize, lp: usize, q: usize, lq: usi
     while j + 1 < lp {
         let m = w[p + j];
         let c = w[p + (j + 1)];
-        wide_windows::add_pair(w, n, n - c, n - m, q, dst + j, lq);
+        add_pair(w, n, n - c, n - m, q, dst + j, lq);
         let top = wide_arithmetic::mul_add_mod(n, w[dst + (j + lq)], n - c, w[q + (lq - 1)]);
         w[dst + (j + lq)] = top;
         j += 2;
