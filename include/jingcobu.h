@@ -1,7 +1,8 @@
 /* jingcobu.h: products, true degrees, resultants and reduced resultants of polynomials over Z/nZ, n from 2 to 4294967295, with
  * cofactors of both; why two polynomials are not coprime, and whether a claim about them is true; resultants of polynomials in two
  * variables; the gcd of two residues with cofactors; a product whose factors come and go; polynomials as text; the shares of four
- * groups in a run of frames.
+ * groups in a run of frames. Products, resultants and reduced resultants also with words of 64 bits, n up to 9223372036854775807: the
+ * functions that begin with jingcobu64_, at the end.
  *
  * A polynomial of sent degree d is d + 1 words, constant first, each below n, d from 0 to 48. The top word may be zero and
  * counts: the resultant is the determinant of the Sylvester matrix in the sent degrees, modulo n. Below, f has the sent degree
@@ -58,14 +59,14 @@ typedef struct { uint32_t share[4]; uint32_t status; } jingcobu_plan;
  * them. */
 enum jingcobu_status {
     JINGCOBU_OK = 0,
-    JINGCOBU_BAD_MODULUS = 1,       /* n is 0 or 1 */
+    JINGCOBU_BAD_MODULUS = 1,       /* n is 0 or 1; with words of 64 bits also 2^63 or more */
     JINGCOBU_BAD_LENGTH = 2,        /* f, g or h has no word or more than 49; for a product also d + e above 48; in two variables
                                        a degree is above 48, or the length is not that of the degrees */
     JINGCOBU_BAD_WORD = 3,          /* a word of f, g, h, or of a claimed multiplier, or a residue a or b, is n or more */
     JINGCOBU_LEAD_NO_UNIT = 4,      /* division: the divisor's top word is not a unit */
     JINGCOBU_NO_UNIT_FACTOR = 5,    /* not a unit polynomial times a monic one; inverse: not a unit polynomial */
     JINGCOBU_SHORT_RESULT = 6,      /* a result buffer (out, u or v, the words read, the text written) is too short */
-    JINGCOBU_SHORT_WORK = 7,        /* work has fewer than JINGCOBU_WORK words */
+    JINGCOBU_SHORT_WORK = 7,        /* work has fewer than JINGCOBU_WORK words; of 64 bits: than JINGCOBU64_WORK */
     JINGCOBU_NO_FRAME = 8,          /* the line is not a frame */
     JINGCOBU_NO_COFACTORS = 9,      /* cofactors of the resultant: d = e = 0 */
     JINGCOBU_EMPTY_TOP = 10,        /* frames only: the top word of f or g is zero */
@@ -232,6 +233,32 @@ jingcobu_answer jingcobu_write_text(uint32_t n, const uint32_t *f, size_t f_len,
  * are given out one at a time in the order 1, 2, 3, 4 and round again, passing over a group with none left waiting, until all are
  * given or nothing waits. Refusals: 15. */
 jingcobu_plan jingcobu_shares(uint32_t frames, uint32_t waiting1, uint32_t waiting2, uint32_t waiting3, uint32_t waiting4);
+
+/* Words of 64 bits. n is from 2 to 2^63 - 1 = 9223372036854775807; degrees, statuses and what is said of buffers are as above. Where n
+ * and all words fit 32 bits, the values and the product are those of the functions above. */
+
+typedef struct { uint64_t value; uint32_t status; } jingcobu64_answer;
+
+/* The words that work needs. After an answer ALL words of work are zero, however many there are. */
+#define JINGCOBU64_WORK 16384
+
+/* Words that always suffice for a cofactor of D: 62 * 48 + 1. */
+#define JINGCOBU64_COFACTOR 2977
+
+/* The product of f and g, as jingcobu_product answers it: out needs d + e + 1 words, and the value is 0.
+ * Refusals: 1 (n is 0 or 1, or 2^63 or more), 2 (also where d + e is above 48), 3, 6. */
+jingcobu64_answer jingcobu64_product(uint64_t n, const uint64_t *f, size_t f_len, const uint64_t *g, size_t g_len,
+                                     uint64_t *out, size_t out_len);
+
+/* The resultant of f and g, from 0 to n - 1. Refusals: 1 (n is 0 or 1, or 2^63 or more), 2, 3, 7. */
+jingcobu64_answer jingcobu64_resultant(uint64_t n, const uint64_t *f, size_t f_len, const uint64_t *g, size_t g_len,
+                                       uint64_t *work, size_t work_len);
+
+/* The reduced resultant D of f and g with cofactors, as jingcobu_reduced_resultant answers it: u and v need L = K * max(d, e) + 1 words
+ * each, where 2^K is the largest power of 2 that is at most n. For d = e = 0 u[0] and v[0] are the least cofactors, u[0] first.
+ * Refusals: 1 (n is 0 or 1, or 2^63 or more), 2, 3, 6, 7. */
+jingcobu64_answer jingcobu64_reduced_resultant(uint64_t n, const uint64_t *f, size_t f_len, const uint64_t *g, size_t g_len,
+                                               uint64_t *u, size_t u_len, uint64_t *v, size_t v_len, uint64_t *work, size_t work_len);
 
 #ifdef __cplusplus
 }

@@ -18,8 +18,10 @@
 #define MARK 0xabcdef01u
 #define BYTE_MARK 0xa7
 
-/* Buffers, with words before and behind what is lent: a call is lent `length` words from place MARGIN on. */
-#define MARGIN 64
+typedef uint32_t word;
+#include "lent.h"
+
+/* Buffers, with words before and behind what is lent. */
 #define WORK_ROOM (MARGIN + 9000 + MARGIN)
 #define COFACTOR_ROOM (MARGIN + 1600 + MARGIN)
 #define PRODUCT_ROOM (MARGIN + 100 + MARGIN)
@@ -29,21 +31,6 @@ static uint32_t work[WORK_ROOM], u[COFACTOR_ROOM], v[COFACTOR_ROOM], out[PRODUCT
 static uint32_t first_multiplier[MULTIPLIER_ROOM], second_multiplier[MULTIPLIER_ROOM];
 static uint8_t written[TEXT_ROOM];
 
-static long tried, failed, most_failed = 100;
-
-static void expect(int ok, const char *what, const char *where)
-{
-    tried++;
-    if (!ok) {
-        failed++;
-        if (failed <= 20) printf("FAILED: %s (%s)\n", what, where);
-        if (failed == most_failed) { printf("%ld failed, the rest is not tried\n", failed); exit(1); }
-    }
-}
-
-static void mark(uint32_t *b, size_t room) { for (size_t i = 0; i < room; i++) b[i] = MARK; }
-static uint32_t *lent(uint32_t *b, size_t length) { return length ? b + MARGIN : NULL; }
-
 /* whether all words from `from` up to `to`, counted from the first that is lent, are x */
 static int all(const uint32_t *b, size_t from, size_t to, uint32_t x)
 {
@@ -51,26 +38,11 @@ static int all(const uint32_t *b, size_t from, size_t to, uint32_t x)
     return 1;
 }
 
-/* whether all words but the first `length` that are lent are as they were */
-static int kept_but(const uint32_t *b, size_t room, size_t length)
-{
-    for (size_t i = 0; i < room; i++) if ((i < MARGIN || i >= MARGIN + length) && b[i] != MARK) return 0;
-    return 1;
-}
-
-/* the same for bytes */
+/* kept_but for bytes */
 static int bytes_kept_but(const uint8_t *b, size_t room, size_t length)
 {
     for (size_t i = 0; i < room; i++) if ((i < MARGIN || i >= MARGIN + length) && b[i] != BYTE_MARK) return 0;
     return 1;
-}
-
-static size_t larger(size_t a, size_t b) { return a > b ? a : b; }
-static size_t cofactor_length(uint32_t n, size_t fl, size_t gl)
-{
-    size_t k = 0;
-    while (n > 1) { n /= 2; k++; }
-    return k * (larger(fl, gl) - 1) + 1;
 }
 
 /* whether u f + v g is the constant c modulo n, u and v being ul and vl words */
@@ -83,18 +55,6 @@ static int combine(uint32_t n, const uint32_t *f, size_t fl, const uint32_t *g, 
         if (s != (k == 0 ? c % n : 0)) return 0;
     }
     return 1;
-}
-
-static int below(const uint32_t *b, size_t l, uint32_t n)
-{
-    for (size_t i = 0; i < l; i++) if (b[MARGIN + i] >= n) return 0;
-    return 1;
-}
-
-static uint32_t common_divisor(uint32_t a, uint32_t b)
-{
-    while (b) { uint32_t c = a % b; a = b; b = c; }
-    return a;
 }
 
 /* whether s and t are the least cofactors of g = gcd(a, b, n): they fit, and two s that fit differ by a multiple of h / g, with
@@ -165,17 +125,6 @@ static size_t words_of(uint32_t n, const uint8_t *text, size_t length, uint32_t 
 }
 
 /* ---- one call, with all that the header promises of it: the value, the status, every word. `status` is the one it should have. */
-
-static uint32_t first_copy[MOST + 11], second_copy[MOST + 11];
-static void copy(const uint32_t *f, size_t fl, const uint32_t *g, size_t gl)
-{
-    if (fl) memcpy(first_copy, f, fl * sizeof *f);
-    if (gl) memcpy(second_copy, g, gl * sizeof *g);
-}
-static int same(const uint32_t *f, size_t fl, const uint32_t *g, size_t gl)
-{
-    return (!fl || !memcmp(first_copy, f, fl * sizeof *f)) && (!gl || !memcmp(second_copy, g, gl * sizeof *g));
-}
 
 static uint32_t product(uint32_t n, const uint32_t *f, size_t fl, const uint32_t *g, size_t gl, size_t ol, uint32_t status, const char *where)
 {

@@ -16,7 +16,7 @@ done
 cmp include/jingcobu.h "$folder/include/jingcobu.h"
 
 # The names that can be seen are those of the header.
-grep -oE '^[a-z_]+ jingcobu_[a-z_]+\(' include/jingcobu.h | grep -oE 'jingcobu_[a-z_]+\(' | tr -d '(' | sort > "$folder/header"
+grep -oE '^[a-z0-9_]+ jingcobu(64)?_[a-z_]+\(' include/jingcobu.h | grep -oE '[a-z0-9_]+\(' | tr -d '(' | sort > "$folder/header"
 nm -D --defined-only "$folder/lib/libjingcobu.so" | awk '{ print $3 }' | sort > "$folder/shown"
 missing=$(comm -23 "$folder/header" "$folder/shown" | tr '\n' ' ')
 more=$(comm -13 "$folder/header" "$folder/shown" | tr '\n' ' ')

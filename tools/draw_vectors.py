@@ -116,4 +116,5 @@ def main():
             figures.write('%08x %08x\n' % (r % n, reduced_resultant(n, f, g)))
 
 
-main()
+if __name__ == '__main__':
+    main()

@@ -12,7 +12,8 @@ word may be zero and counts: the resultant is the Sylvester determinant in the s
 (1, 4)
 
 What the engine refuses raises `Refused`, with the refusal's number and sentence; an integer that fits no word of 32 bits raises
-ValueError, and what is no integer TypeError. The functions may be called from several threads.
+ValueError, and what is no integer TypeError. The functions may be called from several threads. `product64`, `resultant64` and
+`reduced_resultant64` take words of 64 bits and n up to 9223372036854775807, that is 2^63 - 1.
 
 >>> jingcobu.resultant(5, [2, 7], [1, 1])
 Traceback (most recent call last):
@@ -36,8 +37,9 @@ from ._refusals import MEANING, Refused
 __version__ = "1.0.0"
 __all__ = [
     "Answer", "Claim", "Cofactors", "Factors", "Gcd", "Ground", "LibraryMissing", "MEANING", "Reason", "Reduced", "Refused", "answers",
-    "check_claim", "divisor", "frame", "gcd", "product", "product_word", "read_text", "reduced_resultant", "resultant",
-    "resultant_cofactors", "resultant_two", "resultants", "shares", "spell", "true_degree", "unspell", "why", "write_text",
+    "check_claim", "divisor", "frame", "gcd", "product", "product64", "product_word", "read_text", "reduced_resultant",
+    "reduced_resultant64", "resultant", "resultant64", "resultant_cofactors", "resultant_two", "resultants", "shares", "spell",
+    "true_degree", "unspell", "why", "write_text",
 ]
 
 Words = Sequence[int]
@@ -104,9 +106,20 @@ def _work() -> Tuple[Any, int]:
     return _own.work, _library.WORK
 
 
+def _work64() -> Tuple[Any, int]:
+    """The same of 64 bits."""
+    if not hasattr(_own, "work64"):
+        _own.work64 = (ctypes.c_uint64 * _library.WORK64)()
+    return _own.work64, _library.WORK64
+
+
 def _room(count: int) -> "array[int]":
     """So many words for a result."""
     return array("I", bytes(4 * count))
+
+
+def _room64(count: int) -> "array[int]":
+    return array("Q", bytes(8 * count))
 
 
 def _word(x: int, name: str, most: int = 2 ** 32 - 1) -> int:
@@ -121,6 +134,14 @@ def _words(f: Words, name: str) -> "array[int]":
         return array("I", f)
     except OverflowError:
         raise ValueError("a word of %s is not from 0 to 4294967295" % name) from None
+
+
+def _word64(x: int, name: str) -> int:
+    return _word(x, name, 2 ** 64 - 1)
+
+
+def _words64(f: Words, name: str) -> "array[int]":
+    return array("Q", [_word64(x, "a word of " + name) for x in f])
 
 
 def _lend(*buffers: "array[int]") -> Tuple[Any, ...]:
@@ -311,6 +332,43 @@ def gcd(n: int, a: int, b: int) -> Gcd:
     answer = _accept(_library.service("gcd")(_word(n, "n"), _word(a, "a"), _word(b, "b")))
     return Gcd(answer.g, answer.s, answer.t)
 
+
+# ---- words of 64 bits
+
+def product64(n: int, f: Words, g: Words) -> List[int]:
+    """`product` with words of 64 bits, n up to 2^63 - 1. Refusals: 1, 2 (also d + e above 48), 3.
+
+    >>> product64(2 ** 62, [1, 2 ** 31], [1, 2 ** 31])
+    [1, 4294967296, 0]
+    """
+    x, y = _words64(f, "f"), _words64(g, "g")
+    out = _room64(max(len(x) + len(y) - 1, 0))
+    _accept(_library.service("product64")(_word64(n, "n"), *_lend(x, y, out)))
+    return out.tolist()
+
+
+def resultant64(n: int, f: Words, g: Words) -> int:
+    """`resultant` with words of 64 bits, n up to 2^63 - 1. Refusals: 1, 2, 3.
+
+    >>> resultant64(2 ** 62, [1, 2 ** 40], [3, 1])
+    3298534883327
+    """
+    x, y = _words64(f, "f"), _words64(g, "g")
+    return _value(_library.service("resultant64")(_word64(n, "n"), *_lend(x, y), *_work64()))
+
+
+def reduced_resultant64(n: int, f: Words, g: Words) -> Reduced:
+    """`reduced_resultant` with words of 64 bits, n up to 2^63 - 1. Refusals: 1, 2, 3.
+
+    >>> reduced_resultant64(3 ** 39, [3 ** 25], [3 ** 30, 1]).D == 3 ** 25
+    True
+    """
+    x, y, u, v = _words64(f, "f"), _words64(g, "g"), _room64(_library.COFACTOR64), _room64(_library.COFACTOR64)
+    answer = _accept(_library.service("reduced_resultant64")(_word64(n, "n"), *_lend(x, y, u, v), *_work64()))
+    return Reduced(answer.value, _trimmed(u), _trimmed(v))
+
+
+# ---- texts, shares and factors
 
 def read_text(n: int, text: str) -> List[int]:
     """The words that a text spells, up to the top one. Refusals: 1, 17.

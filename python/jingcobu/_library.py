@@ -10,6 +10,8 @@ from typing import Any, Iterator, List
 
 WORK = 8192          # working words
 COFACTOR = 1489      # words that always suffice for a cofactor of D
+WORK64 = 16384       # the same two for words of 64 bits
+COFACTOR64 = 2977
 COMMON = 49          # words of a common divisor
 WORDS = 49           # words of a polynomial read from text
 TEXT = 800           # bytes of a text
@@ -27,6 +29,10 @@ class LibraryMissing(ImportError):
 
 class Answer(ctypes.Structure):
     _fields_ = [("value", _word), ("status", _word)]
+
+
+class Answer64(ctypes.Structure):
+    _fields_ = [("value", ctypes.c_uint64), ("status", _word)]
 
 
 class Degree(ctypes.Structure):
@@ -56,6 +62,7 @@ class Plan(ctypes.Structure):
 
 _lent = [_place, _size]      # a buffer and its length
 _pair = [_word] + _lent * 2  # n, f and g
+_pair64 = [ctypes.c_uint64] + _lent * 2
 
 SIGNATURES = {
     "product": (Answer, _pair + _lent),
@@ -76,6 +83,9 @@ SIGNATURES = {
     "read_text": (Answer, [_word] + _lent * 2),
     "write_text": (Answer, [_word] + _lent * 2),
     "shares": (Plan, [_word] * 5),
+    "product64": (Answer64, _pair64 + _lent),
+    "resultant64": (Answer64, _pair64 + _lent),
+    "reduced_resultant64": (Answer64, _pair64 + _lent * 3),
 }
 
 
@@ -111,17 +121,26 @@ def library() -> ctypes.CDLL:
         "`make install`, or name the file in the environment variable JINGCOBU_LIBRARY. Tried: " + "; ".join(tried))
 
 
+def symbol(name: str) -> str:
+    """The library's name of a service: jingcobu_NAME, and jingcobu64_NAME where 64 stands behind the name.
+
+    >>> symbol("product"), symbol("product64")
+    ('jingcobu_product', 'jingcobu64_product')
+    """
+    return "jingcobu64_" + name[:-2] if name.endswith("64") else "jingcobu_" + name
+
+
 def has(name: str) -> bool:
-    """Whether the library has the service jingcobu_NAME."""
-    return hasattr(library(), "jingcobu_" + name)
+    """Whether the library has the service."""
+    return hasattr(library(), symbol(name))
 
 
 @functools.lru_cache(maxsize=None)
 def service(name: str) -> Any:
-    """The function jingcobu_NAME, ready to be called."""
+    """The function of the service, ready to be called."""
     try:
-        function = getattr(library(), "jingcobu_" + name)
+        function = getattr(library(), symbol(name))
     except AttributeError:
-        raise LibraryMissing("%s has no jingcobu_%s: it is older than this package" % (library()._name, name)) from None
+        raise LibraryMissing("%s has no %s: it is older than this package" % (library()._name, symbol(name))) from None
     function.restype, function.argtypes = SIGNATURES[name]
     return function

@@ -4,13 +4,13 @@ from __future__ import annotations
 from typing import Optional
 
 MEANING = {
-    1: "n is 0 or 1",
+    1: "n is 0 or 1, or with words of 64 bits 2^63 or more",
     2: "a polynomial has no word or more than 49, or the sent degrees do not fit",
     3: "a word or a residue is n or more",
     4: "the divisor's top word is not a unit",
     5: "not a unit polynomial times a monic one, or not a unit polynomial",
     6: "a result buffer is too short",
-    7: "fewer than 8192 working words",
+    7: "fewer than 8192 working words, of 64 bits fewer than 16384",
     8: "the line is not a frame",
     9: "both sent degrees are 0: the resultant has no cofactors",
     10: "the top word of f or g is zero",
@@ -28,8 +28,8 @@ class Refused(ValueError):
     """A call that the engine refuses. `number` is the refusal's number and `sentence` what it means; `place` is the place of the
     pair in a call of `resultants`, and None elsewhere.
 
-    >>> Refused(1)
-    Refused(1, 'n is 0 or 1')
+    >>> Refused(3)
+    Refused(3, 'a word or a residue is n or more')
     """
 
     def __init__(self, number: int, place: Optional[int] = None) -> None:

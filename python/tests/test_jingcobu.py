@@ -76,9 +76,9 @@ class Examples(unittest.TestCase):
 
     def test_one_function_a_service(self):
         header = (ROOT / "include" / "jingcobu.h").read_text()
-        services = set(re.findall(r"^\w+ jingcobu_(\w+)\(", header, re.M))
-        self.assertEqual(services, set(_library.SIGNATURES))
-        for name in services:
+        services = set(re.findall(r"^\w+ (jingcobu(?:64)?_\w+)\(", header, re.M))
+        self.assertEqual(services, {_library.symbol(name) for name in _library.SIGNATURES})
+        for name in _library.SIGNATURES:
             self.assertTrue(hasattr(jingcobu, name) or name.startswith("factors_"), name)
 
     def test_statuses(self):
@@ -139,6 +139,73 @@ class Vectors(unittest.TestCase):
             by_modulus.setdefault(n, []).append(((f, g), value))
         for n, rows in by_modulus.items():
             self.assertEqual(jingcobu.resultants(n, (pair for pair, _ in rows)), [value for _, value in rows])
+
+
+@needs("product64", "resultant64", "reduced_resultant64")
+class Wide(unittest.TestCase):
+    """Words of 64 bits: the stored pairs, every refusal, the law of products, and the other set's numbers where both serve."""
+
+    MODULI = [2, 6, 2 ** 32, 2 ** 62, 3 ** 39, 6 ** 24, 614889782588491410, 3037000493 ** 2, 2 ** 63 - 25, 2 ** 63 - 1]
+
+    def test_stored(self):
+        folder, count = ROOT / "crates" / "wide_vectors", 0
+        lines, numbers = (folder / "stdin").read_text().splitlines(), (folder / "stdout").read_text().splitlines()
+        self.assertEqual(len(lines), len(numbers))
+        for line, number in zip(lines, numbers):
+            n, d = int(line[:16], 16), int(line[16:18], 16)
+            words = [int(line[i:i + 16], 16) for i in range(20, len(line), 16)]
+            f, g = words[:d + 1], words[d + 1:]
+            value, reduced = (int(x, 16) for x in number.split())
+            with self.subTest(n=n, f=f, g=g):
+                self.assertEqual(jingcobu.resultant64(n, f, g), value)
+                D, u, v = jingcobu.reduced_resultant64(n, f, g)
+                self.assertEqual(D, reduced)
+                self.assertEqual(combined(n, u, f, v, g), constant(n, D))
+            count += 1
+        self.assertGreaterEqual(count, 312)
+
+    def test_refusals(self):
+        for function in (jingcobu.product64, jingcobu.resultant64, jingcobu.reduced_resultant64):
+            for number, n, f, g in ((1, 0, [], []), (1, 1, [9] * 50, []), (1, 2 ** 63, [], [1]), (1, 2 ** 64 - 1, [1], [1]), (2, 5, [], [1]),
+                                    (2, 5, [9], []), (2, 5, [1] * 50, [1]), (3, 5, [5], [1]), (3, 2 ** 63 - 1, [1], [1, 2 ** 63 - 1])):
+                with self.assertRaises(Refused) as caught:
+                    function(n, f, g)
+                self.assertEqual((caught.exception.number, caught.exception.sentence), (number, jingcobu.MEANING[number]))
+            for bad in (-1, 2 ** 64, 10 ** 30):
+                for n, f in ((bad, [1]), (5, [bad])):
+                    with self.assertRaises(ValueError) as caught:
+                        function(n, f, [1])
+                    self.assertNotIsInstance(caught.exception, Refused)
+            for bad in (1.0, "1", None):
+                with self.assertRaises(TypeError):
+                    function(5, [bad], [1])
+        with self.assertRaises(Refused) as caught:
+            jingcobu.product64(5, [1] * 25, [1] * 26)
+        self.assertEqual(caught.exception.number, 2)
+        words, work = (ctypes.c_uint64 * 2)(1, 1), (ctypes.c_uint64 * 16384)()
+        self.assertEqual(_library.service("product64")(5, words, 2, words, 2, (ctypes.c_uint64 * 2)(), 2).status, 6)
+        self.assertEqual(_library.service("resultant64")(5, words, 2, words, 2, work, 16383).status, 7)
+
+    def test_products(self):
+        generator = random.Random(11)
+        for _ in range(300):
+            n = generator.choice(self.MODULI)
+            f, g, h = (drawn(generator, n, generator.randrange(9)) for _ in range(3))
+            p = jingcobu.product64(n, f, g)
+            self.assertEqual(p, times(n, f, g))
+            rp, rf, rg = (jingcobu.resultant64(n, x, h) for x in (p, f, g))
+            self.assertEqual(rp, rf * rg % n)
+            Dp, Df, Dg = (jingcobu.reduced_resultant64(n, x, h).D for x in (p, f, g))
+            self.assertEqual((Dp % Df, Dp % Dg, Df * Dg % Dp), (0, 0, 0))
+
+    def test_both(self):
+        generator = random.Random(12)
+        for _ in range(300):
+            n = generator.choice(MODULI)
+            f, g = drawn(generator, n, generator.randrange(20)), drawn(generator, n, generator.randrange(20))
+            self.assertEqual(jingcobu.product64(n, f, g), jingcobu.product(n, f, g))
+            self.assertEqual(jingcobu.resultant64(n, f, g), jingcobu.resultant(n, f, g))
+            self.assertEqual(jingcobu.reduced_resultant64(n, f, g).D, jingcobu.reduced_resultant(n, f, g).D)
 
 
 class Refusals(unittest.TestCase):
@@ -441,7 +508,7 @@ class CommandLine(unittest.TestCase):
     def test_resultant(self):
         self.assertEqual(self.run_main("resultant", "12", "2*x+3", "4*x+1"), "2\n")
         self.assertEqual(self.run_main("resultant", "5", "2,1,0", "1*x+1"), "1\n")
-        self.assertEqual(self.run_main("resultant", "1", "0", "0", status=1), "jingcobu resultant: refused with 1: n is 0 or 1\n")
+        self.assertEqual(self.run_main("resultant", "1", "0", "0", status=1), "jingcobu resultant: refused with 1: %s\n" % jingcobu.MEANING[1])
         self.assertIn("refused with 17", self.run_main("resultant", "12", "x", "1", status=1))
 
     def test_reduced(self):

@@ -18,7 +18,7 @@ ghost use Rattle.windows.specs.Window.{Written, Apart, Below, Scratch};
 ghost use Rattle.reduction.specs.Moduli.{Ready};
 ghost use Rattle.cofactor_euclid.specs.Rows.{turned, paired, RowsAsked, RowsWritten};
 ghost use Rattle.cofactor_euclid.specs.Rows.{PlacedState, Stepped, Finished, Asked, Started, Multipliers};
-use reduction::Modulus;
+use reduction::Reciprocal;
 
 // The rows at a and b, with remainders of degrees d and e. p is the product of the powers of leading words taken so far, s that of the
 // p's at each degree, t what zero leading words gave: s p^d times the resultant asked for is p t times that of the two remainders.
@@ -35,7 +35,7 @@ pub struct State {
 // w[dst + k] = l * w[dst + k] + c * w[src + k - i], for k < i + len; below i there is nothing to add.
 fn turn_window(
     w: &mut [u32],
-    m: Modulus,
+    m: Reciprocal,
     l: u32,
     c: u32,
     src: usize,
@@ -55,7 +55,7 @@ fn turn_window(
 // The same in the three windows of a row: d words of the remainder from place i on, and all of the multipliers.
 fn turn_rows(
     w: &mut [u32],
-    m: Modulus,
+    m: Reciprocal,
     l: u32,
     c: u32,
     a: usize,
@@ -77,7 +77,7 @@ fn turn_rows(
 // of the multipliers that there are.
 fn pair_rows(
     w: &mut [u32],
-    m: Modulus,
+    m: Reciprocal,
     l: u32,
     c: u32,
     q: u32,
@@ -108,7 +108,7 @@ fn with_sign(n: u32, e: usize, x: u32) -> u32
 }
 
 // e = d + 1: two turns at once, and the rows exchanged. l^2 times the row at b, less l c x + q times the row at a.
-fn pair_step(w: &mut [u32], m: Modulus, h: usize, z: usize, x: State) -> State
+fn pair_step(w: &mut [u32], m: Reciprocal, h: usize, z: usize, x: State) -> State
     requires { ⌜ Ready m ⌝ }
     requires { ⌜ (PlacedState (m .n) h z x (now w)) × ((1 ≤ x .d) × (x .e ≡ x .d + 1)) ⌝ }
     ensures { λ r. ⌜ Stepped (m .n) h z x (now (w .entry)) r (now (w .exit)) ⌝ }
@@ -137,7 +137,7 @@ fn pair_step(w: &mut [u32], m: Modulus, h: usize, z: usize, x: State) -> State
 }
 
 // e = d: one turn, and the rows exchanged.
-fn last_step(w: &mut [u32], m: Modulus, h: usize, z: usize, x: State) -> State
+fn last_step(w: &mut [u32], m: Reciprocal, h: usize, z: usize, x: State) -> State
     requires { ⌜ Ready m ⌝ }
     requires { ⌜ (PlacedState (m .n) h z x (now w)) × ((1 ≤ x .d) × (x .e ≡ x .d)) ⌝ }
     ensures { λ r. ⌜ Stepped (m .n) h z x (now (w .entry)) r (now (w .exit)) ⌝ }
@@ -163,7 +163,7 @@ fn last_step(w: &mut [u32], m: Modulus, h: usize, z: usize, x: State) -> State
 }
 
 // One turn, and e is still d or more.
-fn turn_step(w: &mut [u32], m: Modulus, h: usize, z: usize, x: State) -> State
+fn turn_step(w: &mut [u32], m: Reciprocal, h: usize, z: usize, x: State) -> State
     requires { ⌜ Ready m ⌝ }
     requires { ⌜ (PlacedState (m .n) h z x (now w)) × ((1 ≤ x .d) × (x .d < x .e)) ⌝ }
     ensures { λ r. ⌜ Stepped (m .n) h z x (now (w .entry)) r (now (w .exit)) ⌝ }
@@ -189,7 +189,7 @@ fn turn_step(w: &mut [u32], m: Modulus, h: usize, z: usize, x: State) -> State
 }
 
 // A zero leading word is dropped; any other is divided by, whether it is a unit or not.
-fn step(w: &mut [u32], m: Modulus, h: usize, z: usize, x: State) -> State
+fn step(w: &mut [u32], m: Reciprocal, h: usize, z: usize, x: State) -> State
     requires { ⌜ Ready m ⌝ }
     requires { ⌜ (PlacedState (m .n) h z x (now w)) × (1 ≤ x .d) ⌝ }
     ensures { λ r. ⌜ Stepped (m .n) h z x (now (w .entry)) r (now (w .exit)) ⌝ }
@@ -223,7 +223,7 @@ fn step(w: &mut [u32], m: Modulus, h: usize, z: usize, x: State) -> State
 }
 
 // Steps down to degree 0.
-fn finish(w: &mut [u32], m: Modulus, h: usize, z: usize, x: State) -> State
+fn finish(w: &mut [u32], m: Reciprocal, h: usize, z: usize, x: State) -> State
     requires { ⌜ Ready m ⌝ }
     requires { ⌜ PlacedState (m .n) h z x (now w) ⌝ }
     ensures { λ r. ⌜ Finished (m .n) h z x (now (w .entry)) r (now (w .exit)) ⌝ }

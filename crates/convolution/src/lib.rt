@@ -9,7 +9,7 @@ ghost use Prim.Native.Nat.{min, _+_, _-_, _*_, _%_, _≤_};
 ghost use Rattle.definitions.specs.Polynomials.{coef, convolve, Residues};
 ghost use Rattle.reduction.specs.Moduli.{Ready};
 ghost use Rattle.convolution.specs.Carries.{Carry};
-use reduction::Modulus;
+use reduction::Reciprocal;
 
 // a b, of 64 bits.
 fn times(a: u32, b: u32) -> u64
@@ -51,7 +51,7 @@ fn end(k: usize, len: usize) -> usize
 }
 
 // Word k of the product of f and g. The sum is h 2^64 + x, reduced once.
-pub fn product_word_by(m: Modulus, f: &[u32], g: &[u32], k: usize) -> u32
+pub fn product_word_by(m: Reciprocal, f: &[u32], g: &[u32], k: usize) -> u32
     requires { ⌜ Ready m ⌝ }
     ensures { λ r. ⌜ r ≡ convolve (coef (now (f .entry))) (coef (now (g .entry))) k % m .n ⌝ }
 {

@@ -16,8 +16,12 @@
 //   jingcobu_factors_start, _arrive, _leave, _read    factors::start, arrive, leave, read
 //   jingcobu_shares               shares::shares
 //   jingcobu_check_claim          claim_service::check_claim_words
+//   jingcobu64_resultant          wide_resultant_service::resultant: words of 64 bits
+//   jingcobu64_reduced_resultant  wide_reduced_service::reduced_resultant
+//   jingcobu64_product            wide_polynomial_product::product
 ghost use mathlib.Core.Path.{_≡_};
 ghost use Rattle.refusals.specs.Refusals.{narrow};
+ghost use Rattle.wide_refusals.specs.Wide.{wide};
 ghost use Rattle.resultant_service.specs.ResultantService.{ResultantAnswer};
 ghost use Rattle.reduced_service.specs.ReducedService.{ReducedAnswer};
 ghost use Rattle.divisor_service.specs.DivisorService.{DivisorAnswer};
@@ -249,4 +253,48 @@ pub extern "C" fn jingcobu_check_claim(
         (now (work .entry)) (now (work .exit)) (r .value) (r .status) ⌝ }
 {
     claim_service::check_claim_words(n, f, g, d, u, v, work)
+}
+
+// The resultant of f and g modulo n, in the sent degrees, words of 64 bits.
+#[no_mangle]
+pub extern "C" fn jingcobu64_resultant(
+    n: u64,
+    f: &[u64],
+    g: &[u64],
+    work: &mut [u64],
+) -> wide_refusals::Answer
+    ensures { λ r. ⌜ ResultantAnswer wide n (now (f .entry)) (now (g .entry)) (now (work .entry)) (now (work .exit))
+        (r .value) (r .status) ⌝ }
+{
+    wide_resultant_service::resultant(n, f, g, work)
+}
+
+// The reduced resultant D of f and g modulo n, with cofactors in the first L words of u and of v, words of 64 bits.
+#[no_mangle]
+pub extern "C" fn jingcobu64_reduced_resultant(
+    n: u64,
+    f: &[u64],
+    g: &[u64],
+    u: &mut [u64],
+    v: &mut [u64],
+    work: &mut [u64],
+) -> wide_refusals::Answer
+    ensures { λ r. ⌜ ReducedAnswer wide n (now (f .entry)) (now (g .entry)) (now (u .entry)) (now (u .exit)) (now (v .entry))
+        (now (v .exit)) (now (work .entry)) (now (work .exit)) (r .value) (r .status) ⌝ }
+{
+    wide_reduced_service::reduced_resultant(n, f, g, u, v, work)
+}
+
+// The product of f and g modulo n, in the first d + e + 1 words of out, words of 64 bits.
+#[no_mangle]
+pub extern "C" fn jingcobu64_product(
+    n: u64,
+    f: &[u64],
+    g: &[u64],
+    out: &mut [u64],
+) -> wide_refusals::Answer
+    ensures { λ r. ⌜ ProductAnswer wide n (now (f .entry)) (now (g .entry)) (now (out .entry)) (now (out .exit))
+        (r .value) (r .status) ⌝ }
+{
+    wide_polynomial_product::product(n, f, g, out)
 }

@@ -11,7 +11,7 @@ use lib.Dec.{ltb}
 use lib.ListN.{length}
 use Rattle.definitions.specs.Polynomials.{deg, product, L}
 use Rattle.theory.specs.PointThree.{SevenAnswers, LawOfProducts}
-use Rattle.refusals.specs.Refusals.{Width, narrow, Tested, bad-modulus, bad-length, all-below, short, first-refusal, left, replaced}
+use Rattle.refusals.specs.Refusals.{Width, Tested, bad-modulus, bad-length, all-below, short, first-refusal, left, replaced}
 use Rattle.resultant_service.specs.ResultantService.{ResultantAnswer}
 use Rattle.reduced_service.specs.ReducedService.{HoldsReduced, ReducedAnswer}
 
@@ -31,18 +31,18 @@ law-refusals W n f g h lp lu lv lw =
     law-sent W n f g h ++ law-room W lp (suc (deg f + deg g)) lu lv (L n (deg f + deg g) (deg h)) lw
 
 -- three calls of the resultant, with p, f and g as first polynomial: what each promises, on the working words that the one before left
-pub record ThreeResultants (n : ℕ) (p f g h work work' : List ℕ) (r rf rg : ℕ) : Type 0 where
+pub record ThreeResultants (W : Width) (n : ℕ) (p f g h work work' : List ℕ) (r rf rg : ℕ) : Type 0 where
   pub w₁ : List ℕ
   pub w₂ : List ℕ
   pub t₁ : ℕ
   pub t₂ : ℕ
   pub t₃ : ℕ
-  pub product : ResultantAnswer narrow n p h work w₁ r t₁
-  pub first : ResultantAnswer narrow n f h w₁ w₂ rf t₂
-  pub second : ResultantAnswer narrow n g h w₂ work' rg t₃
+  pub product : ResultantAnswer W n p h work w₁ r t₁
+  pub first : ResultantAnswer W n f h w₁ w₂ rf t₂
+  pub second : ResultantAnswer W n g h w₂ work' rg t₃
 
 -- and three of the reduced resultant, that of p last
-pub record ThreeReduced (n : ℕ) (p f g h u u' v v' work work' : List ℕ) (D Df Dg : ℕ) : Type 0 where
+pub record ThreeReduced (W : Width) (n : ℕ) (p f g h u u' v v' work work' : List ℕ) (D Df Dg : ℕ) : Type 0 where
   pub u₁ : List ℕ
   pub u₂ : List ℕ
   pub v₁ : List ℕ
@@ -52,9 +52,9 @@ pub record ThreeReduced (n : ℕ) (p f g h u u' v v' work work' : List ℕ) (D D
   pub t₁ : ℕ
   pub t₂ : ℕ
   pub t₃ : ℕ
-  pub first : ReducedAnswer narrow n f h u u₁ v v₁ work w₁ Df t₁
-  pub second : ReducedAnswer narrow n g h u₁ u₂ v₁ v₂ w₁ w₂ Dg t₂
-  pub product : ReducedAnswer narrow n p h u₂ u' v₂ v' w₂ work' D t₃
+  pub first : ReducedAnswer W n f h u u₁ v v₁ work w₁ Df t₁
+  pub second : ReducedAnswer W n g h u₁ u₂ v₁ v₂ w₁ w₂ Dg t₂
+  pub product : ReducedAnswer W n p h u₂ u' v₂ v' w₂ work' D t₃
 
 -- the seven answers, and what then holds between them
 pub record LawHolds (n : ℕ) (f g h u u' v v' : List ℕ) (r rf rg D Df Dg : ℕ) : Type 0 where

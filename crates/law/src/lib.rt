@@ -78,7 +78,7 @@ struct Three {
 
 // The resultants of p, f and g with h, one after the other.
 fn resultants(n: u32, p: &[u32], f: &[u32], g: &[u32], h: &[u32], work: &mut [u32]) -> Three
-    ensures { λ r. ⌜ ThreeResultants n (now (p .entry)) (now (f .entry)) (now (g .entry)) (now (h .entry)) (now (work .entry))
+    ensures { λ r. ⌜ ThreeResultants narrow n (now (p .entry)) (now (f .entry)) (now (g .entry)) (now (h .entry)) (now (work .entry))
         (now (work .exit)) (r .product) (r .first) (r .second) ⌝ }
 {
     let a = resultant_service::resultant(n, p, h, work);
@@ -102,8 +102,8 @@ fn divisors(
     v: &mut [u32],
     work: &mut [u32],
 ) -> Three
-    ensures { λ r. ⌜ ThreeReduced n (now (p .entry)) (now (f .entry)) (now (g .entry)) (now (h .entry)) (now (u .entry)) (now (u .exit))
-        (now (v .entry)) (now (v .exit)) (now (work .entry)) (now (work .exit)) (r .product) (r .first) (r .second) ⌝ }
+    ensures { λ r. ⌜ ThreeReduced narrow n (now (p .entry)) (now (f .entry)) (now (g .entry)) (now (h .entry)) (now (u .entry))
+        (now (u .exit)) (now (v .entry)) (now (v .exit)) (now (work .entry)) (now (work .exit)) (r .product) (r .first) (r .second) ⌝ }
 {
     let a = reduced_service::reduced_resultant(n, f, h, u, v, work);
     let b = reduced_service::reduced_resultant(n, g, h, u, v, work);

@@ -6,7 +6,7 @@ use Prim.Native.Nat.{ℕ, zero, suc, _+_, _-_, _≤_}
 use native.Mathlib.Omega.{arith}
 use lib.ListN.{length, take}
 use Rattle.definitions.specs.Polynomials.{TrueDegree, none, place, extent, true-degree}
-use Rattle.refusals.specs.Refusals.{narrow}
+use Rattle.refusals.specs.Refusals.{Width}
 use Rattle.polynomial_tests.specs.Counts.{extent-length}
 use Rattle.polynomial_degree.specs.declared.Degree.{Degree}
 use Rattle.polynomial_degree.specs.declared.Degree.the-variants.{None, At, Refused}
@@ -28,14 +28,14 @@ at-told : (k : ℕ) → (k ≡ 0 → ⊥) → At (k - 1) ≡ told 0 (degree-at k
 at-told zero h = absurd (h refl)
 at-told (suc k) h = let e : suc k - 1 ≡ k = omega arith in ap At e
 
-module _ (n s : ℕ) (f : List ℕ) (is : s ≡ degree-status narrow n f) where
-  pub degree-refused : (s ≡ 0 → ⊥) → TrueDegreeAnswer narrow n f (Refused s)
+module _ (W : Width) (n s : ℕ) (f : List ℕ) (is : s ≡ degree-status W n f) where
+  pub degree-refused : (s ≡ 0 → ⊥) → TrueDegreeAnswer W n f (Refused s)
   degree-refused h = record { status-is = is; case-is = refused-told s (true-degree f) h }
 
-  pub degree-none : s ≡ 0 → (k : ℕ) → k ≡ extent f → k ≡ 0 → TrueDegreeAnswer narrow n f None
+  pub degree-none : s ≡ 0 → (k : ℕ) → k ≡ extent f → k ≡ 0 → TrueDegreeAnswer W n f None
   degree-none z k e o = record { status-is = sym z ∙ is; case-is = none-told (extent f) (sym e ∙ o) }
 
-  pub degree-some-at : s ≡ 0 → (k : ℕ) → k ≡ extent f → (k ≡ 0 → ⊥) → TrueDegreeAnswer narrow n f (At (k - 1))
+  pub degree-some-at : s ≡ 0 → (k : ℕ) → k ≡ extent f → (k ≡ 0 → ⊥) → TrueDegreeAnswer W n f (At (k - 1))
   degree-some-at z k e h = record {
     status-is = sym z ∙ is;
     case-is = subst (λ (x : ℕ). At (k - 1) ≡ told 0 (degree-at x)) e (at-told k h);
@@ -43,8 +43,8 @@ module _ (n s : ℕ) (f : List ℕ) (is : s ≡ degree-status narrow n f) where
 
 -- ---- the words of an answer, and the leading part
 
-module _ (n : ℕ) (f : List ℕ) (r : Degree) (a : TrueDegreeAnswer narrow n f r) where
-  pub words-answered : (d : Degree) → r ≡ d → DegreeWordsAnswer narrow n f (degree-some d) (degree-value d) (degree-number d)
+module _ (W : Width) (n : ℕ) (f : List ℕ) (r : Degree) (a : TrueDegreeAnswer W n f r) where
+  pub words-answered : (d : Degree) → r ≡ d → DegreeWordsAnswer W n f (degree-some d) (degree-value d) (degree-number d)
   words-answered d e = record {
     status-is = ap degree-number (sym e) ∙ a .status-is;
     some-is = ap degree-some same;
@@ -62,7 +62,7 @@ module _ (n : ℕ) (f : List ℕ) (r : Degree) (a : TrueDegreeAnswer narrow n f 
       go zero (suc k) l = omega arith
       go (suc s) k l = omega arith
 
-  pub part-told : (k : ℕ) → k ≡ words-told r → LeadingAnswer narrow n f (take k f)
+  pub part-told : (k : ℕ) → k ≡ words-told r → LeadingAnswer W n f (take k f)
   part-told k e = record {
     part-is = ap (λ (x : ℕ). take x f) (e ∙ ap words-told (a .case-is)) ∙ go (degree-number r) (true-degree f)
         ∙ ap (λ (s : ℕ). leading-part s (true-degree f) f) (a .status-is);

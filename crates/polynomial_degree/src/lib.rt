@@ -3,6 +3,7 @@
 //
 //   true_degree          the place of the highest nonzero word, or none
 //   true_degree_words    the same in three words
+//   words_up_to          how many words there are up to that place
 //   leading              the words up to that place, the caller's own
 ghost use mathlib.Core.Path.{_≡_};
 ghost use Rattle.definitions.specs.Polynomials.{extent};
@@ -77,7 +78,7 @@ pub fn true_degree_words(n: u32, f: &[u32]) -> DegreeAnswer
 }
 
 // The number of words up to the degree: none for the zero polynomial and after a refusal.
-fn words_up_to(d: Degree) -> usize
+pub fn words_up_to(d: Degree) -> usize
     ensures { λ r. ⌜ r ≡ words-told d ⌝ }
 {
     match d {

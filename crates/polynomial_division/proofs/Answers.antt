@@ -13,7 +13,7 @@ use lib.Dec.{eqb}
 use lib.ListN.{length, getD, take}
 use Rattle.definitions.specs.Polynomials.{coef, deg, quotient-length, Division}
 use Rattle.numbers.specs.Divisors.{GcdCofactor}
-use Rattle.refusals.specs.Refusals.{narrow, Tested, short, first-refusal, refusals-two}
+use Rattle.refusals.specs.Refusals.{Width, Tested, short, first-refusal, refusals-two}
 use Rattle.refusals.specs.Conditions.{status-zero, short-fails}
 use Rattle.refusals.proofs.Statuses.{refused-early, passed-on}
 use Rattle.polynomial_tests.specs.Buffers.{deg-is, placed-take, placed-drop}
@@ -38,15 +38,15 @@ nothing-left : (t n : ℕ) (f g q r : List ℕ) → (t ≡ 0 → ⊥) → Divisi
 nothing-left zero n f g q r h = absurd (h refl)
 nothing-left (suc t) n f g q r h = (refl, refl)
 
-module _ (n s : ℕ) (f g q r : List ℕ) (is : s ≡ first-refusal (refusals-two narrow n f g)) where
+module _ (W : Width) (n s : ℕ) (f g q r : List ℕ) (is : s ≡ first-refusal (refusals-two W n f g)) where
   tests : List Tested
   tests =
       (4, not (is-unit n (coef g (deg g)))) ∷ (6, short (length q) (quotient-length (deg f) (deg g))) ∷ (6, short (length r) (deg g)) ∷ []
 
-  pub division-refused : (s ≡ 0 → ⊥) → DivisionAnswer narrow n f g q q r r 0 s
+  pub division-refused : (s ≡ 0 → ⊥) → DivisionAnswer W n f g q q r r 0 s
   unfolding tests
   division-refused h = record {
-    status-is = refused-early (refusals-two narrow n f g) tests s is h;
+    status-is = refused-early (refusals-two W n f g) tests s is h;
     value-is = refl;
     result = nothing-left s n f g q r h;
   }
@@ -62,22 +62,22 @@ module _ (n s : ℕ) (f g q r : List ℕ) (is : s ≡ first-refusal (refusals-tw
         ∙ ap (λ (e : ℕ). first-refusal ((4, not (is-unit n (coef g (deg g)))) ∷ (6, short (length q) (quotient-length (deg f) (deg g)))
         ∷ (6, short (length r) e) ∷ [])) (sym (deg-is g))
 
-    pub division-late : (t ≡ 0 → ⊥) → DivisionAnswer narrow n f g q q r r 0 t
+    pub division-late : (t ≡ 0 → ⊥) → DivisionAnswer W n f g q q r r 0 t
     unfolding tests
     division-late h = record {
-      status-is = passed-on (refusals-two narrow n f g) tests s t is z (et ∙ late-is);
+      status-is = passed-on (refusals-two W n f g) tests s t is z (et ∙ late-is);
       value-is = refl;
       result = nothing-left t n f g q r h;
     }
 
     pub division-done : t ≡ 0 → (k l : ℕ) → k ≡ x + 1 → l ≡ length g - 1 → (ys zs : List ℕ) → Division n f g ys zs
-        → DivisionAnswer narrow n f g q (putMid 0 k q ys) r (putMid 0 l r zs) 0 0
+        → DivisionAnswer W n f g q (putMid 0 k q ys) r (putMid 0 l r zs) 0 0
     unfolding tests
     division-done w k l ek el ys zs d =
         let m : k ≡ quotient-length (deg f) (deg g) = ek ∙ quotient-is f g x ex in
         let e : l ≡ deg g = el ∙ sym (deg-is g) in
         record {
-          status-is = passed-on (refusals-two narrow n f g) tests s 0 is z (sym w ∙ et ∙ late-is);
+          status-is = passed-on (refusals-two W n f g) tests s 0 is z (sym w ∙ et ∙ late-is);
           value-is = refl;
           result = record {
             division = subst (λ (a : List ℕ). Division n f g a (take (deg g) (putMid 0 l r zs)))

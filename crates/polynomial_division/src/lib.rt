@@ -2,6 +2,7 @@
 // constant first.
 //
 //   division        quotient and remainder by a polynomial whose top word is a unit
+//   excess          by how much a degree is above another
 ghost use mathlib.Core.Path.{_≡_};
 ghost use mathlib.Core.Bool.{not};
 ghost use mathlib.Core.List.{[], _∷_};
@@ -13,11 +14,11 @@ ghost use Rattle.reduction.specs.Moduli.{Ready};
 ghost use Rattle.refusals.specs.Refusals.{narrow, short, first-refusal};
 ghost use Rattle.polynomial_division.specs.Stages.{QuotientAsked, QuotientWords, difference};
 ghost use Rattle.polynomial_division.specs.DivisionService.{DivisionAnswer};
-use reduction::Modulus;
+use reduction::Reciprocal;
 use refusals::Answer;
 
 // a - b, or 0 where b is more.
-fn excess(a: usize, b: usize) -> usize
+pub fn excess(a: usize, b: usize) -> usize
     ensures { λ r. ⌜ r ≡ a - b ⌝ }
 {
     if a < b {
@@ -37,7 +38,7 @@ fn coefficient(f: &[u32], k: usize) -> u32
 }
 
 // i (a - x) modulo n, for x at most n, by one reduction.
-fn quotient_word(m: Modulus, i: u32, a: u32, x: u32) -> u32
+fn quotient_word(m: Reciprocal, i: u32, a: u32, x: u32) -> u32
     requires { ⌜ (Ready m) × (x ≤ m .n) ⌝ }
     ensures { λ r. ⌜ r ≡ (i * ((a + (m .n - x)) % m .n)) % m .n ⌝ }
 {

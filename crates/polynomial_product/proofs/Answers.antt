@@ -14,7 +14,7 @@ use lib.Dec.{ltb}
 use lib.ListN.{length}
 use Rattle.definitions.specs.Polynomials.{coef, deg, convolve, tabulate, product, Residues}
 use Rattle.theory.specs.Words.{length-tabulate}
-use Rattle.refusals.specs.Refusals.{Width, narrow, bad-length, short}
+use Rattle.refusals.specs.Refusals.{Width, bad-length, short}
 use Rattle.refusals.specs.Conditions.{length-fails, status-zero}
 use Rattle.refusals.proofs.Statuses.{replaced-refused}
 use Rattle.polynomial_tests.specs.Buffers.{deg-is, placed}
@@ -61,12 +61,12 @@ product-accepted W n s f g l is z =
       room = subst (λ (x : ℕ). x ≤ l) (sym (product-length f g)) (p .1 .1 .1 .1 .1 .1 .0);
     }
 
-module _ (n s : ℕ) (f g out : List ℕ) (is : s ≡ product-status narrow n f g (length out)) where
-  pub product-refused : (s ≡ 0 → ⊥) → ProductAnswer narrow n f g out out 0 s
+module _ (W : Width) (n s : ℕ) (f g out : List ℕ) (is : s ≡ product-status W n f g (length out)) where
+  pub product-refused : (s ≡ 0 → ⊥) → ProductAnswer W n f g out out 0 s
   product-refused h = record { status-is = is; value-is = refl; out-is = replaced-refused s (product n f g) out h }
 
   pub product-done : s ≡ 0 → (m k : ℕ) → m ≡ length f - 1 + (length g - 1) + 1 → k ≡ m → (ys : List ℕ) (l : ℕ) → l ≡ m
-      → ys ≡ tabulate l (λ (i : ℕ). convolve (coef f) (coef g) i % n) → ProductAnswer narrow n f g out (putMid 0 k out ys) 0 0
+      → ys ≡ tabulate l (λ (i : ℕ). convolve (coef f) (coef g) i % n) → ProductAnswer W n f g out (putMid 0 k out ys) 0 0
   product-done z m k e q ys l r h =
       let p : m ≡ suc (deg f + deg g) = e ∙ product-length f g in
       record {

@@ -35,12 +35,13 @@ pub record Saved (n l : ℕ) (u v w w' : List ℕ) : Type 0 where
   pub second : (k : ℕ) → k < l → getD w' (l + k) 0 ≡ coef v k % n
   pub high : (k : ℕ) → l + l ≤ k → getD w' k 0 ≡ getD w k 0
 
--- "the answers are joined by the Chinese remainder": p and q are coprime, their product is a word, and l words of each cofactor are saved
-pub record MergeAsked (p q l : ℕ) (u v w : List ℕ) : Type 0 where
+-- "the answers are joined by the Chinese remainder": p and q are coprime, their product is a word, and l words of each cofactor are
+-- saved; m is the first number that is no word
+pub record MergeAsked (m p q l : ℕ) (u v w : List ℕ) : Type 0 where
   pub saved : 2 * l ≤ length w
   pub first : l ≤ length u
   pub second : l ≤ length v
-  pub word : p * q < 4294967296
+  pub word : p * q < m
   pub factors : SplitOf (p * q) p q
 
 -- u and v with the l words saved of each; a is D₂ modulo p and 0 modulo q, b is 0 modulo p and D₁ modulo q

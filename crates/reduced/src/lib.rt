@@ -59,7 +59,7 @@ fn save(w: &mut [u32], u: &[u32], v: &[u32], n: u32, a: usize, b: usize) -> usiz
 
 // The saved cofactors modulo p, of a, are joined with those modulo q, of b.
 fn merge(u: &mut [u32], v: &mut [u32], w: &[u32], p: u32, q: u32, l: usize, a: u32, b: u32)
-    requires { ⌜ MergeAsked p q l (now u) (now v) (now w) ⌝ }
+    requires { ⌜ MergeAsked 4294967296 p q l (now u) (now v) (now w) ⌝ }
     ensures { λ _. ⌜ Merged p q l a b (now (w .entry)) (now (u .entry)) (now (u .exit)) (now (v .entry)) (now (v .exit)) ⌝ }
 {
     let n = p * q;

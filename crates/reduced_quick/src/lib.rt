@@ -16,11 +16,11 @@ ghost use Rattle.held_windows.specs.Turned.{turned};
 ghost use Rattle.reduced_attempt.specs.Attempts.{AttemptAsked, Attempted};
 ghost use Rattle.reduced_quick.specs.Quick.{Put, QuickAsked, Tried};
 use montgomery::Form;
-use reduction::Modulus;
+use reduction::Reciprocal;
 use residue::Attempt;
 
 // u[j] = c * w[at + j], for j < len, and 0 above.
-fn put(u: &mut [u32], w: &[u32], m: Modulus, c: u32, at: usize, len: usize)
+fn put(u: &mut [u32], w: &[u32], m: Reciprocal, c: u32, at: usize, len: usize)
     requires { ⌜ Ready m ⌝ }
     requires { ⌜ (at + len ≤ length (now w)) × (len ≤ length (now u)) ⌝ }
     ensures { λ _. ⌜ Put (m .n) c at len (now (w .entry)) (now (u .entry)) (now (u .exit)) ⌝ }

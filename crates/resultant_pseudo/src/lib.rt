@@ -20,7 +20,7 @@ ghost use Rattle.theory.specs.ResultantLaws.{signed};
 ghost use Rattle.windows.specs.Window.{piece, Scratch};
 ghost use Rattle.reduction.specs.Moduli.{Ready};
 ghost use Rattle.resultant_pseudo.specs.Standing.{Placed, PlacedState, LedTo, Stepped, Finished, Descended, TriedAnswer, Answers};
-use reduction::Modulus;
+use reduction::Reciprocal;
 
 // "if every lead was a unit, one inverse and the value"; otherwise a product of leading words that is no unit.
 pub enum Tried {
@@ -51,7 +51,7 @@ pub fn with_sign(n: u32, e: usize, x: u32) -> u32
     arithmetic::negate(n, x)
 }
 
-fn pair_step(w: &mut [u32], m: Modulus, x: State) -> State
+fn pair_step(w: &mut [u32], m: Reciprocal, x: State) -> State
     requires { ⌜ Ready m ⌝ }
     requires { ⌜ (PlacedState (m .n) x (now w)) × ((1 ≤ x .d) × (x .e ≡ x .d + 1)) ⌝ }
     ensures { λ r. ⌜ Stepped (m .n) x (now (w .entry)) r (now (w .exit)) ⌝ }
@@ -79,7 +79,7 @@ fn pair_step(w: &mut [u32], m: Modulus, x: State) -> State
     }
 }
 
-fn last_step(w: &mut [u32], m: Modulus, x: State) -> State
+fn last_step(w: &mut [u32], m: Reciprocal, x: State) -> State
     requires { ⌜ Ready m ⌝ }
     requires { ⌜ (PlacedState (m .n) x (now w)) × ((1 ≤ x .d) × (x .e ≡ x .d)) ⌝ }
     ensures { λ r. ⌜ Stepped (m .n) x (now (w .entry)) r (now (w .exit)) ⌝ }
@@ -104,7 +104,7 @@ fn last_step(w: &mut [u32], m: Modulus, x: State) -> State
     }
 }
 
-fn turn_step(w: &mut [u32], m: Modulus, x: State) -> State
+fn turn_step(w: &mut [u32], m: Reciprocal, x: State) -> State
     requires { ⌜ Ready m ⌝ }
     requires { ⌜ (PlacedState (m .n) x (now w)) × ((1 ≤ x .d) × (x .d < x .e)) ⌝ }
     ensures { λ r. ⌜ Stepped (m .n) x (now (w .entry)) r (now (w .exit)) ⌝ }
@@ -131,7 +131,7 @@ fn turn_step(w: &mut [u32], m: Modulus, x: State) -> State
     }
 }
 
-fn step(w: &mut [u32], m: Modulus, x: State) -> State
+fn step(w: &mut [u32], m: Reciprocal, x: State) -> State
     requires { ⌜ Ready m ⌝ }
     requires { ⌜ (PlacedState (m .n) x (now w)) × (1 ≤ x .d) ⌝ }
     ensures { λ r. ⌜ Stepped (m .n) x (now (w .entry)) r (now (w .exit)) ⌝ }
@@ -165,7 +165,7 @@ fn step(w: &mut [u32], m: Modulus, x: State) -> State
 }
 
 // Steps down to degree 0.
-fn finish(w: &mut [u32], m: Modulus, x: State) -> State
+fn finish(w: &mut [u32], m: Reciprocal, x: State) -> State
     requires { ⌜ Ready m ⌝ }
     requires { ⌜ PlacedState (m .n) x (now w) ⌝ }
     ensures { λ r. ⌜ Finished (m .n) x (now (w .entry)) r (now (w .exit)) ⌝ }
@@ -178,7 +178,7 @@ fn finish(w: &mut [u32], m: Modulus, x: State) -> State
 }
 
 // Two steps, where there are so many.
-fn two_steps(w: &mut [u32], m: Modulus, x: State) -> State
+fn two_steps(w: &mut [u32], m: Reciprocal, x: State) -> State
     requires { ⌜ Ready m ⌝ }
     requires { ⌜ PlacedState (m .n) x (now w) ⌝ }
     ensures { λ r. ⌜ LedTo (m .n) x (now (w .entry)) r (now (w .exit)) ⌝ }
@@ -194,7 +194,7 @@ fn two_steps(w: &mut [u32], m: Modulus, x: State) -> State
 }
 
 // All steps from f of degree d at a and g of degree e at b; both are lost.
-pub fn descend(w: &mut [u32], m: Modulus, a: usize, d: usize, b: usize, e: usize) -> State
+pub fn descend(w: &mut [u32], m: Reciprocal, a: usize, d: usize, b: usize, e: usize) -> State
     requires { ⌜ Ready m ⌝ }
     requires { ⌜ Placed (m .n) a d b e (now w) ⌝ }
     ensures { λ r. ⌜ Descended (m .n) a d b e (now (w .entry)) r (now (w .exit)) ⌝ }
@@ -215,7 +215,7 @@ pub fn descend(w: &mut [u32], m: Modulus, a: usize, d: usize, b: usize, e: usize
 }
 
 // The value, from a state of degree 0: s times the resultant is p t times the power of the constant, and s is a unit.
-fn value_of(w: &[u32], m: Modulus, y: State) -> Tried
+fn value_of(w: &[u32], m: Reciprocal, y: State) -> Tried
     requires { ⌜ Ready m ⌝ }
     requires { ⌜ (PlacedState (m .n) y (now w)) × (y .d ≡ 0) ⌝ }
     ensures { λ r. ⌜ Answers (m .n) y (now (w .entry)) r ⌝ }

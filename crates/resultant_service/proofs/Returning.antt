@@ -1,50 +1,51 @@
--- The resultant's promise at each place where it returns.
+-- The resultant's promise at each place where it returns, over any width W.
 use mathlib.Core.Path.{_≡_, refl, sym, ap, _∙_}
 use mathlib.Core.List.{List, [], _∷_}
 use Prim.Native.Nat.{ℕ, _≤_, _<_}
 use native.Mathlib.Omega.{arith}
 use lib.ListN.{length, replicate}
 use Rattle.definitions.specs.Resultants.{resultant}
-use Rattle.refusals.specs.Refusals.{narrow, short, first-refusal, refusals-two, left}
+use Rattle.refusals.specs.Refusals.{Width, short, first-refusal, refusals-two, left}
 use Rattle.refusals.specs.Conditions.{accepted-two}
 use Rattle.refusals.proofs.Statuses.{refused-early, passed-on, too-short, long-enough, refused-value, answered-value, left-refused}
-use Rattle.resultant.specs.Sizes.{RunSizes}
+use Rattle.resultant.specs.Sizes.{resultant-room, RunSizes}
 use Rattle.resultant_service.specs.ResultantService.{ResultantAnswer}
 
-module _ (n : ℕ) (f g work : List ℕ) (s : ℕ) (e : s ≡ first-refusal (refusals-two narrow n f g)) where
-  pub refused : (s ≡ 0 → ⊥) → ResultantAnswer narrow n f g work work 0 s
+module _ (W : Width) (n : ℕ) (f g work : List ℕ) (s : ℕ) (e : s ≡ first-refusal (refusals-two W n f g)) where
+  pub refused : (s ≡ 0 → ⊥) → ResultantAnswer W n f g work work 0 s
   refused z = record {
-    status-is = refused-early (refusals-two narrow n f g) ((7, short (length work) 8192) ∷ []) s e z;
+    status-is = refused-early (refusals-two W n f g) ((7, short (length work) (W .working)) ∷ []) s e z;
     value-is = refused-value s (resultant n f g) z;
     work-is = left-refused s work z;
   }
 
   module _ (z : s ≡ 0) where
-    pub work-short : length work < 8192 → ResultantAnswer narrow n f g work work 0 7
+    pub work-short : length work < W .working → ResultantAnswer W n f g work work 0 7
     work-short h = record {
-      status-is = passed-on (refusals-two narrow n f g) ((7, short (length work) 8192) ∷ []) s 7 e z (too-short 6 (length work) 8192 [] h);
+      status-is = passed-on (refusals-two W n f g) ((7, short (length work) (W .working)) ∷ []) s 7 e z
+          (too-short 6 (length work) (W .working) [] h);
       value-is = refl;
       work-is = refl;
     }
 
-    pub done : 8192 ≤ length work → (r : ℕ) (work' : List ℕ) → r ≡ resultant n f g → work' ≡ replicate (length work) 0
-        → (x y : ℕ) → (x ≡ r) × (y ≡ 0) → ResultantAnswer narrow n f g work work' x y
+    pub done : W .working ≤ length work → (r : ℕ) (work' : List ℕ) → r ≡ resultant n f g → work' ≡ replicate (length work) 0
+        → (x y : ℕ) → (x ≡ r) × (y ≡ 0) → ResultantAnswer W n f g work work' x y
     done h r work' er ew x y i = record {
-      status-is = i .1 ∙ passed-on (refusals-two narrow n f g) ((7, short (length work) 8192) ∷ []) s 0 e z
-          (long-enough 7 (length work) 8192 [] 0 h refl);
+      status-is = i .1 ∙ passed-on (refusals-two W n f g) ((7, short (length work) (W .working)) ∷ []) s 0 e z
+          (long-enough 7 (length work) (W .working) [] 0 h refl);
       value-is = answered-value y (resultant n f g) x (i .1) (i .0 ∙ er);
       work-is = ew ∙ ap (λ (t : ℕ). left t work) (sym (i .1));
     }
 
     pub modulus-two : 2 ≤ n
-    modulus-two = accepted-two narrow n f g (sym e ∙ z) .0 .modulus
+    modulus-two = accepted-two W n f g (sym e ∙ z) .0 .modulus
 
-    pub served : 8192 ≤ length work → RunSizes f g work
-    served h =
-        let a = accepted-two narrow n f g (sym e ∙ z) in
+    pub served : resultant-room 48 ≤ W .working → W .working ≤ length work → RunSizes f g work
+    served k h =
+        let a = accepted-two W n f g (sym e ∙ z) in
         record { least-f = a .0 .some; most-f = a .0 .few; least-g = a .1 .some; most-g = a .1 .few; working = omega arith }
 
-    pub served-turned : 8192 ≤ length work → RunSizes g f work
-    served-turned h =
-        let a = served h in
+    pub served-turned : resultant-room 48 ≤ W .working → W .working ≤ length work → RunSizes g f work
+    served-turned k h =
+        let a = served k h in
         record { least-f = a .least-g; most-f = a .most-g; least-g = a .least-f; most-g = a .most-f; working = a .working }

@@ -9,14 +9,14 @@ ghost use lib.ListN.{length};
 ghost use Rattle.windows.specs.Window.{Written, Apart, Below};
 ghost use Rattle.reduction.specs.Moduli.{Ready};
 ghost use Rattle.window_combining.specs.Combined.{combination};
-use reduction::Modulus;
+use reduction::Reciprocal;
 
 // w[dst + j] = l * w[dst + j] + c * w[src + j - 1] + m * w[src + j], for j < len; the word before the first counts as 0.
 // No word from src on reaches n: the return inside the loop is never taken. It keeps the back end from vector code, which has no upper
 // half of a product.
 pub fn combine_pair(
     w: &mut [u32],
-    modulus: Modulus,
+    modulus: Reciprocal,
     l: u32,
     c: u32,
     m: u32,

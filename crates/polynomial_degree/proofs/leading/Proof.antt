@@ -1,5 +1,6 @@
 use native.Mathlib.Omega.{arith}
 use Prim.Native.Nat.{_-_}
+use Rattle.refusals.specs.Refusals.{narrow}
 use Rattle.polynomial_degree.proofs.Degrees.{part-inside, part-told}
 use borrow.Author.Needs.{needs}
 use Rattle.polynomial_degree.proofs.leading.Statement.{statement}
@@ -8,7 +9,7 @@ use Rattle.polynomial_degree.proofs.leading.Tie as tie
 part-result-end : tie.Need-part-result-end
 part-result-end c = let td = c .before in
     let s = td .before .before .args in
-    let z = part-inside (s .n) (s .f .now) (td .true-degree .result) (td .true-degree .ensures) in
+    let z = part-inside narrow (s .n) (s .f .now) (td .true-degree .result) (td .true-degree .ensures) in
     let e = c .words-up-to .ensures in
     search needs
 
@@ -16,7 +17,7 @@ returns : tie.Need-returns
 returns c = let wu = c .before in
     let td = wu .before in
     let s = td .before .before .args in
-    part-told (s .n) (s .f .now) (td .true-degree .result) (td .true-degree .ensures) (wu .words-up-to .result - 0)
+    part-told narrow (s .n) (s .f .now) (td .true-degree .result) (td .true-degree .ensures) (wu .words-up-to .result - 0)
     (omega (arith, wu .words-up-to .ensures))
 
 pub leading-spec : {M : Type 1} → statement M

@@ -11,14 +11,14 @@ use Rattle.polynomial_degree.proofs.true_degree.Tie as tie
 returns : tie.Need-returns
 returns c = let ro = c .before in
     let s = ro .before .before .args in
-    degree-refused (s .n) _ (s .f .now) (ro .refusal-one .ensures) (c .if1 .taken)
+    degree-refused narrow (s .n) _ (s .f .now) (ro .refusal-one .ensures) (c .if1 .taken)
 
 returns-2 : tie.Need-returns-2
 returns-2 c = let eo = c .before in
     let if1 = eo .before in
     let ro = if1 .before in
     let s = ro .before .before .args in
-    degree-none (s .n) _ (s .f .now) (ro .refusal-one .ensures) (if1 .if1 .left) _ (eo .extent-of .ensures) (omega arith)
+    degree-none narrow (s .n) _ (s .f .now) (ro .refusal-one .ensures) (if1 .if1 .left) _ (eo .extent-of .ensures) (omega arith)
 
 cast-t7 : tie.Need-cast-t7
 cast-t7 c = let eo = c .before in
@@ -33,7 +33,7 @@ returns-3 c = let eo = c .before in
     let if1 = eo .before in
     let ro = if1 .before in
     let s = ro .before .before .args in
-    degree-some-at (s .n) _ (s .f .now) (ro .refusal-one .ensures) (if1 .if1 .left) _ (eo .extent-of .ensures) (λ e. omega arith)
+    degree-some-at narrow (s .n) _ (s .f .now) (ro .refusal-one .ensures) (if1 .if1 .left) _ (eo .extent-of .ensures) (λ e. omega arith)
 
 pub true-degree-spec : {M : Type 1} → statement M
 true-degree-spec =

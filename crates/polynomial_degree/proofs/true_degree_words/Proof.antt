@@ -1,3 +1,4 @@
+use Rattle.refusals.specs.Refusals.{narrow}
 use Rattle.polynomial_degree.specs.declared.Degree.the-variants.{None, At, Refused}
 use Rattle.polynomial_degree.proofs.Degrees.{words-answered}
 use borrow.Author.Needs.{needs}
@@ -7,17 +8,17 @@ use Rattle.polynomial_degree.proofs.true_degree_words.Tie as tie
 returns : tie.Need-returns
 returns c = let td = c .before .before in
     let s = td .before .before .args in
-    words-answered (s .n) (s .f .now) (td .true-degree .result) (td .true-degree .ensures) None (c .enum-told .given .1)
+    words-answered narrow (s .n) (s .f .now) (td .true-degree .result) (td .true-degree .ensures) None (c .enum-told .given .1)
 
 returns-2 : tie.Need-returns-2
 returns-2 c = let td = c .before .before .before in
     let s = td .before .before .args in
-    words-answered (s .n) (s .f .now) (td .true-degree .result) (td .true-degree .ensures) (At _) (c .before .k .given .1)
+    words-answered narrow (s .n) (s .f .now) (td .true-degree .result) (td .true-degree .ensures) (At _) (c .before .k .given .1)
 
 returns-3 : tie.Need-returns-3
 returns-3 c = let td = c .before .before .before in
     let s = td .before .before .args in
-    words-answered (s .n) (s .f .now) (td .true-degree .result) (td .true-degree .ensures) (Refused _) (c .before .s .given .1)
+    words-answered narrow (s .n) (s .f .now) (td .true-degree .result) (td .true-degree .ensures) (Refused _) (c .before .s .given .1)
 
 pub true-degree-words-spec : {M : Type 1} → statement M
 true-degree-words-spec =

@@ -14,7 +14,7 @@ returns : tie.Need-returns
 returns c = let rt = c .before in
     let start = rt .before .before .before .before .before in
     let s = start .args in
-    division-refused (s .n) _ (s .f .now) (s .g .now) (s .q .now) (s .r .now) (rt .refusal-two .ensures) (c .if1 .taken)
+    division-refused narrow (s .n) _ (s .f .now) (s .g .now) (s .q .now) (s .r .now) (rt .refusal-two .ensures) (c .if1 .taken)
 
 sub-e : tie.Need-sub-e
 sub-e c = let if1 = c in
@@ -57,7 +57,7 @@ returns-2 c = let rq = c .before in
     let start = rt .before .before .before .before .before in
     let s = start .args in
     let a = accepted-two narrow (s .n) (s .f .now) (s .g .now) (sym (rt .refusal-two .ensures) ∙ if1 .if1 .left) in
-    division-late (s .n) _ (s .f .now) (s .g .now) (s .q .now) (s .r .now) (rt .refusal-two .ensures) (if1 .if1 .left) (a .0 .modulus)
+    division-late narrow (s .n) _ (s .f .now) (s .g .now) (s .q .now) (s .r .now) (rt .refusal-two .ensures) (if1 .if1 .left) (a .0 .modulus)
     _ (cf .cofactor .result .s) (ex .excess .result) _ (cf .cofactor .ensures) (ex .excess .ensures) (rq .refusal-quotient .ensures)
     (c .if2 .taken)
 
@@ -124,7 +124,7 @@ returns-3 c = let if2 = c .before .before .before .before .before .before .befor
     let start = rt .before .before .before .before .before in
     let s = start .args in
     let a = accepted-two narrow (s .n) (s .f .now) (s .g .now) (sym (rt .refusal-two .ensures) ∙ if1 .if1 .left) in
-    division-done (s .n) _ (s .f .now) (s .g .now) (s .q .now) (s .r .now) (rt .refusal-two .ensures) (if1 .if1 .left) (a .0 .modulus)
+    division-done narrow (s .n) _ (s .f .now) (s .g .now) (s .q .now) (s .r .now) (rt .refusal-two .ensures) (if1 .if1 .left) (a .0 .modulus)
     _ (cf .cofactor .result .s) (ex .excess .result) _ (cf .cofactor .ensures) (ex .excess .ensures) (rq .refusal-quotient .ensures)
     (if2 .if2 .left) (ex .excess .result + 1 - 0) (length (s .g .now) - 1 - 0) (omega arith)
     (omega arith) _ _ (c .before .before .before .before .divide .ensures)

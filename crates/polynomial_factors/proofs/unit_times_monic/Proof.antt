@@ -14,7 +14,7 @@ returns : tie.Need-returns
 returns c = let ro = c .before in
     let start = ro .before .before .before .before .before in
     let s = start .args in
-    factors-refused (s .n) _ (s .f .now) (s .u .now) (s .h .now) (s .work .now) (ro .refusal-one .ensures) (c .if1 .taken)
+    factors-refused narrow (s .n) _ (s .f .now) (s .u .now) (s .h .now) (s .work .now) (ro .refusal-one .ensures) (c .if1 .taken)
 
 leading-place-requires : tie.Need-leading-place-requires
 leading-place-requires c κs = let if1 = c in
@@ -66,7 +66,7 @@ returns-2 c = let rf = c .before in
     let start = ro .before .before .before .before .before in
     let s = start .args in
     let a = accepted-one narrow (s .n) (s .f .now) (sym (ro .refusal-one .ensures) ∙ if1 .if1 .left) in
-    factors-late (s .n) _ (s .f .now) (s .u .now) (s .h .now) (s .work .now) (ro .refusal-one .ensures) (if1 .if1 .left) a
+    factors-late narrow (s .n) _ (s .f .now) (s .u .now) (s .h .now) (s .work .now) (ro .refusal-one .ensures) (if1 .if1 .left) a
     (lp .leading-place .result) (cf .cofactor .result .g) (cf .cofactor .result .s) _
     (lp .leading-place .ensures) (cf .cofactor .ensures) (rf .refusal-factors .ensures)
     (c .if2 .taken)
@@ -80,7 +80,7 @@ part-factor-words-end c = let if2 = c in
     let ro = if1 .before in
     let start = ro .before .before .before .before .before in
     let s = start .args in
-    let z = late-accepted (cf .cofactor .result .g) (length (s .u .now)) (length (s .h .now)) (length (s .f .now))
+    let z = late-accepted narrow (cf .cofactor .result .g) (length (s .u .now)) (length (s .h .now)) (length (s .f .now))
     (length (s .work .now)) _
     (rf .refusal-factors .ensures) (if2 .if2 .left) .room-u in
     search needs
@@ -94,7 +94,7 @@ part-factor-words-end-2 c = let if2 = c .before in
     let ro = if1 .before in
     let start = ro .before .before .before .before .before in
     let s = start .args in
-    let z = late-accepted (cf .cofactor .result .g) (length (s .u .now)) (length (s .h .now)) (length (s .f .now))
+    let z = late-accepted narrow (cf .cofactor .result .g) (length (s .u .now)) (length (s .h .now)) (length (s .f .now))
     (length (s .work .now)) _
     (rf .refusal-factors .ensures) (if2 .if2 .left) .room-h in
     search needs
@@ -109,7 +109,7 @@ factor-words-requires c κs = let if2 = c .before .before .before in
     let start = ro .before .before .before .before .before in
     let s = start .args in
     let a = accepted-one narrow (s .n) (s .f .now) (sym (ro .refusal-one .ensures) ∙ if1 .if1 .left) in
-    let b = late-accepted (cf .cofactor .result .g) (length (s .u .now)) (length (s .h .now)) (length (s .f .now)) (length (s .work .now)) _
+    let b = late-accepted narrow (cf .cofactor .result .g) (length (s .u .now)) (length (s .h .now)) (length (s .f .now)) (length (s .work .now)) _
     (rf .refusal-factors .ensures) (if2 .if2 .left) in
     record {
       modulus = a .modulus;
@@ -147,7 +147,7 @@ returns-3 c = let if2 = c .before .before .before .before .before .before .befor
     let start = ro .before .before .before .before .before in
     let s = start .args in
     let a = accepted-one narrow (s .n) (s .f .now) (sym (ro .refusal-one .ensures) ∙ if1 .if1 .left) in
-    factors-done (s .n) _ (s .f .now) (s .u .now) (s .h .now) (s .work .now) (ro .refusal-one .ensures) (if1 .if1 .left) a
+    factors-done narrow (s .n) _ (s .f .now) (s .u .now) (s .h .now) (s .work .now) (ro .refusal-one .ensures) (if1 .if1 .left) a
     (lp .leading-place .result) (cf .cofactor .result .g) (cf .cofactor .result .s) _
     (lp .leading-place .ensures) (cf .cofactor .ensures) (rf .refusal-factors .ensures)
     (if2 .if2 .left) (length (s .f .now) - 0) (length (s .f .now) - 0) (omega arith)

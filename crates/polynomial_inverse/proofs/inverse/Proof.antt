@@ -14,7 +14,7 @@ returns : tie.Need-returns
 returns c = let ro = c .before in
     let start = ro .before .before .before .before in
     let s = start .args in
-    inverse-refused (s .n) _ (s .f .now) (s .out .now) (s .work .now) (ro .refusal-one .ensures) (c .if1 .taken)
+    inverse-refused narrow (s .n) _ (s .f .now) (s .out .now) (s .work .now) (ro .refusal-one .ensures) (c .if1 .taken)
 
 leading-place-requires : tie.Need-leading-place-requires
 leading-place-requires c κs = let if1 = c in
@@ -77,8 +77,8 @@ mul-l c = let mo = c .before in
     record {
       fits = omega (
         arith,
-        length-small (s .n) (mo .modulus-of .result .k) (length (s .f .now)) (omega (arith, a .modulus))
-            (start .fits .n .fits)
+        length-small 31 (s .n) (mo .modulus-of .result .k) (length (s .f .now)) (omega (arith, a .modulus))
+            (a .bounded)
             (mo .modulus-of .ensures .1) (a .few),
       );
     }
@@ -95,8 +95,8 @@ add-l c = let mo = c .before in
     record {
       fits = omega (
         arith,
-        length-small (s .n) (mo .modulus-of .result .k) (length (s .f .now)) (omega (arith, a .modulus))
-            (start .fits .n .fits)
+        length-small 31 (s .n) (mo .modulus-of .result .k) (length (s .f .now)) (omega (arith, a .modulus))
+            (a .bounded)
             (mo .modulus-of .ensures .1) (a .few),
       );
     }
@@ -111,7 +111,7 @@ returns-2 c = let ri = c .before in
     let start = ro .before .before .before .before in
     let s = start .args in
     let a = accepted-one narrow (s .n) (s .f .now) (sym (ro .refusal-one .ensures) ∙ if1 .if1 .left) in
-    inverse-late (s .n) _ (s .f .now) (s .out .now) (s .work .now) (ro .refusal-one .ensures) (if1 .if1 .left) a
+    inverse-late narrow (s .n) _ (s .f .now) (s .out .now) (s .work .now) (ro .refusal-one .ensures) (if1 .if1 .left) a
     (lp .leading-place .result) (cf .cofactor .result .g) (cf .cofactor .result .s) (mo .modulus-of .result .k) _
     (lp .leading-place .ensures) (cf .cofactor .ensures) (mo .modulus-of .ensures .1) (ri .refusal-inverse .ensures)
     (c .if2 .taken)
@@ -126,7 +126,7 @@ part-inverse-words-end c = let if2 = c in
     let ro = if1 .before in
     let start = ro .before .before .before .before in
     let s = start .args in
-    let z = late-accepted (cf .cofactor .result .g) (lp .leading-place .result) (length (s .out .now))
+    let z = late-accepted narrow (cf .cofactor .result .g) (lp .leading-place .result) (length (s .out .now))
     (mo .modulus-of .result .k * (length (s .f .now) - 1) + 1) (length (s .work .now)) _ (ri .refusal-inverse .ensures)
     (if2 .if2 .left) .room in
     search needs
@@ -143,14 +143,14 @@ inverse-words-requires c κs = let if2 = c .before .before in
     let s = start .args in
     let a = accepted-one narrow (s .n) (s .f .now) (sym (ro .refusal-one .ensures) ∙ if1 .if1 .left) in
     let k = mo .modulus-of .result .k in
-    let b = late-accepted (cf .cofactor .result .g) (lp .leading-place .result) (length (s .out .now)) (k * (length (s .f .now) - 1) + 1)
-    (length (s .work .now)) _ (ri .refusal-inverse .ensures) (if2 .if2 .left) in
-    let u = inverse-unit (s .n) _ (s .f .now) (s .out .now) (s .work .now) (ro .refusal-one .ensures) (if1 .if1 .left) a
+    let b = late-accepted narrow (cf .cofactor .result .g) (lp .leading-place .result) (length (s .out .now))
+    (k * (length (s .f .now) - 1) + 1) (length (s .work .now)) _ (ri .refusal-inverse .ensures) (if2 .if2 .left) in
+    let u = inverse-unit narrow (s .n) _ (s .f .now) (s .out .now) (s .work .now) (ro .refusal-one .ensures) (if1 .if1 .left) a
     (lp .leading-place .result) (cf .cofactor .result .g) (cf .cofactor .result .s) k _
     (lp .leading-place .ensures) (cf .cofactor .ensures) (mo .modulus-of .ensures .1) (ri .refusal-inverse .ensures)
     (b .one) (b .constant) in
     let e = length-is (s .n) k (s .f .now) (mo .modulus-of .ensures .1) in
-    let l = length-small (s .n) k (length (s .f .now)) (omega (arith, a .modulus)) (start .fits .n .fits) (mo .modulus-of .ensures .1)
+    let l = length-small 31 (s .n) k (length (s .f .now)) (omega (arith, a .modulus)) (a .bounded) (mo .modulus-of .ensures .1)
     (a .few) in
     record {
       modulus = a .modulus;
@@ -173,7 +173,7 @@ returns-3 c = let if2 = c .before .before .before .before .before .before .befor
     let start = ro .before .before .before .before in
     let s = start .args in
     let a = accepted-one narrow (s .n) (s .f .now) (sym (ro .refusal-one .ensures) ∙ if1 .if1 .left) in
-    inverse-done (s .n) _ (s .f .now) (s .out .now) (s .work .now) (ro .refusal-one .ensures) (if1 .if1 .left) a
+    inverse-done narrow (s .n) _ (s .f .now) (s .out .now) (s .work .now) (ro .refusal-one .ensures) (if1 .if1 .left) a
     (lp .leading-place .result) (cf .cofactor .result .g) (cf .cofactor .result .s) (mo .modulus-of .result .k) _
     (lp .leading-place .ensures) (cf .cofactor .ensures) (mo .modulus-of .ensures .1) (ri .refusal-inverse .ensures)
     (if2 .if2 .left) (mo .modulus-of .result .k * (length (s .f .now) - 1) + 1 - 0)

@@ -12,7 +12,7 @@ use Rattle.polynomial_product.proofs.product.Tie as tie
 returns : tie.Need-returns
 returns c = let rp = c .before in
     let s = rp .before .before .before .before .args in
-    product-refused (s .n) _ (s .f .now) (s .g .now) (s .out .now) (rp .refusal-product .ensures) (c .if1 .taken)
+    product-refused narrow (s .n) _ (s .f .now) (s .g .now) (s .out .now) (rp .refusal-product .ensures) (c .if1 .taken)
 
 sub-m : tie.Need-sub-m
 sub-m c = let rp = c .before in
@@ -47,7 +47,7 @@ returns-2 c = let if1 = c .before .before .before .before in
     let a = product-accepted narrow (s .n) _ (s .f .now) (s .g .now) (length (s .out .now)) (rp .refusal-product .ensures) (if1 .if1 .left) in
     let room : m ≤ length out = a .room in
     let e : m - 0 ≡ m = omega arith in
-    product-done (s .n) _ (s .f .now) (s .g .now) out (rp .refusal-product .ensures) (if1 .if1 .left) m (m - 0) refl e
+    product-done narrow (s .n) _ (s .f .now) (s .g .now) out (rp .refusal-product .ensures) (if1 .if1 .left) m (m - 0) refl e
     (c .before .before .product-words .last .1 .1 .1 .0) (length (midOf 0 (m - 0) out)) (mid-len 0 m out room ∙ e)
     (c .before .before .product-words .ensures)
 

@@ -2,36 +2,43 @@ use mathlib.Core.Path.{_≡_, sym, ap, _∙_}
 use Prim.Native.Nat.{ℕ, _-_}
 use native.Mathlib.Omega.{arith}
 use lib.ListN.{replicate}
-use Rattle.reduced_service.proofs.Returning.{refused, length-asked, first-short, second-short, work-short, done, enough, modulus-two, part-long, part-length, handed-on}
+use Rattle.reduced_service.proofs.Returning.{Serves, refused, length-asked, first-short, second-short, work-short, done, enough, modulus-two, part-long, part-length, handed-on}
+use Rattle.numbers.specs.Logarithm.{K-below}
+use Rattle.refusals.specs.Refusals.{narrow}
 use borrow.Author.Needs.{needs}
 use Rattle.reduced_service.proofs.reduced_resultant.Statement.{statement}
 use Rattle.reduced_service.proofs.reduced_resultant.Tie as tie
 
+-- a modulus of 32 bits has K at most 31
+serves : Serves narrow 31
+serves = record { most = λ n l h. let a = K-below n 32 (omega arith) h in omega arith; room = omega arith; small = omega arith }
+
 returns : tie.Need-returns
-returns c = refused _ _ _ _ _ _ (c .before .refusal-two .result) (c .before .refusal-two .ensures) (c .if1 .taken)
+returns c = refused narrow _ _ _ _ _ _ (c .before .refusal-two .result) (c .before .refusal-two .ensures) (c .if1 .taken)
 
 cofactor-length-requires : tie.Need-cofactor-length-requires
 cofactor-length-requires c κs =
     let start = c .before .before .before .before .before .before .before in
-    length-asked _ (start .args .f .now) (start .args .g .now) (c .before .refusal-two .result) (c .before .refusal-two .ensures) (c .if1 .left)
+    length-asked narrow _ (start .args .f .now) (start .args .g .now) (c .before .refusal-two .result) (c .before .refusal-two .ensures) (c .if1 .left)
+    31 serves
 
 returns-2 : tie.Need-returns-2
 returns-2 c =
     let i = c .before .before in
-    first-short _ _ _ _ _ _ (i .before .refusal-two .result) (i .before .refusal-two .ensures) (i .if1 .left)
+    first-short narrow _ _ _ _ _ _ (i .before .refusal-two .result) (i .before .refusal-two .ensures) (i .if1 .left)
     (c .before .cofactor-length .result) (c .before .cofactor-length .ensures) (c .if2 .taken)
 
 returns-3 : tie.Need-returns-3
 returns-3 c =
     let i = c .before .before .before in
-    second-short _ _ _ _ _ _ (i .before .refusal-two .result) (i .before .refusal-two .ensures) (i .if1 .left)
+    second-short narrow _ _ _ _ _ _ (i .before .refusal-two .result) (i .before .refusal-two .ensures) (i .if1 .left)
     (c .before .before .cofactor-length .result) (c .before .before .cofactor-length .ensures) (c .before .if2 .left) (c .if3 .taken)
 
 returns-4 : tie.Need-returns-4
 returns-4 c =
     let l = c .before .before .before in
     let i = l .before in
-    work-short _ _ _ _ _ _ (i .before .refusal-two .result) (i .before .refusal-two .ensures) (i .if1 .left) (l .cofactor-length .result)
+    work-short narrow _ _ _ _ _ _ (i .before .refusal-two .result) (i .before .refusal-two .ensures) (i .if1 .left) (l .cofactor-length .result)
     (l .cofactor-length .ensures) (c .before .before .if2 .left) (c .before .if3 .left) (c .if4 .taken)
 
 worked-requires : tie.Need-worked-requires
@@ -47,14 +54,14 @@ worked-requires c κs =
     let m : l - 0 ≡ l = omega arith in
     let f = start .args .f .now in
     let g = start .args .g .now in
-    let a = length-asked (start .args .n) f g s e z in
+    let a = length-asked narrow (start .args .n) f g s e z 31 serves in
     let lu = part-long (l - 0) l _ (start .args .u .now) m (len .cofactor-length .ensures) (fourth .before .before .if2 .left) in
     let lv = part-long (l - 0) l _ (start .args .v .now) m (len .cofactor-length .ensures) (fourth .before .if3 .left) in
     record {
-      modulus = modulus-two (start .args .n) f g s e z;
+      modulus = modulus-two narrow (start .args .n) f g s e z;
       some-f = a .0;
       some-g = a .1 .0;
-      room = enough (start .args .n) f g s e z _ (fourth .if4 .left);
+      room = enough narrow (start .args .n) f g s e z 31 serves _ (fourth .if4 .left);
       first = omega (arith, lu, lv);
       second = omega (arith, lu, lv);
     }
@@ -72,7 +79,7 @@ returns-5 c =
     let v = fourth .before .if3 .left in
     let last = c .before .before in
     handed-on _ _ (last .answered .ensures .0)
-    (done _ _ _ _ _ _ (i .before .refusal-two .result) (i .before .refusal-two .ensures) (i .if1 .left) l (len .cofactor-length .ensures)
+    (done narrow _ _ _ _ _ _ (i .before .refusal-two .result) (i .before .refusal-two .ensures) (i .if1 .left) l (len .cofactor-length .ensures)
     (l - 0) m _ _ (r .worked .last .0) (r .worked .last .1 .0) _ u v (fourth .if4 .left)
     (part-length (l - 0) l (start .args .u .now) (r .worked .last .0) m u (r .worked .kept .0))
     (part-length (l - 0) l (start .args .v .now) (r .worked .last .1 .0) m v (r .worked .kept .1 .0)) (r .worked .ensures .0) (r .worked .ensures .1 .1)

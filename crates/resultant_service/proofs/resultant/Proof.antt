@@ -1,16 +1,23 @@
 use mathlib.Core.Path.{_∙_, ap}
-use Prim.Native.Nat.{ℕ}
+use Prim.Native.Nat.{ℕ, _≤_}
+use native.Mathlib.Omega.{arith}
 use lib.ListN.{replicate}
 use Rattle.resultant_service.proofs.Returning.{refused, work-short, done, modulus-two, served, served-turned}
+use Rattle.refusals.specs.Refusals.{narrow}
+use Rattle.resultant.specs.Sizes.{resultant-room}
 use borrow.Author.Needs.{needs}
 use Rattle.resultant_service.proofs.resultant.Statement.{statement}
 use Rattle.resultant_service.proofs.resultant.Tie as tie
 
+-- 7538 words of those lent
+room : resultant-room 48 ≤ narrow .working
+room = omega arith
+
 returns : tie.Need-returns
-returns c = refused _ _ _ _ (c .before .refusal-two .result) (c .before .refusal-two .ensures) (c .if1 .taken)
+returns c = refused narrow _ _ _ _ (c .before .refusal-two .result) (c .before .refusal-two .ensures) (c .if1 .taken)
 
 returns-2 : tie.Need-returns-2
-returns-2 c = work-short _ _ _ _ (c .before .before .refusal-two .result) (c .before .before .refusal-two .ensures) (c .before .if1 .left) (c .if2 .taken)
+returns-2 c = work-short narrow _ _ _ _ (c .before .before .refusal-two .result) (c .before .before .refusal-two .ensures) (c .before .if1 .left) (c .if2 .taken)
 
 -- whichever of the two comes first
 run-requires : tie.Need-run-requires
@@ -20,10 +27,10 @@ run-requires c κs =
     let s = i .before .refusal-two .result in
     let e = i .before .refusal-two .ensures in
     let x = i .before .before .before .before .before .args in (
-      modulus-two (x .n) (x .f .now) (x .g .now) (x .work .now) s e (i .if1 .left),
+      modulus-two narrow (x .n) (x .f .now) (x .g .now) (x .work .now) s e (i .if1 .left),
       search (
-        served (x .n) (x .f .now) (x .g .now) (x .work .now) s e (i .if1 .left) (two .if2 .left),
-        served-turned (x .n) (x .f .now) (x .g .now) (x .work .now) s e (i .if1 .left) (two .if2 .left),
+        served narrow (x .n) (x .f .now) (x .g .now) (x .work .now) s e (i .if1 .left) room (two .if2 .left),
+        served-turned narrow (x .n) (x .f .now) (x .g .now) (x .work .now) s e (i .if1 .left) room (two .if2 .left),
       ),
     )
 
@@ -33,7 +40,7 @@ returns-3 c =
     let r = last .before .before .before .before in
     let two = r .before .before in
     let i = two .before in
-    done _ _ _ _ (i .before .refusal-two .result) (i .before .refusal-two .ensures) (i .if1 .left) (two .if2 .left) (r .run .result) _
+    done narrow _ _ _ _ (i .before .refusal-two .result) (i .before .refusal-two .ensures) (i .if1 .left) (two .if2 .left) (r .run .result) _
     (r .run .ensures .0) (last .answered .ensures .1 ∙ ap (λ (l : ℕ). replicate l 0) (r .run .ensures .1 .same)) _ _
     (last .answered .ensures .0)
 

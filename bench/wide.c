@@ -1,0 +1,165 @@
+/* Times of the services with words of 64 bits beside FLINT's, in one run, in the manner of engine.c: n = 9223372036854775783, a prime,
+ * and composite n with pairs full of zero divisors. Each figure is the best of several passes over a pool of pairs, in microseconds of
+ * processor time a call; the passes of the engine and of FLINT take turns. Where a value of the engine is not the one it is compared
+ * with, or a call is refused, the program says which and exits with 1. Build and run: make -C bench */
+#include <stdio.h>
+#include <stdlib.h>
+#include <time.h>
+#include <flint/flint.h>
+#include <flint/nmod_poly.h>
+#include <flint/fmpz.h>
+#include <flint/fmpz_poly.h>
+#include "../include/jingcobu.h"
+
+#define POOL 100
+#define PASSES 15
+#define ROUNDS 10
+#define MOST 49
+
+static uint64_t work[JINGCOBU64_WORK], u[JINGCOBU64_COFACTOR], v[JINGCOBU64_COFACTOR];
+static uint64_t first[POOL][MOST], second[POOL][MOST];
+static volatile uint64_t sink;
+static int wrong;
+
+static uint64_t state = 20261115;
+static uint64_t draw(void)
+{
+    state ^= state << 13; state ^= state >> 7; state ^= state << 17;
+    return state;
+}
+
+static double now(void)
+{
+    struct timespec t;
+    clock_gettime(CLOCK_PROCESS_CPUTIME_ID, &t);
+    return t.tv_sec * 1e6 + t.tv_nsec / 1e3;
+}
+
+static jingcobu64_answer resultant(uint64_t n, int d, int p)
+{
+    return jingcobu64_resultant(n, first[p], d + 1, second[p], d + 1, work, JINGCOBU64_WORK);
+}
+
+static jingcobu64_answer reduced(uint64_t n, int d, int p)
+{
+    return jingcobu64_reduced_resultant(n, first[p], d + 1, second[p], d + 1, u, JINGCOBU64_COFACTOR, v, JINGCOBU64_COFACTOR, work, JINGCOBU64_WORK);
+}
+
+/* an answer for pair p, compared with the number that it should be */
+static void compare(const char *what, uint64_t n, int d, int p, jingcobu64_answer a, uint64_t right)
+{
+    if (a.status == JINGCOBU_OK && a.value == right) return;
+    wrong++;
+    printf("WRONG: n = %lu, d = e = %d, pair %d: %s %lu and status %u, FLINT %lu\n", n, d, p, what, a.value, a.status, right);
+}
+
+/* the best of the passes, each over the pool, of two calls in turn: the engine's and FLINT's */
+enum service { RESULTANT, REDUCED };
+static nmod_poly_t f[POOL], g[POOL], h, s, t;
+static void best(enum service service, uint64_t n, int d, double *ours, double *theirs)
+{
+    *ours = *theirs = 1e30;
+    for (int pass = 0; pass < PASSES; pass++) {
+        double c = now();
+        for (int r = 0; r < ROUNDS; r++)
+            for (int p = 0; p < POOL; p++) sink = (service == RESULTANT ? resultant(n, d, p) : reduced(n, d, p)).value;
+        c = (now() - c) / (ROUNDS * POOL);
+        if (c < *ours) *ours = c;
+        c = now();
+        for (int r = 0; r < ROUNDS; r++)
+            for (int p = 0; p < POOL; p++) {
+                if (service == RESULTANT) sink = nmod_poly_resultant(f[p], g[p]);
+                else { nmod_poly_xgcd(h, s, t, f[p], g[p]); sink = (uint64_t) h->length; }
+            }
+        c = (now() - c) / (ROUNDS * POOL);
+        if (c < *theirs) *theirs = c;
+    }
+}
+
+static void prime_modulus(uint64_t n, int d)
+{
+    nmod_poly_init(h, n); nmod_poly_init(s, n); nmod_poly_init(t, n);
+    for (int p = 0; p < POOL; p++) {
+        nmod_poly_init(f[p], n); nmod_poly_init(g[p], n);
+        for (int k = 0; k <= d; k++) {
+            first[p][k] = draw() % n;
+            second[p][k] = draw() % n;
+            if (k == d && first[p][k] == 0) first[p][k] = 1;
+            if (k == d && second[p][k] == 0) second[p][k] = 1;
+            nmod_poly_set_coeff_ui(f[p], k, first[p][k]);
+            nmod_poly_set_coeff_ui(g[p], k, second[p][k]);
+        }
+        compare("resultant", n, d, p, resultant(n, d, p), nmod_poly_resultant(f[p], g[p]));
+        nmod_poly_gcd(h, f[p], g[p]);
+        compare("D", n, d, p, reduced(n, d, p), h->length > 1 ? n : 1);
+    }
+    double ours, theirs;
+    best(RESULTANT, n, d, &ours, &theirs);
+    printf("n = %lu, d = e = %2d: resultant %8.2f us, FLINT nmod_poly_resultant %8.2f us, ratio %.2f\n", n, d, ours, theirs, ours / theirs);
+    best(REDUCED, n, d, &ours, &theirs);
+    printf("n = %lu, d = e = %2d: reduced   %8.2f us, FLINT nmod_poly_xgcd      %8.2f us, ratio %.2f\n", n, d, ours, theirs, ours / theirs);
+    for (int p = 0; p < POOL; p++) { nmod_poly_clear(f[p]); nmod_poly_clear(g[p]); }
+    nmod_poly_clear(h); nmod_poly_clear(s); nmod_poly_clear(t);
+}
+
+static int by_size(const void *a, const void *b)
+{
+    double x = *(const double *) a, y = *(const double *) b;
+    return x < y ? -1 : x > y;
+}
+
+/* a random residue times up to three primes of n: most often a zero divisor */
+static uint64_t zero_divisor(uint64_t n, const uint64_t *primes, int count)
+{
+    unsigned __int128 x = draw() % n;
+    for (int many = draw() % 4; many > 0; many--) x = x * primes[draw() % count] % n;
+    return (uint64_t) x;
+}
+
+static void composite(uint64_t n, const char *name, const uint64_t *primes, int count, int d)
+{
+    double ratio[POOL];
+    fmpz_poly_t a, b;
+    fmpz_t r;
+    fmpz_poly_init(a); fmpz_poly_init(b); fmpz_init(r);
+    for (int p = 0; p < POOL; p++) {
+        fmpz_poly_zero(a); fmpz_poly_zero(b);
+        for (int k = 0; k <= d; k++) {
+            first[p][k] = zero_divisor(n, primes, count);
+            second[p][k] = zero_divisor(n, primes, count);
+            if (k == d && first[p][k] == 0) first[p][k] = primes[0];
+            if (k == d && second[p][k] == 0) second[p][k] = primes[0];
+            fmpz_poly_set_coeff_ui(a, k, first[p][k]);
+            fmpz_poly_set_coeff_ui(b, k, second[p][k]);
+        }
+        double ours = 1e30, theirs = 1e30;
+        for (int pass = 0; pass < 5; pass++) {
+            double c = now();
+            sink = resultant(n, d, p).value;
+            c = now() - c;
+            if (c < ours) ours = c;
+            c = now();
+            fmpz_poly_resultant(r, a, b);
+            sink = fmpz_fdiv_ui(r, n);
+            c = now() - c;
+            if (c < theirs) theirs = c;
+        }
+        compare("resultant", n, d, p, resultant(n, d, p), fmpz_fdiv_ui(r, n));
+        ratio[p] = theirs / ours;
+    }
+    qsort(ratio, POOL, sizeof(double), by_size);
+    printf("n = %s, d = e = %d, zero divisors: FLINT fmpz_poly_resultant modulo n takes %.1f times our time in the median, %.1f at the least\n",
+           name, d, ratio[POOL / 2], ratio[0]);
+    fmpz_poly_clear(a); fmpz_poly_clear(b); fmpz_clear(r);
+}
+
+int main(void)
+{
+    const uint64_t two[] = { 2 }, three[] = { 3 }, six[] = { 2, 3 };
+    for (int d = 12; d <= 48; d *= 2) prime_modulus(9223372036854775783u, d);
+    composite(4611686018427387904u, "2^62", two, 1, 48);
+    composite(4052555153018976267u, "3^39", three, 1, 48);
+    composite(4738381338321616896u, "6^24", six, 2, 48);
+    printf("wrong values of the engine with words of 64 bits: %d\n", wrong);
+    return wrong != 0;
+}

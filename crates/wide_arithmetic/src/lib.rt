@@ -1,0 +1,83 @@
+// Residues modulo n, n of 64 bits: single operations. Loops over words reduce by `wide_reduction`.
+//
+//   reduce          x modulo n
+//   add_mod, sub_mod, mul_mod, mul_add_mod
+//   negate          -a, with no division
+//   power           x to the power k
+ghost use mathlib.Core.Path.{_≡_};
+ghost use Prim.Native.Nat.{ℕ, _+_, _-_, _*_, _%_, _^_, _<_, _≤_};
+
+// x modulo n.
+pub fn reduce(n: u64, x: u64) -> u64
+    requires { ⌜ 1 ≤ n ⌝ }
+    ensures { λ r. ⌜ r ≡ x % n ⌝ }
+{
+    x % n
+}
+
+pub fn mul_mod(n: u64, a: u64, b: u64) -> u64
+    requires { ⌜ 1 ≤ n ⌝ }
+    ensures { λ r. ⌜ r ≡ (a * b) % n ⌝ }
+{
+    let m = wide_reduction::modulus_of(n);
+    wide_reduction::product(m, a, b)
+}
+
+pub fn add_mod(n: u64, a: u64, b: u64) -> u64
+    requires { ⌜ 1 ≤ n ⌝ }
+    ensures { λ r. ⌜ r ≡ (a + b) % n ⌝ }
+{
+    let x = wide_reduction::residue(n, a);
+    let y = wide_reduction::residue(n, b);
+    wide_reduction::sum(n, x, y)
+}
+
+// a - b, as a + (n - b), for b at most n.
+pub fn sub_mod(n: u64, a: u64, b: u64) -> u64
+    requires { ⌜ (1 ≤ n) × (b ≤ n) ⌝ }
+    ensures { λ r. ⌜ r ≡ (a + (n - b)) % n ⌝ }
+{
+    add_mod(n, a, n - b)
+}
+
+// -a, for a at most n. No division.
+pub fn negate(n: u64, a: u64) -> u64
+    requires { ⌜ (1 ≤ n) × (a ≤ n) ⌝ }
+    ensures { λ r. ⌜ r ≡ (n - a) % n ⌝ }
+{
+    if a == 0 {
+        return 0;
+    }
+    n - a
+}
+
+// a + c b. A product is taken away by c = n - d.
+pub fn mul_add_mod(n: u64, a: u64, c: u64, b: u64) -> u64
+    requires { ⌜ 1 ≤ n ⌝ }
+    ensures { λ r. ⌜ r ≡ (a + c * b) % n ⌝ }
+{
+    let m = wide_reduction::modulus_of(n);
+    wide_reduction::add_product(m, a, c, b)
+}
+
+// x to the power k, by squaring; a square, which the engine asks for most, at once.
+pub fn power(n: u64, x: u64, k: usize) -> u64
+    requires { ⌜ 1 ≤ n ⌝ }
+    ensures { λ r. ⌜ r ≡ (x ^ k) % n ⌝ }
+{
+    let m = wide_reduction::modulus_of(n);
+    if k == 2 {
+        return wide_reduction::product(m, x, x);
+    }
+    let mut r = reduce(n, 1);
+    let mut y = x;
+    let mut j = k;
+    while 0 < j {
+        if j % 2 == 1 {
+            r = wide_reduction::product(m, r, y);
+        }
+        y = wide_reduction::product(m, y, y);
+        j = j / 2;
+    }
+    r
+}

@@ -1,0 +1,171 @@
+// The law of products, tried on the engine itself, words of 64 bits: `law` has the description.
+//
+//   law_of_products    the numbers of seven calls
+//   sent_refusal       the refusals 1, 2 and 3 of n, f, g and h
+//   room_refusal       the refusals 6 and 7 of the lent buffers
+//   resultants, divisors    three calls each
+ghost use mathlib.Core.Path.{_≡_};
+ghost use Rattle.refusals.specs.Refusals.{first-refusal};
+ghost use Rattle.wide_refusals.specs.Wide.{wide};
+ghost use Rattle.law.specs.LawService.{law-sent, law-room, ThreeResultants, ThreeReduced, LawAnswer};
+
+// The resultants r, rf, rg of the product, of f and of g with h, their reduced resultants d, df, dg, and 0 or the number of the refusal.
+pub struct Numbers {
+    pub r: u64,
+    pub rf: u64,
+    pub rg: u64,
+    pub d: u64,
+    pub df: u64,
+    pub dg: u64,
+    pub status: u32,
+}
+
+fn sent_refusal(n: u64, f: &[u64], g: &[u64], h: &[u64]) -> u32
+    ensures { λ s. ⌜ s ≡ first-refusal (law-sent wide n (now (f .entry)) (now (g .entry)) (now (h .entry))) ⌝ }
+{
+    if wide_refusals::bad_modulus(n) {
+        return 1;
+    }
+    if wide_refusals::bad_length(f) {
+        return 2;
+    }
+    if wide_refusals::bad_length(g) {
+        return 2;
+    }
+    if 48 < (f.len() - 1) + (g.len() - 1) {
+        return 2;
+    }
+    if wide_refusals::bad_length(h) {
+        return 2;
+    }
+    if !wide_refusals::all_below(n, f) {
+        return 3;
+    }
+    if !wide_refusals::all_below(n, g) {
+        return 3;
+    }
+    if !wide_refusals::all_below(n, h) {
+        return 3;
+    }
+    0
+}
+
+// The buffers have lp, lu, lv and lw words; the product needs m, and a cofactor l.
+fn room_refusal(lp: usize, m: usize, lu: usize, lv: usize, l: usize, lw: usize) -> u32
+    ensures { λ s. ⌜ s ≡ first-refusal (law-room wide lp m lu lv l lw) ⌝ }
+{
+    if lp < m {
+        return 6;
+    }
+    if lu < l {
+        return 6;
+    }
+    if lv < l {
+        return 6;
+    }
+    if lw < 16384 {
+        return 7;
+    }
+    0
+}
+
+// Three numbers: of the product, of f and of g, each with h.
+struct Three {
+    product: u64,
+    first: u64,
+    second: u64,
+}
+
+// The resultants of p, f and g with h, one after the other.
+fn resultants(n: u64, p: &[u64], f: &[u64], g: &[u64], h: &[u64], work: &mut [u64]) -> Three
+    ensures { λ r. ⌜ ThreeResultants wide n (now (p .entry)) (now (f .entry)) (now (g .entry)) (now (h .entry)) (now (work .entry))
+        (now (work .exit)) (r .product) (r .first) (r .second) ⌝ }
+{
+    let a = wide_resultant_service::resultant(n, p, h, work);
+    let b = wide_resultant_service::resultant(n, f, h, work);
+    let c = wide_resultant_service::resultant(n, g, h, work);
+    Three {
+        product: a.value,
+        first: b.value,
+        second: c.value,
+    }
+}
+
+// The reduced resultants of f, g and p with h, one after the other.
+fn divisors(
+    n: u64,
+    p: &[u64],
+    f: &[u64],
+    g: &[u64],
+    h: &[u64],
+    u: &mut [u64],
+    v: &mut [u64],
+    work: &mut [u64],
+) -> Three
+    ensures { λ r. ⌜ ThreeReduced wide n (now (p .entry)) (now (f .entry)) (now (g .entry)) (now (h .entry)) (now (u .entry))
+        (now (u .exit)) (now (v .entry)) (now (v .exit)) (now (work .entry)) (now (work .exit)) (r .product) (r .first) (r .second) ⌝ }
+{
+    let a = wide_reduced_service::reduced_resultant(n, f, h, u, v, work);
+    let b = wide_reduced_service::reduced_resultant(n, g, h, u, v, work);
+    let c = wide_reduced_service::reduced_resultant(n, p, h, u, v, work);
+    Three {
+        product: c.value,
+        first: a.value,
+        second: b.value,
+    }
+}
+
+// p takes the product of f and g, u and v the cofactors of its D with h.
+pub fn law_of_products(
+    n: u64,
+    f: &[u64],
+    g: &[u64],
+    h: &[u64],
+    p: &mut [u64],
+    u: &mut [u64],
+    v: &mut [u64],
+    work: &mut [u64],
+) -> Numbers
+    ensures { λ a. ⌜ LawAnswer wide n (now (f .entry)) (now (g .entry)) (now (h .entry)) (now (p .entry)) (now (p .exit))
+        (now (u .entry)) (now (u .exit)) (now (v .entry)) (now (v .exit)) (now (work .entry)) (now (work .exit))
+        (a .r) (a .rf) (a .rg) (a .d) (a .df) (a .dg) (a .status) ⌝ }
+{
+    let sent = sent_refusal(n, f, g, h);
+    if sent != 0 {
+        return Numbers {
+            r: 0,
+            rf: 0,
+            rg: 0,
+            d: 0,
+            df: 0,
+            dg: 0,
+            status: sent,
+        };
+    }
+    let m = (f.len() - 1) + (g.len() - 1) + 1;
+    let l = wide_reduced::cofactor_length(n, m, h.len());
+    let room = room_refusal(p.len(), m, u.len(), v.len(), l, work.len());
+    if room != 0 {
+        return Numbers {
+            r: 0,
+            rf: 0,
+            rg: 0,
+            d: 0,
+            df: 0,
+            dg: 0,
+            status: room,
+        };
+    }
+    wide_polynomial_product::product(n, f, g, p);
+    let r = resultants(n, &p[0..m], f, g, h, work);
+    let d = divisors(n, &p[0..m], f, g, h, u, v, work);
+    Numbers {
+        r: r.product,
+        rf: r.first,
+        rg: r.second,
+        d: d.product,
+        df: d.first,
+        dg: d.second,
+        status: 0,
+    }
+}

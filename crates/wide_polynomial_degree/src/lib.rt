@@ -1,0 +1,47 @@
+// The true degree of a polynomial, and its words up to there, as services, words of 64 bits: `polynomial_degree` has the description.
+// What is answered is its `Degree`: a degree and the number of a refusal are small at every width.
+//
+//   true_degree          the place of the highest nonzero word, or none
+//   leading              the words up to that place, the caller's own
+ghost use mathlib.Core.Path.{_≡_};
+ghost use Rattle.definitions.specs.Polynomials.{extent};
+ghost use Rattle.wide_refusals.specs.Wide.{wide};
+ghost use Rattle.polynomial_degree.specs.DegreeService.{TrueDegreeAnswer, LeadingAnswer};
+use polynomial_degree::Degree;
+
+// The number of words up to the highest nonzero one.
+fn extent_of(f: &[u64]) -> usize
+    ensures { λ r. ⌜ r ≡ extent (now (f .entry)) ⌝ }
+{
+    let mut k = f.len();
+    while 0 < k {
+        if f[k - 1] != 0 {
+            return k;
+        }
+        k -= 1;
+    }
+    0
+}
+
+// "True degree: the place of the highest nonzero coefficient"; of a zero polynomial it "is now "none"" (02, W2).
+pub fn true_degree(n: u64, f: &[u64]) -> Degree
+    ensures { λ r. ⌜ TrueDegreeAnswer wide n (now (f .entry)) r ⌝ }
+{
+    let s = wide_refusals::refusal_one(n, f);
+    if s != 0 {
+        return Degree::Refused(s);
+    }
+    let k = extent_of(f);
+    if k == 0 {
+        return Degree::None;
+    }
+    Degree::At((k - 1) as u32)
+}
+
+// "Another serves the words up to that place: they are handed back as a leading part of the caller's own words, not copied."
+pub fn leading<'a>(n: u64, f: &'a [u64]) -> &'a [u64]
+    ensures { λ r. ⌜ LeadingAnswer wide n (now (f .entry)) (now r) ⌝ }
+{
+    let k = polynomial_degree::words_up_to(true_degree(n, f));
+    &f[0..k]
+}

@@ -1,0 +1,115 @@
+// An attempt at the reduced resultant of two polynomials in words of 64 bits. The 32-bit twin `reduced_attempt` has the laws.
+//
+//   Trial             what the half of an attempt comes to
+//   common_content    the content of both polynomials, which divides D
+//   split             two coprime divisors of n, made two coprime factors
+//   attempt           D, or a coefficient that splits n into two coprime factors
+ghost use Prim.Native.Nat.{_+_, _-_, _*_, _/_, _≤_};
+ghost use lib.ListN.{length};
+ghost use Rattle.windows.specs.Window.{Scratch};
+ghost use Rattle.reduced_units.specs.States.{Splitter};
+ghost use Rattle.wide_reduced_attempt.specs.Attempts.{CommonContent, Arranged, HalfAsked, TrialAnswers};
+ghost use Rattle.wide_reduced_attempt.specs.Attempts.{Parted, AttemptAsked, Attempted};
+use wide_residue::Attempt;
+
+// What the half of an attempt comes to that factors the first polynomial: D; two coprime divisors of n; or all coefficients of that
+// polynomial, over the common content, are nilpotent.
+pub enum Trial {
+    Found(u64),
+    Divisors(u64, u64),
+    Nilpotent,
+}
+
+// The content of f and g together.
+pub fn common_content(w: &mut [u64], n: u64, f: &[u64], g: &[u64]) -> u64
+    requires { ⌜ (1 ≤ n) × (length (now f) + length (now g) ≤ length (now w)) ⌝ }
+    ensures { λ r. ⌜ CommonContent n (now (f .entry)) (now (g .entry)) r ⌝ }
+    ensures { λ _. ⌜ Scratch (now (w .entry)) (now (w .exit)) ⌝ }
+{
+    let l = f.len();
+    let m = l + g.len();
+    wide_windows::load(w, 0, f, n);
+    wide_windows::load(w, l, g, n);
+    wide_windows::content(&w[0..m], n)
+}
+
+// The words of b over c, and then those of a.
+fn arrange(w: &mut [u64], n: u64, c: u64, a: &[u64], b: &[u64])
+    requires { ⌜ (1 ≤ n) × ((1 ≤ c) × (length (now b) + length (now a) ≤ length (now w))) ⌝ }
+    ensures { λ _. ⌜ Arranged n c 1 (now (a .entry)) (now (b .entry)) (now (w .entry)) (now (w .exit)) ⌝ }
+{
+    let l = b.len();
+    let m = l + a.len();
+    wide_windows::load(w, 0, b, n);
+    wide_windows::load(w, l, a, n);
+    wide_windows::divide_words(w, c, 0, m);
+}
+
+// The reduced resultant of a and b, c their common content, with the cofactors x of a and y of b, if a can be factored.
+fn half(x: &mut [u64], y: &mut [u64], w: &mut [u64], n: u64, c: u64, a: &[u64], b: &[u64]) -> Trial
+    requires { ⌜ HalfAsked n c (now a) (now b) (now x) (now y) (now w) ⌝ }
+    ensures { λ r. ⌜ TrialAnswers n c (now (a .entry)) (now (b .entry)) (now (x .entry)) (now (y .entry))
+        (now (x .exit)) (now (y .exit)) r ⌝ }
+    ensures { λ _. ⌜ Scratch (now (w .entry)) (now (w .exit)) ⌝ }
+{
+    arrange(w, n, c, a, b);
+    let l = b.len();
+    let m = l + a.len();
+    match wide_window_factor::highest_of(&w[l..m], n / c) {
+        wide_window_factor::Highest::UnitAt(t, i) => match wide_reduced_cofactors::core(
+            x,
+            y,
+            w,
+            n / c,
+            a.len() - 1,
+            l - 1,
+            t,
+            i,
+        ) {
+            Attempt::Value(d) => Trial::Found(c * d),
+            Attempt::Splits(p, q) => Trial::Divisors(p, q),
+        },
+        wide_window_factor::Highest::Splits(p, q) => Trial::Divisors(p, q),
+        wide_window_factor::Highest::AllNilpotent => Trial::Nilpotent,
+    }
+}
+
+// n as a product of two coprime factors, from two coprime divisors: what n has in common with p, and the rest.
+pub fn split(n: u64, p: u64, q: u64) -> Attempt
+    requires { ⌜ (2 ≤ n) × (Splitter n p q) ⌝ }
+    ensures { λ r. ⌜ Parted n r ⌝ }
+{
+    match wide_residue::kind_of(n, p) {
+        wide_residue::Kind::Unit(i) => Attempt::Value(i),
+        wide_residue::Kind::Nilpotent => Attempt::Value(q),
+        wide_residue::Kind::Splits(a, b) => Attempt::Splits(a, b),
+    }
+}
+
+// The reduced resultant of f and g with its cofactors, or n as a product of two coprime factors.
+pub fn attempt(u: &mut [u64], v: &mut [u64], w: &mut [u64], n: u64, f: &[u64], g: &[u64]) -> Attempt
+    requires { ⌜ AttemptAsked n (now f) (now g) (now u) (now v) (now w) ⌝ }
+    ensures { λ r. ⌜ Attempted n (now (f .entry)) (now (g .entry)) (now (u .entry)) (now (v .entry)) (now (u .exit)) (now (v .exit)) r ⌝ }
+    ensures { λ _. ⌜ Scratch (now (w .entry)) (now (w .exit)) ⌝ }
+{
+    let c = common_content(w, n, f, g);
+    if c == n {
+        wide_windows::wipe(u);
+        wide_windows::wipe(v);
+        return Attempt::Value(n);
+    }
+    match half(u, v, w, n, c, f, g) {
+        Trial::Found(d) => {
+            return Attempt::Value(d);
+        }
+        Trial::Divisors(p, q) => {
+            return split(n, p, q);
+        }
+        Trial::Nilpotent => {}
+    }
+    match half(v, u, w, n, c, g, f) {
+        Trial::Found(d) => Attempt::Value(d),
+        Trial::Divisors(p, q) => split(n, p, q),
+        Trial::Nilpotent => Attempt::Value(n),
+    }
+}

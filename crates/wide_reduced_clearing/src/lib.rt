@@ -1,0 +1,64 @@
+// The clearing of contents and unit factors in the reduced run, in words of 64 bits. The 32-bit twin `reduced_clearing` has the
+// description and the laws.
+//
+//   Clearing          what it comes to
+//   clear_contents    the content, then the unit factor
+ghost use Prim.Native.Nat.{_+_};
+ghost use Rattle.windows.specs.Window.{Kept};
+ghost use Rattle.reduced_units.specs.States.{StageAt};
+ghost use Rattle.wide_reduced_clearing.specs.Clearings.{ContentAsked, ContentTaken, Clears};
+use reduced_units::Places;
+
+// What the clearing of contents and unit factors comes to: the reduced resultant; two coprime divisors of the modulus; or the content,
+// the degree of the second polynomial, monic now, and the words of the multipliers, for the division stage.
+pub enum Clearing {
+    Done(u64),
+    Parts(u64, u64),
+    Next(u64, usize, usize),
+}
+
+// B over its content c, the multiplier of A times c, and A modulo v / c.
+fn take_content(w: &mut [u64], n: u64, v: u64, c: u64, p: Places, a: usize)
+    requires { ⌜ ContentAsked n v c p a (now w) ⌝ }
+    ensures { λ _. ⌜ ContentTaken n v c (p .t) (p .pa) a (p .pb) (p .al) (now (w .entry)) (now (w .exit)) ⌝ }
+{
+    wide_windows::scale(w, n, c, p.al, p.al, 2 * (p.t + 1));
+    wide_windows::divide_words(w, c, p.pb, a);
+    wide_windows::reduce_words(w, v / c, p.pa, a + 1);
+}
+
+// The content of B is taken out of it and of the modulus, then the unit factor of B.
+pub fn clear_contents(w: &mut [u64], n: u64, v: u64, p: Places, a: usize, l: usize) -> Clearing
+    requires { ⌜ StageAt n v p a a l (now w) ⌝ }
+    ensures { λ r. ⌜ Clears n v p a (now (w .entry)) (now (w .exit)) r ⌝ }
+    ensures { λ _. ⌜ Kept (p .t + 1) (now (w .entry)) (now (w .exit)) ⌝ }
+{
+    let t = p.t;
+    let pb = p.pb;
+    let c = wide_windows::content(&w[pb..pb + a], v);
+    if c == v {
+        wide_windows::clear(w, t + 1, t);
+        return Clearing::Done(v);
+    }
+    take_content(w, n, v, c, p, a);
+    let s;
+    let i;
+    match wide_window_factor::highest_of(&w[pb..pb + a], v / c) {
+        wide_window_factor::Highest::UnitAt(x, y) => {
+            s = x;
+            i = y;
+        }
+        wide_window_factor::Highest::Splits(f, g) => {
+            return Clearing::Parts(f, g);
+        }
+        wide_window_factor::Highest::AllNilpotent => {
+            return Clearing::Done(v);
+        }
+    }
+    let m = wide_reduced_units::take_unit(w, n, v / c, p, a, l, s, i);
+    if s == 0 {
+        wide_windows::copy(w, p.be, t + 1, t);
+        return Clearing::Done(c);
+    }
+    Clearing::Next(c, s, m)
+}

@@ -1,0 +1,99 @@
+// The core of an attempt at the reduced resultant in words of 64 bits. The 32-bit twin `reduced_cofactors` has the description and the
+// laws.
+//
+//   core    F is factored, the stages find D with the multiplier of G, and the cofactor of F is had by division
+ghost use Prim.Native.Nat.{_-_, _≤_};
+ghost use Rattle.windows.specs.Window.{Scratch};
+ghost use Rattle.wide_reduced_cofactors.specs.Cofactors.{CoreSpace, CoreAsked, CoreCertified, CoreAnswer};
+ghost use Rattle.wide_reduced_cofactors.specs.Cofactors.{FactoredAt, FinishAsked, Finished, monic-place};
+use reduced_units::Places;
+use wide_residue::Attempt;
+
+// The cofactors of c, from the multiplier at q + (t + 1): y is that multiplier, and x is the exact quotient over the unit polynomial of
+// k + 1 words at e + 1.
+fn finish(x: &mut [u64], y: &mut [u64], w: &mut [u64], n: u64, d: usize, e: usize, t: usize, c: u64)
+    requires { ⌜ (t ≤ d) × (FinishAsked n e (monic-place d e) t (d - t) (now w) (now x) (now y)) ⌝ }
+    ensures { λ _. ⌜ Finished n e (monic-place d e) t (d - t) c (now (w .entry)) (now (x .exit)) (now (y .exit)) ⌝ }
+    ensures { λ _. ⌜ Scratch (now (w .entry)) (now (w .exit)) ⌝ }
+{
+    let q = e + 1 + (d + 1);
+    let k = d - t;
+    wide_reduced_quotients::exact_quotient(w, n, e, q, t, c);
+    let a = q + (t + 1);
+    let up = q + 2 * (t + 1) + (t + e + 1);
+    wide_windows::copy(w, e + 1, up, k + 1);
+    wide_windows::wipe(y);
+    wide_windows::load(y, 0, &w[a..a + t], n);
+    wide_reduced_quotients::over_first(x, w, n, up, k, q + 2 * (t + 1) + t, e + 1);
+}
+
+// F is a unit polynomial: its inverse and 0.
+fn constant(x: &mut [u64], y: &mut [u64], w: &mut [u64], n: u64, d: usize, e: usize)
+    requires { ⌜ (CoreSpace n d e (now w) (now x) (now y)) × (FactoredAt n d e 0 (now w)) ⌝ }
+    ensures { λ _. ⌜ CoreCertified n d e (now (w .entry)) (now (x .exit)) (now (y .exit)) 1 ⌝ }
+    ensures { λ _. ⌜ Scratch (now (w .entry)) (now (w .exit)) ⌝ }
+{
+    w[0] = 1;
+    wide_windows::wipe(y);
+    wide_reduced_quotients::over_first(x, w, n, e + 1 + (d + 1) + (0 + 1) + 0, d, 0, 1);
+}
+
+// H has degree t above 0: the stages find D and the multiplier of G.
+fn solve(
+    x: &mut [u64],
+    y: &mut [u64],
+    w: &mut [u64],
+    n: u64,
+    d: usize,
+    e: usize,
+    t: usize,
+) -> Attempt
+    requires { ⌜ CoreSpace n d e (now w) (now x) (now y) ⌝ }
+    requires { ⌜ (1 ≤ t) × ((t ≤ d) × (FactoredAt n d e t (now w))) ⌝ }
+    ensures { λ r. ⌜ CoreAnswer n d e (now (w .entry)) (now (x .entry)) (now (y .entry)) (now (x .exit)) (now (y .exit)) r ⌝ }
+    ensures { λ _. ⌜ Scratch (now (w .entry)) (now (w .exit)) ⌝ }
+{
+    let q = e + 1 + (d + 1);
+    wide_windows::copy(w, q + (t + 1) + t, e + 1, d - t + 1);
+    wide_reduced_quotients::prepare(w, n, e, q, t);
+    let z = w.len();
+    let p = Places {
+        t,
+        pa: 2 * (t + 1),
+        pb: 3 * (t + 1),
+        al: 4 * (t + 1),
+        be: 6 * (t + 1),
+    };
+    match wide_reduced_stages::content_stage(&mut w[q..z], n, n, p, t, 1) {
+        Attempt::Value(c) => {
+            finish(x, y, w, n, d, e, t, c);
+            Attempt::Value(c)
+        }
+        Attempt::Splits(f, g) => Attempt::Splits(f, g),
+    }
+}
+
+// The reduced resultant of F, of degree d at e + 1, and of G, of degree e at 0, with the cofactors x of F and y of G. The coefficient of F
+// at t has the inverse i, and those above it are nilpotent.
+pub fn core(
+    x: &mut [u64],
+    y: &mut [u64],
+    w: &mut [u64],
+    n: u64,
+    d: usize,
+    e: usize,
+    t: usize,
+    i: u64,
+) -> Attempt
+    requires { ⌜ CoreAsked n d e t i (now w) (now x) (now y) ⌝ }
+    ensures { λ r. ⌜ CoreAnswer n d e (now (w .entry)) (now (x .entry)) (now (y .entry)) (now (x .exit)) (now (y .exit)) r ⌝ }
+    ensures { λ _. ⌜ Scratch (now (w .entry)) (now (w .exit)) ⌝ }
+{
+    let b = e + 1;
+    wide_window_factor::unit_times_monic(&mut w[b..b + (d + 1 + (t + 1 + (d + 1)))], n, d, t, i);
+    if t == 0 {
+        constant(x, y, w, n, d, e);
+        return Attempt::Value(1);
+    }
+    solve(x, y, w, n, d, e, t)
+}

@@ -1,0 +1,70 @@
+// Exact quotients, and the window of the stages made ready, in words of 64 bits. The 32-bit twin `reduced_quotients` has the laws.
+//
+//   over_first        a polynomial over a unit polynomial
+//   prepare           H and G modulo H, with the multipliers 0 and 1, for the content stage
+//   exact_quotient    a constant less a product, by H
+ghost use mathlib.Core.Path.{_≡_};
+ghost use Prim.Native.Nat.{_+_};
+ghost use lib.ListN.{getD};
+ghost use Rattle.definitions.specs.Polynomials.{UnitPolynomial};
+ghost use Rattle.windows.specs.Window.{piece, Below, Scratch};
+ghost use Rattle.reduced_quotients.specs.Quotients.{OverRoom, OverFirst};
+ghost use Rattle.reduced_quotients.specs.Quotients.{PrepareRoom, RestAt, Prepared, QuotientRoom, ExactQuotient};
+
+// x becomes the lz words at zp over the unit polynomial of k + 1 words at up; what lies above that is room.
+pub fn over_first(x: &mut [u64], w: &mut [u64], n: u64, up: usize, k: usize, zp: usize, lz: usize)
+    requires { ⌜ OverRoom n up k zp lz (now w) (now x) ⌝ }
+    requires { ⌜ UnitPolynomial n (piece (now w) up (k + 1)) ⌝ }
+    ensures { λ _. ⌜ OverFirst n up k zp lz (now (w .entry)) (now (x .exit)) ⌝ }
+    ensures { λ _. ⌜ Scratch (now (w .entry)) (now (w .exit)) ⌝ }
+{
+    let len = wide_reduced_units::negate_inverse(w, n, up, k);
+    let a = up + (k + 1);
+    let b = a + len;
+    let l = len + lz - 1;
+    wide_windows::clear(w, b, l);
+    wide_reduced_products::sub_product(w, n, a, len, zp, lz, b);
+    wide_windows::wipe(x);
+    wide_windows::load(x, 0, &w[b..b + l], n);
+}
+
+// G at 0 modulo H at q.
+fn remainder(w: &mut [u64], n: u64, e: usize, q: usize, t: usize)
+    requires { ⌜ PrepareRoom n e q t (now w) ⌝ }
+    requires { ⌜ (Below n 0 (e + 1) (now w)) × ((Below n q (t + 1) (now w)) × (getD (now w) (q + t) 0 ≡ 1)) ⌝ }
+    ensures { λ _. ⌜ RestAt n e q t (now (w .entry)) (now (w .exit)) ⌝ }
+{
+    let b = q + 8 * (t + 1);
+    wide_windows::clear(w, b, e + 1 + t);
+    wide_windows::copy(w, 0, b, e + 1);
+    if e + 1 < t {
+        return;
+    }
+    wide_window_division::divide(w, n, q, t, b, e, 1);
+}
+
+// The window from q on is made ready for the content stage.
+pub fn prepare(w: &mut [u64], n: u64, e: usize, q: usize, t: usize)
+    requires { ⌜ PrepareRoom n e q t (now w) ⌝ }
+    requires { ⌜ (Below n 0 (e + 1) (now w)) × ((Below n q (t + 1) (now w)) × (getD (now w) (q + t) 0 ≡ 1)) ⌝ }
+    ensures { λ _. ⌜ Prepared n e q t (now (w .entry)) (now (w .exit)) ⌝ }
+{
+    remainder(w, n, e, q, t);
+    wide_windows::copy(w, q, q + 2 * (t + 1), t + 1);
+    wide_windows::copy(w, q + 8 * (t + 1), q + 3 * (t + 1), t);
+    wide_windows::clear(w, q + 4 * (t + 1), 4 * (t + 1));
+    w[q + 6 * (t + 1)] = 1;
+}
+
+// c less the product of G at 0 and the multiplier at q + (t + 1), divided by H at q.
+pub fn exact_quotient(w: &mut [u64], n: u64, e: usize, q: usize, t: usize, c: u64)
+    requires { ⌜ QuotientRoom n e q t (now w) ⌝ }
+    requires { ⌜ (Below n q (t + 1) (now w)) × ((getD (now w) (q + t) 0 ≡ 1) × (Below n (q + (t + 1)) t (now w))) ⌝ }
+    ensures { λ _. ⌜ ExactQuotient n e q t c (now (w .entry)) (now (w .exit)) ⌝ }
+{
+    let z = q + 2 * (t + 1);
+    wide_windows::clear(w, z, t + e + 1);
+    w[z] = wide_windows::residue(c, n);
+    wide_reduced_products::sub_product(w, n, q + (t + 1), t, 0, e + 1, z);
+    wide_window_division::divide_keeping(w, n, q, t, z, t + e, 1);
+}

@@ -1,0 +1,244 @@
+// Reduction modulo n, n of 64 bits, without division: a modulus comes with its reciprocal, found once, two digits in the base 2^64. The
+// services answer for n below 2^63 alone, and only there the reciprocal is used; for larger n a product is made by doubling, so that no
+// function above this crate has to ask how large n is.
+//
+//   Reciprocal, modulus_of     n, and for n below 2^63 the two digits v1, v0 of 2^128 / n and r, which is 2^64 less v1 n
+//   residue, sum            x modulo n; a + b modulo n, of residues
+//   multiplier              what a factor c that is used often comes with: its fraction of n
+//   scaled                  c y modulo n, with c's fraction
+//   product, add_product    a b and x + a b modulo n
+//   difference              a - b modulo n, b at most n
+//   sum_two                 x + c a + e b modulo n
+//   sum_three               l x + c y + e z modulo n
+//
+//   m       the modulus with its reciprocal
+ghost use mathlib.Core.Path.{_≡_};
+ghost use Prim.Native.Nat.{_+_, _-_, _*_, _/_, _%_, _^_, _<_, _≤_};
+ghost use Rattle.words.specs.Fractions.{Fraction};
+ghost use Rattle.wide_words.specs.Reciprocals.{Halved};
+ghost use Rattle.wide_reduction.specs.Moduli.{Ready};
+
+// What is found once for a modulus n: `Ready` says that v1, v0 and r belong to it.
+pub struct Reciprocal {
+    pub n: u64,
+    pub r: u64,
+    pub v1: u64,
+    pub v0: u64,
+}
+
+// A quotient and what is left.
+struct Parts {
+    q: u64,
+    x: u64,
+}
+
+// The upper half of a b, a function of its own: the back end makes one multiplication of it.
+fn high(a: u64, b: u64) -> u64
+    ensures { λ r. ⌜ r ≡ a * b / 2 ^ 64 ⌝ }
+{
+    let a0 = a % 4294967296;
+    let a1 = a / 4294967296;
+    let b0 = b % 4294967296;
+    let b1 = b / 4294967296;
+    let w = a0 * b0;
+    let t = a1 * b0 + w / 4294967296;
+    let u = t % 4294967296 + a0 * b1;
+    a1 * b1 + t / 4294967296 + u / 4294967296
+}
+
+// The lower half of a b, likewise.
+fn low(a: u64, b: u64) -> u64
+    ensures { λ r. ⌜ r ≡ (a * b) % 2 ^ 64 ⌝ }
+{
+    let a0 = a % 4294967296;
+    let a1 = a / 4294967296;
+    let b0 = b % 4294967296;
+    let b1 = b / 4294967296;
+    let s = (a1 * b0) % 4294967296 + (a0 * b1) % 4294967296;
+    std::num::wrapping_add_u64(a0 * b0, s % 4294967296 * 4294967296)
+}
+
+// One binary digit more of a quotient by n: what is left is doubled, and n is taken off where something stays left.
+fn halve(n: u64, q: u64, x: u64) -> Parts
+    requires { ⌜ (1 ≤ x) × ((x ≤ n) × ((n < 2 ^ 63) × (q < 2 ^ 63))) ⌝ }
+    ensures { λ r. ⌜ Halved n q x (r .q) (r .x) ⌝ }
+{
+    let y = x + x;
+    if y <= n {
+        return Parts { q: q + q, x: y };
+    }
+    Parts {
+        q: q + q + 1,
+        x: y - n,
+    }
+}
+
+// r 2^64 / n, rounded so that something is left.
+fn fraction(n: u64, r: u64) -> u64
+    requires { ⌜ (1 ≤ r) × ((r ≤ n) × (n < 2 ^ 63)) ⌝ }
+    ensures { λ q. ⌜ (q * n < r * 2 ^ 64) × (r * 2 ^ 64 ≤ q * n + n) ⌝ }
+{
+    let mut q: u64 = 0;
+    let mut x = r;
+    let mut k: u64 = 0;
+    while k < 64 {
+        let p = halve(n, q, x);
+        q = p.q;
+        x = p.x;
+        k += 1;
+    }
+    q
+}
+
+// n with its reciprocal.
+pub fn modulus_of(n: u64) -> Reciprocal
+    requires { ⌜ 1 ≤ n ⌝ }
+    ensures { λ m. ⌜ (Ready m) × (m .n ≡ n) ⌝ }
+{
+    if n >= 9223372036854775808 {
+        return Reciprocal {
+            n,
+            r: 0,
+            v1: 0,
+            v0: 0,
+        };
+    }
+    let v1 = 18446744073709551615 / n;
+    let r = 18446744073709551615 % n + 1;
+    Reciprocal {
+        n,
+        r,
+        v1,
+        v0: fraction(n, r),
+    }
+}
+
+// What c, at most n, is of n, as a fraction of 2^64.
+pub fn multiplier(m: Reciprocal, c: u64) -> u64
+    requires { ⌜ (Ready m) × ((m .n < 2 ^ 63) × (c ≤ m .n)) ⌝ }
+    ensures { λ w. ⌜ Fraction (2 ^ 64) (m .n) c w ⌝ }
+{
+    let w = c * m.v1 + high(c, m.v0);
+    let p = std::num::wrapping_sub_u64(0, low(w, m.n));
+    if p <= m.n {
+        return w;
+    }
+    w + 1
+}
+
+// s modulo n, for s below 2 n.
+fn fold(n: u64, s: u64) -> u64
+    requires { ⌜ s < n + n ⌝ }
+    ensures { λ r. ⌜ r ≡ s % n ⌝ }
+{
+    if s < n {
+        return s;
+    }
+    s - n
+}
+
+// c y, where w is c's fraction of n.
+pub fn scaled(m: Reciprocal, c: u64, w: u64, y: u64) -> u64
+    requires { ⌜ (Ready m) × ((m .n < 2 ^ 63) × Fraction (2 ^ 64) (m .n) c w) ⌝ }
+    ensures { λ r. ⌜ r ≡ (c * y) % m .n ⌝ }
+{
+    let q = high(w, y);
+    fold(m.n, std::num::wrapping_sub_u64(low(c, y), low(q, m.n)))
+}
+
+// x modulo n; a residue costs no division.
+pub fn residue(n: u64, x: u64) -> u64
+    requires { ⌜ 1 ≤ n ⌝ }
+    ensures { λ r. ⌜ r ≡ x % n ⌝ }
+{
+    if x < n {
+        return x;
+    }
+    x % n
+}
+
+// a + b modulo n, of two residues, with no number above n on the way.
+pub fn sum(n: u64, a: u64, b: u64) -> u64
+    requires { ⌜ (a < n) × (b < n) ⌝ }
+    ensures { λ r. ⌜ r ≡ (a + b) % n ⌝ }
+{
+    let c = n - b;
+    if a < c {
+        return a + b;
+    }
+    a - c
+}
+
+// h 2^64 + t modulo n.
+fn reduce_wide(m: Reciprocal, h: u64, t: u64) -> u64
+    requires { ⌜ (Ready m) × (m .n < 2 ^ 63) ⌝ }
+    ensures { λ r. ⌜ r ≡ (h * 2 ^ 64 + t) % m .n ⌝ }
+{
+    fold(m.n, scaled(m, m.r, m.v0, h) + scaled(m, 1, m.v1, t))
+}
+
+// a b modulo n by doubling, for any n.
+fn doubled(n: u64, a: u64, b: u64) -> u64
+    requires { ⌜ 1 ≤ n ⌝ }
+    ensures { λ r. ⌜ r ≡ (a * b) % n ⌝ }
+{
+    let mut r: u64 = 0;
+    let mut y = residue(n, a);
+    let mut k = b;
+    while 0 < k {
+        if k % 2 == 1 {
+            r = sum(n, r, y);
+        }
+        y = sum(n, y, y);
+        k = k / 2;
+    }
+    r
+}
+
+// a b modulo n.
+pub fn product(m: Reciprocal, a: u64, b: u64) -> u64
+    requires { ⌜ Ready m ⌝ }
+    ensures { λ r. ⌜ r ≡ (a * b) % m .n ⌝ }
+{
+    if m.n >= 9223372036854775808 {
+        return doubled(m.n, a, b);
+    }
+    reduce_wide(m, high(a, b), low(a, b))
+}
+
+// x + a b modulo n.
+pub fn add_product(m: Reciprocal, x: u64, a: u64, b: u64) -> u64
+    requires { ⌜ Ready m ⌝ }
+    ensures { λ r. ⌜ r ≡ (x + a * b) % m .n ⌝ }
+{
+    let y = residue(m.n, x);
+    let p = product(m, a, b);
+    sum(m.n, y, p)
+}
+
+// a - b modulo n, as a + (n - b), for b at most n.
+pub fn difference(m: Reciprocal, a: u64, b: u64) -> u64
+    requires { ⌜ (Ready m) × (b ≤ m .n) ⌝ }
+    ensures { λ r. ⌜ r ≡ (a + (m .n - b)) % m .n ⌝ }
+{
+    let n = m.n;
+    let x = residue(n, a);
+    let y = residue(n, n - b);
+    sum(n, x, y)
+}
+
+// x + c a + e b modulo n.
+pub fn sum_two(m: Reciprocal, x: u64, c: u64, a: u64, e: u64, b: u64) -> u64
+    requires { ⌜ (Ready m) × ((x ≤ m .n) × (e ≤ m .n)) ⌝ }
+    ensures { λ r. ⌜ r ≡ (x + c * a + e * b) % m .n ⌝ }
+{
+    add_product(m, add_product(m, x, c, a), e, b)
+}
+
+// l x + c y + e z modulo n.
+pub fn sum_three(m: Reciprocal, l: u64, x: u64, c: u64, y: u64, e: u64, z: u64) -> u64
+    requires { ⌜ Ready m ⌝ }
+    ensures { λ r. ⌜ r ≡ (l * x + c * y + e * z) % m .n ⌝ }
+{
+    add_product(m, add_product(m, product(m, l, x), c, y), e, z)
+}

@@ -1,0 +1,108 @@
+// The resultant of two polynomials modulo n, in their sent degrees, words of 64 bits. The 32-bit twin `resultant` has the laws.
+//
+//   f, g   the sent words; l and m are their numbers
+//   w      the working window: f from 0 on, g after it, and the attempt's room from l + m on
+//
+//   run      the resultant; a split of n is worked on each factor and joined
+//   once     one attempt
+//   ordered  one attempt where f has no more words than g: without inverses first
+//   tried    the attempt without inverses
+//   settled  what is left where some leading word is no unit: a split, or the general attempt
+//   general  the general attempt
+//   swapped  one attempt where g has no more words than f
+ghost use mathlib.Core.Path.{_≡_};
+ghost use Prim.Native.Nat.{_≤_};
+ghost use lib.ListN.{length};
+ghost use Rattle.definitions.specs.Resultants.{resultant};
+ghost use Rattle.windows.specs.Window.{Scratch};
+ghost use Rattle.wide_resultant_pseudo.specs.Standing.{TriedAnswer};
+ghost use Rattle.wide_resultant_steps.specs.AttemptAnswers.{ValueOrSplit};
+ghost use Rattle.resultant.specs.Sizes.{RunSizes};
+use wide_residue::Attempt;
+use wide_resultant_pseudo::Tried;
+
+// f and g are loaded modulo n, f first.
+fn general(w: &mut [u64], n: u64, f: &[u64], g: &[u64]) -> Attempt
+    requires { ⌜ (2 ≤ n) × (RunSizes (now f) (now g) (now w) × (length (now f) ≤ length (now g))) ⌝ }
+    ensures { λ r. ⌜ ValueOrSplit n (resultant n (now (f .entry)) (now (g .entry))) r ⌝ }
+{
+    let l = f.len();
+    let m = g.len();
+    wide_windows::load(w, 0, f, n);
+    wide_windows::load(w, l, g, n);
+    wide_resultant_attempt::euclid(w, n, 0, l - 1, l, m - 1, l + m)
+}
+
+// The same by Euclid without inverses.
+fn tried(w: &mut [u64], n: u64, f: &[u64], g: &[u64]) -> Tried
+    requires { ⌜ (2 ≤ n) × (RunSizes (now f) (now g) (now w) × (length (now f) ≤ length (now g))) ⌝ }
+    ensures { λ r. ⌜ TriedAnswer n (resultant n (now (f .entry)) (now (g .entry))) r ⌝ }
+{
+    let l = f.len();
+    let m = g.len();
+    wide_windows::load(w, 0, f, n);
+    wide_windows::load(w, l, g, n);
+    wide_resultant_pseudo::attempt(w, n, 0, l - 1, l, m - 1)
+}
+
+// Some leading word is no unit, and x is their product: it splits n, or the general attempt goes on from the sent words.
+fn settled(w: &mut [u64], n: u64, f: &[u64], g: &[u64], x: u64) -> Attempt
+    requires { ⌜ (2 ≤ n) × (RunSizes (now f) (now g) (now w) × (length (now f) ≤ length (now g))) ⌝ }
+    ensures { λ r. ⌜ ValueOrSplit n (resultant n (now (f .entry)) (now (g .entry))) r ⌝ }
+{
+    match wide_residue::kind_of(n, x) {
+        wide_residue::Kind::Splits(p, q) => Attempt::Splits(p, q),
+        wide_residue::Kind::Unit(_) => general(w, n, f, g),
+        wide_residue::Kind::Nilpotent => general(w, n, f, g),
+    }
+}
+
+// Euclid without inverses first.
+fn ordered(w: &mut [u64], n: u64, f: &[u64], g: &[u64]) -> Attempt
+    requires { ⌜ (2 ≤ n) × (RunSizes (now f) (now g) (now w) × (length (now f) ≤ length (now g))) ⌝ }
+    ensures { λ r. ⌜ ValueOrSplit n (resultant n (now (f .entry)) (now (g .entry))) r ⌝ }
+{
+    match tried(w, n, f, g) {
+        Tried::Value(v) => Attempt::Value(v),
+        Tried::NotUnit(x) => settled(w, n, f, g, x),
+    }
+}
+
+// A swap costs the sign (-1)^(d e).
+fn swapped(w: &mut [u64], n: u64, f: &[u64], g: &[u64]) -> Attempt
+    requires { ⌜ (2 ≤ n) × (RunSizes (now f) (now g) (now w) × (length (now g) ≤ length (now f))) ⌝ }
+    ensures { λ r. ⌜ ValueOrSplit n (resultant n (now (f .entry)) (now (g .entry))) r ⌝ }
+{
+    let l = f.len();
+    let m = g.len();
+    let r = ordered(w, n, g, f);
+    wide_resultant_steps::times_sign(n, l - 1, m - 1, r)
+}
+
+// The one with fewer words goes first.
+fn once(w: &mut [u64], n: u64, f: &[u64], g: &[u64]) -> Attempt
+    requires { ⌜ (2 ≤ n) × RunSizes (now f) (now g) (now w) ⌝ }
+    ensures { λ r. ⌜ ValueOrSplit n (resultant n (now (f .entry)) (now (g .entry))) r ⌝ }
+{
+    if f.len() <= g.len() {
+        return ordered(w, n, f, g);
+    }
+    swapped(w, n, f, g)
+}
+
+// "At a splitting coefficient, each of the two factors is worked as a modulus of its own, and the answers are joined by the
+// Chinese remainder." The words of f and g may be any; they count modulo n.
+pub fn run(w: &mut [u64], n: u64, f: &[u64], g: &[u64]) -> u64
+    requires { ⌜ (2 ≤ n) × RunSizes (now f) (now g) (now w) ⌝ }
+    ensures { λ r. ⌜ r ≡ resultant n (now (f .entry)) (now (g .entry)) ⌝ }
+    ensures { λ _. ⌜ Scratch (now (w .entry)) (now (w .exit)) ⌝ }
+{
+    match once(w, n, f, g) {
+        Attempt::Value(v) => v,
+        Attempt::Splits(p, q) => {
+            let x = run(w, p, f, g);
+            let y = run(w, q, f, g);
+            wide_residue::join(p, q, x, y)
+        }
+    }
+}

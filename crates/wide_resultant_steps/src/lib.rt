@@ -1,0 +1,122 @@
+// The steps of an attempt at a resultant that are no divisions, words of 64 bits. The 32-bit twin `resultant_steps` has the laws.
+//
+//   w, n   the buffer and the modulus
+//   d, e   the degrees of f and g
+//   a, b   the places of two polynomials of l and m words, and s the place that takes their copies
+//   r      the answer of an attempt: a value, or two coprime factors of the modulus
+//
+//   with_sign                      a residue with the sign of a swap or of a reversal
+//   copy_pair, copy_pair_reversed  two polynomials laid side by side
+//   clear_content                  the content of f taken out
+//   lift_split                     a split of the modulus from one of a divisor of it
+//   times, times_sign, lifted      an answer turned into another
+ghost use mathlib.Core.Path.{_≡_};
+ghost use Prim.Native.Nat.{_+_, _-_, _*_, _/_, _%_, _<_, _≤_, _∣_};
+ghost use lib.ListN.{length};
+ghost use Rattle.theory.specs.ResultantLaws.{signed};
+ghost use Rattle.windows.specs.Window.{Below};
+ghost use Rattle.wide_window_factor.specs.Factors.{SplitOf};
+ghost use Rattle.wide_resultant_steps.specs.AttemptAnswers.{IsAnswer, Partial, Follows, Lifted};
+ghost use Rattle.resultant_steps.specs.Layouts.{ContentCleared, Beside, words-at, words-back};
+use wide_residue::Attempt;
+
+// Two coprime factors.
+struct Split {
+    p: u64,
+    q: u64,
+}
+
+// x with the sign (-1)^(d e).
+fn with_sign(n: u64, d: usize, e: usize, x: u64) -> u64
+    requires { ⌜ x < n ⌝ }
+    ensures { λ r. ⌜ r ≡ signed n (d * e) x ⌝ }
+{
+    if d % 2 == 0 {
+        return x;
+    }
+    if e % 2 == 0 {
+        return x;
+    }
+    wide_arithmetic::negate(n, x)
+}
+
+// The l words at a and the m words at b, copied side by side to s.
+pub fn copy_pair(w: &mut [u64], a: usize, l: usize, b: usize, m: usize, s: usize)
+    requires { ⌜ (a + l ≤ s) × ((b + m ≤ s) × (s + (l + m) ≤ length (now w))) ⌝ }
+    ensures { λ _. ⌜ Beside (words-at (now (w .entry)) a) (words-at (now (w .entry)) b) l m s (now (w .entry)) (now (w .exit)) ⌝ }
+{
+    wide_windows::copy(w, a, s, l);
+    wide_windows::copy(w, b, s + l, m);
+}
+
+// The same, each with its last word first.
+pub fn copy_pair_reversed(w: &mut [u64], a: usize, l: usize, b: usize, m: usize, s: usize)
+    requires { ⌜ (a + l ≤ s) × ((b + m ≤ s) × (s + (l + m) ≤ length (now w))) ⌝ }
+    ensures { λ _. ⌜ Beside (words-back (now (w .entry)) a l) (words-back (now (w .entry)) b m) l m s
+        (now (w .entry)) (now (w .exit)) ⌝ }
+{
+    wide_windows::copy_reversed(w, a, s, l);
+    wide_windows::copy_reversed(w, b, s + l, m);
+}
+
+// The content c of f and n. f of degree d at e + 1 is divided by it, g of degree e at 0 is reduced modulo n / c.
+pub fn clear_content(w: &mut [u64], n: u64, d: usize, e: usize) -> u64
+    requires { ⌜ (1 ≤ n) × ((e + 1 + (d + 1) ≤ length (now w)) × (Below n 0 (e + 1) (now w))) ⌝ }
+    ensures { λ r. ⌜ ContentCleared n d e r (now (w .entry)) (now (w .exit)) ⌝ }
+{
+    let c = wide_windows::content(&w[e + 1..e + 1 + (d + 1)], n);
+    if c == 1 {
+        return 1;
+    }
+    wide_windows::divide_words(w, c, e + 1, d + 1);
+    wide_windows::reduce_words(w, n / c, 0, e + 1);
+    c
+}
+
+// A factor p of a split of a divisor m of n splits n as well.
+fn lift_split(n: u64, p: u64, q: u64) -> Split
+    requires { ⌜ (2 ≤ n) × (SplitOf (p * q) p q × (p * q ∣ n)) ⌝ }
+    ensures { λ r. ⌜ SplitOf n (r .p) (r .q) ⌝ }
+{
+    match wide_residue::kind_of(n, p) {
+        wide_residue::Kind::Splits(x, y) => Split { p: x, q: y },
+        wide_residue::Kind::Unit(_) => Split { p, q },
+        wide_residue::Kind::Nilpotent => Split { p, q },
+    }
+}
+
+// The answer times c.
+pub fn times(n: u64, c: u64, r: Attempt) -> Attempt
+    requires { ⌜ 1 ≤ n ⌝ }
+    ensures { λ s. ⌜ Follows n (λ x. (c * x) % n) r s ⌝ }
+{
+    match r {
+        Attempt::Value(v) => Attempt::Value(wide_arithmetic::mul_mod(n, c, v)),
+        Attempt::Splits(p, q) => Attempt::Splits(p, q),
+    }
+}
+
+// The answer with the sign (-1)^(d e).
+pub fn times_sign(n: u64, d: usize, e: usize, r: Attempt) -> Attempt
+    requires { ⌜ IsAnswer n r ⌝ }
+    ensures { λ s. ⌜ Follows n (signed n (d * e)) r s ⌝ }
+{
+    match r {
+        Attempt::Value(v) => Attempt::Value(with_sign(n, d, e, v)),
+        Attempt::Splits(p, q) => Attempt::Splits(p, q),
+    }
+}
+
+// The answer modulo a divisor of n, as one modulo n.
+pub fn lifted(n: u64, r: Attempt) -> Attempt
+    requires { ⌜ (2 ≤ n) × Partial n r ⌝ }
+    ensures { λ s. ⌜ Lifted n r s ⌝ }
+{
+    match r {
+        Attempt::Value(v) => Attempt::Value(v),
+        Attempt::Splits(p, q) => {
+            let s = lift_split(n, p, q);
+            Attempt::Splits(s.p, s.q)
+        }
+    }
+}

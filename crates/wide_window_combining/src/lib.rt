@@ -1,0 +1,41 @@
+// The word loop of a pseudo-division, words of 64 bits: a window loses two shifted multiples of another and is scaled itself.
+//
+//   combine_pair        the words at dst, times l, with c and m times the words at src
+//
+//   l       what the words at dst are multiplied by: the leading word of the divisor, or its square
+//   c, m    the multipliers of the word before and of the word itself: two quotient words
+ghost use Prim.Native.Nat.{_+_, _≤_};
+ghost use lib.ListN.{length};
+ghost use Rattle.windows.specs.Window.{Written, Apart, Below};
+ghost use Rattle.wide_reduction.specs.Moduli.{Ready};
+ghost use Rattle.window_combining.specs.Combined.{combination};
+use wide_reduction::Reciprocal;
+
+// w[dst + j] = l * w[dst + j] + c * w[src + j - 1] + m * w[src + j], for j < len; the word before the first counts as 0.
+pub fn combine_pair(
+    w: &mut [u64],
+    modulus: Reciprocal,
+    l: u64,
+    c: u64,
+    m: u64,
+    src: usize,
+    dst: usize,
+    len: usize,
+)
+    requires { ⌜ Ready modulus ⌝ }
+    requires { ⌜ (src + len ≤ length (now w)) × (dst + len ≤ length (now w)) ⌝ }
+    requires { ⌜ (Apart src len dst len) × (Below (modulus .n) src len (now w)) ⌝ }
+    ensures { λ _. ⌜ Written (combination (modulus .n) l c m src dst (now (w .entry))) dst len (now (w .entry)) (now (w .exit)) ⌝ }
+{
+    let fl = wide_multipliers::multiplier_of(modulus, l);
+    let fc = wide_multipliers::multiplier_of(modulus, c);
+    let fm = wide_multipliers::multiplier_of(modulus, m);
+    let mut j: usize = 0;
+    let mut y: u64 = 0;
+    while j < len {
+        let z = w[src + j];
+        w[dst + j] = wide_multipliers::sum_of(modulus, fl, w[dst + j], fc, y, fm, z);
+        y = z;
+        j += 1;
+    }
+}

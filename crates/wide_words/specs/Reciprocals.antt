@@ -1,0 +1,183 @@
+-- Multiplication modulo n in words of one base B, with no division: a modulus comes with its reciprocal, two digits in the base. Over any
+-- base: nothing here knows a word's width. `words/Fractions` has the fraction of a factor.
+--
+--   remainder, wrapped         a rest below n is the residue; a difference of words that wraps where it must
+--   scaled-less, scaled-is     c y by the low halves of c y and of q n, q from the fraction of c
+--   fold-none, fold-once       s below 2 n modulo n
+--   sum-less, sum-is           the sum of two residues
+--   factor-residue, times-residue     a factor may be reduced first
+--   Halved, Dividing           one binary digit more of a quotient, and k of them
+--   IsReciprocal B n r v₁ v₀   B² / n, rounded so that something is left, has the digits v₁ and v₀; r is B less v₁ n
+--   two-words                  two words are a sum of two words modulo n
+--   multiplier-…               the fraction of a factor, from the reciprocal
+use mathlib.Core.Path.{_≡_, sym, ap, ap₂, _∙_}
+use Prim.Native.Nat.{ℕ, _+_, _-_, _*_, _/_, _%_, _^_, _<_, _≤_}
+use native.Mathlib.Nat.{mul-le-mul-left, mul-le-mul-right, le-of-mul-le-mul-right, lt-of-mul-lt-mul-right, mul-le-mul, pow-suc}
+use native.Mathlib.Nat.{add-mul-mod-self-right, mul-mod-left, add-mod, add-mod-mod, mod-lt, mod-eq-of-lt, div-mul-le-self}
+use native.Mathlib.Nat.{lt-div-mul-add, div-add-mod'}
+use native.Mathlib.Numerals.{add-one}
+use native.Mathlib.Omega.{arith}
+use lib.Pow.{pow-mono}
+use Rattle.numbers.specs.Congruence.{Cong, c-refl, c-sym, c-trans, c-eq, c-add, c-mul, c-mod, c-cancel}
+use Rattle.words.specs.Fractions.{Fraction, scaled-least, scaled-most}
+
+pub remainder : (n N q r : ℕ) → r + q * n ≡ N → r < n → r ≡ N % n
+remainder n N q r e l = sym (ap (λ (x : ℕ). x % n) (sym e) ∙ add-mul-mod-self-right r q n ∙ mod-eq-of-lt l)
+
+-- a difference of words that wraps where it must
+pub wrapped : (B P Q r : ℕ) → Q ≤ P → P < Q + B → r < B → (r + Q % B) % B ≡ P % B → r + Q ≡ P
+wrapped B P Q r l h f e =
+    let c : Cong B r (P - Q) = c-cancel Q (omega arith) (c-trans (record { same = sym (add-mod-mod r Q B) ∙ e }) (c-eq (omega arith))) in
+    let d : r ≡ P - Q = sym (mod-eq-of-lt f) ∙ c .same ∙ mod-eq-of-lt (omega arith) in
+    omega arith
+
+-- c y, by the low halves of c y and of q n
+module _ {B n c w : ℕ} (pos : 0 < n) (half : n + n < B) (f : Fraction B n c w) (y q l k r : ℕ) (small : y < B)
+    (eq : q ≡ w * y / B) (el : l ≡ (c * y) % B) (ek : k ≡ (q * n) % B) (er : (r + k) % B ≡ l) (fits : r < B) where
+  low : q * B ≤ w * y
+  low = rw eq (div-mul-le-self (w * y) B)
+
+  high : w * y < q * B + B
+  high = rw eq (lt-div-mul-add (omega arith))
+
+  sum : r + q * n ≡ c * y
+  sum = wrapped B (c * y) (q * n) r (scaled-least pos f y q small low high) (omega (arith, scaled-most pos f y q small low high)) fits
+      (ap (λ (x : ℕ). (r + x) % B) (sym ek) ∙ er ∙ el)
+
+  pub scaled-less : r < n + n
+  scaled-less = let e = sum in omega (arith, scaled-most pos f y q small low high)
+
+  pub scaled-is : (z : ℕ) → z ≡ r % n → z ≡ (c * y) % n
+  scaled-is z e = e ∙ sym (add-mul-mod-self-right r q n) ∙ ap (λ (x : ℕ). x % n) sum
+
+-- s below 2 n is s or s - n modulo n
+pub fold-none : (n s : ℕ) → s < n → s ≡ s % n
+fold-none n s l = sym (mod-eq-of-lt l)
+
+pub fold-once : (n s : ℕ) → n ≤ s → s < n + n → s - n ≡ s % n
+fold-once n s l h = remainder n s 1 (s - n) (omega arith) (omega arith)
+
+-- the sum of two residues
+module _ (n a b : ℕ) {x y : ℕ} (pos : 0 < n) (ex : x ≡ a % n) (ey : y ≡ b % n) where
+  pub sum-less : x + y < n + n
+  sum-less = rw (ex, ey) (let p = mod-lt a pos in let q = mod-lt b pos in omega arith)
+
+  pub sum-is : {z : ℕ} → z ≡ (x + y) % n → z ≡ (a + b) % n
+  sum-is e = e ∙ ap₂ (λ (u v : ℕ). (u + v) % n) ex ey ∙ sym (add-mod a b n)
+
+-- a factor may be reduced first
+pub factor-residue : (n c k : ℕ) → k ≡ c % n → (x y : ℕ) → (x + k * y) % n ≡ (x + c * y) % n
+factor-residue n c k e x y = c-add (c-refl {a = x}) (c-mul (c-trans (c-eq e) (c-mod c)) (c-refl {a = y})) .same
+
+pub times-residue : (n c k : ℕ) → k ≡ c % n → (x y : ℕ) → (k * y) % n ≡ (c * y) % n
+times-residue n c k e x y = c-mul (c-trans (c-eq e) (c-mod c)) (c-refl {a = y}) .same
+
+-- one binary digit more of a quotient: something stays left
+pub record Halved (n q x q' x' : ℕ) : Type 0 where
+  pub sum : q' * n + x' ≡ 2 * (q * n + x)
+  pub some : 1 ≤ x'
+  pub most : x' ≤ n
+
+-- k binary digits of r / n
+pub record Dividing (n r k q x : ℕ) : Type 0 where
+  pub sum : q * n + x ≡ r * 2 ^ k
+  pub some : 1 ≤ x
+  pub most : x ≤ n
+
+pub dividing-start : (n r : ℕ) → 1 ≤ r → r ≤ n → Dividing n r 0 0 r
+dividing-start n r s l = record { sum = omega arith; some = s; most = l }
+
+pub dividing-step : {n r k q x q' x' : ℕ} → Dividing n r k q x → Halved n q x q' x' → Dividing n r (k + 1) q' x'
+dividing-step {n} {r} {k} d h = record { sum = h .sum ∙ ap (λ (z : ℕ). 2 * z) (d .sum) ∙ twice; some = h .some; most = h .most }
+  where
+    twice : 2 * (r * 2 ^ k) ≡ r * 2 ^ (k + 1)
+    twice = sym (ap (λ (z : ℕ). r * z) (ap (λ (z : ℕ). 2 ^ z) (add-one k) ∙ pow-suc 2 k) ∙ omega arith)
+
+-- the digits so far are below 2 ^ j, j at least their number
+pub dividing-fits : {n r k q x : ℕ} (j : ℕ) → r ≤ n → k ≤ j → Dividing n r k q x → q < 2 ^ j
+dividing-fits {n} {r} {k} {q} {x} j l h d =
+    lt-of-mul-lt-mul-right n (let e = d .sum in let s = d .some in let z : 2 ^ k ≤ 2 ^ j = pow-mono h in omega (arith, mul-le-mul l z))
+
+pub record IsReciprocal (B n r v₁ v₀ : ℕ) : Type 0 where
+  pub pos : 1 ≤ n
+  pub half : n + n < B
+  pub rest : v₁ * n + r ≡ B
+  pub some : 1 ≤ r
+  pub most : r ≤ n
+  pub under : v₀ * n < r * B
+  pub over : r * B ≤ v₀ * n + n
+
+-- the reciprocal, from t = B - 1
+pub rest-fits : (t n : ℕ) → 1 ≤ n → t % n + 1 ≤ n
+rest-fits t n l = let h = mod-lt t l in omega arith
+
+pub reciprocal-is : (t n v₀ : ℕ) → 1 ≤ n → n + n < t + 1 → v₀ * n < (t % n + 1) * (t + 1) → (t % n + 1) * (t + 1) ≤ v₀ * n + n
+    → IsReciprocal (t + 1) n (t % n + 1) (t / n) v₀
+reciprocal-is t n v₀ l h u o = record {
+  pos = l;
+  half = h;
+  rest = let e = div-add-mod' t n in omega arith;
+  some = omega arith;
+  most = rest-fits t n l;
+  under = u;
+  over = o;
+}
+
+module _ {B n r v₁ v₀ : ℕ} (m : IsReciprocal B n r v₁ v₀) where
+  pub base-fraction : Fraction B n r v₀
+  base-fraction = let u = m .under in record { least = omega arith; most = m .over }
+
+  pub unit-fraction : Fraction B n 1 v₁
+  unit-fraction = let e = m .rest in let l = m .most in record { least = omega arith; most = omega arith }
+
+  -- the base is r modulo n
+  pub base : Cong n B r
+  base = record { same = ap (λ (x : ℕ). x % n) (sym (m .rest) ∙ (omega arith)) ∙ add-mul-mod-self-right r v₁ n }
+
+  -- the base is r modulo n, so two words are a sum of two words
+  pub two-words : (hi lo : ℕ) → (r * hi + 1 * lo) % n ≡ (hi * B + lo) % n
+  two-words hi lo = c-trans (c-eq {a = r * hi + 1 * lo} {b = hi * r + lo} (omega arith)) (c-add (c-mul (c-refl {a = hi}) (c-sym base)) c-refl) .same
+
+  -- the fraction of c: h is the high half of c v₀
+  module _ (c h : ℕ) (small : c ≤ n) (eh : h ≡ c * v₀ / B) where
+    floor : h * B ≤ c * v₀
+    floor = rw eh (div-mul-le-self (c * v₀) B)
+
+    ceiling : c * v₀ < h * B + B
+    ceiling = rw eh (lt-div-mul-add (let e = m .half in omega arith))
+
+    h-less : h < r
+    h-less = lt-of-mul-lt-mul-right B (let u = m .under in let f = floor in omega (arith, mul-le-mul-right v₀ small))
+
+    pub product-fits : c * v₁ < B
+    product-fits = let e = m .rest in let s = m .some in omega (arith, mul-le-mul-right v₁ small)
+
+    pub quotient-fits : c * v₁ + h < B
+    quotient-fits = let e = m .rest in let l = h-less in omega (arith, mul-le-mul-right v₁ small)
+
+    part-least : h * n ≤ c * r
+    part-least = le-of-mul-le-mul-right {k = B} (let u = m .under in omega (arith, mul-le-mul-right n floor, mul-le-mul-left c (m .under))) (let e = m .half in omega arith)
+
+    part-most : c * r < h * n + n + n
+    part-most = lt-of-mul-lt-mul-right B (let p = m .pos in let b = m .half in omega (arith, mul-le-mul-right n ceiling, mul-le-mul-left c (m .over), mul-le-mul-right n small, mul-le-mul-right n b))
+
+    pub quotient-least : (c * v₁ + h) * n ≤ c * B
+    quotient-least = let p = part-least in rw (sym (m .rest)) (omega arith)
+
+    pub quotient-most : c * B < (c * v₁ + h) * n + n + n
+    quotient-most = let p = part-most in rw (sym (m .rest)) (omega arith)
+
+    -- p is what w n, w the fraction so far, lacks of c B
+    module _ (w k p : ℕ) (ew : w ≡ c * v₁ + h) (ek : k ≡ (w * n) % B) (ep : (p + k) % B ≡ 0) (fits : p < B) where
+      left : p + w * n ≡ c * B
+      left = wrapped B (c * B) (w * n) p (rw ew quotient-least) (rw ew (let b = m .half in omega (arith, quotient-most))) fits
+          (ap (λ (x : ℕ). (p + x) % B) (sym ek) ∙ ep ∙ sym (mul-mod-left c B))
+
+      pub multiplier-none : p ≤ n → Fraction B n c w
+      multiplier-none l = let e = left in record { least = omega arith; most = omega arith }
+
+      pub multiplier-fits : n < p → w + 1 < B
+      multiplier-fits l = lt-of-mul-lt-mul-right n (let e = left in omega (arith, mul-le-mul-right B small))
+
+      pub multiplier-once : n < p → Fraction B n c (w + 1)
+      multiplier-once l = let e = left in record { least = omega arith; most = rw ew (omega (arith, quotient-most)) }
