@@ -3,6 +3,8 @@
 --
 --   Between n d r D      D divides r, and gcd(r, n) divides D ^ d
 --   power-in-ring        over Z/(m + 1): u f + v g = x, the top coefficient of f a unit: x to the power d is a multiple of the resultant
+--   Multiple m r x       x is a multiple of r there
+--   power-of-reached     the same of words: D ^ d is a multiple of the resultant modulo n where D is reached
 --   constant-reaches     d = 0: a unit constant f has D = 1
 --   divides-first, power-first     the two halves of the law, the second for every common divisor of r and n
 --   between-first        THE LAW, where the top word of f is a unit
