@@ -1,13 +1,52 @@
-// The law of products, tried on the engine itself: the product of f and g, the three resultants and the three reduced resultants with h
-// are asked of the services, and what is promised is the law of the numbers that they answered. Only their contracts can prove it.
+// Laws of the numbers that the services answer, tried on the engine itself: the numbers are asked of the services, and what is promised is
+// the law of the numbers that they answered. Only their contracts can prove it. The law of products: the product of f and g, the three
+// resultants and the three reduced resultants with h. How far the resultant and the reduced resultant of f and g can differ.
 //
+//   how_far            the numbers of two calls
 //   law_of_products    the numbers of seven calls
 //   sent_refusal       the refusals 1, 2 and 3 of n, f, g and h
 //   room_refusal       the refusals 6 and 7 of the lent buffers
 //   resultants, divisors    three calls each
 ghost use mathlib.Core.Path.{_≡_};
 ghost use Rattle.refusals.specs.Refusals.{narrow, first-refusal};
+ghost use Rattle.law.specs.HowFar.{HowFarAnswer};
 ghost use Rattle.law.specs.LawService.{law-sent, law-room, ThreeResultants, ThreeReduced, LawAnswer};
+
+// The resultant, the reduced resultant D as `divisor`, and 0 or the number of the refusal.
+pub struct Differing {
+    pub resultant: u32,
+    pub divisor: u32,
+    pub status: u32,
+}
+
+// Both numbers of f and g; u and v take the cofactors of D. "When the top word of f is a unit, D divides the resultant, and
+// gcd(resultant, n) divides the d-th power of D"; so for g.
+pub fn how_far(
+    n: u32,
+    f: &[u32],
+    g: &[u32],
+    u: &mut [u32],
+    v: &mut [u32],
+    work: &mut [u32],
+) -> Differing
+    ensures { λ a. ⌜ HowFarAnswer narrow n (now (f .entry)) (now (g .entry)) (now (u .entry)) (now (u .exit)) (now (v .entry))
+        (now (v .exit)) (now (work .entry)) (now (work .exit)) (a .resultant) (a .divisor) (a .status) ⌝ }
+{
+    let d = reduced_service::reduced_resultant(n, f, g, u, v, work);
+    if d.status != 0 {
+        return Differing {
+            resultant: 0,
+            divisor: 0,
+            status: d.status,
+        };
+    }
+    let r = resultant_service::resultant(n, f, g, work);
+    Differing {
+        resultant: r.value,
+        divisor: d.value,
+        status: 0,
+    }
+}
 
 // The resultants r, rf, rg of the product, of f and of g with h, their reduced resultants d, df, dg, and 0 or the number of the refusal.
 pub struct Numbers {

@@ -4,6 +4,8 @@ pub mod Examples
 pub mod ExpansionLaws
 pub mod PointThree
 pub mod PolynomialLaws
+pub mod Powers
+pub mod PowersChecks
 pub mod ReachedLaws
 pub mod ReachedSteps
 pub mod ReducedLaws

@@ -1,5 +1,6 @@
-// The law of products, tried on the engine itself, words of 64 bits: `law` has the description.
+// Laws of the numbers that the services answer, tried on the engine itself, words of 64 bits: `law` has the description.
 //
+//   how_far            the numbers of two calls
 //   law_of_products    the numbers of seven calls
 //   sent_refusal       the refusals 1, 2 and 3 of n, f, g and h
 //   room_refusal       the refusals 6 and 7 of the lent buffers
@@ -7,7 +8,44 @@
 ghost use mathlib.Core.Path.{_≡_};
 ghost use Rattle.refusals.specs.Refusals.{first-refusal};
 ghost use Rattle.wide_refusals.specs.Wide.{wide};
+ghost use Rattle.law.specs.HowFar.{HowFarAnswer};
 ghost use Rattle.law.specs.LawService.{law-sent, law-room, ThreeResultants, ThreeReduced, LawAnswer};
+
+// The resultant, the reduced resultant D as `divisor`, and 0 or the number of the refusal.
+pub struct Differing {
+    pub resultant: u64,
+    pub divisor: u64,
+    pub status: u32,
+}
+
+// Both numbers of f and g; u and v take the cofactors of D. "When the top word of f is a unit, D divides the resultant, and
+// gcd(resultant, n) divides the d-th power of D"; so for g.
+pub fn how_far(
+    n: u64,
+    f: &[u64],
+    g: &[u64],
+    u: &mut [u64],
+    v: &mut [u64],
+    work: &mut [u64],
+) -> Differing
+    ensures { λ a. ⌜ HowFarAnswer wide n (now (f .entry)) (now (g .entry)) (now (u .entry)) (now (u .exit)) (now (v .entry))
+        (now (v .exit)) (now (work .entry)) (now (work .exit)) (a .resultant) (a .divisor) (a .status) ⌝ }
+{
+    let d = wide_reduced_service::reduced_resultant(n, f, g, u, v, work);
+    if d.status != 0 {
+        return Differing {
+            resultant: 0,
+            divisor: 0,
+            status: d.status,
+        };
+    }
+    let r = wide_resultant_service::resultant(n, f, g, work);
+    Differing {
+        resultant: r.value,
+        divisor: d.value,
+        status: 0,
+    }
+}
 
 // The resultants r, rf, rg of the product, of f and of g with h, their reduced resultants d, df, dg, and 0 or the number of the refusal.
 pub struct Numbers {
