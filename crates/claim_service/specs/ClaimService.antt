@@ -72,8 +72,8 @@ abbrev pub ClaimSaid : ℕ → ℕ → ℕ → List ℕ → List ℕ → ℕ →
 ClaimSaid zero value n f g D u v = Judged value n f g D u v
 ClaimSaid (suc s) value n f g D u v = value ≡ 0
 
--- "After an answered call the whole working buffer is zero", also where the first of the three has failed; and it is left as found after
--- a refusal
+-- "After an answered call the working buffer it was lent holds zeros", also where the first of the three has failed; and it is left as
+-- found after a refusal
 pub record ClaimAnswer (W : Width) (n : ℕ) (f g : List ℕ) (D : ℕ) (u v work work' : List ℕ) (value status : ℕ) : Type 0 where
   pub status-is : status ≡ claim-status W n f g u v (length work)
   pub said : ClaimSaid status value n f g D u v

@@ -102,7 +102,7 @@ fn refusal_claim(n: u32, f: &[u32], g: &[u32], u: &[u32], v: &[u32], l: usize) -
     first(sizes, first(words, room))
 }
 
-// "After an answered call the whole working buffer is zero."
+// "After an answered call the working buffer it was lent holds zeros."
 fn cleared(value: u32, work: &mut [u32]) -> u32
     ensures { λ r. ⌜ r ≡ value ⌝ }
     ensures { λ _. ⌜ now (work .exit) ≡ replicate (length (now (work .entry))) 0 ⌝ }

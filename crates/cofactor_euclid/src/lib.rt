@@ -249,7 +249,7 @@ fn start(w: &mut [u32], n: u32, f: &[u32], g: &[u32])
     w[b + (h + h)] = 1;
 }
 
-// "u f + v g = r is kept by every pseudo-step whatever the leads are, for both multipliers at once." f is not the longer of the two.
+// u f + v g = r is kept by every pseudo-step, whatever the leads are, for both multipliers at once. f is not the longer of the two.
 pub fn multipliers(w: &mut [u32], n: u32, f: &[u32], g: &[u32]) -> State
     requires { ⌜ Asked n (now f) (now g) (now w) ⌝ }
     ensures { λ r. ⌜ Multipliers n (now (f .entry)) (now (g .entry)) r (now (w .exit)) ⌝ }

@@ -33,7 +33,7 @@ fn refusal(n: u32, f: &[u32], g: &[u32], first: usize, second: usize, working: u
     0
 }
 
-// "After an answered call the whole working buffer is zero."
+// "After an answered call the working buffer it was lent holds zeros."
 fn answered(value: u32, work: &mut [u32]) -> Answer
     ensures { λ r. ⌜ (r .value ≡ value) × (r .status ≡ 0) ⌝ }
     ensures { λ _. ⌜ now (work .exit) ≡ replicate (length (now (work .entry))) 0 ⌝ }

@@ -37,7 +37,7 @@ pub record HoldsCofactor (n l : ℕ) (b b' : List ℕ) : Type 0 where
 pub record LeastConstants (n : ℕ) (f g u v : List ℕ) (D : ℕ) : Type 0 where
   pub pair : deg f ≡ 0 → deg g ≡ 0 → LeastCofactors n (coef f 0) (coef g 0) D (coef u 0) (coef v 0)
 
--- "the cofactors combine f and g to D"
+-- "The returned cofactors combine f and g to D modulo n."
 pub record HoldsReduced (n : ℕ) (f g u u' v v' : List ℕ) (D : ℕ) : Type 0 where
   pub reduced : Reduced n f g D
   pub first : HoldsCofactor n (L n (deg f) (deg g)) u u'

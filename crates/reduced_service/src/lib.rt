@@ -62,7 +62,7 @@ fn worked(u: &mut [u32], v: &mut [u32], w: &mut [u32], n: u32, f: &[u32], g: &[u
     by_run(u, v, w, n, f, g)
 }
 
-// "After an answered call the whole working buffer is zero."
+// "After an answered call the working buffer it was lent holds zeros."
 fn answered(value: u32, work: &mut [u32]) -> Answer
     ensures { λ r. ⌜ (r .value ≡ value) × (r .status ≡ 0) ⌝ }
     ensures { λ _. ⌜ now (work .exit) ≡ replicate (length (now (work .entry))) 0 ⌝ }

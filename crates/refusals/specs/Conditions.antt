@@ -1,4 +1,4 @@
--- "A refusal comes under its listed condition and no other": what the tests mean, in the words of the definitions, over any width.
+-- "A refusal comes under the listed condition and under no other": what the tests mean, in the words of the definitions, over any width.
 --
 --   ServedModulus, ServedLength     what passes the refusals 1 and 2
 --   Fails b P                       the test b says that P does not hold
@@ -118,7 +118,7 @@ FirstFailing [] c s = ⊥
 FirstFailing (t ∷ r) [] s = ⊥
 FirstFailing (t ∷ r) (P ∷ c) s = ((P → ⊥) × (s ≡ t .0)) ⊎ (P × FirstFailing r c s)
 
--- "A refusal comes under its listed condition and no other": 0 exactly where all conditions hold
+-- "A refusal comes under the listed condition and under no other": 0 exactly where all conditions hold
 pub status-zero : (t : List Tested) (c : List (Type 0)) → Listed t c → (first-refusal t ≡ 0 → Passed c) × (Passed c → first-refusal t ≡ 0)
 status-zero [] [] h = (λ _. tt, λ _. refl)
 status-zero [] (P ∷ c) h = absurd h

@@ -22,7 +22,7 @@ ghost use Rattle.reduction.specs.Moduli.{Ready};
 ghost use Rattle.resultant_pseudo.specs.Standing.{Placed, PlacedState, LedTo, Stepped, Finished, Descended, TriedAnswer, Answers};
 use reduction::Reciprocal;
 
-// "if every lead was a unit, one inverse and the value"; otherwise a product of leading words that is no unit.
+// The value, by one inverse, if every lead was a unit; otherwise a product of leading words that is no unit.
 pub enum Tried {
     Value(u32),
     NotUnit(u32),
@@ -232,8 +232,8 @@ fn value_of(w: &[u32], m: Reciprocal, y: State) -> Tried
     Tried::Value(reduction::product(m, i.s, u))
 }
 
-// The resultant of f of degree d at a and g of degree e at b; both are lost. "when a test after the second step already shows a zero
-// divisor", nothing more is tried; where few steps are left the test costs more than they do.
+// The resultant of f of degree d at a and g of degree e at b; both are lost. Where a test after the second step already shows a zero
+// divisor, nothing more is tried; where few steps are left the test costs more than they do.
 pub fn attempt(w: &mut [u32], n: u32, a: usize, d: usize, b: usize, e: usize) -> Tried
     requires { ⌜ Placed n a d b e (now w) ⌝ }
     ensures { λ r. ⌜ TriedAnswer n (resultant n (piece (now (w .entry)) a (d + 1)) (piece (now (w .entry)) b (e + 1))) r ⌝ }

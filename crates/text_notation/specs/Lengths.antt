@@ -1,7 +1,7 @@
 -- How long a text is: what the writer's 800 bytes rest on.
 --
 --   most-characters k m     what m words from power k on may have at most, a plus sign after each term
---   text-short              767 characters are enough for 49 words of 32 bits, and so the 775 of the request
+--   text-short              767 characters are enough for 49 words of 32 bits, so the 800 bytes of the writer are
 use mathlib.Core.Path.{_≡_, refl}
 use mathlib.Core.List.{List, [], _∷_}
 use Prim.Native.Nat.{ℕ, zero, suc, _+_, _-_, _<_, _≤_}

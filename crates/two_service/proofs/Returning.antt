@@ -161,7 +161,7 @@ module _ (n : ℕ) (f : List ℕ) (d a : ℕ) (g : List ℕ) (e b : ℕ) (out wo
       work-is = left-refused t work y;
     }
 
-    -- "values, the evaluated pair and the run's room fit": 7538 of 8192 words
+    -- the values, the evaluated pair and the run's room fit: 7538 of 8192 words
     pub prepared : t ≡ 0 → Prepared n (degree-two d a e b) f d a g e b out work
     prepared y =
         let p = accepted n f d a g e b s is z in

@@ -61,7 +61,7 @@ fn worked(u: &mut [u64], v: &mut [u64], w: &mut [u64], n: u64, f: &[u64], g: &[u
     by_run(u, v, w, n, f, g)
 }
 
-// "After an answered call the whole working buffer is zero."
+// "After an answered call the working buffer it was lent holds zeros."
 fn answered(value: u64, work: &mut [u64]) -> Answer
     ensures { λ r. ⌜ (r .value ≡ value) × (r .status ≡ 0) ⌝ }
     ensures { λ _. ⌜ now (work .exit) ≡ replicate (length (now (work .entry))) 0 ⌝ }

@@ -6,7 +6,7 @@ ghost use Rattle.wide_refusals.specs.Wide.{wide};
 ghost use Rattle.resultant_service.specs.ResultantService.{ResultantAnswer};
 use wide_refusals::Answer;
 
-// "After an answered call the whole working buffer is zero."
+// "After an answered call the working buffer it was lent holds zeros."
 fn answered(value: u64, work: &mut [u64]) -> Answer
     ensures { λ r. ⌜ (r .value ≡ value) × (r .status ≡ 0) ⌝ }
     ensures { λ _. ⌜ now (work .exit) ≡ replicate (length (now (work .entry))) 0 ⌝ }
