@@ -71,8 +71,6 @@ module _ (n : ℕ) (f g : List ℕ) (D : ℕ) (u v work : List ℕ) (s : ℕ) (e
               most-u = p .1 .1 .1 .0 .few;
               most-v = p .1 .1 .1 .1 .0 .few;
             };
-            residues-f = p .1 .1 .1 .1 .1 .0;
-            residues-g = p .1 .1 .1 .1 .1 .1 .0;
           },
           p .1 .1 .1 .1 .1 .1 .1 .1 .1 .0,
         )

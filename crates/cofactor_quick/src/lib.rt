@@ -47,7 +47,7 @@ fn ordered(
     let e = x.e;
     let c = w[a];
     let y = factor(n, i.s, x.p, x.t, c, e - 1);
-    let z = cofactor_band::with_sign(n, k, y);
+    let z = resultant_turns::with_sign(n, k, y);
     let h = g.len();
     cofactor_band::scale_into(u, w, n, z, a + h);
     cofactor_band::scale_into(v, w, n, z, a + (h + h));

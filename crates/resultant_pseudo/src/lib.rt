@@ -16,7 +16,6 @@
 ghost use mathlib.Core.Path.{_≡_};
 ghost use Prim.Native.Nat.{_+_, _<_, _≤_};
 ghost use Rattle.definitions.specs.Resultants.{resultant};
-ghost use Rattle.theory.specs.ResultantLaws.{signed};
 ghost use Rattle.windows.specs.Window.{piece, Scratch};
 ghost use Rattle.reduction.specs.Moduli.{Ready};
 ghost use Rattle.resultant_pseudo.specs.Standing.{Placed, PlacedState, LedTo, Stepped, Finished, Descended, TriedAnswer, Answers};
@@ -38,17 +37,6 @@ pub struct State {
     pub s: u32,
     pub p: u32,
     pub t: u32,
-}
-
-// x with the sign (-1)^e.
-pub fn with_sign(n: u32, e: usize, x: u32) -> u32
-    requires { ⌜ x < n ⌝ }
-    ensures { λ r. ⌜ r ≡ signed n e x ⌝ }
-{
-    if e % 2 == 0 {
-        return x;
-    }
-    arithmetic::negate(n, x)
 }
 
 fn pair_step(w: &mut [u32], m: Reciprocal, x: State) -> State
@@ -142,7 +130,7 @@ fn step(w: &mut [u32], m: Reciprocal, x: State) -> State
     let b = x.b;
     let e = x.e;
     if w[a + d] == 0 {
-        let y = with_sign(n, e, w[b + e]);
+        let y = resultant_turns::with_sign(n, e, w[b + e]);
         let t = reduction::product(m, x.t, y);
         let s = reduction::product(m, x.s, x.p);
         return State {
