@@ -10,8 +10,9 @@ use native.Mathlib.Numerals.{add-one}
 use lib.ListN.{length, getD, take, drop, set, length-append, length-set, length-drop}
 use lib.Seq.{take-suc, take-all, take-suc-set, getD-drop, drop-set-lt}
 use borrow.Author.Tests.{ne-eqb}
-use Rattle.frames.specs.Frames.{answer-line, Wrote}
-use Rattle.frames.proofs.Heads.{too-long}
+use Rattle.frame_lines.specs.FrameLines.{answer-line}
+use Rattle.frame_lines.proofs.Heads.{too-long}
+use Rattle.frames.specs.Frames.{Wrote}
 use Rattle.frames.proofs.Answering.{wrote-refused, first-handed}
 use Rattle.frame_reader.specs.Lines.{has-newline}
 use Rattle.frame_reader.specs.LineLaws.{none-in-either}
@@ -95,7 +96,7 @@ line-then p q = record { most = q .most; same = q .same ∙ p .same; beyond = q 
 
 pub long-refused : (s : List ℕ) {h : ℕ} {b : List ℕ} (at : ℕ) {o o' w : List ℕ} → Held s h b → 798 < h
     → o' ≡ take at o ++ (answer-line 255 8 0 ++ drop (at + 13) o) → Wrote s at o o' w w
-long-refused s at k l p = wrote-refused s at (too-long s (omega (arith, k .count))) p
+long-refused s at k l p = wrote-refused (too-long s (omega (arith, k .count))) p
 
 pub held-answered : (s : List ℕ) (h : ℕ) (b : List ℕ) {at : ℕ} {o o' w w' : List ℕ} → Held s h b → h ≤ 798
     → Wrote (take (h - 0) b) at o o' w w' → Wrote s at o o' w w'

@@ -112,14 +112,6 @@ lines-append t r =
     ap₂ (λ (x : List (List ℕ)) (y : List ℕ). x ++ last-line y) (finished-append t r) (unfinished-append t r)
     ∙ append-assoc (finished t) (finished (unfinished t ++ r)) (last-line (unfinished (unfinished t ++ r)))
 
--- what is left has no newline
-pub unfinished-single : (t : List ℕ) → has-newline (unfinished t) ≡ false
-unfinished-single t = go (cut t)
-  where
-    go : {t : List ℕ} → Cut t → has-newline (unfinished t) ≡ false
-    go (whole t h) = ap has-newline (unfinished-all t h) ∙ h
-    go (line s t h v) = ap has-newline (unfinished-line s t) ∙ go v
-
 -- ---- answers
 
 pub answers-append : {ls ms : List (List ℕ)} {a b : List ℕ} → Answers ls a → Answers ms b → Answers (ls ++ ms) (a ++ b)

@@ -6,13 +6,30 @@ ghost use mathlib.Core.List.{List, _++_};
 ghost use Prim.Native.Nat.{ℕ, min, _+_, _*_, _≤_};
 ghost use lib.ListN.{length, drop};
 ghost use Rattle.frames.specs.Frames.{Wrote};
+ghost use Rattle.frame_reader.specs.Inputs.{input-of};
 ghost use Rattle.frame_reader.specs.Lines.{has-newline};
 ghost use Rattle.frame_reader.specs.Pieces.{NewlineAt, Held, Steps, Ends, LineAfter};
+
+// What the count of a read means: that many characters came, or the input has ended.
+pub enum Input {
+    Ended,
+    Came(usize),
+}
 
 // What a step leaves: the count of the line held, and of the characters written.
 pub struct Progress {
     pub held: usize,
     pub written: usize,
+}
+
+// A read that takes none has come to the end of the input.
+pub fn input(count: usize) -> Input
+    ensures { λ r. ⌜ r ≡ input-of count ⌝ }
+{
+    if count == 0 {
+        return Input::Ended;
+    }
+    Input::Came(count)
 }
 
 // Working words for the services. Of zeros only the count is told: whoever has them need not look at 8192 of them.
@@ -75,7 +92,7 @@ fn answer_held(held: usize, line: &[u8], work: &mut [u32], out: &mut [u8], at: u
         → Wrote s at (now (out .entry)) (now (out .exit)) (now (work .entry)) (now (work .exit))) ⌝ }
 {
     if held > 798 {
-        frames::write_line(out, at, 255, 8, 0);
+        frame_lines::write_line(out, at, 255, 8, 0);
         return;
     }
     frames::answer(&line[0..held], work, out, at);
