@@ -2,7 +2,7 @@
 // It answers the lines that are complete before it reads again. Where a read or a write fails, it says so on standard error, with
 // the reason, and stops; an unfinished line is then not answered. A call that a signal interrupts, or that would have to wait on a
 // non-blocking descriptor, has not failed: it is tried again.
-use frame_reader::Input;
+use frame_pieces::Input;
 use libc::EAGAIN;
 use libc::EINTR;
 use libc::STDIN_FILENO;
@@ -66,7 +66,7 @@ fn take_turn(held: usize, line: &mut [u8], out: &mut [u8]) -> Turn
         os::fail(b"jingcobu-desk: standard input cannot be read");
         return Turn::Stopped;
     }
-    let Input::Came(n) = frame_reader::input(io::count(got, &piece)) else {
+    let Input::Came(n) = frame_pieces::what_came(io::count(got, &piece)) else {
         return Turn::Ended;
     };
     let p = frame_reader::step(held, line, &piece[0..n], out);

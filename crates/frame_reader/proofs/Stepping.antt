@@ -14,10 +14,11 @@ use lib.Seq.{take-all, drop-cons, drop-drop}
 use Rattle.frame_lines.specs.FrameLines.{line-length}
 use Rattle.frame_lines.proofs.Putting.{put-front, put-rest}
 use Rattle.frames.specs.Frames.{AnswerOf, refused, answered, Wrote}
-use Rattle.frame_reader.specs.Lines.{has-newline, finished, unfinished, last-line, Answers, none}
-use Rattle.frame_reader.specs.LineLaws.{none-in-either, finished-none, unfinished-all, finished-line, unfinished-line, answers-append}
+use Rattle.frame_pieces.specs.Newlines.{has-newline, none-in-either, NewlineAt, Held}
+use Rattle.frame_reader.specs.Lines.{finished, unfinished, last-line, Answers, none}
+use Rattle.frame_reader.specs.LineLaws.{finished-none, unfinished-all, finished-line, unfinished-line, answers-append}
 use Rattle.frame_reader.specs.LineLaws.{answers-one}
-use Rattle.frame_reader.specs.Pieces.{NewlineAt, Held, Stepped, Ended}
+use Rattle.frame_reader.specs.Pieces.{Stepped, Ended}
 use Rattle.frame_reader.specs.Whole.{held-none}
 
 -- ---- what was written

@@ -2,9 +2,9 @@ use borrow.Author.Needs.{needs}
 use Prim.Native.Nat.{_-_, _≤_}
 use native.Mathlib.Omega.{arith}
 use lib.ListN.{length}
-use Rattle.frame_reader.proofs.Holding.{Holding, holding-none, holding-step, holding-end, holding-long, line-unchanged, line-after}
-use Rattle.frame_reader.proofs.hold.Statement.{statement}
-use Rattle.frame_reader.proofs.hold.Tie as tie
+use Rattle.frame_pieces.proofs.Holding.{Holding, holding-none, holding-step, holding-end, holding-long, line-unchanged, line-after}
+use Rattle.frame_pieces.proofs.hold.Statement.{statement}
+use Rattle.frame_pieces.proofs.hold.Tie as tie
 
 abbrev Inv-loop : tie.InvT-loop
 Inv-loop held line₀ part i₀ line i = (i ≤ length part) × Holding held line₀ part i line

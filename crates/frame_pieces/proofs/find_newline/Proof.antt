@@ -4,10 +4,10 @@ use mathlib.Core.Bool.{false}
 use Prim.Native.Nat.{_-_, _≤_}
 use native.Mathlib.Omega.{arith}
 use lib.ListN.{length, take, drop}
-use Rattle.frame_reader.specs.Lines.{has-newline}
-use Rattle.frame_reader.proofs.Holding.{scan-none, scan-step}
-use Rattle.frame_reader.proofs.find_newline.Statement.{statement}
-use Rattle.frame_reader.proofs.find_newline.Tie as tie
+use Rattle.frame_pieces.specs.Newlines.{has-newline}
+use Rattle.frame_pieces.proofs.Holding.{scan-none, scan-step}
+use Rattle.frame_pieces.proofs.find_newline.Statement.{statement}
+use Rattle.frame_pieces.proofs.find_newline.Tie as tie
 
 abbrev Inv-loop : tie.InvT-loop
 Inv-loop piece from j₀ j = (from ≤ j) × ((j ≤ length piece) × (has-newline (take (j - from) (drop from piece)) ≡ false))
