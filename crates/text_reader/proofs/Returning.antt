@@ -16,7 +16,8 @@ use lib.Seq.{take-all}
 use mir.Syntax.{w32}
 use mir.Val.{Fits}
 use Rattle.definitions.specs.Polynomials.{TrueDegree, none, place, true-degree}
-use Rattle.refusals.specs.Refusals.{Tested, narrow, bad-modulus, bad-length, all-below, short, first-refusal, refusals-one, answered, replaced}
+use Rattle.refusals.specs.Refusals.{Tested, narrow, bad-modulus, bad-length, all-below, short, first-refusal, refusals-one}
+use Rattle.refusals.specs.Refusals.{answered, replaced}
 use Rattle.refusals.specs.Conditions.{accepted-one, modulus-fails}
 use Rattle.refusals.proofs.Statuses.{row-applies, row-passes, too-short, long-enough}
 use Rattle.polynomial_degree.specs.declared.Degree.{Degree}
