@@ -88,7 +88,10 @@ def talk(name, make, blocking, given, answers, give=1 << 16, take=1 << 16):
     os.close(stdout)
 
     def feeder():
-        write_all(feed, given, give)
+        try:
+            write_all(feed, given, give)
+        except BrokenPipeError:
+            pass  # the program has stopped early, which its answers will show
         os.close(feed)
 
     writer = threading.Thread(target=feeder)
@@ -137,7 +140,7 @@ def interrupted(name, call, error, folder):
 def strace_works(folder):
     if not shutil.which("strace"):
         return False
-    words = ["strace", "-o", os.path.join(folder, "trace"), "-e", "inject=read:error=EINTR:when=100000", "true"]
+    words = ["strace", "-o", os.path.join(folder, "trace"), "-e", "inject=read:error=EINTR:when=60000", "true"]
     return subprocess.run(words, stderr=subprocess.DEVNULL).returncode == 0
 
 

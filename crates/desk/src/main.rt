@@ -66,7 +66,8 @@ fn take_turn(held: usize, line: &mut [u8], out: &mut [u8]) -> Turn
         os::fail(b"jingcobu-desk: standard input cannot be read");
         return Turn::Stopped;
     }
-    let Input::Came(n) = frame_pieces::what_came(io::count(got, &piece)) else {
+    let n = io::count(got, &piece);
+    let Input::Came(_) = frame_pieces::what_came(n) else {
         return Turn::Ended;
     };
     let p = frame_reader::step(held, line, &piece[0..n], out);
