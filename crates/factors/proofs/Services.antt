@@ -66,7 +66,8 @@ module _ (n : ℕ) (number : List ℕ) (k : ℕ) (t : Bool) (b : t ≡ bad-modul
 
     pub leaving-passed : u ≡ false → 0 ≡ first-refusal (leaving-tests narrow n number k)
     leaving-passed e =
-        row-passes 1 (bad-modulus narrow n) ((14, unheld k number) ∷ []) 0 (sym b ∙ f) (row-passes 14 (unheld k number) [] 0 (sym q ∙ e) refl)
+        row-passes 1 (bad-modulus narrow n) ((14, unheld k number) ∷ []) 0 (sym b ∙ f)
+        (row-passes 14 (unheld k number) [] 0 (sym q ∙ e) refl)
 
 pub ruleset leaving = (leaving-modulus, leaving-unheld, leaving-passed)
 
@@ -164,7 +165,8 @@ module _ (n : ℕ) (f h : List ℕ) (t : ℕ) (e : t ≡ first-refusal (refusals
 
           pub none-refused : 8192 ≤ l → 0 ≡ first-refusal (arrival-tests narrow n number degree k f h l)
           none-refused m =
-              further 0 (row-passes 13 (full (deg f) number degree) ((7, short l 8192) ∷ []) 0 (sym full-is ∙ r) (long-enough 7 l 8192 [] 0 m refl))
+              further 0 (row-passes 13 (full (deg f) number degree) ((7, short l 8192) ∷ []) 0 (sym full-is ∙ r)
+              (long-enough 7 l 8192 [] 0 m refl))
 
 zero-first : (a b : List Tested) → first-refusal (a ++ b) ≡ 0 → first-refusal a ≡ 0
 zero-first a b z = go (first-refusal a) (sym (first-append a b) ∙ z)

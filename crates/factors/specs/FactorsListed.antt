@@ -90,7 +90,8 @@ abbrev pub arrive-conditions : Width → Factors → ℕ → List ℕ → ℕ �
 arrive-conditions W s k f l =
     conditions-two W (s .n) f (held-h s) ++ (NewNumber k (s .number) ∷ Room (deg f) (s .number) (s .degree) ∷ (W .working ≤ l) ∷ [])
 
-pub arrive-listed : (W : Width) (s : Factors) (k : ℕ) (f : List ℕ) (l : ℕ) → Listed (arrive-refusals W s k f l) (arrive-conditions W s k f l)
+pub arrive-listed : (W : Width) (s : Factors) (k : ℕ) (f : List ℕ) (l : ℕ)
+    → Listed (arrive-refusals W s k f l) (arrive-conditions W s k f l)
 arrive-listed W s k f l = (
   (omega arith, modulus-fails W (s .n)),
   (

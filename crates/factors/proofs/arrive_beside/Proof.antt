@@ -35,8 +35,8 @@ returns-2 c =
     let e = p .before in
     let r = e .before in
     let s = r .before .before .before .before .before .before in
-    arrive-answered (s .args .s) (s .args .k) (s .args .f .now) (s .args .h .now) (s .args .work .now) _ (s .pre) (r .arrival-refusal .ensures)
-    (e .if1 .left) _ _ _ (m .resultant .ensures) (p .place-of .ensures) (c .replaced-at .ensures)
+    arrive-answered (s .args .s) (s .args .k) (s .args .f .now) (s .args .h .now) (s .args .work .now) _ (s .pre)
+    (r .arrival-refusal .ensures) (e .if1 .left) _ _ _ (m .resultant .ensures) (p .place-of .ensures) (c .replaced-at .ensures)
 
 pub arrive-beside-spec : {M : Type 1} → statement M
 arrive-beside-spec =
