@@ -247,7 +247,10 @@ fn product_line(n: u64, f: &[u64], g: &[u64], p: &mut [u64]) {
 }
 
 fn division_line(n: u64, f: &[u64], g: &[u64], q: &mut [u64], r: &mut [u64]) {
-    put_answer(b"division", wide_polynomial_division::division(n, f, g, q, r));
+    put_answer(
+        b"division",
+        wide_polynomial_division::division(n, f, g, q, r),
+    );
     put_words(q);
     put_words(r);
 }
@@ -274,19 +277,34 @@ fn leading_line(n: u64, f: &[u64]) {
 }
 
 fn monic_line(n: u64, f: &[u64], u: &mut [u64], h: &mut [u64], work: &mut [u64]) {
-    put_answer(b"monic", wide_polynomial_factors::unit_times_monic(n, f, u, h, work));
+    put_answer(
+        b"monic",
+        wide_polynomial_factors::unit_times_monic(n, f, u, h, work),
+    );
     put_words(u);
     put_words(h);
     put_working(work);
 }
 
 fn inverse_line(n: u64, f: &[u64], out: &mut [u64], work: &mut [u64]) {
-    put_answer(b"inverse", wide_polynomial_inverse::inverse(n, f, out, work));
+    put_answer(
+        b"inverse",
+        wide_polynomial_inverse::inverse(n, f, out, work),
+    );
     put_words(out);
     put_working(work);
 }
 
-fn polynomials(service: u32, n: u64, f: &[u64], g: &[u64], p: &mut [u64], u: &mut [u64], v: &mut [u64], work: &mut [u64]) {
+fn polynomials(
+    service: u32,
+    n: u64,
+    f: &[u64],
+    g: &[u64],
+    p: &mut [u64],
+    u: &mut [u64],
+    v: &mut [u64],
+    work: &mut [u64],
+) {
     if service == 7 {
         product_line(n, f, g, p);
         return;
@@ -313,12 +331,18 @@ fn polynomials(service: u32, n: u64, f: &[u64], g: &[u64], p: &mut [u64], u: &mu
 // ---- the resultants
 
 fn resultant_line(n: u64, f: &[u64], g: &[u64], work: &mut [u64]) {
-    put_answer(b"resultant", wide_resultant_service::resultant(n, f, g, work));
+    put_answer(
+        b"resultant",
+        wide_resultant_service::resultant(n, f, g, work),
+    );
     put_working(work);
 }
 
 fn reduced_line(n: u64, f: &[u64], g: &[u64], u: &mut [u64], v: &mut [u64], work: &mut [u64]) {
-    put_answer(b"reduced", wide_reduced_service::reduced_resultant(n, f, g, u, v, work));
+    put_answer(
+        b"reduced",
+        wide_reduced_service::reduced_resultant(n, f, g, u, v, work),
+    );
     put_cofactors(n, f, g, u, v);
     put_working(work);
 }
@@ -333,7 +357,16 @@ fn how_far_line(n: u64, f: &[u64], g: &[u64], u: &mut [u64], v: &mut [u64], work
     put_working(work);
 }
 
-fn law_line(n: u64, f: &[u64], g: &[u64], h: &[u64], p: &mut [u64], u: &mut [u64], v: &mut [u64], work: &mut [u64]) {
+fn law_line(
+    n: u64,
+    f: &[u64],
+    g: &[u64],
+    h: &[u64],
+    p: &mut [u64],
+    u: &mut [u64],
+    v: &mut [u64],
+    work: &mut [u64],
+) {
     let a = wide_law::law_of_products(n, f, g, h, p, u, v, work);
     io::write_all(STDOUT_FILENO, b"law");
     put(a.status as u64);
@@ -349,7 +382,17 @@ fn law_line(n: u64, f: &[u64], g: &[u64], h: &[u64], p: &mut [u64], u: &mut [u64
     put_working(work);
 }
 
-fn resultants(service: u32, n: u64, f: &[u64], g: &[u64], h: &[u64], p: &mut [u64], u: &mut [u64], v: &mut [u64], work: &mut [u64]) {
+fn resultants(
+    service: u32,
+    n: u64,
+    f: &[u64],
+    g: &[u64],
+    h: &[u64],
+    p: &mut [u64],
+    u: &mut [u64],
+    v: &mut [u64],
+    work: &mut [u64],
+) {
     if service == 13 {
         put_answer(b"evaluate", wide_evaluator::evaluate(n, f, g));
         return;
@@ -379,7 +422,17 @@ fn head(f: &[u64]) -> u64 {
     f[0]
 }
 
-fn call(service: u32, n: u64, f: &[u64], g: &[u64], h: &[u64], p: &mut [u64], u: &mut [u64], v: &mut [u64], work: &mut [u64]) {
+fn call(
+    service: u32,
+    n: u64,
+    f: &[u64],
+    g: &[u64],
+    h: &[u64],
+    p: &mut [u64],
+    u: &mut [u64],
+    v: &mut [u64],
+    work: &mut [u64],
+) {
     if service < 7 {
         residues(service, n, head(f), head(g));
         return;
@@ -395,8 +448,8 @@ fn call(service: u32, n: u64, f: &[u64], g: &[u64], h: &[u64], p: &mut [u64], u:
     resultants(service, n, f, g, h, p, u, v, work);
 }
 
-// The rest of a line, the words of f, g and h, of a, b and c words; whether it was there.
-fn sent(line: &mut [u8], words: &mut [u64], count: usize) -> bool
+// The rest of a line, the words of f, g and h, `count` in all; whether it was there.
+fn arrived(line: &mut [u8], words: &mut [u64], count: usize) -> bool
     requires { ⌜ (length (now line) ≡ 4096) × ((length (now words) ≡ 150) × (count ≤ 150)) ⌝ }
 {
     if !next(&mut line[0..17 * count + 1]) {
@@ -406,43 +459,182 @@ fn sent(line: &mut [u8], words: &mut [u64], count: usize) -> bool
     true
 }
 
+// The lengths of f, g and h.
+struct Sent {
+    f: usize,
+    g: usize,
+    h: usize,
+}
+
+fn sent_lengths(line: &[u8]) -> Sent
+    requires { ⌜ length (now line) ≡ 4096 ⌝ }
+    ensures { λ r. ⌜ (r .f ≤ 50) × ((r .g ≤ 50) × (r .h ≤ 50)) ⌝ }
+{
+    Sent {
+        f: size(line, 20, 2, 50),
+        g: size(line, 23, 2, 50),
+        h: size(line, 26, 2, 50),
+    }
+}
+
+// The lengths of p, u and v, and of the working words.
+struct Lent {
+    p: usize,
+    u: usize,
+    v: usize,
+    w: usize,
+}
+
+fn lent_lengths(line: &[u8]) -> Lent
+    requires { ⌜ length (now line) ≡ 4096 ⌝ }
+    ensures { λ r. ⌜ ((r .p ≤ 64) × (r .u ≤ 3040)) × ((r .v ≤ 3040) × (r .w ≤ 16400)) ⌝ }
+{
+    Lent {
+        p: size(line, 29, 4, 64),
+        u: size(line, 34, 4, 3040),
+        v: size(line, 39, 4, 3040),
+        w: size(line, 44, 4, 16400),
+    }
+}
+
+// The call with as much of each buffer as is lent.
+fn lend(
+    service: u32,
+    n: u64,
+    f: &[u64],
+    g: &[u64],
+    h: &[u64],
+    l: Lent,
+    p: &mut [u64],
+    u: &mut [u64],
+    v: &mut [u64],
+    work: &mut [u64],
+)
+    requires { ⌜ (l .p ≤ length (now p)) × (l .u ≤ length (now u)) ⌝ }
+    requires { ⌜ (l .v ≤ length (now v)) × (l .w ≤ length (now work)) ⌝ }
+{
+    let lp = l.p;
+    let lu = l.u;
+    let lv = l.v;
+    let lw = l.w;
+    call(
+        service,
+        n,
+        f,
+        g,
+        h,
+        &mut p[0..lp],
+        &mut u[0..lu],
+        &mut v[0..lv],
+        &mut work[0..lw],
+    );
+}
+
+// The words of f, of g and of h, of those that were sent.
+fn part(
+    service: u32,
+    n: u64,
+    words: &[u64],
+    s: Sent,
+    l: Lent,
+    p: &mut [u64],
+    u: &mut [u64],
+    v: &mut [u64],
+    work: &mut [u64],
+)
+    requires { ⌜ ((s .f ≤ 50) × ((s .g ≤ 50) × (s .h ≤ 50))) × (length (now words) ≡ 150) ⌝ }
+    requires { ⌜ (l .p ≤ length (now p)) × (l .u ≤ length (now u)) ⌝ }
+    requires { ⌜ (l .v ≤ length (now v)) × (l .w ≤ length (now work)) ⌝ }
+{
+    let first = s.f;
+    let second = first + s.g;
+    let third = second + s.h;
+    lend(
+        service,
+        n,
+        &words[0..first],
+        &words[first..second],
+        &words[second..third],
+        l,
+        p,
+        u,
+        v,
+        work,
+    );
+}
+
+// The words of a line and its answer; whether they were there.
+fn try_words(
+    service: u32,
+    n: u64,
+    s: Sent,
+    l: Lent,
+    line: &mut [u8],
+    words: &mut [u64],
+    p: &mut [u64],
+    u: &mut [u64],
+    v: &mut [u64],
+    work: &mut [u64],
+) -> bool
+    requires { ⌜ (length (now line) ≡ 4096) × (length (now words) ≡ 150) ⌝ }
+    requires { ⌜ (s .f ≤ 50) × ((s .g ≤ 50) × (s .h ≤ 50)) ⌝ }
+    requires { ⌜ (l .p ≤ length (now p)) × (l .u ≤ length (now u)) ⌝ }
+    requires { ⌜ (l .v ≤ length (now v)) × (l .w ≤ length (now work)) ⌝ }
+{
+    if !arrived(line, words, s.f + s.g + s.h) {
+        return false;
+    }
+    part(service, n, words, s, l, p, u, v, work);
+    io::write_all(STDOUT_FILENO, b"\n");
+    true
+}
+
+// A line whose first characters were read.
+fn try_call(
+    line: &mut [u8],
+    words: &mut [u64],
+    p: &mut [u64],
+    u: &mut [u64],
+    v: &mut [u64],
+    work: &mut [u64],
+) -> bool
+    requires { ⌜ (length (now line) ≡ 4096) × (length (now words) ≡ 150) ⌝ }
+    requires { ⌜ (length (now p) ≡ 64) × ((length (now u) ≡ 3040) × ((length (now v) ≡ 3040) × (length (now work) ≡ 16400))) ⌝ }
+{
+    let service = number(line, 0, 2);
+    let n = word(line, 3);
+    let s = sent_lengths(line);
+    let l = lent_lengths(line);
+    try_words(service, n, s, l, line, words, p, u, v, work)
+}
+
 // The next line of the input; whether there was one.
-fn try_line(line: &mut [u8], words: &mut [u64], p: &mut [u64], u: &mut [u64], v: &mut [u64], work: &mut [u64]) -> bool
+fn try_line(
+    line: &mut [u8],
+    words: &mut [u64],
+    p: &mut [u64],
+    u: &mut [u64],
+    v: &mut [u64],
+    work: &mut [u64],
+) -> bool
     requires { ⌜ (length (now line) ≡ 4096) × (length (now words) ≡ 150) ⌝ }
     requires { ⌜ (length (now p) ≡ 64) × ((length (now u) ≡ 3040) × ((length (now v) ≡ 3040) × (length (now work) ≡ 16400))) ⌝ }
 {
     if !next(&mut line[0..48]) {
         return false;
     }
-    let service = number(line, 0, 2);
-    let n = word(line, 3);
-    let a = size(line, 20, 2, 50);
-    let b = size(line, 23, 2, 50);
-    let c = size(line, 26, 2, 50);
-    let lp = size(line, 29, 4, 64);
-    let lu = size(line, 34, 4, 3040);
-    let lv = size(line, 39, 4, 3040);
-    let lw = size(line, 44, 4, 16400);
-    if !sent(line, words, a + b + c) {
-        return false;
-    }
-    call(
-        service,
-        n,
-        &words[0..a],
-        &words[a..a + b],
-        &words[a + b..a + b + c],
-        &mut p[0..lp],
-        &mut u[0..lu],
-        &mut v[0..lv],
-        &mut work[0..lw],
-    );
-    io::write_all(STDOUT_FILENO, b"\n");
-    true
+    try_call(line, words, p, u, v, work)
 }
 
 // A proved loop has to end, and nothing says that an input does: it counts its turns down from a number that no run uses up.
-fn run(line: &mut [u8], words: &mut [u64], p: &mut [u64], u: &mut [u64], v: &mut [u64], work: &mut [u64])
+fn run(
+    line: &mut [u8],
+    words: &mut [u64],
+    p: &mut [u64],
+    u: &mut [u64],
+    v: &mut [u64],
+    work: &mut [u64],
+)
     requires { ⌜ (length (now line) ≡ 4096) × (length (now words) ≡ 150) ⌝ }
     requires { ⌜ (length (now p) ≡ 64) × ((length (now u) ≡ 3040) × ((length (now v) ≡ 3040) × (length (now work) ≡ 16400))) ⌝ }
 {
