@@ -13,6 +13,7 @@ from math import gcd
 HERE = os.path.dirname(os.path.abspath(__file__))
 DESK = os.path.join(HERE, "..", "crates", "desk")
 WORD = 2**32
+BLOCK = 4096
 
 
 def sylvester(f, g):
@@ -242,13 +243,16 @@ def lines():
         out += both(n, f, g)
     # the drawn pairs with a zero top in their true degrees
     out += meant
-    # the last line has no newline
-    out.append(frame(2, 6, [5, 0, 1], [3, 1]))
-    return out
+    # The last line has no newline, and its last digit, on which the value depends, is alone in the last block of 4096 that is read:
+    # a line of zeros before it makes the length 1 modulo 4096.
+    last = frame(1, 4294967291, [2, 3], [5, 9])
+    out.append(b"0" * (-len(b"\n".join(out + [last])) % BLOCK))
+    return out + [last]
 
 
 def main():
     given = lines()
+    assert len(b"\n".join(given)) % BLOCK == 1
     with open(os.path.join(DESK, "stdin"), "wb") as out:
         out.write(b"\n".join(given))
     with open(os.path.join(DESK, "stdout"), "wb") as out:

@@ -1,1 +1,3 @@
 pub mod Agreement
+pub mod DivisorAlone
+pub mod OwnAnswers

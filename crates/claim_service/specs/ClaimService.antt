@@ -2,6 +2,7 @@
 -- sent, D is the number claimed, u and v are the multipliers.
 --
 --   bad-multiplier, ServedMultiplier       the test of refusal 16, and what passes it
+--   ServedSizes                            what passes 2 and 16
 --   claim-refusals, claim-status           the refusals in their order, and the number of the first that applies
 --   claim-number, claim-value, told        the paper's number and value of each case, and the case for each of these
 --   ClaimSaid, ClaimAnswer, ClaimCase      all that is promised of a call
@@ -12,13 +13,12 @@ use mathlib.Core.Bool.{Bool, true, false, cond, not}
 use mathlib.Core.List.{List, [], _∷_, _++_}
 use Prim.Native.Nat.{ℕ, zero, suc, _≤_}
 use native.Mathlib.Omega.{arith}
-use lib.Dec.{T, ltb, eqb}
+use lib.Dec.{ltb, eqb}
 use lib.ListN.{length}
-use borrow.Author.Tests.{eqb-true, eqb-false, ltb-true, ltb-false}
 use Rattle.definitions.specs.Polynomials.{Residues}
 use Rattle.refusals.specs.Refusals.{Width, Tested, bad-modulus, bad-length, all-below, short, first-refusal, left}
 use Rattle.refusals.specs.Conditions.{ServedModulus, ServedLength, Fails as Fails'}
-use Rattle.refusals.specs.Conditions.{Listed, modulus-fails, length-fails, words-fail, short-fails}
+use Rattle.refusals.specs.Conditions.{Listed, either-fails, none-fails, modulus-fails, length-fails, words-fail, short-fails}
 use Rattle.claims.specs.Claims.{Judged}
 use Rattle.claims.specs.ClaimLaws.{judged-once}
 use Rattle.claim_service.specs.declared.Claim.{Claim}
@@ -31,6 +31,13 @@ bad-multiplier u = cond (eqb (length u) 0) true (ltb 4096 (length u))
 pub record ServedMultiplier (u : List ℕ) : Type 0 where
   pub some : 1 ≤ length u
   pub few : length u ≤ 4096
+
+-- no length is refused
+pub record ServedSizes (f g u v : List ℕ) : Type 0 where
+  pub first : ServedLength f
+  pub second : ServedLength g
+  pub first-multiplier : ServedMultiplier u
+  pub second-multiplier : ServedMultiplier v
 
 -- 1, 2 and 16: "tested after 2"
 abbrev pub size-refusals : Width → ℕ → List ℕ → List ℕ → List ℕ → List ℕ → List Tested
@@ -72,8 +79,8 @@ abbrev pub ClaimSaid : ℕ → ℕ → ℕ → List ℕ → List ℕ → ℕ →
 ClaimSaid zero value n f g D u v = Judged value n f g D u v
 ClaimSaid (suc s) value n f g D u v = value ≡ 0
 
--- "After an answered call the whole working buffer is zero", also where the first of the three has failed; and it is left as found after
--- a refusal
+-- "After an answered call the working buffer it was lent holds zeros", also where the first of the three has failed; and it is left as
+-- found after a refusal
 pub record ClaimAnswer (W : Width) (n : ℕ) (f g : List ℕ) (D : ℕ) (u v work work' : List ℕ) (value status : ℕ) : Type 0 where
   pub status-is : status ≡ claim-status W n f g u v (length work)
   pub said : ClaimSaid status value n f g D u v
@@ -87,24 +94,20 @@ pub record ClaimCase (W : Width) (n : ℕ) (f g : List ℕ) (D : ℕ) (u v work 
 -- ---- the refusals
 
 pub multiplier-fails : (u : List ℕ) → Fails' (bad-multiplier u) (ServedMultiplier u)
-multiplier-fails u = go (length u) (eqb (length u) 0) refl refl
-  where
-    go : (l : ℕ) (t : Bool) → length u ≡ l → eqb l 0 ≡ t → Fails' (cond t true (ltb 4096 l)) (ServedMultiplier u)
-    go l true e h = record {
-      passed = λ z. absurd (subst T z tt);
-      failed = λ z m. let a = m .some in let b = eqb-true l 0 h in omega arith;
-    }
-    go l false e h = record {
-      passed = λ z. record {
-        some = let a = eqb-false l 0 h in above l (length u) a e;
-        few = let a = ltb-false 4096 l z in omega arith;
-      };
-      failed = λ z m. let a = ltb-true 4096 l z in let b = m .few in omega arith;
-    }
-      where
-        above : (l m : ℕ) → (l ≡ 0 → ⊥) → m ≡ l → 1 ≤ m
-        above zero m a e = absurd (a refl)
-        above (suc l) m a e = omega arith
+multiplier-fails u =
+    either-fails (none-fails (length u)) (short-fails 4096 (length u)) (λ a b. record { some = a; few = b }) (λ m. m .some) (λ m. m .few)
+
+abbrev pub size-conditions : Width → ℕ → List ℕ → List ℕ → List ℕ → List ℕ → List (Type 0)
+size-conditions W n f g u v = ServedModulus W n ∷ ServedLength f ∷ ServedLength g ∷ ServedMultiplier u ∷ ServedMultiplier v ∷ []
+
+pub size-listed : (W : Width) (n : ℕ) (f g u v : List ℕ) → Listed (size-refusals W n f g u v) (size-conditions W n f g u v)
+size-listed W n f g u v = (
+  (omega arith, modulus-fails W n),
+  (
+    (omega arith, length-fails f),
+    ((omega arith, length-fails g), ((omega arith, multiplier-fails u), ((omega arith, multiplier-fails v), tt))),
+  ),
+)
 
 -- the conditions of an answer: so `status-zero` and `status-is` (refusals/Conditions) say when the status is 0, and when it is k
 abbrev pub claim-conditions : Width → ℕ → List ℕ → List ℕ → List ℕ → List ℕ → ℕ → List (Type 0)

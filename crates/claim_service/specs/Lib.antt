@@ -1,2 +1,1 @@
 pub mod ClaimService
-pub mod OwnAnswers

@@ -3,15 +3,14 @@
 //   Claim                                           what a call answers
 //   bad_multiplier                                  the test of refusal 16
 //   refusal_sizes, refusal_words, refusal_room      1, 2 and 16; 3; 7
-//   first, refusal_claim                            the first refusal that applies
+//   refusal_claim                                   the first refusal that applies
 //   check_claim                                     the service
 //   check_claim_words                               the same in two words
 ghost use mathlib.Core.Path.{_≡_};
 ghost use mathlib.Core.List.{[], _∷_};
-ghost use lib.ListN.{length, replicate};
-ghost use Rattle.refusals.specs.Refusals.{narrow, short, first-of, first-refusal};
+ghost use Rattle.refusals.specs.Refusals.{narrow, short, first-refusal};
 ghost use Rattle.claim_service.specs.ClaimService.{bad-multiplier, size-refusals, word-refusals, claim-status};
-ghost use Rattle.claim_service.specs.ClaimService.{ClaimAnswer, ClaimCase};
+ghost use Rattle.claim_service.specs.ClaimService.{ServedSizes, ClaimAnswer, ClaimCase};
 use refusals::Answer;
 
 // Accepted; the number of the first of the three that fails; or the number of the refusal.
@@ -53,8 +52,9 @@ fn refusal_sizes(n: u32, f: &[u32], g: &[u32], u: &[u32], v: &[u32]) -> u32
     0
 }
 
-// Refusal 3; 0 where it does not apply.
+// Refusal 3; 0 where it does not apply. A word is read only where the four lengths are served.
 fn refusal_words(n: u32, f: &[u32], g: &[u32], u: &[u32], v: &[u32]) -> u32
+    requires { ⌜ ServedSizes (now f) (now g) (now u) (now v) ⌝ }
     ensures { λ r. ⌜ r ≡ first-refusal (word-refusals n (now (f .entry)) (now (g .entry)) (now (u .entry)) (now (v .entry))) ⌝ }
 {
     if !refusals::all_below(n, f) {
@@ -66,10 +66,10 @@ fn refusal_words(n: u32, f: &[u32], g: &[u32], u: &[u32], v: &[u32]) -> u32
     if !refusals::all_below(n, u) {
         return 3;
     }
-    if refusals::all_below(n, v) {
-        return 0;
+    if !refusals::all_below(n, v) {
+        return 3;
     }
-    3
+    0
 }
 
 // Refusal 7 of l working words; 0 where it does not apply.
@@ -82,33 +82,19 @@ fn refusal_room(l: usize) -> u32
     0
 }
 
-// a, or b where a is 0.
-fn first(a: u32, b: u32) -> u32
-    ensures { λ r. ⌜ r ≡ first-of a b ⌝ }
-{
-    if a == 0 {
-        return b;
-    }
-    a
-}
-
 // The first refusal that applies, for l working words; 0 where none does.
 fn refusal_claim(n: u32, f: &[u32], g: &[u32], u: &[u32], v: &[u32], l: usize) -> u32
     ensures { λ r. ⌜ r ≡ claim-status narrow n (now (f .entry)) (now (g .entry)) (now (u .entry)) (now (v .entry)) l ⌝ }
 {
     let sizes = refusal_sizes(n, f, g, u, v);
+    if sizes != 0 {
+        return sizes;
+    }
     let words = refusal_words(n, f, g, u, v);
-    let room = refusal_room(l);
-    first(sizes, first(words, room))
-}
-
-// "After an answered call the whole working buffer is zero."
-fn cleared(value: u32, work: &mut [u32]) -> u32
-    ensures { λ r. ⌜ r ≡ value ⌝ }
-    ensures { λ _. ⌜ now (work .exit) ≡ replicate (length (now (work .entry))) 0 ⌝ }
-{
-    windows::wipe(work);
-    value
+    if words != 0 {
+        return words;
+    }
+    refusal_room(l)
 }
 
 // Whether d is the reduced resultant of f and g modulo n and u and v combine them to it, and else what fails first.
@@ -129,11 +115,11 @@ pub fn check_claim(
         return Claim::Refused(refusal);
     }
     let failing = claims::judge(work, n, f, g, d, u, v);
-    let value = cleared(failing, work);
-    if value == 0 {
+    let answer = answers::answered(failing, work);
+    if answer.value == 0 {
         return Claim::Accepted;
     }
-    Claim::Fails(value)
+    Claim::Fails(answer.value)
 }
 
 // The case in words: an enum cannot be handed to a host.

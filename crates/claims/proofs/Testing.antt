@@ -10,7 +10,7 @@
 use mathlib.Core.Path.{_≡_, sym, ap₂, subst, _∙_}
 use mathlib.Core.Bool.{Bool, true, false}
 use mathlib.Core.List.{List}
-use Prim.Native.Nat.{ℕ, zero, suc, _+_, _%_, _<_, _≤_, _∣_}
+use Prim.Native.Nat.{ℕ, zero, suc, max, _+_, _-_, _%_, _<_, _≤_, _∣_}
 use native.Mathlib.Nat.{zero-mod, mod-eq-zero-of-dvd, dvd-of-mod-eq-zero, pos-of-dvd-of-pos}
 use native.Mathlib.Decide.{decLt}
 use native.Mathlib.Omega.{arith}
@@ -82,9 +82,9 @@ module _ (n : ℕ) (f g u v : List ℕ) (D : ℕ) where
   wrong-word k x l e h = no-told (λ c. h (e ∙ c .sum k ∙ above k l))
 
   -- above the longer product every word is 0
-  pub combined-end : (m k : ℕ) → 1 ≤ k → m ≤ k → length u + length f ≤ suc m → length v + length g ≤ suc m → CombinedBelow k n f g u v D
+  pub combined-end : (m k : ℕ) → 1 ≤ k → m ≤ k → m ≡ max (length u + length f - 1) (length v + length g - 1) → CombinedBelow k n f g u v D
       → Tells true (Combination n f g u v D)
-  combined-end m k o l lu lv c = yes-told (record { sum = λ j. go j (decLt j k) })
+  combined-end m k o l e c = yes-told (record { sum = λ j. go j (decLt j k) })
     where
       go : (j : ℕ) → Dec (j < k) → (convolve (coef u) (coef f) j + convolve (coef v) (coef g) j) % n ≡ constant D j % n
       go j (yes h) = c .at j h

@@ -8,7 +8,6 @@ use mathlib.Core.Bool.{Bool, true, false}
 use mathlib.Core.List.{List}
 use Prim.Native.Nat.{ℕ, zero, suc, _≤_, _∣_}
 use lib.ListN.{length}
-use Rattle.definitions.specs.Polynomials.{Residues}
 use Rattle.definitions.specs.Resultants.{Combination, Reduced}
 
 -- "accepts exactly when D divides n, the combination gives D modulo n, and D is the reduced resultant as defined … Otherwise it names the
@@ -33,9 +32,7 @@ pub record ClaimLengths (f g u v : List ℕ) : Type 0 where
   pub most-u : length u ≤ 4096
   pub most-v : length v ≤ 4096
 
--- the words of f and g are residues; those of the multipliers may be any
+-- the words may be any
 pub record ClaimAsked (n : ℕ) (f g u v : List ℕ) : Type 0 where
   pub modulus : 2 ≤ n
   pub lengths : ClaimLengths f g u v
-  pub residues-f : Residues n f
-  pub residues-g : Residues n g

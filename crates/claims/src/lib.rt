@@ -5,9 +5,9 @@
 //   is_reduced                         the third: D is the reduced resultant
 //   judge                              the first of the three that fails
 ghost use mathlib.Core.Path.{_≡_};
-ghost use Prim.Native.Nat.{suc, _+_, _%_, _≤_, _∣_};
+ghost use Prim.Native.Nat.{max, _+_, _-_, _%_, _≤_, _∣_};
 ghost use lib.ListN.{length};
-ghost use Rattle.definitions.specs.Polynomials.{coef, convolve, Residues};
+ghost use Rattle.definitions.specs.Polynomials.{coef, convolve};
 ghost use Rattle.definitions.specs.Resultants.{Combination, Reduced};
 ghost use Rattle.windows.specs.Window.{Scratch};
 ghost use Rattle.divisor.specs.Sizes.{DivisorSizes};
@@ -24,8 +24,8 @@ fn divides(d: u32, n: u32) -> bool
 // The words of the longer of the products u f and v g.
 fn longest(f: &[u32], g: &[u32], u: &[u32], v: &[u32]) -> usize
     requires { ⌜ ClaimLengths (now f) (now g) (now u) (now v) ⌝ }
-    ensures { λ r. ⌜ (length (now (u .entry)) + length (now (f .entry)) ≤ suc r)
-        × (length (now (v .entry)) + length (now (g .entry)) ≤ suc r) ⌝ }
+    ensures { λ r. ⌜ r ≡ max (length (now (u .entry)) + length (now (f .entry)) - 1)
+        (length (now (v .entry)) + length (now (g .entry)) - 1) ⌝ }
 {
     let a = u.len() + f.len();
     let b = v.len() + g.len();
@@ -37,7 +37,7 @@ fn longest(f: &[u32], g: &[u32], u: &[u32], v: &[u32]) -> usize
 
 // Word k of u f + v g.
 fn combined_word(n: u32, f: &[u32], g: &[u32], u: &[u32], v: &[u32], k: usize) -> u32
-    requires { ⌜ (1 ≤ n) × (Residues n (now f) × Residues n (now g)) ⌝ }
+    requires { ⌜ 1 ≤ n ⌝ }
     ensures { λ r. ⌜ r ≡ (convolve (coef (now (u .entry))) (coef (now (f .entry))) k
         + convolve (coef (now (v .entry))) (coef (now (g .entry))) k) % n ⌝ }
 {

@@ -15,7 +15,6 @@ ghost use mathlib.Core.Path.{_≡_};
 ghost use mathlib.Core.Logic.{_⊎_, _≢_};
 ghost use Prim.Native.Nat.{_+_, _-_, _*_, _%_, _<_, _≤_};
 ghost use lib.ListN.{length, getD};
-ghost use Rattle.theory.specs.ResultantLaws.{signed};
 ghost use Rattle.windows.specs.Window.{Written, Scratch};
 ghost use Rattle.cofactor_band.specs.Bands.{PairAsked, HeadsBelow, RowAdded, RowReduced, KeepsTwo, RowCleared};
 ghost use Rattle.cofactor_band.specs.Bands.{RowAsked, ColumnAsked, ColumnCleared};
@@ -178,17 +177,6 @@ fn shift_rows(w: &mut [u32], l: usize, b: usize)
     }
 }
 
-// x with the sign (-1)^k.
-pub fn with_sign(n: u32, k: usize, x: u32) -> u32
-    requires { ⌜ x < n ⌝ }
-    ensures { λ r. ⌜ r ≡ signed n k x ⌝ }
-{
-    if k % 2 == 0 {
-        return x;
-    }
-    arithmetic::negate(n, x)
-}
-
 // The rows that begin at column j: x^(e - 1 - j) f below the l live rows, and below it x^(d - 1 - j) g, which passes the rows of f that are
 // still to come.
 fn come_in(
@@ -211,7 +199,7 @@ fn come_in(
             enter(w, l + 1, g, 97, d - 1 - j);
             return Stage {
                 rows: l + 2,
-                factor: with_sign(n, e - 1 - j, x),
+                factor: resultant_turns::with_sign(n, e - 1 - j, x),
             };
         }
         return Stage {
@@ -238,12 +226,12 @@ fn leave(w: &mut [u32], n: u32, t: usize, l: usize, b: usize, x: u32) -> u32
     let y = w[145 * t];
     if t == l {
         shift_rows(w, l, b);
-        return with_sign(n, l, arithmetic::mul_mod(n, x, y));
+        return resultant_turns::with_sign(n, l, arithmetic::mul_mod(n, x, y));
     }
     windows::copy(w, 145 * l, 145 * t, 145);
     shift_rows(w, l, b);
     let z = arithmetic::negate(n, x);
-    with_sign(n, l, arithmetic::mul_mod(n, z, y))
+    resultant_turns::with_sign(n, l, arithmetic::mul_mod(n, z, y))
 }
 
 // Column j.

@@ -76,7 +76,7 @@ pub record Placed (n h z a d b e : ℕ) (w : List ℕ) : Type 0 where
   pub row-b : Standing n h z d b w
   pub apart : Apart a (h + h + h) b (h + h + h)
 
--- "u f + v g", in both rows
+-- u f + v g, in both rows
 pub record Combined (n h : ℕ) (f g : List ℕ) (a d b e : ℕ) (w : List ℕ) : Type 0 where
   pub row-a : Row n f g (first h a w) (second h a w) (rest d a w)
   pub row-b : Row n f g (first h b w) (second h b w) (rest e b w)

@@ -48,7 +48,7 @@ pub record HeldStarted (n : ℕ) (f g w w' : List ℕ) : Type 0 where
   pub rows : HeldRows n (length g) 0 (length g + length g + length g) w'
   pub started : Started n f g (turned n w) (turned n w')
 
--- "u f + v g = r": after turning back the word at a is a constant c, after it stand u and v, length g words each, and u f + v g = c
+-- u f + v g = r: after turning back the word at a is a constant c, after it stand u and v, length g words each, and u f + v g = c
 pub record HeldMultipliers (n : ℕ) (f g : List ℕ) (a : ℕ) (w : List ℕ) : Type 0 where
   pub inside : a + (length g + length g + length g) ≤ length w
   pub combination : Combination n f g (piece (turned n w) (a + length g) (length g)) (piece (turned n w) (a + (length g + length g))

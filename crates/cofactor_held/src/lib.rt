@@ -216,7 +216,7 @@ fn start(w: &mut [u32], form: Form, f: &[u32], g: &[u32])
     w[b + (h + h)] = one;
 }
 
-// "u f + v g = r is kept by every pseudo-step whatever the leads are, for both multipliers at once." f is not the longer of the two.
+// u f + v g = r is kept by every pseudo-step, whatever the leads are, for both multipliers at once. f is not the longer of the two.
 // Answers the place of the row whose remainder is the constant.
 pub fn multipliers(w: &mut [u32], form: Form, f: &[u32], g: &[u32]) -> usize
     requires { ⌜ Formed form ⌝ }

@@ -23,7 +23,8 @@ fn factor(n: u32, i: u32, p: u32, t: u32, c: u32, k: usize) -> u32
     arithmetic::mul_mod(n, y, z)
 }
 
-// The resultant with the sign (-1)^k, and its cofactors with that sign; n where s is no unit.
+// The resultant with the sign (-1)^k, and its cofactors with that sign. Where s is no unit nothing is known, and the answer is n: every
+// resultant is below n, so n can stand for no.
 fn ordered(
     u: &mut [u32],
     v: &mut [u32],
@@ -47,14 +48,14 @@ fn ordered(
     let e = x.e;
     let c = w[a];
     let y = factor(n, i.s, x.p, x.t, c, e - 1);
-    let z = cofactor_band::with_sign(n, k, y);
+    let z = resultant_turns::with_sign(n, k, y);
     let h = g.len();
     cofactor_band::scale_into(u, w, n, z, a + h);
     cofactor_band::scale_into(v, w, n, z, a + (h + h));
     arithmetic::mul_mod(n, z, c)
 }
 
-// The quick way; f and g exchanged where f is the longer, which costs the sign (-1)^(d e).
+// The quick way, or n for no; f and g exchanged where f is the longer, which costs the sign (-1)^(d e).
 fn try_quick(u: &mut [u32], v: &mut [u32], w: &mut [u32], n: u32, f: &[u32], g: &[u32]) -> u32
     requires { ⌜ CofactorsAsked n (now f) (now g) (now u) (now v) (now w) ⌝ }
     ensures { λ r. ⌜ Quick n (now (f .entry)) (now (g .entry)) (now (u .exit)) (now (v .exit)) r ⌝ }
@@ -68,7 +69,7 @@ fn try_quick(u: &mut [u32], v: &mut [u32], w: &mut [u32], n: u32, f: &[u32], g: 
     ordered(v, u, w, n, g, f, d * e)
 }
 
-// The resultant of f and g, with its cofactors in u and v.
+// The resultant of f and g, with its cofactors in u and v. What is not below n is n, the quick way's no.
 pub fn cofactors(u: &mut [u32], v: &mut [u32], w: &mut [u32], n: u32, f: &[u32], g: &[u32]) -> u32
     requires { ⌜ CofactorsAsked n (now f) (now g) (now u) (now v) (now w) ⌝ }
     ensures { λ r. ⌜ ResultantCofactors n (now (f .entry)) (now (g .entry)) (now (u .exit)) (now (v .exit)) r ⌝ }

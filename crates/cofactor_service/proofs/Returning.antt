@@ -7,7 +7,7 @@ use mathlib.Core.Path.{_≡_, refl, sym, ap, ap₂, subst, _∙_}
 use mathlib.Core.List.{List, [], _∷_, _++_}
 use Prim.Native.Nat.{ℕ, zero, suc, pred, _+_, _-_, _≤_, _<_}
 use native.Mathlib.Omega.{arith}
-use lib.ListN.{length, take, drop, replicate, length-append, length-drop}
+use lib.ListN.{length, take, replicate}
 use lib.Seq.{length-take-le}
 use borrow.Rule.Slice.PartMut.{postOf}
 use Rattle.definitions.specs.Polynomials.{coef, deg, Residues}
@@ -15,9 +15,10 @@ use Rattle.definitions.specs.Resultants.{resultant, Combination}
 use Rattle.refusals.specs.Refusals.{narrow, Tested, short, first-refusal, refusals-two, left}
 use Rattle.refusals.specs.Conditions.{ServedModulus, ServedLength, Passed, status-zero, accepted-two}
 use Rattle.refusals.proofs.Statuses.{refused-early, passed-on, too-short, long-enough, refused-value, answered-value, left-refused}
+use Rattle.answers.specs.Cofactors.{held}
 use Rattle.cofactor_band.specs.Bands.{CofactorsAsked, ResultantCofactors}
 use Rattle.cofactor_service.specs.CofactorService.{cofactor-refusals, cofactor-status, cofactor-conditions, cofactor-listed}
-use Rattle.cofactor_service.specs.CofactorService.{HoldsMultiplier, CofactorsLeft, CofactorAnswer}
+use Rattle.cofactor_service.specs.CofactorService.{CofactorsLeft, CofactorAnswer}
 
 deg-is : (f : List ℕ) → length f - 1 ≡ deg f
 deg-is f = less (length f)
@@ -80,32 +81,6 @@ module _ (n : ℕ) (f g : List ℕ) (lu lv l : ℕ) (s : ℕ) (e : s ≡ first-r
 left-alone : (s n : ℕ) (f g u v : List ℕ) → (s ≡ 0 → ⊥) → CofactorsLeft s n f g u u v v
 left-alone zero n f g u v z = absurd (z refl)
 left-alone (suc s) n f g u v z = record { first = refl; second = refl }
-
-take-front : (x y : List ℕ) → take (length x) (x ++ y) ≡ x
-take-front [] y = refl
-take-front (a ∷ x) y = ap (λ (z : List ℕ). a ∷ z) (take-front x y)
-
-drop-front : (x y : List ℕ) → drop (length x) (x ++ y) ≡ y
-drop-front [] y = refl
-drop-front (a ∷ x) y = drop-front x y
-
--- a buffer whose first l words came back as x
-held : (n m l : ℕ) (b x : List ℕ) → m ≡ l → l ≤ length b → length x ≡ l → Residues n x
-    → HoldsMultiplier n l b (x ++ postOf 0 m b) × (take l (x ++ postOf 0 m b) ≡ x)
-held n m l b x em fits lx r = (
-  record {
-    same = length-append x (postOf 0 m b) ∙ ap₂ _+_ lx (length-drop m b) ∙ back m l (length b) em fits;
-    residues = subst (Residues n) (sym front) r;
-    beyond = ap (λ (i : ℕ). drop i (x ++ postOf 0 m b)) (sym lx) ∙ drop-front x (postOf 0 m b) ∙ ap (λ (i : ℕ). drop i b) em;
-  },
-  front,
-)
-  where
-    front : take l (x ++ postOf 0 m b) ≡ x
-    front = ap (λ (i : ℕ). take i (x ++ postOf 0 m b)) (sym lx) ∙ take-front x (postOf 0 m b)
-
-    back : (m l k : ℕ) → m ≡ l → l ≤ k → l + (k - m) ≡ k
-    back m l k p q = omega arith
 
 module _ (n : ℕ) (f g u v work : List ℕ) (s : ℕ) (e : s ≡ cofactor-status narrow n f g (length u) (length v) (length work)) where
   pub refused : (s ≡ 0 → ⊥) → CofactorAnswer narrow n f g u u v v work work 0 s

@@ -2,7 +2,7 @@
 -- polynomials sent, of degrees d and e; u and v are the buffers of the cofactors.
 --
 --   cofactor-refusals, cofactor-status    the refusals in their order, and the number of the first that applies
---   HoldsMultiplier, HoldsCofactors       the buffers after an answer
+--   HoldsCofactors                        the buffers after an answer
 --   CofactorAnswer                        all that is promised of a call
 --   cofactor-listed                       each refusal under its condition and no other
 use mathlib.Core.Path.{_≡_}
@@ -10,10 +10,11 @@ use mathlib.Core.Bool.{Bool}
 use mathlib.Core.List.{List, [], _∷_, _++_}
 use Prim.Native.Nat.{ℕ, zero, suc, _+_, _≤_}
 use native.Mathlib.Omega.{arith}
-use lib.ListN.{length, take, drop}
-use Rattle.definitions.specs.Polynomials.{deg, Residues}
+use lib.ListN.{length, take}
+use Rattle.definitions.specs.Polynomials.{deg}
 use Rattle.definitions.specs.Resultants.{resultant, Combination}
 use Rattle.refusals.specs.Refusals.{Width, Tested, short, first-refusal, refusals-two, answered, left}
+use Rattle.answers.specs.Cofactors.{HoldsCofactor}
 use Rattle.refusals.specs.Conditions.{Listed, conditions-two, modulus-fails, length-fails, words-fail, short-fails}
 
 -- "It refuses with 9 the pair d = e = 0, tested after 3 and before 6, and 7 comes last": 1, 2, 3, 9, 6 of u before 6 of v, and 7;
@@ -26,16 +27,10 @@ cofactor-refusals W n f g lu lv l =
 abbrev pub cofactor-status : Width → ℕ → List ℕ → List ℕ → ℕ → ℕ → ℕ → ℕ
 cofactor-status W n f g lu lv l = first-refusal (cofactor-refusals W n f g lu lv l)
 
--- l words of a cofactor in the buffer b: "words beyond are unchanged"
-pub record HoldsMultiplier (n l : ℕ) (b b' : List ℕ) : Type 0 where
-  pub same : length b' ≡ length b
-  pub residues : Residues n (take l b')
-  pub beyond : drop l b' ≡ drop l b
-
 -- "u of e words and v of d words with uf + vg equal to the resultant modulo n"
 pub record HoldsCofactors (n : ℕ) (f g u u' v v' : List ℕ) : Type 0 where
-  pub first : HoldsMultiplier n (deg g) u u'
-  pub second : HoldsMultiplier n (deg f) v v'
+  pub first : HoldsCofactor n (deg g) u u'
+  pub second : HoldsCofactor n (deg f) v v'
   pub combination : Combination n f g (take (deg g) u') (take (deg f) v') (resultant n f g)
 
 -- "every lent buffer is left as found"

@@ -3,7 +3,6 @@
 //   refusal                the number of the first refusal that applies, 0 where none does
 //   resultant_cofactors    the service
 ghost use mathlib.Core.Path.{_≡_};
-ghost use lib.ListN.{length, replicate};
 ghost use Rattle.refusals.specs.Refusals.{narrow};
 ghost use Rattle.cofactor_service.specs.CofactorService.{cofactor-status, CofactorAnswer};
 use refusals::Answer;
@@ -33,15 +32,6 @@ fn refusal(n: u32, f: &[u32], g: &[u32], first: usize, second: usize, working: u
     0
 }
 
-// "After an answered call the whole working buffer is zero."
-fn answered(value: u32, work: &mut [u32]) -> Answer
-    ensures { λ r. ⌜ (r .value ≡ value) × (r .status ≡ 0) ⌝ }
-    ensures { λ _. ⌜ now (work .exit) ≡ replicate (length (now (work .entry))) 0 ⌝ }
-{
-    windows::wipe(work);
-    Answer { value, status: 0 }
-}
-
 // The resultant of f and g modulo n, with u in the first e words of one buffer and v in the first d words of the other: u f + v g is it.
 pub fn resultant_cofactors(
     n: u32,
@@ -61,5 +51,5 @@ pub fn resultant_cofactors(
     let d = f.len() - 1;
     let e = g.len() - 1;
     let value = cofactor_quick::cofactors(&mut u[0..e], &mut v[0..d], work, n, f, g);
-    answered(value, work)
+    answers::answered(value, work)
 }

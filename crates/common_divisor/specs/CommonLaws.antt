@@ -212,7 +212,7 @@ pub only-zero-rest : (m : ℕ) → 1 ≤ m → (f g q r : List ℕ) → Divided 
 only-zero-rest zero l f g q r d z = absurd (omega arith)
 only-zero-rest (suc m) l f g q r d z = record { at = λ c x. z .at c (flip m g f c (rest-up m g f q r c d x)) }
 
--- "A unit constant cannot come up": it would reach 1
+-- a unit constant cannot come up: it would reach 1
 pub not-constant : (m : ℕ) → 2 ≤ m → (f g : List ℕ) → IsUnit m (coef f 0) → ((k : ℕ) → 0 < k → coef f k % m ≡ 0) → OnlyZero m f g → ⊥
 not-constant m l f g u above z = go m l (eq-one-of-dvd-one (z .at 1 one))
   where

@@ -6,12 +6,14 @@
 --   convolve-mod, convolve-constant        congruent factors; a constant factor
 --   convolve-shift, convolve-first         the places above a degree; the lowest coefficient
 --   convolve-out                           there is nothing above the sum of the degrees
+--   zeros-at                               the coefficients of zeros
 use mathlib.Core.Path.{_≡_, refl, sym, ap, ap₂, _∙_}
 use Prim.Native.Nat.{ℕ, zero, suc, _+_, _-_, _*_, _<_, _≤_}
 use native.Mathlib.Nat.{add-assoc, add-comm, add-zero, zero-add, zero-mul, mul-zero, mul-comm, suc-add}
 use native.Mathlib.Decide.{decLt}
 use native.Mathlib.Omega.{arith}
-use Rattle.definitions.specs.Polynomials.{total, convolve, constant}
+use lib.ListN.{replicate}
+use Rattle.definitions.specs.Polynomials.{coef, total, convolve, constant}
 use Rattle.numbers.specs.Congruence.{Cong, c-refl, c-sym, c-trans, c-eq, c-add, c-mul, c-cancel}
 use Rattle.theory.specs.Words.{total-cong, convolve-zero, convolve-suc}
 
@@ -117,3 +119,10 @@ convolve-out d e p q hp hq k l = total-none (suc k) _ (λ i b. term i (decLt d i
     term : (i : ℕ) → Dec (d < i) → p i * q (k - i) ≡ 0
     term i (yes h) = ap (λ (x : ℕ). x * q (k - i)) (hp i h) ∙ zero-mul (q (k - i))
     term i (no h) = ap (λ (x : ℕ). p i * x) (hq (k - i) (omega arith)) ∙ mul-zero (p i)
+
+-- ---- zeros
+
+pub zeros-at : (m k : ℕ) → coef (replicate m 0) k ≡ 0
+zeros-at zero k = refl
+zeros-at (suc m) zero = refl
+zeros-at (suc m) (suc k) = zeros-at m k

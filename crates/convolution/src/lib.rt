@@ -6,7 +6,7 @@
 //   product_word       word k of f g
 ghost use mathlib.Core.Path.{_≡_};
 ghost use Prim.Native.Nat.{min, _+_, _-_, _*_, _%_, _≤_};
-ghost use Rattle.definitions.specs.Polynomials.{coef, convolve, Residues};
+ghost use Rattle.definitions.specs.Polynomials.{coef, convolve};
 ghost use Rattle.reduction.specs.Moduli.{Ready};
 ghost use Rattle.convolution.specs.Carries.{Carry};
 use reduction::Reciprocal;
@@ -30,7 +30,7 @@ fn carries(x: u64, p: u64) -> u64
 }
 
 // The first place of f whose word meets one of g, of len words, in word k.
-fn first(k: usize, len: usize) -> usize
+pub fn first(k: usize, len: usize) -> usize
     requires { ⌜ 1 ≤ len ⌝ }
     ensures { λ r. ⌜ r ≡ k + 1 - len ⌝ }
 {
@@ -41,7 +41,7 @@ fn first(k: usize, len: usize) -> usize
 }
 
 // The place after the last word of f, of len words, that meets one of g in word k.
-fn end(k: usize, len: usize) -> usize
+pub fn end(k: usize, len: usize) -> usize
     ensures { λ r. ⌜ r ≡ min (k + 1) len ⌝ }
 {
     if k < len {
@@ -76,7 +76,7 @@ pub fn product_word_by(m: Reciprocal, f: &[u32], g: &[u32], k: usize) -> u32
 
 // Word k of the product of f and g.
 pub fn product_word(n: u32, f: &[u32], g: &[u32], k: usize) -> u32
-    requires { ⌜ (1 ≤ n) × Residues n (now g) ⌝ }
+    requires { ⌜ 1 ≤ n ⌝ }
     ensures { λ r. ⌜ r ≡ convolve (coef (now (f .entry))) (coef (now (g .entry))) k % n ⌝ }
 {
     product_word_by(reduction::modulus_of(n), f, g, k)

@@ -1,6 +1,10 @@
 // The frame program: reads job frames from standard input, one a line, and writes an answer line for each to standard output.
-// It answers the lines that are complete before it reads again. Where a read fails or a write is not taken, it says so on standard
-// error, with the reason, and stops; an unfinished line is then not answered.
+// It answers the lines that are complete before it reads again. Where a read or a write fails, it says so on standard error, with
+// the reason, and stops; an unfinished line is then not answered. A call that a signal interrupts, or that would have to wait on a
+// non-blocking descriptor, has not failed: it is tried again.
+use frame_pieces::Input;
+use libc::EAGAIN;
+use libc::EINTR;
 use libc::STDIN_FILENO;
 use libc::STDOUT_FILENO;
 ghost use Prim.Native.Nat.{_≤_};
@@ -13,30 +17,59 @@ enum Turn {
     Stopped,
 }
 
-// Writes answers; where they are not taken, it says so.
-fn put(answers: &[u8]) -> bool {
-    if io::write_all(STDOUT_FILENO, answers) {
+// Whether the call that answered -1 just now is to be tried again.
+fn again() -> bool {
+    let error = os::errno();
+    if error == EINTR {
         return true;
     }
-    os::fail(b"desk: standard output does not take the answers");
+    if error == EAGAIN {
+        libc::sched_yield();
+        return true;
+    }
     false
 }
 
-// Reads once, answers the lines that end in what came, and holds the rest. A character can end a line, and a line's answer has
-// 13: so 4096 of the one need 53248 of the other.
+// Writes answers, from where a write stopped on; where they are not taken, it says so.
+fn put(answers: &[u8]) -> bool {
+    let mut done: usize = 0;
+    let mut tries = u64::MAX;
+    while done < answers.len() {
+        let rest = &answers[done..];
+        let got = libc::write(STDOUT_FILENO, rest);
+        if got < 1 {
+            if !again() {
+                os::fail(b"jingcobu-desk: standard output does not take the answers");
+                return false;
+            }
+        }
+        if tries == 0 {
+            return false;
+        }
+        tries -= 1;
+        done += io::count(got, rest);
+    }
+    true
+}
+
+// Reads once, answers the lines that end in what came, and holds the rest; where the read is to be tried again, all stays as it
+// was. A character can end a line, and a line's answer has 13: so 4096 of the one need 53248 of the other.
 fn take_turn(held: usize, line: &mut [u8], out: &mut [u8]) -> Turn
     requires { ⌜ (798 ≤ length (now line)) × (53248 ≤ length (now out)) ⌝ }
 {
     let mut piece = io::buffer();
     let got = libc::read(STDIN_FILENO, &mut piece);
     if got < 0 {
-        os::fail(b"desk: standard input cannot be read");
+        if again() {
+            return Turn::Held(held);
+        }
+        os::fail(b"jingcobu-desk: standard input cannot be read");
         return Turn::Stopped;
     }
     let n = io::count(got, &piece);
-    if n == 0 {
+    let Input::Came(_) = frame_pieces::what_came(n) else {
         return Turn::Ended;
-    }
+    };
     let p = frame_reader::step(held, line, &piece[0..n], out);
     let written = p.written;
     if put(&out[0..written]) {

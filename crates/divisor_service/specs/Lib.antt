@@ -1,2 +1,1 @@
 pub mod DivisorService
-pub mod Agreement

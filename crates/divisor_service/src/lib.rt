@@ -1,18 +1,7 @@
 // The reduced resultant D alone as a service: from any words and lengths an answer, or a numbered refusal.
-ghost use mathlib.Core.Path.{_≡_};
-ghost use lib.ListN.{length, replicate};
 ghost use Rattle.refusals.specs.Refusals.{narrow};
 ghost use Rattle.divisor_service.specs.DivisorService.{DivisorAnswer};
 use refusals::Answer;
-
-// "After an answered call the whole working buffer is zero."
-fn answered(value: u32, work: &mut [u32]) -> Answer
-    ensures { λ r. ⌜ (r .value ≡ value) × (r .status ≡ 0) ⌝ }
-    ensures { λ _. ⌜ now (work .exit) ≡ replicate (length (now (work .entry))) 0 ⌝ }
-{
-    windows::wipe(work);
-    Answer { value, status: 0 }
-}
 
 // The reduced resultant D of f and g modulo n, without cofactors.
 pub fn divisor(n: u32, f: &[u32], g: &[u32], work: &mut [u32]) -> Answer
@@ -30,5 +19,5 @@ pub fn divisor(n: u32, f: &[u32], g: &[u32], work: &mut [u32]) -> Answer
         };
     }
     let value = divisor::run(work, n, f, g);
-    answered(value, work)
+    answers::answered(value, work)
 }

@@ -92,8 +92,9 @@ fn bad_lengths(f: &[u32], g: &[u32]) -> bool
     8 < f.len() - 1 + (g.len() - 1)
 }
 
-// Refusal 3: whether a word of f or of g is n or more.
+// Refusal 3: whether a word of f or of g is n or more. A word is read only where the lengths are served.
 fn bad_words(n: u32, f: &[u32], g: &[u32]) -> bool
+    requires { ⌜ ServedRows (now f) (now g) ⌝ }
     ensures { λ r. ⌜ r ≡ bad-words n (now (f .entry)) (now (g .entry)) ⌝ }
 {
     if !refusals::all_below(n, f) {
@@ -106,15 +107,13 @@ fn bad_words(n: u32, f: &[u32], g: &[u32]) -> bool
 fn refusal(n: u32, f: &[u32], g: &[u32]) -> u32
     ensures { λ s. ⌜ s ≡ evaluator-status narrow n (now (f .entry)) (now (g .entry)) ⌝ }
 {
-    let lengths = bad_lengths(f, g);
-    let words = bad_words(n, f, g);
     if refusals::bad_modulus(n) {
         return 1;
     }
-    if lengths {
+    if bad_lengths(f, g) {
         return 2;
     }
-    if words {
+    if bad_words(n, f, g) {
         return 3;
     }
     0

@@ -86,9 +86,12 @@ full-fails d number degree =
       failed = λ z m. let x = a .passed refl in let y = m .free-place in omega arith;
     }
 
-pub arrive-listed : (W : Width) (s : Factors) (k : ℕ) (f : List ℕ) (l : ℕ) → Listed (arrive-refusals W s k f l)
-    (conditions-two W (s .n) f (held-h s)
-    ++ (NewNumber k (s .number) ∷ Room (deg f) (s .number) (s .degree) ∷ (W .working ≤ l) ∷ []))
+abbrev pub arrive-conditions : Width → Factors → ℕ → List ℕ → ℕ → List (Type 0)
+arrive-conditions W s k f l =
+    conditions-two W (s .n) f (held-h s) ++ (NewNumber k (s .number) ∷ Room (deg f) (s .number) (s .degree) ∷ (W .working ≤ l) ∷ [])
+
+pub arrive-listed : (W : Width) (s : Factors) (k : ℕ) (f : List ℕ) (l : ℕ)
+    → Listed (arrive-refusals W s k f l) (arrive-conditions W s k f l)
 arrive-listed W s k f l = (
   (omega arith, modulus-fails W (s .n)),
   (

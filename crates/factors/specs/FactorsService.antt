@@ -6,6 +6,7 @@
 --   started, arrived, left-by      the states that answered calls hand back, s or zeros after a refusal
 --   unheld, taken, full    the tests of the refusals 14 and 13
 --   start-refusals, arrive-refusals, leave-refusals, reading-refusals     the refusals of each call in their order
+--   arrival-tests, leaving-tests      the same of the words of a state
 --   StartAnswer, ArriveAnswer, LeaveAnswer, ReadingAnswer      all that is promised of a call
 use mathlib.Core.Path.{_≡_}
 use mathlib.Core.Bool.{Bool, true, cond, not}
@@ -56,15 +57,20 @@ full d number degree = cond (ltb (place-of 0 number) 16) (ltb 48 (sum degree + d
 abbrev pub start-refusals : Width → ℕ → List ℕ → List Tested
 start-refusals W n h = refusals-one W n h
 
--- "14 … then … 13 … both after 3"; "7 comes last wherever working words are lent". l is the number of working words.
+-- "14 … then … 13 … both after 3"; "7 comes last wherever working words are lent". h is the polynomial held, l the number of working words.
+abbrev pub arrival-tests : Width → ℕ → List ℕ → List ℕ → ℕ → List ℕ → List ℕ → ℕ → List Tested
+arrival-tests W n number degree k f h l =
+    refusals-two W n f h ++ ((14, taken k number) ∷ (13, full (deg f) number degree) ∷ (7, short l (W .working)) ∷ [])
+
 abbrev pub arrive-refusals : Width → Factors → ℕ → List ℕ → ℕ → List Tested
-arrive-refusals W s k f l =
-    refusals-two W (s .n) f (held-h s)
-    ++ ((14, taken k (s .number)) ∷ (13, full (deg f) (s .number) (s .degree)) ∷ (7, short l (W .working)) ∷ [])
+arrive-refusals W s k f l = arrival-tests W (s .n) (s .number) (s .degree) k f (held-h s) l
 
 -- "every call on a state whose n is 0 or 1 refuses it with 1"
+abbrev pub leaving-tests : Width → ℕ → List ℕ → ℕ → List Tested
+leaving-tests W n number k = (1, bad-modulus W n) ∷ (14, unheld k number) ∷ []
+
 abbrev pub leave-refusals : Width → Factors → ℕ → List Tested
-leave-refusals W s k = (1, bad-modulus W (s .n)) ∷ (14, unheld k (s .number)) ∷ []
+leave-refusals W s k = leaving-tests W (s .n) (s .number) k
 
 abbrev pub reading-refusals : Width → Factors → List Tested
 reading-refusals W s = (1, bad-modulus W (s .n)) ∷ []

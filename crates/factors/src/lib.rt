@@ -6,17 +6,18 @@
 //   place_of                     the first place that has a number
 //   degree_sum, multiplied       the sum of the degrees and the product of the resultants
 //   padded, served_length        h with zeros above; how many of its words are read
-//   taken, full                  what refuses an arrival with 14, and with 13
-//   free_place                   the first free place
+//   taken, unheld, full          what refuses an arrival with 14, a leaving with 14, an arrival with 13
+//   arrival_refusal, leaving_refusal      the refusals in their order
+//   replaced_at                  the state with another factor, or none, in a place
 //   arrive_beside                an arrival, with h
 //   start, arrive, leave, read   the services
 ghost use mathlib.Core.Path.{_≡_};
 ghost use Prim.Native.Nat.{_-_, _<_, _≤_};
-ghost use mathlib.Core.Bool.{false};
 ghost use mathlib.Core.List.{_++_};
 ghost use lib.ListN.{length, replicate};
-ghost use Rattle.refusals.specs.Refusals.{narrow};
-ghost use Rattle.factors.specs.FactorsService.{place-of, sum, multiplied, served-length, held-h, taken, full};
+ghost use Rattle.refusals.specs.Refusals.{narrow, first-refusal};
+ghost use Rattle.factors.specs.FactorsService.{place-of, sum, multiplied, served-length, held-h, taken, unheld, full};
+ghost use Rattle.factors.specs.FactorsService.{arrival-tests, leaving-tests, replaced-at};
 ghost use Rattle.factors.specs.FactorsService.{StartAnswer, ArriveAnswer, LeaveAnswer, ReadingAnswer};
 use refusals::Answer;
 
@@ -144,6 +145,17 @@ fn taken(number: [u16; 16], k: u16) -> bool
     true
 }
 
+// "a number 0 or … one not held on leaving"
+fn unheld(number: [u16; 16], k: u16) -> bool
+    ensures { λ r. ⌜ r ≡ unheld k number ⌝ }
+{
+    let i = place_of(number, k);
+    if k != 0 {
+        return 16 <= i;
+    }
+    true
+}
+
 // "a seventeenth factor or a summed degree above 48"
 fn full(number: [u16; 16], degree: [u32; 16], d: usize) -> bool
     requires { ⌜ d ≤ 48 ⌝ }
@@ -156,12 +168,65 @@ fn full(number: [u16; 16], degree: [u32; 16], d: usize) -> bool
     48 < sum
 }
 
-// The first place that is free, where one is.
-fn free_place(number: [u16; 16], degree: [u32; 16], d: usize) -> usize
-    requires { ⌜ full d number degree ≡ false ⌝ }
-    ensures { λ r. ⌜ (r ≡ place-of 0 number) × (r < 16) ⌝ }
+// The refusals of an arrival beside h, where room is the number of working words; 0 where none applies.
+fn arrival_refusal(
+    n: u32,
+    number: [u16; 16],
+    degree: [u32; 16],
+    k: u16,
+    f: &[u32],
+    h: &[u32],
+    room: usize,
+) -> u32
+    ensures { λ r. ⌜ r ≡ first-refusal (arrival-tests narrow n number degree k (now (f .entry)) (now (h .entry)) room) ⌝ }
 {
-    place_of(number, 0)
+    let status = refusals::refusal_two(n, f, h);
+    if status != 0 {
+        return status;
+    }
+    let d = f.len() - 1;
+    if taken(number, k) {
+        return 14;
+    }
+    if full(number, degree, d) {
+        return 13;
+    }
+    if room < 8192 {
+        return 7;
+    }
+    0
+}
+
+// The refusals of a leaving; 0 where none applies.
+fn leaving_refusal(n: u32, number: [u16; 16], k: u16) -> u32
+    ensures { λ r. ⌜ r ≡ first-refusal (leaving-tests narrow n number k) ⌝ }
+{
+    if refusals::bad_modulus(n) {
+        return 1;
+    }
+    if unheld(number, k) { 14 } else { 0 }
+}
+
+// s with the number k, the degree d and the resultant x in place i.
+fn replaced_at(s: Factors, i: usize, k: u16, d: u32, x: u32) -> Factors
+    requires { ⌜ i < 16 ⌝ }
+    ensures { λ r. ⌜ r ≡ replaced-at s i k d x ⌝ }
+{
+    let h = s.h;
+    let mut number = s.number;
+    let mut degree = s.degree;
+    let mut resultant = s.resultant;
+    number[i] = k;
+    degree[i] = d;
+    resultant[i] = x;
+    Factors {
+        n: s.n,
+        len: s.len,
+        h,
+        number,
+        degree,
+        resultant,
+    }
 }
 
 // The factor f arrives where h is the polynomial held.
@@ -169,46 +234,16 @@ fn arrive_beside(s: Factors, k: u16, f: &[u32], h: &[u32], work: &mut [u32]) -> 
     requires { ⌜ now h ≡ held-h s ⌝ }
     ensures { λ r. ⌜ ArriveAnswer narrow s k (now (f .entry)) (now (work .entry)) (now (work .exit)) (r .factors) (r .status) ⌝ }
 {
-    let status = refusals::refusal_two(s.n, f, h);
+    let number = s.number;
+    let degree = s.degree;
+    let status = arrival_refusal(s.n, number, degree, k, f, h, work.len());
     if status != 0 {
         return Held { factors: s, status };
     }
-    let mut number = s.number;
-    if taken(number, k) {
-        return Held {
-            factors: s,
-            status: 14,
-        };
-    }
-    let d = f.len() - 1;
-    let mut degree = s.degree;
-    if full(number, degree, d) {
-        return Held {
-            factors: s,
-            status: 13,
-        };
-    }
-    if work.len() < 8192 {
-        return Held {
-            factors: s,
-            status: 7,
-        };
-    }
+    let i = place_of(number, 0);
+    let d = (f.len() - 1) as u32;
     let a = resultant_service::resultant(s.n, f, h, work);
-    let words = s.h;
-    let mut resultant = s.resultant;
-    let i = free_place(number, degree, d);
-    number[i] = k;
-    degree[i] = d as u32;
-    resultant[i] = a.value;
-    let factors = Factors {
-        n: s.n,
-        len: s.len,
-        h: words,
-        number,
-        degree,
-        resultant,
-    };
+    let factors = replaced_at(s, i, k, d, a.value);
     Held { factors, status: 0 }
 }
 
@@ -225,40 +260,13 @@ pub fn arrive(s: Factors, k: u16, f: &[u32], work: &mut [u32]) -> Held
 pub fn leave(s: Factors, k: u16) -> Held
     ensures { λ r. ⌜ LeaveAnswer narrow s k (r .factors) (r .status) ⌝ }
 {
-    if refusals::bad_modulus(s.n) {
-        return Held {
-            factors: s,
-            status: 1,
-        };
+    let number = s.number;
+    let status = leaving_refusal(s.n, number, k);
+    if status != 0 {
+        return Held { factors: s, status };
     }
-    if k == 0 {
-        return Held {
-            factors: s,
-            status: 14,
-        };
-    }
-    let mut number = s.number;
     let i = place_of(number, k);
-    if 16 <= i {
-        return Held {
-            factors: s,
-            status: 14,
-        };
-    }
-    let h = s.h;
-    let mut degree = s.degree;
-    let mut resultant = s.resultant;
-    number[i] = 0;
-    degree[i] = 0;
-    resultant[i] = 1;
-    let factors = Factors {
-        n: s.n,
-        len: s.len,
-        h,
-        number,
-        degree,
-        resultant,
-    };
+    let factors = replaced_at(s, i, 0, 0, 1);
     Held { factors, status: 0 }
 }
 

@@ -9,26 +9,19 @@ use Prim.Native.Nat.{ℕ, _+_, _-_, _*_, _<_, _≤_}
 use native.Mathlib.Omega.{arith}
 use native.Mathlib.Nat.{pos-of-ne-zero}
 use native.Mathlib.Numerals.{add-one}
-use lib.ListN.{length, getD, take, drop, length-append, length-drop, take-append-drop, drop-of-length-le}
+use lib.ListN.{length, getD, take, drop, length-drop, take-append-drop, drop-of-length-le}
 use lib.Seq.{take-all, drop-cons, drop-drop}
-use Rattle.hexadecimal.specs.Hexadecimal.{digits-of}
-use Rattle.hexadecimal.specs.DigitLaws.{digits-length}
-use Rattle.frames.specs.Frames.{answer-line, AnswerOf, refused, answered, Wrote}
-use Rattle.frames.proofs.Putting.{put-front, put-rest}
-use Rattle.frame_reader.specs.Lines.{has-newline, finished, unfinished, last-line, Answers, none}
-use Rattle.frame_reader.specs.LineLaws.{none-in-either, finished-none, unfinished-all, finished-line, unfinished-line, answers-append}
+use Rattle.frame_lines.specs.FrameLines.{line-length}
+use Rattle.frame_lines.proofs.Putting.{put-front, put-rest}
+use Rattle.frames.specs.Frames.{AnswerOf, refused, answered, Wrote}
+use Rattle.frame_pieces.specs.Newlines.{has-newline, none-in-either, NewlineAt, Held}
+use Rattle.frame_reader.specs.Lines.{finished, unfinished, last-line, Answers, none}
+use Rattle.frame_reader.specs.LineLaws.{finished-none, unfinished-all, finished-line, unfinished-line, answers-append}
 use Rattle.frame_reader.specs.LineLaws.{answers-one}
-use Rattle.frame_reader.specs.Pieces.{NewlineAt, Held, Stepped, Ended}
+use Rattle.frame_reader.specs.Pieces.{Stepped, Ended}
 use Rattle.frame_reader.specs.Whole.{held-none}
 
 -- ---- what was written
-
-line-length : (k r v : ℕ) → length (answer-line k r v) ≡ 13
-unfolding answer-line
-line-length k r v =
-    length-append (digits-of 2 k) (digits-of 2 r ++ (digits-of 8 v ++ 10 ∷ []))
-    ∙ ap₂ _+_ (digits-length 2 k) (length-append (digits-of 2 r) (digits-of 8 v ++ 10 ∷ [])
-    ∙ ap₂ _+_ (digits-length 2 r) (length-append (digits-of 8 v) (10 ∷ []) ∙ ap (λ (x : ℕ). x + 1) (digits-length 8 v)))
 
 answer-length : {s a : List ℕ} → AnswerOf s a → length a ≡ 13
 answer-length (refused h) = line-length 255 8 0

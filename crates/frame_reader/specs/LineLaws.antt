@@ -1,36 +1,19 @@
 -- Laws of lines: a text that has a newline is its first line, the newline and the rest; and how texts that follow one another
 -- share out their lines.
 use mathlib.Core.Path.{_≡_, refl, sym, ap, ap₂, _∙_, subst}
-use mathlib.Core.Bool.{Bool, true, false, cond, _||_, true≢false}
+use mathlib.Core.Bool.{Bool, true, false, cond, _||_}
 use mathlib.Core.List.{List, [], _∷_, _++_, append-assoc, append-nil}
 use Prim.Native.Nat.{ℕ}
 use lib.Dec.{eqb}
 use borrow.Author.Tests.{eqb-true}
-use Rattle.frame_reader.specs.Lines.{has-newline, lengthen, finished, unfinished, last-line, lines, Answers, none, then}
+use Rattle.frame_pieces.specs.Newlines.{has-newline, or-neither, has-newline-append}
+use Rattle.frame_reader.specs.Lines.{lengthen, finished, unfinished, last-line, lines, Answers, none, then}
 use Rattle.frames.specs.Frames.{AnswerOf}
 use Rattle.frames.specs.FrameLaws.{answer-unique}
-
--- neither of two tests
-pub or-neither : (a b : Bool) → (a || b) ≡ false → (a ≡ false) × (b ≡ false)
-or-neither true b h = absurd (true≢false h)
-or-neither false b h = (refl, h)
 
 or-true : (a : Bool) → (a || true) ≡ true
 or-true true = refl
 or-true false = refl
-
-or-assoc : (a b c : Bool) → ((a || b) || c) ≡ (a || (b || c))
-or-assoc true b c = refl
-or-assoc false b c = refl
-
-pub has-newline-append : (s t : List ℕ) → has-newline (s ++ t) ≡ (has-newline s || has-newline t)
-unfolding has-newline
-has-newline-append [] t = refl
-has-newline-append (c ∷ s) t =
-    ap (λ (b : Bool). eqb c 10 || b) (has-newline-append s t) ∙ sym (or-assoc (eqb c 10) (has-newline s) (has-newline t))
-
-pub none-in-either : (s t : List ℕ) → has-newline s ≡ false → has-newline t ≡ false → has-newline (s ++ t) ≡ false
-none-in-either s t h k = has-newline-append s t ∙ ap₂ _||_ h k
 
 -- ---- a text without a newline
 
@@ -111,14 +94,6 @@ pub lines-append : (t r : List ℕ) → lines (t ++ r) ≡ finished t ++ lines (
 lines-append t r =
     ap₂ (λ (x : List (List ℕ)) (y : List ℕ). x ++ last-line y) (finished-append t r) (unfinished-append t r)
     ∙ append-assoc (finished t) (finished (unfinished t ++ r)) (last-line (unfinished (unfinished t ++ r)))
-
--- what is left has no newline
-pub unfinished-single : (t : List ℕ) → has-newline (unfinished t) ≡ false
-unfinished-single t = go (cut t)
-  where
-    go : {t : List ℕ} → Cut t → has-newline (unfinished t) ≡ false
-    go (whole t h) = ap has-newline (unfinished-all t h) ∙ h
-    go (line s t h v) = ap has-newline (unfinished-line s t) ∙ go v
 
 -- ---- answers
 

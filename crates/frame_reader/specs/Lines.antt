@@ -3,16 +3,12 @@
 --   finished t, unfinished t      the lines that end with a newline, and what comes after the last newline
 --   lines t                       all lines of t
 --   Answers ls a                  a is the answers to the lines ls, in order
-use mathlib.Core.Bool.{Bool, false, cond, _||_}
+use mathlib.Core.Bool.{cond}
 use mathlib.Core.List.{List, [], _∷_, _++_}
 use Prim.Native.Nat.{ℕ}
 use lib.Dec.{eqb}
+use Rattle.frame_pieces.specs.Newlines.{has-newline}
 use Rattle.frames.specs.Frames.{AnswerOf}
-
--- whether a newline stands in t
-unfoldable pub has-newline : List ℕ → Bool
-has-newline [] = false
-has-newline (c ∷ t) = eqb c 10 || has-newline t
 
 -- c at the front of the first line
 abbrev pub lengthen : ℕ → List (List ℕ) → List (List ℕ)

@@ -1,29 +1,13 @@
 -- An input that comes in pieces. Between two pieces the unfinished line is held in a buffer, as far as it can be a frame.
 --
---   NewlineAt p a r           r is the place of the first newline of p from place a on, or the length of p
---   Held s h b                the unfinished line s is held: h counts its characters, up to 799, and they stand at the front of b
---   LineAfter h b b'          what becomes of the buffer's words
 --   Stepped s p h b w o o'    what a step over the piece p owes, s being the line held before it
 --   Written h b ps a          a is what is written, from a line held as h in b, for the pieces ps and at the end of the input
 use mathlib.Core.Path.{_≡_}
-use mathlib.Core.Bool.{false}
 use mathlib.Core.List.{List, [], _∷_, _++_}
-use Prim.Native.Nat.{ℕ, min, _-_, _≤_, _<_}
-use lib.ListN.{length, getD, take, drop}
-use Rattle.frame_reader.specs.Lines.{has-newline, finished, unfinished, last-line, Answers}
-
--- r is the place of the first newline of p from place a on, or the length of p
-pub record NewlineAt (p : List ℕ) (a r : ℕ) : Type 0 where
-  pub least : a ≤ r
-  pub most : r ≤ length p
-  pub before : has-newline (take (r - a) (drop a p)) ≡ false
-  pub at : r < length p → getD p r 0 ≡ 10
-
--- A line of more than 798 characters is no frame, whatever they are.
-pub record Held (s : List ℕ) (h : ℕ) (b : List ℕ) : Type 0 where
-  pub single : has-newline s ≡ false
-  pub count : h ≡ min (length s) 799
-  pub kept : h ≤ 798 → take h b ≡ s
+use Prim.Native.Nat.{ℕ}
+use lib.ListN.{take, drop}
+use Rattle.frame_pieces.specs.Newlines.{Held}
+use Rattle.frame_reader.specs.Lines.{finished, unfinished, last-line, Answers}
 
 -- The first w characters of o' are the answers to the lines that end in the piece; the rest is as it was. What comes after the
 -- last newline is held.
@@ -31,13 +15,6 @@ pub record Stepped (s p : List ℕ) (h : ℕ) (b : List ℕ) (w : ℕ) (o o' : L
   pub held : Held (unfinished (s ++ p)) h b
   pub answers : Answers (finished (s ++ p)) (take w o')
   pub rest : drop w o' ≡ drop w o
-
--- The buffer of the line held after a step or a part of one: h characters are held, at most 799; the words from 798 on are as they were,
--- and those between are of no use.
-pub record LineAfter (h : ℕ) (b b' : List ℕ) : Type 0 where
-  pub most : h ≤ 799
-  pub same : length b' ≡ length b
-  pub beyond : drop 798 b' ≡ drop 798 b
 
 -- The end of the input: a last line that is not empty is answered.
 pub record Ended (s : List ℕ) (w : ℕ) (o o' : List ℕ) : Type 0 where

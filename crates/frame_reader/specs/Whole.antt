@@ -4,9 +4,10 @@ use mathlib.Core.Bool.{false}
 use mathlib.Core.List.{List, [], _++_, append-assoc, append-nil}
 use Prim.Native.Nat.{ℕ}
 use lib.ListN.{take}
-use Rattle.frame_reader.specs.Lines.{has-newline, unfinished, last-line, lines, Answers}
+use Rattle.frame_pieces.specs.Newlines.{has-newline, Held}
+use Rattle.frame_reader.specs.Lines.{unfinished, last-line, lines, Answers}
 use Rattle.frame_reader.specs.LineLaws.{finished-none, unfinished-all, lines-append, answers-append, answers-unique}
-use Rattle.frame_reader.specs.Pieces.{Held, Written, end, piece, joined}
+use Rattle.frame_reader.specs.Pieces.{Written, end, piece, joined}
 
 -- a text without a newline has at most one line
 pub lines-single : (s : List ℕ) → has-newline s ≡ false → lines s ≡ last-line s

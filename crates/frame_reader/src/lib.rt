@@ -4,10 +4,10 @@ ghost use mathlib.Core.Path.{_≡_};
 ghost use mathlib.Core.Bool.{false};
 ghost use mathlib.Core.List.{List, _++_};
 ghost use Prim.Native.Nat.{ℕ, min, _+_, _*_, _≤_};
-ghost use lib.ListN.{length, drop};
+ghost use lib.ListN.{length};
 ghost use Rattle.frames.specs.Frames.{Wrote};
-ghost use Rattle.frame_reader.specs.Lines.{has-newline};
-ghost use Rattle.frame_reader.specs.Pieces.{NewlineAt, Held, Steps, Ends, LineAfter};
+ghost use Rattle.frame_pieces.specs.Newlines.{has-newline, Held, LineAfter};
+ghost use Rattle.frame_reader.specs.Pieces.{Steps, Ends};
 
 // What a step leaves: the count of the line held, and of the characters written.
 pub struct Progress {
@@ -22,21 +22,6 @@ fn working_words() -> [u32; 8192]
     [0; 8192]
 }
 
-// The place of the first newline from place `from` on, and the length of the piece where there is none.
-fn find_newline(piece: &[u8], from: usize) -> usize
-    requires { ⌜ from ≤ length (now piece) ⌝ }
-    ensures { λ r. ⌜ NewlineAt (now (piece .entry)) from r ⌝ }
-{
-    let mut j = from;
-    while j < piece.len() {
-        if piece[j] == 10 {
-            return j;
-        }
-        j += 1;
-    }
-    j
-}
-
 // A line of 799 characters or more is held as one of 799: it is no frame, whatever comes.
 fn counted(held: usize) -> usize
     ensures { λ r. ⌜ r ≡ min held 799 ⌝ }
@@ -47,27 +32,6 @@ fn counted(held: usize) -> usize
     held
 }
 
-// Holds part after what is held of an unfinished line. No more than the first 798 words of the buffer are used.
-fn hold(held: usize, line: &mut [u8], part: &[u8]) -> usize
-    requires { ⌜ 798 ≤ length (now line) ⌝ }
-    ensures { λ r. ⌜ ((s : List ℕ) → Held s held (now (line .entry)) → has-newline (now (part .entry)) ≡ false
-        → Held (s ++ now (part .entry)) r (now (line .exit))) ⌝ }
-    ensures { λ r. ⌜ LineAfter r (now (line .entry)) (now (line .exit)) ⌝ }
-{
-    if held > 798 {
-        return 799;
-    }
-    if part.len() > 798 - held {
-        return 799;
-    }
-    let mut i: usize = 0;
-    while i < part.len() {
-        line[held + i] = part[i];
-        i += 1;
-    }
-    held + part.len()
-}
-
 // Writes the answer to the line held.
 fn answer_held(held: usize, line: &[u8], work: &mut [u32], out: &mut [u8], at: usize)
     requires { ⌜ (798 ≤ length (now line)) × ((8192 ≤ length (now work)) × (at + 13 ≤ length (now out))) ⌝ }
@@ -75,7 +39,7 @@ fn answer_held(held: usize, line: &[u8], work: &mut [u32], out: &mut [u8], at: u
         → Wrote s at (now (out .entry)) (now (out .exit)) (now (work .entry)) (now (work .exit))) ⌝ }
 {
     if held > 798 {
-        frames::write_line(out, at, 255, 8, 0);
+        frame_lines::write_line(out, at, 255, 8, 0);
         return;
     }
     frames::answer(&line[0..held], work, out, at);
@@ -92,7 +56,7 @@ fn close(held: usize, line: &mut [u8], part: &[u8], work: &mut [u32], out: &mut 
         frames::answer(part, work, out, at);
         return;
     }
-    let h = hold(held, line, part);
+    let h = frame_pieces::hold(held, line, part);
     answer_held(h, line, work, out, at);
 }
 
@@ -110,9 +74,9 @@ pub fn step(held: usize, line: &mut [u8], piece: &[u8], out: &mut [u8]) -> Progr
     let mut i: usize = 0;
     let mut w: usize = 0;
     while i < piece.len() {
-        let j = find_newline(piece, i);
+        let j = frame_pieces::find_newline(piece, i);
         if j == piece.len() {
-            let rest = hold(h, line, &piece[i..j]);
+            let rest = frame_pieces::hold(h, line, &piece[i..j]);
             return Progress {
                 held: rest,
                 written: w,

@@ -10,7 +10,8 @@ use Rattle.refusals.specs.Refusals.{narrow, Tested, short, first-of, first-refu
 use Rattle.refusals.proofs.Statuses.{first-append, passed-on, long-enough, left-refused}
 use Rattle.resultant_service.specs.ResultantService.{ResultantAnswer}
 use Rattle.divisor_service.specs.DivisorService.{DivisorAnswer, DivisorLeft}
-use Rattle.frames.specs.Frames.{top-refusals, job-refusals, Value, Served}
+use Rattle.frame_refusals.specs.FrameRefusals.{top-refusals, job-refusals}
+use Rattle.frames.specs.Frames.{Value, Served}
 use Rattle.frames.proofs.Answering.{first-handed, second-handed}
 
 -- a list of refusals of which none applies: none of its first part does

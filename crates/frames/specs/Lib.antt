@@ -1,3 +1,3 @@
 pub mod Frames
-pub mod Heads
+pub mod Lending
 pub mod FrameLaws

@@ -2,17 +2,21 @@
 -- and the reduced resultant promise.
 --
 --   AnsweredProduct, AnsweredResultant, AnsweredReduced    a call, on whatever buffers, that answered
+--   answered-modulus, reduced-modulus                      such a call had a modulus of 2 or more
 --   law-of-the-answers                                     POINT 3
-use mathlib.Core.Path.{_≡_, refl, _∙_, ap}
-use mathlib.Core.List.{List, [], _∷_, _++_}
+use mathlib.Core.Path.{_≡_, refl, sym, _∙_, ap}
+use mathlib.Core.List.{List}
 use Prim.Native.Nat.{ℕ, _+_, _%_, _≤_}
+use native.Mathlib.Omega.{arith}
 use lib.ListN.{length, take, drop}
+use lib.Seq.{take-at}
 use Rattle.definitions.specs.Polynomials.{product}
 use Rattle.theory.specs.PointThree.{LawOfProducts, point-three}
 use Rattle.refusals.specs.Refusals.{Width}
+use Rattle.refusals.specs.Conditions.{status-zero}
 use Rattle.polynomial_product.specs.ProductService.{ProductAnswer}
-use Rattle.resultant_service.specs.ResultantService.{ResultantAnswer}
-use Rattle.reduced_service.specs.ReducedService.{ReducedAnswer}
+use Rattle.resultant_service.specs.ResultantService.{ResultantAnswer, resultant-refusals, resultant-conditions, resultant-listed}
+use Rattle.reduced_service.specs.ReducedService.{ReducedAnswer, reduced-refusals, reduced-conditions, reduced-listed}
 
 -- p is what a call of the product has left in the first d + e + 1 words of its buffer
 pub record AnsweredProduct (W : Width) (n : ℕ) (f g p : List ℕ) : Type 0 where
@@ -36,20 +40,33 @@ pub record AnsweredReduced (W : Width) (n : ℕ) (f g : List ℕ) (D : ℕ) : Ty
   pub work' : List ℕ
   pub call : ReducedAnswer W n f g u u' v v' work work' D 0
 
-pub take-front : (x y : List ℕ) → take (length x) (x ++ y) ≡ x
-take-front [] y = refl
-take-front (a ∷ x) y = ap (λ (z : List ℕ). a ∷ z) (take-front x y)
+-- a call that answered had a modulus of 2 or more
+pub answered-modulus : (W : Width) (n : ℕ) (f g : List ℕ) (r : ℕ) → AnsweredResultant W n f g r → 1 ≤ n
+answered-modulus W n f g r a =
+    let l = length (a .work) in
+    let z = status-zero (resultant-refusals W n f g l) (resultant-conditions W n f g l) (resultant-listed W n f g l) in
+    let p = z .0 (sym (a .call .status-is)) in
+    omega (arith, p .0 .least)
+
+pub reduced-modulus : (W : Width) (n : ℕ) (f g : List ℕ) (D : ℕ) → AnsweredReduced W n f g D → 1 ≤ n
+reduced-modulus W n f g D a =
+    let i = length (a .u) in
+    let j = length (a .v) in
+    let l = length (a .work) in
+    let z = status-zero (reduced-refusals W n f g i j l) (reduced-conditions W n f g i j l) (reduced-listed W n f g i j l) in
+    let p = z .0 (sym (a .call .status-is)) in
+    omega (arith, p .0 .least)
 
 -- POINT 3: whatever the product, the resultant and the reduced resultant answer for f, g and h modulo one n obeys the law of products
-pub law-of-the-answers : (W : Width) (n : ℕ) → 1 ≤ n → (f g h p : List ℕ) (r rf rg D Df Dg : ℕ) → AnsweredProduct W n f g p
+pub law-of-the-answers : (W : Width) (n : ℕ) (f g h p : List ℕ) (r rf rg D Df Dg : ℕ) → AnsweredProduct W n f g p
     → AnsweredResultant W n p h r → AnsweredResultant W n f h rf → AnsweredResultant W n g h rg
     → AnsweredReduced W n p h D → AnsweredReduced W n f h Df → AnsweredReduced W n g h Dg → LawOfProducts n r rf rg D Df Dg
-law-of-the-answers W n l f g h p r rf rg D Df Dg a b c d x y z =
-    point-three n l f g h p r rf rg D Df Dg (record {
+law-of-the-answers W n f g h p r rf rg D Df Dg a b c d x y z =
+    point-three n (answered-modulus W n p h r b) f g h p r rf rg D Df Dg (record {
       product-of =
           a .words
           ∙ ap (take (length (product n f g))) (a .call .out-is)
-          ∙ take-front (product n f g) (drop (length (product n f g)) (a .out));
+          ∙ take-at (product n f g) (drop (length (product n f g)) (a .out)) (length (product n f g)) refl;
       resultant-of-product = b .call .value-is;
       resultant-of-first = c .call .value-is;
       resultant-of-second = d .call .value-is;

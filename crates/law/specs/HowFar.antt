@@ -6,32 +6,20 @@
 --   HowFarAnswer      all that is promised of a call of `how_far`
 use mathlib.Core.Path.{_≡_, sym, subst}
 use mathlib.Core.List.{List}
-use Prim.Native.Nat.{ℕ, _≤_}
-use native.Mathlib.Omega.{arith}
-use lib.ListN.{length}
+use Prim.Native.Nat.{ℕ}
 use Rattle.definitions.specs.Polynomials.{coef, deg}
 use Rattle.definitions.specs.Residues.{IsUnit}
 use Rattle.definitions.specs.Resultants.{resultant}
 use Rattle.theory.specs.Powers.{Between, between-first, between-second}
 use Rattle.refusals.specs.Refusals.{Width, answered}
-use Rattle.refusals.specs.Conditions.{status-zero}
-use Rattle.resultant_service.specs.ResultantService.{resultant-refusals, resultant-conditions, resultant-listed}
 use Rattle.reduced_service.specs.ReducedService.{ReducedAnswer}
-use Rattle.law.specs.Answers.{AnsweredResultant, AnsweredReduced}
+use Rattle.law.specs.Answers.{AnsweredResultant, AnsweredReduced, answered-modulus}
 
 -- "When the top word of f is a unit, D divides the resultant, and gcd(resultant, n) divides the d-th power of D, where the 0-th power is 1.
 -- The same holds with g and e."
 pub record HowFar (n : ℕ) (f g : List ℕ) (r D : ℕ) : Type 0 where
   pub first : IsUnit n (coef f (deg f)) → Between n (deg f) r D
   pub second : IsUnit n (coef g (deg g)) → Between n (deg g) r D
-
--- an answered call had a modulus of 2 or more
-answered-modulus : (W : Width) (n : ℕ) (f g : List ℕ) (r : ℕ) → AnsweredResultant W n f g r → 1 ≤ n
-answered-modulus W n f g r a =
-    let l = length (a .work) in
-    let z = status-zero (resultant-refusals W n f g l) (resultant-conditions W n f g l) (resultant-listed W n f g l) in
-    let p = z .0 (sym (a .call .status-is)) in
-    omega (arith, p .0 .least)
 
 -- THE LAW of the answers, the top word of f a unit
 pub how-far-first : (W : Width) (n : ℕ) (f g : List ℕ) (r D : ℕ) → AnsweredResultant W n f g r → AnsweredReduced W n f g D

@@ -40,7 +40,7 @@ degree-value None = 0
 degree-value (At k) = k
 degree-value (Refused s) = 0
 
--- the case for each status and true degree: so a refusal has a number that is not 0, and "none" and "0" are two answers
+-- the case for each status and true degree: so a refusal has a number that is not 0, and none and 0 are two answers
 abbrev pub told : ℕ → TrueDegree → Degree
 told zero none = None
 told zero (place k) = At k

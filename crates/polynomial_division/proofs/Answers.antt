@@ -14,10 +14,10 @@ use lib.ListN.{length, getD, take}
 use Rattle.definitions.specs.Polynomials.{coef, deg, quotient-length, Division}
 use Rattle.numbers.specs.Divisors.{GcdCofactor}
 use Rattle.refusals.specs.Refusals.{Width, Tested, short, first-refusal, refusals-two}
-use Rattle.refusals.specs.Conditions.{status-zero, short-fails}
+use Rattle.refusals.specs.Conditions.{status-zero, short-fails, equal-fails}
 use Rattle.refusals.proofs.Statuses.{refused-early, passed-on}
 use Rattle.polynomial_tests.specs.Buffers.{deg-is, placed-take, placed-drop}
-use Rattle.polynomial_tests.specs.UnitTests.{is-unit, unit-gcd, equal-fails}
+use Rattle.polynomial_tests.specs.UnitTests.{is-unit, unit-gcd}
 use Rattle.polynomial_division.specs.DivisionService.{DivisionLeft, DivisionAnswer}
 
 -- u is the divisor's common part with n

@@ -10,7 +10,7 @@ use lib.Seq.{getD-set-same, getD-set-other, getD-drop, take-all}
 use Rattle.numbers.specs.Congruence.{Cong, c-refl, c-sym, c-trans, c-eq, c-add, c-mul, c-mod, c-sub, ring}
 use Rattle.definitions.specs.Polynomials.{coef, deg, convolve, tabulate, quotient-length, Division}
 use Rattle.theory.specs.Words.{total-cong, coef-out, coef-tabulate, length-tabulate}
-use Rattle.convolution.specs.Sums.{total-none, convolve-shift, convolve-first}
+use Rattle.convolution.specs.Sums.{total-none, convolve-shift, convolve-first, zeros-at}
 use Rattle.windows.proofs.Leaf.{lt-or-le}
 use Rattle.polynomial_division.specs.Stages.{QuotientWords, difference}
 use Rattle.polynomial_tests.specs.Buffers.{deg-is}
@@ -22,11 +22,6 @@ pub record Quotienting (n s : ℕ) (f g q₀ q : List ℕ) : Type 0 where
   pub below : (j : ℕ) → coef q j < n
   pub high : (j : ℕ) → length f ≤ deg g + j → coef q j ≡ 0
   pub at : (j : ℕ) → s ≤ j → Cong n (convolve (coef (drop j q)) (coef g) (deg g)) (coef f (deg g + j))
-
-zeros-at : (m k : ℕ) → coef (replicate m 0) k ≡ 0
-zeros-at zero k = refl
-zeros-at (suc m) zero = refl
-zeros-at (suc m) (suc k) = zeros-at m k
 
 -- beyond the words sent
 beyond : (f : List ℕ) (k : ℕ) → length f ≤ k → coef f k ≡ 0

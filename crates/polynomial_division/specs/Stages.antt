@@ -15,7 +15,6 @@ pub record QuotientAsked (n i : ℕ) (f g q : List ℕ) : Type 0 where
   pub some-f : 1 ≤ length f
   pub some-g : 1 ≤ length g
   pub length-q : length q ≡ quotient-length (deg f) (deg g)
-  pub residues : Residues n g
   pub inverse : (i * coef g (deg g)) % n ≡ 1 % n
 
 -- word j of q is fixed by coefficient e + j of f

@@ -9,7 +9,7 @@ ghost use mathlib.Core.List.{[], _∷_};
 ghost use Prim.Native.Nat.{ℕ, _+_, _-_, _*_, _%_, _≤_};
 ghost use lib.Dec.{eqb};
 ghost use lib.ListN.{length};
-ghost use Rattle.definitions.specs.Polynomials.{coef, deg, convolve, tabulate, Residues, Division};
+ghost use Rattle.definitions.specs.Polynomials.{coef, deg, convolve, tabulate, Division};
 ghost use Rattle.reduction.specs.Moduli.{Ready};
 ghost use Rattle.refusals.specs.Refusals.{narrow, short, first-refusal};
 ghost use Rattle.polynomial_division.specs.Stages.{QuotientAsked, QuotientWords, difference};
@@ -66,7 +66,7 @@ fn quotient_words(n: u32, i: u32, f: &[u32], g: &[u32], q: &mut [u32])
 
 // The words of f - q g, as many as there are in r.
 fn remainder_words(n: u32, f: &[u32], g: &[u32], q: &[u32], r: &mut [u32])
-    requires { ⌜ (1 ≤ n) × Residues n (now g) ⌝ }
+    requires { ⌜ 1 ≤ n ⌝ }
     ensures { λ _. ⌜ now (r .exit) ≡ tabulate (length (now (r .entry)))
         (λ (k : ℕ). difference n (coef (now (f .entry)) k) (convolve (coef (now (q .entry))) (coef (now (g .entry))) k)) ⌝ }
 {

@@ -20,10 +20,10 @@ use Rattle.numbers.specs.Divisors.{GcdCofactor}
 use Rattle.numbers.specs.Units.{cofactor-inverse}
 use Rattle.numbers.specs.Logarithm.{K-below}
 use Rattle.refusals.specs.Refusals.{Width, Tested, short, first-refusal, refusals-one}
-use Rattle.refusals.specs.Conditions.{Accepted, Fails, status-zero, short-fails}
+use Rattle.refusals.specs.Conditions.{Accepted, Fails, status-zero, short-fails, fails}
 use Rattle.refusals.proofs.Statuses.{refused-early, passed-on, left-refused}
 use Rattle.polynomial_tests.specs.Buffers.{deg-is, placed-take, placed-drop}
-use Rattle.polynomial_tests.specs.UnitTests.{lead-place, is-unit-polynomial, test-polynomial, fails}
+use Rattle.polynomial_tests.specs.UnitTests.{lead-place, is-unit-polynomial, test-polynomial}
 use Rattle.polynomial_factors.proofs.Leads.{lead-of}
 use Rattle.polynomial_inverse.specs.InverseService.{inverse-length, InverseLeft, InverseAnswer}
 

@@ -12,7 +12,7 @@ use borrow.Author.Tests.{lt-ltb, le-ltb}
 use borrow.Rule.Slice.PartMut.{putMid}
 use lib.Dec.{ltb}
 use lib.ListN.{length}
-use Rattle.definitions.specs.Polynomials.{coef, deg, convolve, tabulate, product, Residues}
+use Rattle.definitions.specs.Polynomials.{coef, deg, convolve, tabulate, product}
 use Rattle.theory.specs.Words.{length-tabulate}
 use Rattle.refusals.specs.Refusals.{Width, bad-length, short}
 use Rattle.refusals.specs.Conditions.{length-fails, status-zero}
@@ -47,7 +47,6 @@ pub record ProductAccepted (n : ℕ) (f g : List ℕ) (l : ℕ) : Type 0 where
   pub modulus : 2 ≤ n
   pub some-f : 1 ≤ length f
   pub some-g : 1 ≤ length g
-  pub residues : Residues n g
   pub room : length f - 1 + (length g - 1) + 1 ≤ l
 
 pub product-accepted : (W : Width) (n s : ℕ) (f g : List ℕ) (l : ℕ) → s ≡ product-status W n f g l → s ≡ 0 → ProductAccepted n f g l
@@ -57,7 +56,6 @@ product-accepted W n s f g l is z =
       modulus = p .0 .least;
       some-f = p .1 .0 .some;
       some-g = p .1 .1 .0 .some;
-      residues = p .1 .1 .1 .1 .1 .0;
       room = subst (λ (x : ℕ). x ≤ l) (sym (product-length f g)) (p .1 .1 .1 .1 .1 .1 .0);
     }
 

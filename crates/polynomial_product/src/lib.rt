@@ -6,7 +6,7 @@
 ghost use mathlib.Core.Path.{_≡_};
 ghost use Prim.Native.Nat.{ℕ, _%_, _≤_};
 ghost use lib.ListN.{length};
-ghost use Rattle.definitions.specs.Polynomials.{coef, convolve, tabulate, Residues};
+ghost use Rattle.definitions.specs.Polynomials.{coef, convolve, tabulate};
 ghost use Rattle.refusals.specs.Refusals.{narrow};
 ghost use Rattle.polynomial_product.specs.ProductService.{product-status, ProductAnswer};
 use refusals::Answer;
@@ -42,7 +42,7 @@ pub fn refusal_product(n: u32, f: &[u32], g: &[u32], l: usize) -> u32
 
 // The words of the product of f and g, into as many words of out as there are: each is finished before the next is begun.
 fn product_words(n: u32, f: &[u32], g: &[u32], out: &mut [u32])
-    requires { ⌜ (1 ≤ n) × Residues n (now g) ⌝ }
+    requires { ⌜ 1 ≤ n ⌝ }
     ensures { λ _. ⌜ now (out .exit) ≡ tabulate (length (now (out .entry)))
         (λ (k : ℕ). convolve (coef (now (f .entry))) (coef (now (g .entry))) k % n) ⌝ }
 {

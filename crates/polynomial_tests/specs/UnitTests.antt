@@ -7,7 +7,6 @@
 --   unit-test, nilpotent-test, lead-test, polynomial-test, and test-unit, …     each test and its meaning are one
 --   lead-unique                 the coefficient t of "unit times monic" is at the leading place
 --   UnitSomewhere               "some coefficient t is a unit and all above it are nilpotent"
---   fails, equal-fails          a test that is its condition
 --   unit-fails, lead-fails, polynomial-fails    the refusals 4 and 5, each under its condition and no other, modulo any n
 use mathlib.Core.Path.{_≡_, refl, sym, ap, subst, _∙_}
 use mathlib.Core.Bool.{Bool, true, false, not, cond}
@@ -17,7 +16,7 @@ use Prim.Native.Nat.{ℕ, zero, suc, pred, _-_, _*_, _%_, _^_, _<_, _≤_}
 use native.Mathlib.Nat.{eq-or-lt-of-le, mod-one}
 use native.Mathlib.Decide.{decLt, ℕ-discrete}
 use native.Mathlib.Omega.{arith}
-use borrow.Author.Tests.{eqb-true, eq-eqb, ne-eqb, not-true, not-false}
+use borrow.Author.Tests.{eqb-true, eq-eqb, ne-eqb}
 use lib.Dec.{T, eqb}
 use lib.ListN.{length, List·getD-eq-default}
 use Rattle.definitions.specs.Residues.{K, IsUnit, IsNilpotent}
@@ -26,7 +25,7 @@ use Rattle.numbers.specs.Divisors.{GcdCofactor}
 use Rattle.numbers.specs.Units.{cofactor-inverse, gcd-of-coprime, coprime-of-unit}
 use Rattle.numbers.specs.Kinds.{unit-not-nilpotent}
 use Rattle.numbers.specs.Nilpotents.{nilpotent-power, radical-nilpotent, radical-zero}
-use Rattle.refusals.specs.Conditions.{Fails}
+use Rattle.refusals.specs.Conditions.{Fails, fails}
 use Rattle.polynomial_tests.specs.Counts.{last-count, count-is, count-above}
 
 -- P is true at some number below m
@@ -170,16 +169,6 @@ polynomial-test n f l u =
     ap (λ (t : Bool). cond t (eqb (lead-place n f) 0) false) (lead-test n 0 f l a) ∙ eq-eqb _ _ (lead-unique n 0 f l a)
 
 -- ---- the refusals 4 and 5
-
-apart : {t : Bool} {A : Type 0} → t ≡ true → t ≡ false → A
-apart {t} p q = absurd (subst T (sym p ∙ q) tt)
-
--- a condition, and the refusal that comes where its test is false
-pub fails : (t : Bool) {P : Type 0} → (t ≡ true → P) → (P → t ≡ true) → Fails (not t) P
-fails t to from = record { passed = λ e. to (not-false t e); failed = λ e p. apart (from p) (not-true t e) }
-
-pub equal-fails : (a b : ℕ) → Fails (not (eqb a b)) (a ≡ b)
-equal-fails a b = fails (eqb a b) (eqb-true a b) (eq-eqb a b)
 
 -- "4: division, the divisor's top word is not a unit."
 pub unit-fails : (n a : ℕ) → Fails (not (is-unit n a)) (IsUnit n a)

@@ -1,4 +1,4 @@
--- Two polynomials times one unit: "D of R f and R g is D of f and g, and cofactors leave times R", for any unit r.
+-- Two polynomials times one unit: D of R f and R g is D of f and g, and cofactors leave times R, for any unit r.
 --
 --   scaled, scaled-at, scaled-times    r f, as words
 --   reduced-unscaled       D of r f and r g is D of f and g

@@ -12,7 +12,7 @@ use Rattle.theory.specs.ReachedSteps.{Times}
 use Rattle.theory.specs.ReducedLaws.{reduced-content, reduced-one, reduced-flip}
 use Rattle.reduced_multipliers.specs.Joining.{combination-content, combination-flip}
 use Rattle.reduced_cofactors.specs.Cofactors.{Certified, core-room}
-use Rattle.reduced_quotients.proofs.Divisions.{zeros-at}
+use Rattle.convolution.specs.Sums.{zeros-at}
 use Rattle.reduced_attempt.specs.Attempts.{CommonContent, attempt-room}
 
 -- ---- both polynomials are 0 modulo n

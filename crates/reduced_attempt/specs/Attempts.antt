@@ -31,7 +31,7 @@ pub record CommonContent (n : ℕ) (f g : List ℕ) (c : ℕ) : Type 0 where
   pub divides-g : (k : ℕ) → c ∣ coef g k % n
   pub greatest : (x : ℕ) → x ∣ n → ((k : ℕ) → x ∣ coef f k % n) → ((k : ℕ) → x ∣ coef g k % n) → x ∣ c
 
--- "A polynomial held as R f … is another polynomial modulo n, and R is a unit": the words are those of r f and r g, r a unit, and 1 unless
+-- A polynomial held as R f is another polynomial modulo n, and R is a unit: the words are those of r f and r g, r a unit, and 1 unless
 -- n has the form
 pub record PairLoaded (n r j : ℕ) (f g w w' : List ℕ) : Type 0 where
   pub unit : IsUnit n r
@@ -55,7 +55,7 @@ pub record LeaveAsked (n r : ℕ) (x : List ℕ) : Type 0 where
   pub form : (r ≡ 1 → ⊥) → Fits n
   pub below : (k : ℕ) → coef x k < n
 
--- "cofactors leave times R": each word times r
+-- cofactors leave times R: each word times r
 pub record Left (n r : ℕ) (x x' : List ℕ) : Type 0 where
   pub same : length x' ≡ length x
   pub at : (k : ℕ) → coef x' k ≡ (r * coef x k) % n

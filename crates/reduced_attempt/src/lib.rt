@@ -115,7 +115,8 @@ fn half(x: &mut [u32], y: &mut [u32], w: &mut [u32], n: u32, c: u32, a: &[u32], 
     }
 }
 
-// n as a product of two coprime factors, from two coprime divisors: what n has in common with p, and the rest.
+// n as a product of two coprime factors, from two coprime divisors: what n has in common with p, and the rest. The first two cases are
+// never met: p is above 1 and divides n, so it is no unit; q is above 1, divides n and is coprime to p, so p is not nilpotent.
 pub fn split(n: u32, p: u32, q: u32) -> Attempt
     requires { ⌜ (2 ≤ n) × (Splitter n p q) ⌝ }
     ensures { λ r. ⌜ Parted n r ⌝ }

@@ -13,7 +13,7 @@ use Rattle.definitions.specs.Resultants.{Combination, Reduced}
 use Rattle.numbers.specs.Logarithm.{K-positive}
 use Rattle.theory.specs.ReachedSteps.{coef-beyond}
 use Rattle.theory.specs.ReducedLaws.{reduced-unit, reduced-flip}
-use Rattle.convolution.specs.Sums.{convolve-constant}
+use Rattle.convolution.specs.Sums.{convolve-constant, zeros-at}
 use Rattle.window_division.proofs.Turns.{convolve-none}
 use Rattle.windows.specs.Window.{piece, Moved, second, Loaded, Below, Around, Apart}
 use Rattle.windows.proofs.Leaf.{lt-or-le, piece-at, piece-over, piece-same, piece-length}
@@ -24,7 +24,6 @@ use Rattle.reduced_multipliers.specs.Reductions.{reduced-unity}
 use Rattle.reduced_units.proofs.Regions.{apart-low, piece-apart}
 use Rattle.reduced_cofactors.specs.Cofactors.{Certified, FinishAsked, Finished, FactoredAt, monic-place, core-room}
 use Rattle.reduced_quotients.specs.Quotients.{OverFirst, ExactQuotient}
-use Rattle.reduced_quotients.proofs.Divisions.{zeros-at}
 
 -- the polynomial of degree t at q, with a leading 1
 pub monic-at : (n q t : ℕ) (w : List ℕ) → 1 ≤ n → getD w (q + t) 0 ≡ 1 → Monic n t (piece w q (t + 1))

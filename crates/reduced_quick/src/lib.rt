@@ -47,7 +47,7 @@ fn put_held(u: &mut [u32], w: &[u32], form: Form, c: u32, at: usize, len: usize)
     }
 }
 
-// "A last constant that is a unit gives D = 1 and the cofactors by one inverse": true, and u and v are the cofactors. Otherwise false, and
+// A last constant that is a unit gives D = 1 and the cofactors by one inverse: true, and u and v are the cofactors. Otherwise false, and
 // u and v are as found.
 fn ordered_plain(u: &mut [u32], v: &mut [u32], w: &mut [u32], n: u32, f: &[u32], g: &[u32]) -> bool
     requires { ⌜ (QuickAsked n (now f) (now g) (now u) (now v) (now w)) × (length (now f) ≤ length (now g)) ⌝ }
@@ -121,7 +121,7 @@ fn quick(u: &mut [u32], v: &mut [u32], w: &mut [u32], n: u32, f: &[u32], g: &[u3
     ordered(v, u, w, n, g, f)
 }
 
-// The reduced resultant of f and g with its cofactors, or n as a product of two coprime factors: "Otherwise today's run."
+// The reduced resultant of f and g with its cofactors, or n as a product of two coprime factors: quick, otherwise by the general attempt.
 pub fn attempt(u: &mut [u32], v: &mut [u32], w: &mut [u32], n: u32, f: &[u32], g: &[u32]) -> Attempt
     requires { ⌜ AttemptAsked n (now f) (now g) (now u) (now v) (now w) ⌝ }
     ensures { λ r. ⌜ Attempted n (now (f .entry)) (now (g .entry)) (now (u .entry)) (now (v .entry)) (now (u .exit)) (now (v .exit)) r ⌝ }

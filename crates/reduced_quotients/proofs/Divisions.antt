@@ -5,12 +5,13 @@ use mathlib.Core.Logic.{⊎-elim}
 use Prim.Native.Nat.{ℕ, zero, suc, _+_, _-_, _*_, _%_, _≤_, _<_}
 use native.Mathlib.Omega.{arith}
 use native.Mathlib.Nat.{mod-lt, mod-mod, zero-mod, one-mul, add-zero, zero-add, mul-le-mul-right}
-use lib.ListN.{length, getD, set, replicate, length-set, length-replicate, getD-replicate}
+use lib.ListN.{length, getD, set, replicate, length-set}
 use lib.Seq.{getD-set-same, getD-set-other}
 use Rattle.definitions.specs.Residues.{K}
 use Rattle.definitions.specs.Polynomials.{coef, convolve, constant, Divided}
 use Rattle.numbers.specs.Congruence.{c-refl, c-trans, c-eq, c-add, c-mod}
 use Rattle.theory.specs.ReachedSteps.{coef-beyond}
+use Rattle.convolution.specs.Sums.{zeros-at}
 use Rattle.windows.specs.Window.{piece, Moved, zeroed, Loaded, Below, Around, Apart}
 use Rattle.windows.proofs.Leaf.{lt-or-le, piece-at, piece-over, piece-length}
 use Rattle.windows.proofs.Lift.{moved-around}
@@ -19,10 +20,6 @@ use Rattle.reduced_products.specs.Products.{ProductRoom, Factors, Subtracted}
 use Rattle.reduced_units.specs.Factorings.{Negated}
 use Rattle.reduced_units.proofs.Regions.{apart-low, below-apart, piece-apart}
 use Rattle.reduced_quotients.specs.Quotients.{OverFirst, ExactQuotient}
-
--- zeros
-pub zeros-at : (m k : ℕ) → coef (replicate m 0) k ≡ 0
-zeros-at m k = ⊎-elim (λ h. getD-replicate m k 0 0 h) (λ h. coef-beyond (replicate m 0) k (omega (arith, length-replicate m (zero)))) (lt-or-le k m)
 
 -- ---- by a unit polynomial
 

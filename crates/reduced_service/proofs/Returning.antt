@@ -6,7 +6,7 @@ use mathlib.Core.List.{List, [], _∷_, _++_}
 use Prim.Native.Nat.{ℕ, zero, suc, pred, max, _+_, _-_, _*_, _≤_, _<_}
 use native.Mathlib.Omega.{arith}
 use native.Mathlib.Nat.{mul-le-mul}
-use lib.ListN.{length, take, drop, replicate, length-append, length-drop}
+use lib.ListN.{length, take, replicate}
 use lib.Seq.{length-take-le}
 use borrow.Rule.Slice.PartMut.{postOf}
 use Rattle.definitions.specs.Residues.{K}
@@ -15,6 +15,7 @@ use Rattle.definitions.specs.Resultants.{Combination}
 use Rattle.refusals.specs.Refusals.{Width, Tested, short, first-refusal, refusals-two}
 use Rattle.refusals.specs.Conditions.{accepted-two}
 use Rattle.refusals.proofs.Statuses.{refused-early, passed-on, too-short, long-enough, left-refused}
+use Rattle.answers.specs.Cofactors.{held as held-at}
 use Rattle.reduced_cofactors.specs.Cofactors.{Certified}
 use Rattle.reduced.specs.Runs.{run-room}
 use Rattle.reduced_service.specs.ReducedService.{LeastConstants, HoldsCofactor, ReducedLeft, ReducedAnswer}
@@ -28,15 +29,6 @@ deg-is f = less (length f)
   where
     less : (l : ℕ) → l - 1 ≡ pred l
     less l = omega arith
-
--- the words of a buffer whose first part was lent
-take-front : (x y : List ℕ) → take (length x) (x ++ y) ≡ x
-take-front [] y = refl
-take-front (a ∷ x) y = ap (λ (z : List ℕ). a ∷ z) (take-front x y)
-
-drop-front : (x y : List ℕ) → drop (length x) (x ++ y) ≡ y
-drop-front [] y = refl
-drop-front (a ∷ x) y = drop-front x y
 
 -- a part of l words is as long as it should be
 pub part-long : (m l x : ℕ) (b : List ℕ) → m ≡ l → l ≡ x → l ≤ length b → x ≤ length (take m b)
@@ -129,23 +121,9 @@ module _ (W : Width) (n : ℕ) (f g u v work : List ℕ) (s : ℕ) (e : s ≡ fi
     -- a buffer whose first l words came back as x
     held : (m : ℕ) → m ≡ l → (b x : List ℕ) → l ≤ length b → length x ≡ l → ((k : ℕ) → coef x k < n)
         → HoldsCofactor n (L n (deg f) (deg g)) b (x ++ postOf 0 m b) × (take (L n (deg f) (deg g)) (x ++ postOf 0 m b) ≡ x)
-    held m em b x fits lx below = (
-      record {
-        same = length-append x (postOf 0 m b) ∙ ap₂ _+_ lx (length-drop m b) ∙ back m l (length b) em fits;
-        residues = record { at = λ k _. subst (λ (y : List ℕ). coef y k < n) (sym front) (below k) };
-        beyond = ap (λ (i : ℕ). drop i (x ++ postOf 0 m b)) is ∙ drop-front x (postOf 0 m b) ∙ ap (λ (i : ℕ). drop i b) (em ∙ length-is);
-      },
-      front,
-    )
-      where
-        is : L n (deg f) (deg g) ≡ length x
-        is = sym (lx ∙ length-is)
-
-        front : take (L n (deg f) (deg g)) (x ++ postOf 0 m b) ≡ x
-        front = ap (λ (i : ℕ). take i (x ++ postOf 0 m b)) is ∙ take-front x (postOf 0 m b)
-
-        back : (m l k : ℕ) → m ≡ l → l ≤ k → l + (k - m) ≡ k
-        back m l k p q = omega arith
+    held m em b x fits lx below =
+        held-at n m (L n (deg f) (deg g)) b x (em ∙ length-is) (subst (λ (i : ℕ). i ≤ length b) length-is fits) (lx ∙ length-is)
+        (record { at = λ k _. below k })
 
     pub done : (m : ℕ) → m ≡ l → (len D : ℕ) (x y work' : List ℕ) → l ≤ length u → l ≤ length v → W .working ≤ length work
         → length x ≡ l → length y ≡ l → Certified n len f g x y D → LeastConstants n f g x y D → work' ≡ replicate (length work) 0

@@ -11,11 +11,12 @@ use mathlib.Core.Bool.{Bool}
 use mathlib.Core.List.{List, [], _∷_, _++_}
 use Prim.Native.Nat.{ℕ, zero, suc, _≤_}
 use native.Mathlib.Omega.{arith}
-use lib.ListN.{length, take, drop}
+use lib.ListN.{length, take}
 use Rattle.definitions.specs.Residues.{LeastCofactors}
-use Rattle.definitions.specs.Polynomials.{coef, deg, Residues, L}
+use Rattle.definitions.specs.Polynomials.{coef, deg, L}
 use Rattle.definitions.specs.Resultants.{Combination, Reduced}
 use Rattle.refusals.specs.Refusals.{Width, Tested, short, first-refusal, refusals-two, left}
+pub use Rattle.answers.specs.Cofactors.{HoldsCofactor}
 use Rattle.refusals.specs.Conditions.{Listed, conditions-two, modulus-fails, length-fails, words-fail, short-fails}
 
 -- 1, 2, 3, 6 of u before 6 of v, and 7; lu, lv and l are the lengths of the buffers
@@ -27,17 +28,11 @@ reduced-refusals W n f g lu lv l =
 abbrev pub reduced-status : Width → ℕ → List ℕ → List ℕ → ℕ → ℕ → ℕ → ℕ
 reduced-status W n f g lu lv l = first-refusal (reduced-refusals W n f g lu lv l)
 
--- "Each cofactor buffer must have L words or more; the first L hold the cofactor, zeros above it, the rest unchanged."
-pub record HoldsCofactor (n l : ℕ) (b b' : List ℕ) : Type 0 where
-  pub same : length b' ≡ length b
-  pub residues : Residues n (take l b')
-  pub beyond : drop l b' ≡ drop l b
-
 -- "For two polynomials of sent degree 0 the cofactors of D follow the same rule, first cofactor first." (02, W7)
 pub record LeastConstants (n : ℕ) (f g u v : List ℕ) (D : ℕ) : Type 0 where
   pub pair : deg f ≡ 0 → deg g ≡ 0 → LeastCofactors n (coef f 0) (coef g 0) D (coef u 0) (coef v 0)
 
--- "the cofactors combine f and g to D"
+-- "The returned cofactors combine f and g to D modulo n."
 pub record HoldsReduced (n : ℕ) (f g u u' v v' : List ℕ) (D : ℕ) : Type 0 where
   pub reduced : Reduced n f g D
   pub first : HoldsCofactor n (L n (deg f) (deg g)) u u'

@@ -3,9 +3,8 @@
 //   put_constant, constants    two polynomials of sent degree 0: D with the least cofactors
 //   by_run, worked             D with its cofactors, by the run; of constants or by the run
 //   reduced_resultant          the service
-ghost use mathlib.Core.Path.{_≡_};
 ghost use Prim.Native.Nat.{_-_, _≤_};
-ghost use lib.ListN.{length, replicate};
+ghost use lib.ListN.{length};
 ghost use Rattle.definitions.specs.Polynomials.{L};
 ghost use Rattle.windows.specs.Window.{Scratch};
 ghost use Rattle.refusals.specs.Refusals.{narrow};
@@ -62,15 +61,6 @@ fn worked(u: &mut [u32], v: &mut [u32], w: &mut [u32], n: u32, f: &[u32], g: &[u
     by_run(u, v, w, n, f, g)
 }
 
-// "After an answered call the whole working buffer is zero."
-fn answered(value: u32, work: &mut [u32]) -> Answer
-    ensures { λ r. ⌜ (r .value ≡ value) × (r .status ≡ 0) ⌝ }
-    ensures { λ _. ⌜ now (work .exit) ≡ replicate (length (now (work .entry))) 0 ⌝ }
-{
-    windows::wipe(work);
-    Answer { value, status: 0 }
-}
-
 // The reduced resultant D of f and g modulo n, with cofactors in the first L words of u and of v.
 pub fn reduced_resultant(
     n: u32,
@@ -110,5 +100,5 @@ pub fn reduced_resultant(
         };
     }
     let found = worked(&mut u[0..l], &mut v[0..l], work, n, f, g);
-    answered(found, work)
+    answers::answered(found, work)
 }

@@ -1,8 +1,10 @@
--- "A refusal comes under its listed condition and no other": what the tests mean, in the words of the definitions, over any width.
+-- "A refusal comes under the listed condition and under no other": what the tests mean, in the words of the definitions, over any width.
 --
 --   ServedModulus, ServedLength     what passes the refusals 1 and 2
 --   Fails b P                       the test b says that P does not hold
+--   fails, either-fails             a test that is its condition; two tests with one number
 --   modulus-fails, length-fails, words-fail, short-fails     the tests of the refusals 1, 2, 3, and 6 and 7
+--   none-fails, equal-fails         the tests of a number that is 0, and of two that differ
 --   Listed t c                      t tests the conditions c, one after the other
 --   Passed c, FirstFailing t c s    all of c hold; s is the number of the first that does not
 --   status-zero, status-is          the status is 0 exactly where all hold, and k exactly where the first that does not has number k
@@ -14,9 +16,9 @@ use mathlib.Core.Logic.{_⊎_, inl, inr}
 use mathlib.Core.List.{List, [], _∷_}
 use Prim.Native.Nat.{ℕ, zero, suc, _^_, _≤_, _<_}
 use native.Mathlib.Omega.{arith}
-use lib.Dec.{T, ltb, eqb, ltb→lt, nltb→le}
+use lib.Dec.{T, ltb, eqb}
 use lib.ListN.{length}
-use borrow.Author.Tests.{lt-ltb, eqb-true}
+use borrow.Author.Tests.{ltb-true, ltb-false, lt-ltb, eqb-true, eq-eqb, not-true, not-false}
 use Rattle.definitions.specs.Polynomials.{coef, Residues}
 use Rattle.refusals.specs.Refusals.{Width, narrow, bad-modulus, bad-length, all-below, short}
 use Rattle.refusals.specs.Refusals.{Tested, first-of, first-refusal, refusals-one, refusals-two}
@@ -35,42 +37,39 @@ pub record Fails (b : Bool) (P : Type 0) : Type 0 where
   pub passed : b ≡ false → P
   pub failed : b ≡ true → P → ⊥
 
-yes-no : {b : Bool} {A : Type 0} → b ≡ true → b ≡ false → A
+pub yes-no : {b : Bool} {A : Type 0} → b ≡ true → b ≡ false → A
 yes-no {b} p q = absurd (subst T (sym p ∙ q) tt)
 
-below : (a b : ℕ) → ltb a b ≡ true → a < b
-below a b e = ltb→lt a b (subst T (sym e) tt)
+-- a condition, and the refusal that comes where its test is false
+pub fails : (t : Bool) {P : Type 0} → (t ≡ true → P) → (P → t ≡ true) → Fails (not t) P
+fails t to from = record { passed = λ e. to (not-false t e); failed = λ e p. yes-no (from p) (not-true t e) }
 
-not-below : (a b : ℕ) → ltb a b ≡ false → b ≤ a
-not-below a b e = nltb→le a b (subst (λ (t : Bool). T (not t)) (sym e) tt)
+-- one refusal for two conditions, whose tests are s and then t
+pub either-fails : {s t : Bool} {P Q R : Type 0} → Fails s P → Fails t Q → (P → Q → R) → (R → P) → (R → Q) → Fails (cond s true t) R
+either-fails {s} {t} {P} {Q} {R} a b both first second = go s a
+  where
+    go : (x : Bool) → Fails x P → Fails (cond x true t) R
+    go true a = record { passed = λ e. yes-no refl e; failed = λ e r. a .failed refl (first r) }
+    go false a = record { passed = λ e. both (a .passed refl) (b .passed e); failed = λ e r. b .failed e (second r) }
 
 pub short-fails : (l m : ℕ) → Fails (short l m) (m ≤ l)
-short-fails l m = record { passed = not-below l m; failed = λ e h. let z = below l m e in omega arith }
+short-fails l m = record { passed = ltb-false l m; failed = λ e h. let z = ltb-true l m e in omega arith }
+
+pub none-fails : (l : ℕ) → Fails (eqb l 0) (1 ≤ l)
+none-fails zero = record { passed = λ e. yes-no refl e; failed = λ e h. omega arith }
+none-fails (suc l) = record { passed = λ e. omega arith; failed = λ e h. let z = eqb-true (suc l) 0 e in omega arith }
+
+pub equal-fails : (a b : ℕ) → Fails (not (eqb a b)) (a ≡ b)
+equal-fails a b = fails (eqb a b) (eqb-true a b) (eq-eqb a b)
 
 pub modulus-fails : (W : Width) (n : ℕ) → Fails (bad-modulus W n) (ServedModulus W n)
-modulus-fails W n = go (ltb n 2) (ltb n (W .bound)) refl refl
-  where
-    go : (s t : Bool) → ltb n 2 ≡ s → ltb n (W .bound) ≡ t → Fails (cond s true (not t)) (ServedModulus W n)
-    go true t e h = record { passed = λ z. yes-no refl z; failed = λ z m. let a = below n 2 e in let b = m .least in omega arith }
-    go false true e h = record {
-      passed = λ z. record { least = not-below n 2 e; most = below n (W .bound) h };
-      failed = λ z. yes-no z refl;
-    }
-    go false false e h = record {
-      passed = λ z. yes-no refl z;
-      failed = λ z m. let a = not-below n (W .bound) h in let b = m .most in omega arith;
-    }
+modulus-fails W n =
+    either-fails (short-fails n 2) (fails (ltb n (W .bound)) (ltb-true n (W .bound)) (lt-ltb n (W .bound)))
+    (λ a b. record { least = a; most = b }) (λ m. m .least) (λ m. m .most)
 
 pub length-fails : (f : List ℕ) → Fails (bad-length f) (ServedLength f)
-length-fails f = go (length f) (eqb (length f) 0) refl refl
-  where
-    go : (l : ℕ) (t : Bool) → length f ≡ l → eqb l 0 ≡ t → Fails (cond t true (ltb 49 l)) (ServedLength f)
-    go l true e h = record { passed = λ z. yes-no refl z; failed = λ z m. let a = m .some in let b = eqb-true l 0 h in omega arith }
-    go zero false e h = yes-no refl h
-    go (suc l) false e h = record {
-      passed = λ z. record { some = omega arith; few = let a = not-below 49 (suc l) z in omega arith };
-      failed = λ z m. let a = below 49 (suc l) z in let b = m .few in omega arith;
-    }
+length-fails f =
+    either-fails (none-fails (length f)) (short-fails 49 (length f)) (λ a b. record { some = a; few = b }) (λ m. m .some) (λ m. m .few)
 
 below-at : (n : ℕ) (f : List ℕ) → all-below n f ≡ true → (k : ℕ) → k < length f → coef f k < n
 unfolding all-below
@@ -79,7 +78,7 @@ below-at n (x ∷ f) h k l = go (ltb x n) refl h (below-at n f) k l
   where
     go : (t : Bool) → ltb x n ≡ t → cond t (all-below n f) false ≡ true → (all-below n f ≡ true → (k : ℕ) → k < length f → coef f k < n)
         → (k : ℕ) → k < length (x ∷ f) → coef (x ∷ f) k < n
-    go true e r ih zero l = below x n e
+    go true e r ih zero l = ltb-true x n e
     go true e r ih (suc k) l = ih r k (omega arith)
     go false e r ih k l = yes-no r refl
 
@@ -118,7 +117,7 @@ FirstFailing [] c s = ⊥
 FirstFailing (t ∷ r) [] s = ⊥
 FirstFailing (t ∷ r) (P ∷ c) s = ((P → ⊥) × (s ≡ t .0)) ⊎ (P × FirstFailing r c s)
 
--- "A refusal comes under its listed condition and no other": 0 exactly where all conditions hold
+-- "A refusal comes under the listed condition and under no other": 0 exactly where all conditions hold
 pub status-zero : (t : List Tested) (c : List (Type 0)) → Listed t c → (first-refusal t ≡ 0 → Passed c) × (Passed c → first-refusal t ≡ 0)
 status-zero [] [] h = (λ _. tt, λ _. refl)
 status-zero [] (P ∷ c) h = absurd h

@@ -67,7 +67,7 @@ abbrev pub answered : ℕ → ℕ → ℕ
 answered zero x = x
 answered (suc s) x = 0
 
--- "After an answered call the whole working buffer is zero." "every lent buffer is left as found"
+-- "After an answered call the working buffer it was lent holds zeros." "every lent buffer is left as found"
 abbrev pub left : ℕ → List ℕ → List ℕ
 left zero w = replicate (length w) 0
 left (suc s) w = w

@@ -119,7 +119,7 @@ fn step(w: &mut [u32], form: Form, x: State) -> State
     let b = x.b;
     let e = x.e;
     if w[a + d] == 0 {
-        let y = resultant_pseudo::with_sign(n, e, w[b + e]);
+        let y = resultant_turns::with_sign(n, e, w[b + e]);
         let t = montgomery::product(form, y, x.t);
         let s = montgomery::product(form, x.p, x.s);
         return State {

@@ -16,13 +16,12 @@
 ghost use mathlib.Core.Path.{_≡_};
 ghost use Prim.Native.Nat.{_+_, _<_, _≤_};
 ghost use Rattle.definitions.specs.Resultants.{resultant};
-ghost use Rattle.theory.specs.ResultantLaws.{signed};
 ghost use Rattle.windows.specs.Window.{piece, Scratch};
 ghost use Rattle.reduction.specs.Moduli.{Ready};
 ghost use Rattle.resultant_pseudo.specs.Standing.{Placed, PlacedState, LedTo, Stepped, Finished, Descended, TriedAnswer, Answers};
 use reduction::Reciprocal;
 
-// "if every lead was a unit, one inverse and the value"; otherwise a product of leading words that is no unit.
+// The value, by one inverse, if every lead was a unit; otherwise a product of leading words that is no unit.
 pub enum Tried {
     Value(u32),
     NotUnit(u32),
@@ -38,17 +37,6 @@ pub struct State {
     pub s: u32,
     pub p: u32,
     pub t: u32,
-}
-
-// x with the sign (-1)^e.
-pub fn with_sign(n: u32, e: usize, x: u32) -> u32
-    requires { ⌜ x < n ⌝ }
-    ensures { λ r. ⌜ r ≡ signed n e x ⌝ }
-{
-    if e % 2 == 0 {
-        return x;
-    }
-    arithmetic::negate(n, x)
 }
 
 fn pair_step(w: &mut [u32], m: Reciprocal, x: State) -> State
@@ -142,7 +130,7 @@ fn step(w: &mut [u32], m: Reciprocal, x: State) -> State
     let b = x.b;
     let e = x.e;
     if w[a + d] == 0 {
-        let y = with_sign(n, e, w[b + e]);
+        let y = resultant_turns::with_sign(n, e, w[b + e]);
         let t = reduction::product(m, x.t, y);
         let s = reduction::product(m, x.s, x.p);
         return State {
@@ -232,8 +220,8 @@ fn value_of(w: &[u32], m: Reciprocal, y: State) -> Tried
     Tried::Value(reduction::product(m, i.s, u))
 }
 
-// The resultant of f of degree d at a and g of degree e at b; both are lost. "when a test after the second step already shows a zero
-// divisor", nothing more is tried; where few steps are left the test costs more than they do.
+// The resultant of f of degree d at a and g of degree e at b; both are lost. Where a test after the second step already shows a zero
+// divisor, nothing more is tried; where few steps are left the test costs more than they do.
 pub fn attempt(w: &mut [u32], n: u32, a: usize, d: usize, b: usize, e: usize) -> Tried
     requires { ⌜ Placed n a d b e (now w) ⌝ }
     ensures { λ r. ⌜ TriedAnswer n (resultant n (piece (now (w .entry)) a (d + 1)) (piece (now (w .entry)) b (e + 1))) r ⌝ }

@@ -1,15 +1,20 @@
--- How long a text is: what the writer's 800 bytes rest on.
+-- How long a text is: what the writer's 800 bytes and the reader's refusal of a longer text rest on.
 --
 --   most-characters k m     what m words from power k on may have at most, a plus sign after each term
---   text-short              767 characters are enough for 49 words of 32 bits, and so the 775 of the request
-use mathlib.Core.Path.{_≡_, refl}
+--   text-short              767 characters are enough for 49 words of 32 bits
+--   long-other              a longer text is not of the notation
+use mathlib.Core.Path.{_≡_, refl, ap}
+use mathlib.Core.Bool.{Bool, true, false, not}
 use mathlib.Core.List.{List, [], _∷_}
 use Prim.Native.Nat.{ℕ, zero, suc, _+_, _-_, _<_, _≤_}
 use native.Mathlib.Omega.{arith}
 use lib.ListN.{length, length-append}
 use Rattle.definitions.specs.Polynomials.{coef}
-use Rattle.text_notation.specs.Notation.{digits-within, decimal, power-text, term, plus-joined, terms, or-zero, text}
+use Rattle.refusals.specs.Conditions.{Fails}
+use Rattle.text_notation.specs.Notation.{digits-within, decimal, power-text, term, plus-joined, terms, or-zero, text, TextOf}
 use Rattle.text_notation.specs.Decimals.{decimal-short}
+use Rattle.text_notation.specs.Candidates.{is-text}
+use Rattle.text_notation.specs.NotationLaws.{text-fails}
 
 pub joined-length : (s t : List ℕ) → length (plus-joined s t) ≤ length s + 1 + length t
 joined-length [] t = omega arith
@@ -61,3 +66,14 @@ or-zero-short (a ∷ s) m h = h
 pub text-short : (f : List ℕ) → length f ≤ 49 → ((i : ℕ) → i < length f → coef f i < 4294967296) → length (text f) ≤ 767
 text-short f h b =
     or-zero-short (terms 0 f) 766 (omega (arith, terms-short 0 f b, more 0 (length f) 49 h, all-words))
+
+pub text-of-short : {n : ℕ} {s f : List ℕ} → n ≤ 4294967296 → TextOf n s f → length s ≤ 767
+text-of-short {n} {s} {f} l h =
+    omega (arith, ap length (h .is), text-short f (h .few) (λ i m. omega (arith, h .residues .at i m)))
+
+pub long-other : (n : ℕ) (s : List ℕ) → n ≤ 4294967296 → 767 < length s → is-text n s ≡ false
+long-other n s l h = go (is-text n s) (text-fails n s)
+  where
+    go : (t : Bool) → Fails (not t) ((f : List ℕ) × TextOf n s f) → t ≡ false
+    go true x = absurd (omega (arith, text-of-short l (x .passed refl .1)))
+    go false x = refl

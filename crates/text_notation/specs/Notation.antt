@@ -66,7 +66,7 @@ last-place (place k) = k
 abbrev pub dropped : List ℕ → List ℕ
 dropped f = take (suc (last-place (true-degree f))) f
 
--- "zeros above": x with zeros up to m words or bytes
+-- "needs 49 words, zeros above", "needs 800 bytes, zeros above": x with zeros up to m words or bytes
 abbrev pub padded : ℕ → List ℕ → List ℕ
 padded m x = x ++ replicate (m - length x) 0
 

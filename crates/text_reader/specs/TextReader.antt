@@ -3,6 +3,7 @@
 --   in-word y                      y as a word of 32 bits
 --   read-refusals, read-status     the refusals in their order, and the number of the first that applies
 --   ReadAnswer                     all that is promised of a call
+--   HandedOver, WordsAnswer        the parts of it: the words of a text handed over, and the answer to them
 --   read-listed                    each refusal under its condition and no other
 use mathlib.Core.Path.{_≡_}
 use mathlib.Core.Bool.{not, cond}
@@ -11,9 +12,9 @@ use Prim.Native.Nat.{ℕ, _≤_}
 use native.Mathlib.Omega.{arith}
 use lib.Dec.{ltb}
 use lib.ListN.{length}
-use Rattle.refusals.specs.Refusals.{Width, Tested, bad-modulus, short, first-refusal, answered, replaced}
+use Rattle.refusals.specs.Refusals.{Width, Tested, bad-modulus, all-below, short, first-refusal, answered, replaced}
 use Rattle.refusals.specs.Conditions.{Listed, ServedModulus, modulus-fails, short-fails}
-use Rattle.text_notation.specs.Notation.{padded, TextOf}
+use Rattle.text_notation.specs.Notation.{dropped, padded, TextOf}
 use Rattle.text_notation.specs.Candidates.{is-text}
 use Rattle.text_notation.specs.NotationLaws.{text-fails}
 
@@ -36,6 +37,18 @@ pub record ReadAnswer (W : Width) (n : ℕ) (s w w' : List ℕ) (value status : 
   pub text-is : status ≡ 0 → TextOf n s polynomial
   pub value-is : value ≡ answered status (length polynomial)
   pub words-are : w' ≡ replaced status (padded 49 polynomial) w
+
+-- the 49 words g went into the words w, which became w'; count of them are the polynomial
+pub record HandedOver (g : List ℕ) (count : ℕ) (w w' : List ℕ) (value status : ℕ) : Type 0 where
+  pub status-is : status ≡ first-refusal ((6, short (length w) 49) ∷ [])
+  pub value-is : value ≡ answered status count
+  pub words-are : w' ≡ replaced status g w
+
+-- the same, where they are residues: "Coefficients are decimal from 1 to n - 1"
+pub record WordsAnswer (n : ℕ) (g w w' : List ℕ) (value status : ℕ) : Type 0 where
+  pub status-is : status ≡ first-refusal ((17, not (all-below n g)) ∷ (6, short (length w) 49) ∷ [])
+  pub value-is : value ≡ answered status (length (dropped g))
+  pub words-are : w' ≡ replaced status g w
 
 -- the conditions of an answer: so `status-zero` and `status-is` (refusals/Conditions) say when the status is 0, and when it is k
 abbrev pub read-conditions : Width → ℕ → List ℕ → ℕ → List (Type 0)

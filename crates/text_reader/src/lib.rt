@@ -5,16 +5,19 @@
 //   number_after, coefficient_after    the number and the coefficient being read, after one more character
 //   store, gather                      the words that a text comes to
 //   same_text, is_text_of              whether a text is that of lent words
-//   put_words                          words into the lent buffer
+//   refused                            the answer where a call is refused
+//   put_words, hand_over, read_words   words into the lent buffer, and the answer
 //   read_text                          the service
 ghost use mathlib.Core.Path.{_≡_};
+ghost use mathlib.Core.Bool.{false};
 ghost use mathlib.Core.List.{_++_};
 ghost use Prim.Native.Nat.{_≤_};
 ghost use lib.ListN.{length, take, drop};
-ghost use Rattle.refusals.specs.Refusals.{narrow};
+ghost use Rattle.refusals.specs.Refusals.{narrow, bad-modulus};
 ghost use Rattle.text_notation.specs.Notation.{text};
 ghost use Rattle.text_notation.specs.Candidates.{number-after, coefficient-after, stored, gathered, same-text};
-ghost use Rattle.text_reader.specs.TextReader.{in-word, ReadAnswer};
+ghost use Rattle.text_reader.specs.TextReader.{in-word, HandedOver, WordsAnswer, ReadAnswer};
+use polynomial_degree::Degree;
 use refusals::Answer;
 
 // A plus sign, a star and a circumflex begin a number, and `x` alone is power 1. Any other character counts as a digit. A number
@@ -127,40 +130,59 @@ fn put_words(words: &mut [u32], f: &[u32], count: usize)
     }
 }
 
-// "The reader answers the number of words and needs 49 words, zeros above"
+// Refusal k.
+fn refused(k: u32) -> Answer
+    ensures { λ r. ⌜ (r .value ≡ 0) × (r .status ≡ k) ⌝ }
+{
+    Answer {
+        value: 0,
+        status: k,
+    }
+}
+
+// The 49 words f are handed over, the first count of them the polynomial: "needs 49 words, zeros above".
+fn hand_over(words: &mut [u32], f: &[u32], count: u32) -> Answer
+    requires { ⌜ length (now f) ≡ 49 ⌝ }
+    ensures { λ r. ⌜ HandedOver (now (f .entry)) count (now (words .entry)) (now (words .exit)) (r .value) (r .status) ⌝ }
+{
+    if words.len() < 49 {
+        return refused(6);
+    }
+    put_words(words, f, 49);
+    Answer {
+        value: count,
+        status: 0,
+    }
+}
+
+// The 49 words f that a text spells: each below n, or refusal 17. A zero polynomial has no degree: it "comes back as the single word 0".
+fn read_words(n: u32, f: &[u32], words: &mut [u32]) -> Answer
+    requires { ⌜ (bad-modulus narrow n ≡ false) × (length (now f) ≡ 49) ⌝ }
+    ensures { λ r. ⌜ WordsAnswer n (now (f .entry)) (now (words .entry)) (now (words .exit)) (r .value) (r .status) ⌝ }
+{
+    match polynomial_degree::true_degree(n, f) {
+        Degree::None => hand_over(words, f, 1),
+        Degree::At(k) => hand_over(words, f, k + 1),
+        Degree::Refused(_) => refused(17),
+    }
+}
+
+// "The reader answers the number of words". A text of more than 767 characters is not of the notation (text_notation/specs/Lengths.antt)
+// and is refused unread.
 pub fn read_text(n: u32, text: &[u8], words: &mut [u32]) -> Answer
     ensures { λ r. ⌜ ReadAnswer narrow n (now (text .entry)) (now (words .entry)) (now (words .exit)) (r .value) (r .status) ⌝ }
 {
     if refusals::bad_modulus(n) {
-        return Answer {
-            value: 0,
-            status: 1,
-        };
+        return refused(1);
+    }
+    if 767 < text.len() {
+        return refused(17);
     }
     let mut f = [0u32; 49];
     gather(text, &mut f);
-    let degree = polynomial_degree::true_degree_words(n, &f);
-    if degree.status != 0 {
-        return Answer {
-            value: 0,
-            status: 17,
-        };
-    }
-    if !is_text_of(text, &f) {
-        return Answer {
-            value: 0,
-            status: 17,
-        };
-    }
-    if words.len() < 49 {
-        return Answer {
-            value: 0,
-            status: 6,
-        };
-    }
-    put_words(words, &f, 49);
-    Answer {
-        value: degree.degree + 1,
-        status: 0,
+    if is_text_of(text, &f) {
+        read_words(n, &f, words)
+    } else {
+        refused(17)
     }
 }

@@ -189,7 +189,7 @@ module _ (m : ℕ) where
       ∙ ap₂ (λ (x y : ℕ). (coef f x ^ k * y) % suc m) (sym hf)
       (sym (at (suc (deg r)) (deg g) f g (words m f) (words m g) hf refl refl refl))
 
--- THE LAW OF PRODUCTS for the resultant: "the resultant of the product word list with h is the product of the two resultants", for all word
+-- THE LAW OF PRODUCTS for the resultant: that of the product word list with h is the product of the two resultants, for all word
 -- lists
 pub law-of-products : (n : ℕ) → 1 ≤ n → (f g h : List ℕ) → resultant n (product n f g) h ≡ (resultant n f h * resultant n g h) % n
 law-of-products zero l f g h = absurd (omega arith)

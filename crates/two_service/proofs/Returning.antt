@@ -24,7 +24,7 @@ use Rattle.refusals.specs.Conditions.{ServedModulus, status-zero, modulus-fails
 use Rattle.refusals.proofs.Statuses.{refused-early, passed-on, left-refused, replaced-refused}
 use Rattle.windows.specs.Window.{Written}
 use Rattle.two_variables.specs.PairSizes.{Prepared}
-use Rattle.two_service.specs.TwoService.{bad-shape, two-sent, two-room, ServedShape, shape-fails, above-fails, prime-fails, TwoAnswer}
+use Rattle.two_service.specs.TwoService.{bad-shape, two-sent, two-room, ServedShape, shape-fails, prime-fails, TwoAnswer}
 
 -- the first words written: the list is replaced
 written-front : (F : ℕ → ℕ) (l : ℕ) (w w' : List ℕ) → l ≤ length w → Written F 0 l w w' → w' ≡ replaced 0 (tabulate l F) w
@@ -91,7 +91,7 @@ pub record RoomAccepted (n B l m : ℕ) : Type 0 where
 pub room-accepted : (n B l m t : ℕ) → t ≡ first-refusal (two-room narrow n B l m) → t ≡ 0 → RoomAccepted n B l m
 room-accepted n B l m t is z =
     let p = status-zero (two-room narrow n B l m) ((B ≤ 60) ∷ NoSmallPrime n B ∷ (suc B ≤ l) ∷ (8192 ≤ m) ∷ []) (
-      (omega arith, above-fails 60 B),
+      (omega arith, short-fails 60 B),
       (
         (omega arith, prime-fails n B),
         (
@@ -161,7 +161,7 @@ module _ (n : ℕ) (f : List ℕ) (d a : ℕ) (g : List ℕ) (e b : ℕ) (out wo
       work-is = left-refused t work y;
     }
 
-    -- "values, the evaluated pair and the run's room fit": 7538 of 8192 words
+    -- the values, the evaluated pair and the run's room fit: 7538 of 8192 words
     pub prepared : t ≡ 0 → Prepared n (degree-two d a e b) f d a g e b out work
     prepared y =
         let p = accepted n f d a g e b s is z in

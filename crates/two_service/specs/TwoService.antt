@@ -15,7 +15,7 @@ use Prim.Native.Nat.{ℕ, zero, suc, _+_, _-_, _*_, _%_, _<_, _≤_, _∣_}
 use native.Mathlib.Decide.{decLt}
 use native.Mathlib.Nat.{dvd-of-mod-eq-zero, mod-eq-zero-of-dvd, dvd-trans, le-of-dvd}
 use native.Mathlib.Omega.{arith}
-use lib.Dec.{T, ltb, eqb, ltb→lt, nltb→le}
+use lib.Dec.{ltb, eqb}
 use lib.ListN.{length}
 use borrow.Author.Tests.{eqb-true, eq-eqb}
 use Rattle.definitions.specs.Polynomials.{tabulate, Residues}
@@ -24,6 +24,7 @@ use Rattle.numbers.specs.PrimeTable.{NoSmallPrime}
 use Rattle.numbers.specs.Primes.{prime-of}
 use Rattle.refusals.specs.Refusals.{Width, Tested, bad-modulus, all-below, short, first-refusal, left, replaced}
 use Rattle.refusals.specs.Conditions.{Listed, Fails, ServedModulus, modulus-fails, words-fail, short-fails}
+use Rattle.refusals.specs.Conditions.{yes-no, either-fails, equal-fails}
 
 -- "A degree above 48, or a length that does not fit the degrees, is refused with 2": the words are d + 1 groups of a + 1
 abbrev pub bad-shape : (d a : ℕ) → List ℕ → Bool
@@ -71,33 +72,13 @@ pub record ServedShape (d a : ℕ) (f : List ℕ) : Type 0 where
   pub most-z : a ≤ 48
   pub words : length f ≡ suc d * suc a
 
-yes-no : {b : Bool} {A : Type 0} → b ≡ true → b ≡ false → A
-yes-no {b} p q = absurd (subst T (sym p ∙ q) tt)
-
-below : (a b : ℕ) → ltb a b ≡ true → a < b
-below a b e = ltb→lt a b (subst T (sym e) tt)
-
-not-below : (a b : ℕ) → ltb a b ≡ false → b ≤ a
-not-below a b e = nltb→le a b (subst (λ (t : Bool). T (not t)) (sym e) tt)
-
-pub above-fails : (a b : ℕ) → Fails (ltb a b) (b ≤ a)
-above-fails a b = record { passed = not-below a b; failed = λ e h. let l = below a b e in omega arith }
-
 pub shape-fails : (d a : ℕ) (f : List ℕ) → Fails (bad-shape d a f) (ServedShape d a f)
-shape-fails d a f = go (ltb 48 d) (ltb 48 a) (eqb (length f) (suc d * suc a)) refl refl refl
+shape-fails d a f =
+    either-fails (short-fails 48 d) after (λ x p. record { most-y = x; most-z = p .0; words = p .1 }) (λ s. s .most-y)
+    (λ s. (s .most-z, s .words))
   where
-    go : (x y t : Bool) → ltb 48 d ≡ x → ltb 48 a ≡ y → eqb (length f) (suc d * suc a) ≡ t
-        → Fails (cond x true (cond y true (not t))) (ServedShape d a f)
-    go true y t p q r = record { passed = λ z. yes-no refl z; failed = λ z s. let l = below 48 d p in let h = s .most-y in omega arith }
-    go false true t p q r = record { passed = λ z. yes-no refl z; failed = λ z s. let l = below 48 a q in let h = s .most-z in omega arith }
-    go false false true p q r = record {
-      passed = λ z. record { most-y = not-below 48 d p; most-z = not-below 48 a q; words = eqb-true (length f) (suc d * suc a) r };
-      failed = λ z. yes-no z refl;
-    }
-    go false false false p q r = record {
-      passed = λ z. yes-no refl z;
-      failed = λ z s. yes-no (eq-eqb (length f) (suc d * suc a) (s .words)) r;
-    }
+    after : Fails (cond (ltb 48 a) true (not (eqb (length f) (suc d * suc a)))) ((a ≤ 48) × (length f ≡ suc d * suc a))
+    after = either-fails (short-fails 48 a) (equal-fails (length f) (suc d * suc a)) (λ y z. (y, z)) (λ p. p .0) (λ p. p .1)
 
 -- no number from 2 to k + 1 divides n
 none-divides : (n k : ℕ) → divided-to n k ≡ false → (t : ℕ) → 2 ≤ t → t ≤ suc k → t ∣ n → ⊥
@@ -167,7 +148,7 @@ two-listed W n f d a g e b l m = (
         (
           (omega arith, words-fail n g),
           (
-            (omega arith, above-fails 60 (degree-two d a e b)),
+            (omega arith, short-fails 60 (degree-two d a e b)),
             (
               (omega arith, prime-fails n (degree-two d a e b)),
               ((omega arith, short-fails l (suc (degree-two d a e b))), ((omega arith, short-fails m (W .working)), tt)),

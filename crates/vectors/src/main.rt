@@ -372,13 +372,13 @@ fn try_divisor(n: u32, f: &[u32], g: &[u32], d: u32, work: &mut [u32]) -> Tried 
     fill(work, 0, MARK);
     let a = divisor_service::divisor(n, f, g, work);
     if a.status != 0 {
-        return Tried::Wrong(9);
+        return Tried::Wrong(15);
     }
     if !all_are(work, 0, 0) {
-        return Tried::Wrong(10);
+        return Tried::Wrong(16);
     }
     if a.value != d {
-        return Tried::Wrong(11);
+        return Tried::Wrong(17);
     }
     Tried::Value(d)
 }

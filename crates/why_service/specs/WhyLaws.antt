@@ -1,6 +1,6 @@
 -- What the answer of the service says of D, and the grounds at numbers of document 01.
 --
---   coprime-exactly    "coprime" is answered exactly when D is 1
+--   coprime-exactly    coprime is answered exactly when D is 1
 --   row-common         modulo 6, 5,0,1 and 3,1 have D = 2, and 1,1 divides both modulo 2
 --   row-zero           modulo 10, 0,0 and 0 have D = 10, and both are zero modulo 10
 --   no-constant        a constant is no common divisor
@@ -16,7 +16,7 @@ use Rattle.theory.specs.Computed.{multiplied-by, below-by}
 use Rattle.theory.specs.ReachedLaws.{reduced-unique}
 use Rattle.why_service.specs.WhyService.{NamedDivisor, GroundHolds, HoldsReason, CommonDivisor, BothZero}
 
--- a divisor of D above 1 is named for every ground but "coprime"
+-- a divisor of D above 1 is named for every ground but that they are coprime
 not-one : {n D m : ℕ} → NamedDivisor n D m → D ≡ 1 → ⊥
 not-one {n} {D} {m} x e = let a : 1 < m = x .above in
     let b : m ≡ 1 = eq-one-of-dvd-one (subst (λ (y : ℕ). m ∣ y) e (x .divides-D)) in omega arith
@@ -31,7 +31,7 @@ is-one : (k n D : ℕ) (f g h : List ℕ) (m t : ℕ) → GroundHolds k n D f g 
 is-one zero n D f g h m t x e = x .one
 is-one (suc k) n D f g h m t x e = absurd (omega arith)
 
--- "answers "coprime" exactly when D is 1"
+-- "answers 'coprime' exactly when D is 1"
 pub coprime-exactly : {n : ℕ} {f g w w' : List ℕ} {k m t : ℕ} → 1 ≤ n → HoldsReason n f g w w' k m t
     → (k ≡ 0 → Reduced n f g 1) × (Reduced n f g 1 → k ≡ 0)
 coprime-exactly {n} {f} {g} {w} {w'} {k} {m} {t} l r = (

@@ -18,7 +18,7 @@ pub struct Reason {
     pub status: u32,
 }
 
-// "coprime", or one of the two grounds, modulo d. The 49 words of w are the divisor, or zeros.
+// Coprime, or one of the two grounds, modulo d. The 49 words of w are the divisor, or zeros.
 fn ground(w: &mut [u32], work: &mut [u32], d: u32, f: &[u32], g: &[u32]) -> Reason
     requires { ⌜ GroundAsked d (now f) (now g) (now w) (now work) ⌝ }
     ensures { λ r. ⌜ GroundHolds (r .ground) d d (now (f .entry)) (now (g .entry)) (now (w .exit)) (r .m) (r .degree) ⌝ }

@@ -1,34 +1,12 @@
 // One word of a product of polynomials, words of 64 bits. Each term is reduced as it comes.
 //
-//   first, end         the range of places whose words meet in word k
 //   product_word_by    word k of f g, where the modulus comes with its reciprocal: for loops over k
 //   product_word       word k of f g
 ghost use mathlib.Core.Path.{_≡_};
-ghost use Prim.Native.Nat.{min, _+_, _-_, _*_, _%_, _≤_};
-ghost use Rattle.definitions.specs.Polynomials.{coef, convolve, Residues};
+ghost use Prim.Native.Nat.{_%_, _≤_};
+ghost use Rattle.definitions.specs.Polynomials.{coef, convolve};
 ghost use Rattle.wide_reduction.specs.Moduli.{Ready};
 use wide_reduction::Reciprocal;
-
-// The first place of f whose word meets one of g, of len words, in word k.
-fn first(k: usize, len: usize) -> usize
-    requires { ⌜ 1 ≤ len ⌝ }
-    ensures { λ r. ⌜ r ≡ k + 1 - len ⌝ }
-{
-    if k < len {
-        return 0;
-    }
-    k - (len - 1)
-}
-
-// The place after the last word of f, of len words, that meets one of g in word k.
-fn end(k: usize, len: usize) -> usize
-    ensures { λ r. ⌜ r ≡ min (k + 1) len ⌝ }
-{
-    if k < len {
-        return k + 1;
-    }
-    len
-}
 
 // Word k of the product of f and g.
 pub fn product_word_by(m: Reciprocal, f: &[u64], g: &[u64], k: usize) -> u64
@@ -38,8 +16,8 @@ pub fn product_word_by(m: Reciprocal, f: &[u64], g: &[u64], k: usize) -> u64
     if g.len() == 0 {
         return 0;
     }
-    let last = end(k, f.len());
-    let mut i = first(k, g.len());
+    let last = convolution::end(k, f.len());
+    let mut i = convolution::first(k, g.len());
     if i >= last {
         return 0;
     }
@@ -53,7 +31,7 @@ pub fn product_word_by(m: Reciprocal, f: &[u64], g: &[u64], k: usize) -> u64
 
 // Word k of the product of f and g.
 pub fn product_word(n: u64, f: &[u64], g: &[u64], k: usize) -> u64
-    requires { ⌜ (1 ≤ n) × Residues n (now g) ⌝ }
+    requires { ⌜ 1 ≤ n ⌝ }
     ensures { λ r. ⌜ r ≡ convolve (coef (now (f .entry))) (coef (now (g .entry))) k % n ⌝ }
 {
     product_word_by(wide_reduction::modulus_of(n), f, g, k)

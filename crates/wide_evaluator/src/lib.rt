@@ -93,8 +93,9 @@ fn bad_lengths(f: &[u64], g: &[u64]) -> bool
     8 < f.len() - 1 + (g.len() - 1)
 }
 
-// Refusal 3: whether a word of f or of g is n or more.
+// Refusal 3: whether a word of f or of g is n or more. A word is read only where the lengths are served.
 fn bad_words(n: u64, f: &[u64], g: &[u64]) -> bool
+    requires { ⌜ ServedRows (now f) (now g) ⌝ }
     ensures { λ r. ⌜ r ≡ bad-words n (now (f .entry)) (now (g .entry)) ⌝ }
 {
     if !wide_refusals::all_below(n, f) {
@@ -107,15 +108,13 @@ fn bad_words(n: u64, f: &[u64], g: &[u64]) -> bool
 fn refusal(n: u64, f: &[u64], g: &[u64]) -> u32
     ensures { λ s. ⌜ s ≡ evaluator-status wide n (now (f .entry)) (now (g .entry)) ⌝ }
 {
-    let lengths = bad_lengths(f, g);
-    let words = bad_words(n, f, g);
     if wide_refusals::bad_modulus(n) {
         return 1;
     }
-    if lengths {
+    if bad_lengths(f, g) {
         return 2;
     }
-    if words {
+    if bad_words(n, f, g) {
         return 3;
     }
     0

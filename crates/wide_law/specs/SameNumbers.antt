@@ -12,6 +12,7 @@ use Prim.Native.Nat.{ℕ, zero, suc, _+_, _^_, _≤_, _<_}
 use native.Mathlib.Omega.{arith}
 use lib.Dec.{ltb}
 use lib.ListN.{length, take, drop}
+use lib.Seq.{take-at}
 use borrow.Author.Tests.{lt-ltb}
 use Rattle.definitions.specs.Polynomials.{deg, product, true-degree, L}
 use Rattle.definitions.specs.Resultants.{resultant}
@@ -24,7 +25,7 @@ use Rattle.polynomial_degree.specs.DegreeService.{degree-number, degree-status,
 use Rattle.polynomial_product.specs.ProductService.{product-sent, ProductAnswer}
 use Rattle.resultant_service.specs.ResultantService.{ResultantAnswer}
 use Rattle.reduced_service.specs.ReducedService.{ReducedLeft, ReducedAnswer}
-use Rattle.law.specs.Answers.{AnsweredProduct, AnsweredResultant, AnsweredReduced, take-front}
+use Rattle.law.specs.Answers.{AnsweredProduct, AnsweredResultant, AnsweredReduced, reduced-modulus}
 use Rattle.wide_refusals.specs.Wide.{wide}
 
 pub fits-both : (n : ℕ) → n < 2 ^ 32 → (n < narrow .bound) × (n < wide .bound)
@@ -32,7 +33,9 @@ fits-both n l = (l, omega arith)
 
 -- the front of a result buffer after an answer
 product-front : (n : ℕ) (f g b b' : List ℕ) → b' ≡ replaced 0 (product n f g) b → take (length (product n f g)) b' ≡ product n f g
-product-front n f g b b' h = ap (take (length (product n f g))) h ∙ take-front (product n f g) (drop (length (product n f g)) b)
+product-front n f g b b' h =
+    ap (take (length (product n f g))) h
+    ∙ take-at (product n f g) (drop (length (product n f g)) b) (length (product n f g)) refl
 
 -- ---- two calls that answered
 
@@ -40,8 +43,8 @@ module _ (W W' : Width) (n : ℕ) (f g : List ℕ) where
   pub one-resultant : (r r' : ℕ) → AnsweredResultant W n f g r → AnsweredResultant W' n f g r' → r ≡ r'
   one-resultant r r' p q = p .call .value-is ∙ sym (q .call .value-is)
 
-  pub one-reduced : 1 ≤ n → (D E : ℕ) → AnsweredReduced W n f g D → AnsweredReduced W' n f g E → D ≡ E
-  one-reduced l D E p q = reduced-unique l (p .call .result .reduced) (q .call .result .reduced)
+  pub one-reduced : (D E : ℕ) → AnsweredReduced W n f g D → AnsweredReduced W' n f g E → D ≡ E
+  one-reduced D E p q = reduced-unique (reduced-modulus W n f g D p) (p .call .result .reduced) (q .call .result .reduced)
 
   pub one-product : (h h' : List ℕ) → AnsweredProduct W n f g h → AnsweredProduct W' n f g h' → h ≡ h'
   one-product h h' p q =

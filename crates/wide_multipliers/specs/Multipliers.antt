@@ -47,6 +47,7 @@ module _ {k n : ℕ} (en : k ≡ n) where
       → v ≡ (x + c * y + e * z) % n
   pair-as x c y e z {c'} ec ee ex ev =
       ev
-      ∙ c-add (c-trans (c-eq ex) (c-trans (c-mod (x + c' * y)) (c-add (c-refl {a = x}) (c-mul (c-trans (c-eq ec) (c-mod c)) (c-refl {a = y})))))
+      ∙ c-add
+      (c-trans (c-eq ex) (c-trans (c-mod (x + c' * y)) (c-add (c-refl {a = x}) (c-mul (c-trans (c-eq ec) (c-mod c)) (c-refl {a = y})))))
       (c-mul (c-trans (c-eq ee) (c-mod e)) (c-refl {a = z})) .same
       ∙ ap (λ (u : ℕ). (x + c * y + e * z) % u) en

@@ -7,7 +7,7 @@ ghost use mathlib.Core.List.{[], _∷_};
 ghost use Prim.Native.Nat.{ℕ, _+_, _-_, _*_, _%_, _≤_};
 ghost use lib.Dec.{eqb};
 ghost use lib.ListN.{length};
-ghost use Rattle.definitions.specs.Polynomials.{coef, deg, convolve, tabulate, Residues, Division};
+ghost use Rattle.definitions.specs.Polynomials.{coef, deg, convolve, tabulate, Division};
 ghost use Rattle.wide_reduction.specs.Moduli.{Ready};
 ghost use Rattle.refusals.specs.Refusals.{short, first-refusal};
 ghost use Rattle.wide_refusals.specs.Wide.{wide};
@@ -55,7 +55,7 @@ fn quotient_words(n: u64, i: u64, f: &[u64], g: &[u64], q: &mut [u64])
 
 // The words of f - q g, as many as there are in r.
 fn remainder_words(n: u64, f: &[u64], g: &[u64], q: &[u64], r: &mut [u64])
-    requires { ⌜ (1 ≤ n) × Residues n (now g) ⌝ }
+    requires { ⌜ 1 ≤ n ⌝ }
     ensures { λ _. ⌜ now (r .exit) ≡ tabulate (length (now (r .entry)))
         (λ (k : ℕ). difference n (coef (now (f .entry)) k) (convolve (coef (now (q .entry))) (coef (now (g .entry))) k)) ⌝ }
 {

@@ -5,7 +5,7 @@
 ghost use mathlib.Core.Path.{_≡_};
 ghost use Prim.Native.Nat.{ℕ, _%_, _≤_};
 ghost use lib.ListN.{length};
-ghost use Rattle.definitions.specs.Polynomials.{coef, convolve, tabulate, Residues};
+ghost use Rattle.definitions.specs.Polynomials.{coef, convolve, tabulate};
 ghost use Rattle.wide_refusals.specs.Wide.{wide};
 ghost use Rattle.polynomial_product.specs.ProductService.{product-status, ProductAnswer};
 use wide_refusals::Answer;
@@ -41,7 +41,7 @@ fn refusal_product(n: u64, f: &[u64], g: &[u64], l: usize) -> u32
 
 // The words of the product of f and g, into as many words of out as there are: each is finished before the next is begun.
 fn product_words(n: u64, f: &[u64], g: &[u64], out: &mut [u64])
-    requires { ⌜ (1 ≤ n) × Residues n (now g) ⌝ }
+    requires { ⌜ 1 ≤ n ⌝ }
     ensures { λ _. ⌜ now (out .exit) ≡ tabulate (length (now (out .entry)))
         (λ (k : ℕ). convolve (coef (now (f .entry))) (coef (now (g .entry))) k % n) ⌝ }
 {

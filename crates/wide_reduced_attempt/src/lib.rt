@@ -74,7 +74,8 @@ fn half(x: &mut [u64], y: &mut [u64], w: &mut [u64], n: u64, c: u64, a: &[u64], 
     }
 }
 
-// n as a product of two coprime factors, from two coprime divisors: what n has in common with p, and the rest.
+// n as a product of two coprime factors, from two coprime divisors: what n has in common with p, and the rest. The first two cases are
+// never met: p is above 1 and divides n, so it is no unit; q is above 1, divides n and is coprime to p, so p is not nilpotent.
 pub fn split(n: u64, p: u64, q: u64) -> Attempt
     requires { ⌜ (2 ≤ n) × (Splitter n p q) ⌝ }
     ensures { λ r. ⌜ Parted n r ⌝ }

@@ -24,7 +24,7 @@ fn put(u: &mut [u64], w: &[u64], m: Reciprocal, c: u64, at: usize, len: usize)
     }
 }
 
-// "A last constant that is a unit gives D = 1 and the cofactors by one inverse": true, and u and v are the cofactors. Otherwise false, and
+// A last constant that is a unit gives D = 1 and the cofactors by one inverse: true, and u and v are the cofactors. Otherwise false, and
 // u and v are as found.
 fn ordered(u: &mut [u64], v: &mut [u64], w: &mut [u64], n: u64, f: &[u64], g: &[u64]) -> bool
     requires { ⌜ (QuickAsked n (now f) (now g) (now u) (now v) (now w)) × (length (now f) ≤ length (now g)) ⌝ }
@@ -56,7 +56,7 @@ fn quick(u: &mut [u64], v: &mut [u64], w: &mut [u64], n: u64, f: &[u64], g: &[u6
     ordered(v, u, w, n, g, f)
 }
 
-// The reduced resultant of f and g with its cofactors, or n as a product of two coprime factors: "Otherwise today's run."
+// The reduced resultant of f and g with its cofactors, or n as a product of two coprime factors: quick, otherwise by the general attempt.
 pub fn attempt(u: &mut [u64], v: &mut [u64], w: &mut [u64], n: u64, f: &[u64], g: &[u64]) -> Attempt
     requires { ⌜ AttemptAsked n (now f) (now g) (now u) (now v) (now w) ⌝ }
     ensures { λ r. ⌜ Attempted n (now (f .entry)) (now (g .entry)) (now (u .entry)) (now (v .entry)) (now (u .exit)) (now (v .exit)) r ⌝ }

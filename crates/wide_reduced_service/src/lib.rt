@@ -2,9 +2,8 @@
 // at most 2977 words; 16384 working words. The 32-bit twin `reduced_service` has the description and the laws.
 //
 //   reduced_resultant    the service
-ghost use mathlib.Core.Path.{_≡_};
 ghost use Prim.Native.Nat.{_-_, _≤_};
-ghost use lib.ListN.{length, replicate};
+ghost use lib.ListN.{length};
 ghost use Rattle.definitions.specs.Polynomials.{L};
 ghost use Rattle.windows.specs.Window.{Scratch};
 ghost use Rattle.wide_refusals.specs.Wide.{wide};
@@ -61,15 +60,6 @@ fn worked(u: &mut [u64], v: &mut [u64], w: &mut [u64], n: u64, f: &[u64], g: &[u
     by_run(u, v, w, n, f, g)
 }
 
-// "After an answered call the whole working buffer is zero."
-fn answered(value: u64, work: &mut [u64]) -> Answer
-    ensures { λ r. ⌜ (r .value ≡ value) × (r .status ≡ 0) ⌝ }
-    ensures { λ _. ⌜ now (work .exit) ≡ replicate (length (now (work .entry))) 0 ⌝ }
-{
-    wide_windows::wipe(work);
-    Answer { value, status: 0 }
-}
-
 // The reduced resultant D of f and g modulo n, with cofactors in the first L words of u and of v.
 pub fn reduced_resultant(
     n: u64,
@@ -109,5 +99,5 @@ pub fn reduced_resultant(
         };
     }
     let found = worked(&mut u[0..l], &mut v[0..l], work, n, f, g);
-    answered(found, work)
+    wide_answers::answered(found, work)
 }

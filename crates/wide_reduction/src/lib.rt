@@ -32,21 +32,7 @@ struct Parts {
     x: u64,
 }
 
-// The upper half of a b, a function of its own: the back end makes one multiplication of it.
-fn high(a: u64, b: u64) -> u64
-    ensures { λ r. ⌜ r ≡ a * b / 2 ^ 64 ⌝ }
-{
-    let a0 = a % 4294967296;
-    let a1 = a / 4294967296;
-    let b0 = b % 4294967296;
-    let b1 = b / 4294967296;
-    let w = a0 * b0;
-    let t = a1 * b0 + w / 4294967296;
-    let u = t % 4294967296 + a0 * b1;
-    a1 * b1 + t / 4294967296 + u / 4294967296
-}
-
-// The lower half of a b, likewise.
+// The lower half of a b, a function of its own as `reduction::high` is: the back end makes one multiplication of it.
 fn low(a: u64, b: u64) -> u64
     ensures { λ r. ⌜ r ≡ (a * b) % 2 ^ 64 ⌝ }
 {
@@ -118,7 +104,7 @@ pub fn multiplier(m: Reciprocal, c: u64) -> u64
     requires { ⌜ (Ready m) × ((m .n < 2 ^ 63) × (c ≤ m .n)) ⌝ }
     ensures { λ w. ⌜ Fraction (2 ^ 64) (m .n) c w ⌝ }
 {
-    let w = c * m.v1 + high(c, m.v0);
+    let w = c * m.v1 + reduction::high(c, m.v0);
     let p = std::num::wrapping_sub_u64(0, low(w, m.n));
     if p <= m.n {
         return w;
@@ -142,7 +128,7 @@ pub fn scaled(m: Reciprocal, c: u64, w: u64, y: u64) -> u64
     requires { ⌜ (Ready m) × ((m .n < 2 ^ 63) × Fraction (2 ^ 64) (m .n) c w) ⌝ }
     ensures { λ r. ⌜ r ≡ (c * y) % m .n ⌝ }
 {
-    let q = high(w, y);
+    let q = reduction::high(w, y);
     fold(m.n, std::num::wrapping_sub_u64(low(c, y), low(q, m.n)))
 }
 
@@ -203,7 +189,7 @@ pub fn product(m: Reciprocal, a: u64, b: u64) -> u64
     if m.n >= 9223372036854775808 {
         return doubled(m.n, a, b);
     }
-    reduce_wide(m, high(a, b), low(a, b))
+    reduce_wide(m, reduction::high(a, b), low(a, b))
 }
 
 // x + a b modulo n.

@@ -2,7 +2,8 @@
 --
 --   highest-of r    the answer r, read so
 use Rattle.window_factor.specs.declared.Highest.{Highest as NarrowHighest}
-use Rattle.window_factor.specs.declared.Highest.the-variants.{UnitAt as NarrowUnitAt, Splits as NarrowSplits, AllNilpotent as NarrowNilpotent}
+use Rattle.window_factor.specs.declared.Highest.the-variants.{UnitAt as NarrowUnitAt, Splits as NarrowSplits}
+use Rattle.window_factor.specs.declared.Highest.the-variants.{AllNilpotent as NarrowNilpotent}
 use Rattle.wide_window_factor.specs.declared.Highest.{Highest}
 use Rattle.wide_window_factor.specs.declared.Highest.the-variants.{UnitAt as UnitAt', Splits, AllNilpotent}
 

@@ -136,7 +136,8 @@ module _ {B n r v₁ v₀ : ℕ} (m : IsReciprocal B n r v₁ v₀) where
 
   -- the base is r modulo n, so two words are a sum of two words
   pub two-words : (hi lo : ℕ) → (r * hi + 1 * lo) % n ≡ (hi * B + lo) % n
-  two-words hi lo = c-trans (c-eq {a = r * hi + 1 * lo} {b = hi * r + lo} (omega arith)) (c-add (c-mul (c-refl {a = hi}) (c-sym base)) c-refl) .same
+  two-words hi lo =
+      c-trans (c-eq {a = r * hi + 1 * lo} {b = hi * r + lo} (omega arith)) (c-add (c-mul (c-refl {a = hi}) (c-sym base)) c-refl) .same
 
   -- the fraction of c: h is the high half of c v₀
   module _ (c h : ℕ) (small : c ≤ n) (eh : h ≡ c * v₀ / B) where
@@ -156,10 +157,14 @@ module _ {B n r v₁ v₀ : ℕ} (m : IsReciprocal B n r v₁ v₀) where
     quotient-fits = let e = m .rest in let l = h-less in omega (arith, mul-le-mul-right v₁ small)
 
     part-least : h * n ≤ c * r
-    part-least = le-of-mul-le-mul-right {k = B} (let u = m .under in omega (arith, mul-le-mul-right n floor, mul-le-mul-left c (m .under))) (let e = m .half in omega arith)
+    part-least =
+        le-of-mul-le-mul-right {k = B} (let u = m .under in omega (arith, mul-le-mul-right n floor, mul-le-mul-left c (m .under)))
+        (let e = m .half in omega arith)
 
     part-most : c * r < h * n + n + n
-    part-most = lt-of-mul-lt-mul-right B (let p = m .pos in let b = m .half in omega (arith, mul-le-mul-right n ceiling, mul-le-mul-left c (m .over), mul-le-mul-right n small, mul-le-mul-right n b))
+    part-most =
+        lt-of-mul-lt-mul-right B (let p = m .pos in let b = m .half in
+        omega (arith, mul-le-mul-right n ceiling, mul-le-mul-left c (m .over), mul-le-mul-right n small, mul-le-mul-right n b))
 
     pub quotient-least : (c * v₁ + h) * n ≤ c * B
     quotient-least = let p = part-least in rw (sym (m .rest)) (omega arith)

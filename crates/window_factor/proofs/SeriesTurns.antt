@@ -8,11 +8,11 @@ use native.Mathlib.Nat.{mod-lt, mul-mod-right, zero-mod, one-mul, eq-or-lt-of-le
 use lib.ListN.{length, getD, set, take, drop, length-set}
 use lib.Seq.{getD-set-same, getD-set-other}
 use Rattle.numbers.specs.Congruence.{Cong, c-refl, c-sym, c-trans, c-eq, c-add, c-mul, c-mod}
-use Rattle.definitions.specs.Polynomials.{coef, convolve, constant, Residues}
+use Rattle.definitions.specs.Polynomials.{coef, convolve, constant}
 use Rattle.theory.specs.Words.{total-cong, convolve-zero, convolve-suc}
 use Rattle.convolution.specs.Sums.{convolve-comm}
 use Rattle.windows.specs.Window.{piece, Below}
-use Rattle.windows.proofs.Leaf.{lt-or-le, piece-at, piece-over, piece-length}
+use Rattle.windows.proofs.Leaf.{lt-or-le, piece-at, piece-over}
 use Rattle.windows.proofs.Lift.{piece-low}
 use Rattle.window_factor.specs.Factors.{next-word, Series}
 
@@ -31,12 +31,6 @@ tail-words w k m e x =
 pub series-words : (w : List ℕ) (k j m : ℕ) → m ≡ j → take m (drop (k + 1) w) ≡ piece w (k + 1) j
 unfolding piece
 series-words w k j m e = ap (λ (y : ℕ). take y (drop (k + 1) w)) e
-
-pub series-residues : (n k j m : ℕ) (w : List ℕ) → m ≡ j → k + 1 + j ≤ length w → Below n (k + 1) j w → Residues n (take m (drop (k + 1) w))
-series-residues n k j m w e fits b =
-    let q : length (piece w (k + 1) j) ≡ j = piece-length w (k + 1) j fits in
-    subst (Residues n) (sym (series-words w k j m e))
-    (record { at = λ x l. subst (λ (y : ℕ). y < n) (sym (piece-at w (k + 1) j x (omega arith))) (b .at x (omega arith)) })
 
 -- the word, as `product_word` and `mul_mod` make it
 pub word-is : (n i s k j m : ℕ) (w f : List ℕ) (x r : ℕ) → 0 < j → m ≡ j → f ≡ take k (drop 1 w)

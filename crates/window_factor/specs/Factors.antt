@@ -79,12 +79,11 @@ abbrev pub next-word : ℕ → ℕ → ℕ → (ℕ → ℕ) → (ℕ → ℕ) �
 next-word n i s U Y zero = s
 next-word n i s U Y (suc j) = ((n - i) * (convolve (λ x. U (suc x)) Y j % n)) % n
 
--- the j words of Y so far are residues
+-- j words of Y stand after U
 pub record SeriesGiven (n k i j : ℕ) (w : List ℕ) : Type 0 where
   pub positive : 1 ≤ n
   pub inverse : i ≤ n
   pub fits : k + 1 + j ≤ length w
-  pub below : Below n (k + 1) j w
 
 pub record Series (n k s len : ℕ) (w w' : List ℕ) : Type 0 where
   pub around : Around (k + 1) len w w'

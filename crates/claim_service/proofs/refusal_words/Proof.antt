@@ -1,34 +1,12 @@
-use borrow.Author.Tests.{not-true, not-false}
-use mathlib.Core.Path.{refl, sym, _∙_}
 use borrow.Author.Needs.{needs}
+use Rattle.refusals.proofs.Cascade.{cascade, hit, miss, told-not}
 use Rattle.claim_service.proofs.refusal_words.Statement.{statement}
 use Rattle.claim_service.proofs.refusal_words.Tie as tie
-
-returns : tie.Need-returns
-returns c = simp (sym (c .before .all-below .ensures) ∙ not-true _ (c .if1 .taken)) refl
-
-returns-2 : tie.Need-returns-2
-returns-2 c = simp (sym (c .before .before .before .all-below .ensures) ∙ not-false _ (c .before .before .if1 .left), sym (c .before .all-below2 .ensures) ∙ not-true _ (c .if2 .taken)) refl
-
-returns-3 : tie.Need-returns-3
-returns-3 c = simp (sym (c .before .before .before .before .before .all-below .ensures) ∙ not-false _ (c .before .before .before .before .if1 .left), sym (c .before .before .before .all-below2 .ensures) ∙ not-false _ (c .before .before .if2 .left), sym (c .before .all-below3 .ensures) ∙ not-true _ (c .if3 .taken)) refl
-
-returns-4 : tie.Need-returns-4
-returns-4 c = simp (sym (c .before .before .before .before .before .before .before .all-below .ensures) ∙ not-false _ (c .before .before .before .before .before .before .if1 .left), sym (c .before .before .before .before .before .all-below2 .ensures) ∙ not-false _ (c .before .before .before .before .if2 .left), sym (c .before .before .before .all-below3 .ensures) ∙ not-false _ (c .before .before .if3 .left), sym (c .before .all-below4 .ensures) ∙ c .if4 .taken) refl
-
-returns-5 : tie.Need-returns-5
-returns-5 c = simp (sym (c .before .before .before .before .before .before .before .all-below .ensures) ∙ not-false _ (c .before .before .before .before .before .before .if1 .left), sym (c .before .before .before .before .before .all-below2 .ensures) ∙ not-false _ (c .before .before .before .before .if2 .left), sym (c .before .before .before .all-below3 .ensures) ∙ not-false _ (c .before .before .if3 .left), sym (c .before .all-below4 .ensures) ∙ c .if4 .left) refl
 
 pub refusal-words-spec : {M : Type 1} → statement M
 refusal-words-spec =
     tie.close
     (tie.spec
-    (λ c κs. search needs)
-    returns
-    (λ c κs. search needs)
-    returns-2
-    (λ c κs. search needs)
-    returns-3
-    (λ c κs. search needs)
-    returns-4
-    returns-5)
+    (λ c κs. search needs) (λ c. search cascade depth 12) (λ c κs. search needs) (λ c. search cascade depth 12)
+    (λ c κs. search needs) (λ c. search cascade depth 12) (λ c κs. search needs) (λ c. search (hit, miss, told-not) depth 12)
+    (λ c. search (miss, told-not) depth 12))

@@ -12,7 +12,7 @@ abbrev μ-loop : tie.MeasureT-loop
 μ-loop n f g d u v m k₀ k = m - k
 
 combined-word-requires : tie.Need-combined-word-requires Inv-loop μ-loop
-combined-word-requires c κs = let a = c .before .before .before .before .pre in (omega (arith, a .modulus), (a .residues-f, a .residues-g))
+combined-word-requires c κs = omega (arith, c .before .before .before .before .pre .modulus)
 
 rem-if1 : tie.Need-rem-if1 Inv-loop μ-loop
 rem-if1 c = omega (arith, c .before .before .before .before .before .pre .modulus)
@@ -27,7 +27,7 @@ loop-holds : tie.Need-loop-holds Inv-loop μ-loop
 loop-holds c = let s = c .before .before .before .before .before .before .before in let a = s .args in (omega arith, combined-first (a .n) (a .f .now) (a .g .now) (a .u .now) (a .v .now) (a .d) _ (c .before .before .combined-word .ensures) (c .before .if1 .left))
 
 combined-word-requires-2 : tie.Need-combined-word-requires-2 Inv-loop μ-loop
-combined-word-requires-2 c κs = let a = c .before .before .before .before .before .before .before .before .before .pre in (omega (arith, a .modulus), (a .residues-f, a .residues-g))
+combined-word-requires-2 c κs = omega (arith, c .before .before .before .before .before .before .before .before .before .pre .modulus)
 
 returns-2 : tie.Need-returns-2 Inv-loop μ-loop
 returns-2 c = let s = c .before .before .before .before .before .before .before .before .before .before .before in let a = s .args in let i = c .before .before .before .loop in wrong-word (a .n) (a .f .now) (a .g .now) (a .u .now) (a .v .now) (a .d) (i .k) _ (i .inv .0) (c .before .combined-word2 .ensures) (c .if2 .taken)
@@ -36,7 +36,7 @@ loop-again : tie.Need-loop-again Inv-loop μ-loop
 loop-again c = let s = c .before .before .before .before .before .before .before .before .before .before .before in let a = s .args in let i = c .before .before .before .loop in (omega arith, combined-next (a .n) (a .f .now) (a .g .now) (a .u .now) (a .v .now) (a .d) (i .k) _ (i .inv .0) (c .before .combined-word2 .ensures) (c .if2 .left) (i .inv .1))
 
 returns-3 : tie.Need-returns-3 Inv-loop μ-loop
-returns-3 c = let s = c .before .before .before .before .before .before .before .before .before in let a = s .args in let i = c .before .loop in let m = c .before .before .longest in combined-end (a .n) (a .f .now) (a .g .now) (a .u .now) (a .v .now) (a .d) (m .result) (i .k) (i .inv .0) (c .loop-test .left) (m .ensures .0) (m .ensures .1) (i .inv .1)
+returns-3 c = let s = c .before .before .before .before .before .before .before .before .before in let a = s .args in let i = c .before .loop in let m = c .before .before .longest in combined-end (a .n) (a .f .now) (a .g .now) (a .u .now) (a .v .now) (a .d) (m .result) (i .k) (i .inv .0) (c .loop-test .left) (m .ensures) (i .inv .1)
 
 pub combines-spec : {M : Type 1} → statement M
 combines-spec =

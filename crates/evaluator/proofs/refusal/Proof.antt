@@ -1,42 +1,12 @@
 use borrow.Author.Needs.{needs}
-use mathlib.Core.Path.{refl, sym, _∙_}
-use Rattle.refusals.specs.Refusals.{narrow}
-use Rattle.evaluator.proofs.Statuses.{grouped}
+use Rattle.evaluator.proofs.Statuses.{rows-told, first-applies, second-applies, third-applies, none-applies}
 use Rattle.evaluator.proofs.refusal.Statement.{statement}
 use Rattle.evaluator.proofs.refusal.Tie as tie
-
-returns : tie.Need-returns
-returns c = let a = c .before .before .before .before .before .before .args in
-    simp
-    (sym (c .before .bad-modulus .ensures) ∙ c .if1 .taken)
-    refl
-    ∙ grouped narrow (a .n) (a .f .now) (a .g .now)
-
-returns-2 : tie.Need-returns-2
-returns-2 c = let s = c .before in
-    let a = s .before .before .before .before .before .before .args in
-    simp
-    (sym (s .before .bad-modulus .ensures) ∙ s .if1 .left, sym (s .before .before .before .bad-lengths .ensures) ∙ c .if2 .taken)
-    refl
-    ∙ grouped narrow (a .n) (a .f .now) (a .g .now)
-
-returns-3 : tie.Need-returns-3
-returns-3 c = let s = c .before .before in
-    let a = s .before .before .before .before .before .before .args in
-    simp
-    (sym (s .before .bad-modulus .ensures) ∙ s .if1 .left, sym (s .before .before .before .bad-lengths .ensures) ∙ c .before .if2 .left, sym (s .before .before .bad-words .ensures) ∙ c .if3 .taken)
-    refl
-    ∙ grouped narrow (a .n) (a .f .now) (a .g .now)
-
-returns-4 : tie.Need-returns-4
-returns-4 c = let s = c .before .before in
-    let a = s .before .before .before .before .before .before .args in
-    simp
-    (sym (s .before .bad-modulus .ensures) ∙ s .if1 .left, sym (s .before .before .before .bad-lengths .ensures) ∙ c .before .if2 .left, sym (s .before .before .bad-words .ensures) ∙ c .if3 .left)
-    refl
-    ∙ grouped narrow (a .n) (a .f .now) (a .g .now)
 
 pub refusal-spec : {M : Type 1} → statement M
 refusal-spec =
     tie.close
-    (tie.spec (λ c κs. search needs) (λ c κs. search needs) (λ c κs. search needs) returns returns-2 returns-3 returns-4)
+    (tie.spec
+    (λ c κs. search needs) (λ c. search (needs, first-applies)) (λ c κs. search needs) (λ c. search (needs, second-applies))
+    (λ c κs. rows-told _ _ _ (c .before .bad-lengths .ensures) (c .if2 .left)) (λ c. search (needs, third-applies))
+    (λ c. search (needs, none-applies)))

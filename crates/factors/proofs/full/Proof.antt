@@ -1,13 +1,11 @@
-use mathlib.Core.Path.{refl, sym}
 use native.Mathlib.Omega.{arith}
-use borrow.Author.Tests.{lt-ltb, le-ltb}
 use borrow.Author.Needs.{needs}
 use Rattle.factors.proofs.Services.{full-places, full-sum}
 use Rattle.factors.proofs.full.Statement.{statement}
 use Rattle.factors.proofs.full.Tie as tie
 
 returns : tie.Need-returns
-returns c = sym (full-places _ _ _ _ (c .before .place-of .ensures) (omega (arith, c .if1 .taken)))
+returns c = full-places _ _ _ _ (c .before .place-of .ensures) (omega (arith, c .if1 .taken))
 
 returns-2 : tie.Need-returns-2
 returns-2 c = full-sum _ _ _ _ (c .before .before .place-of .ensures) (omega (arith, c .before .if1 .left)) _ (c .degree-sum .ensures .0)

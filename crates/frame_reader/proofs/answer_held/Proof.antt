@@ -1,5 +1,5 @@
 use borrow.Author.Needs.{needs}
-use Rattle.frame_reader.proofs.Holding.{long-refused, held-answered}
+use Rattle.frame_reader.proofs.HeldAnswers.{long-refused, held-answered}
 use Rattle.frame_reader.proofs.answer_held.Statement.{statement}
 use Rattle.frame_reader.proofs.answer_held.Tie as tie
 

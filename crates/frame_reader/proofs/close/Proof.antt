@@ -1,7 +1,8 @@
 use borrow.Author.Needs.{needs}
 use mathlib.Core.List.{_++_}
 use native.Mathlib.Omega.{arith}
-use Rattle.frame_reader.proofs.Holding.{part-answered, line-unchanged}
+use Rattle.frame_pieces.proofs.Holding.{line-unchanged}
+use Rattle.frame_reader.proofs.HeldAnswers.{part-answered}
 use Rattle.frame_reader.proofs.close.Statement.{statement}
 use Rattle.frame_reader.proofs.close.Tie as tie
 

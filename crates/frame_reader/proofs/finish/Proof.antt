@@ -1,6 +1,6 @@
 use borrow.Author.Needs.{needs}
 use mathlib.Core.Path.{sym, _∙_}
-use Rattle.frame_reader.proofs.Holding.{held-counted}
+use Rattle.frame_pieces.proofs.Holding.{held-counted}
 use Rattle.frame_reader.proofs.Stepping.{ended-none, ended-line}
 use Rattle.frame_reader.proofs.finish.Statement.{statement}
 use Rattle.frame_reader.proofs.finish.Tie as tie

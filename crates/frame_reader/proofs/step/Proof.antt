@@ -5,8 +5,8 @@ use mathlib.Core.List.{List}
 use Prim.Native.Nat.{ℕ, min, _-_}
 use native.Mathlib.Omega.{arith}
 use lib.ListN.{length}
-use Rattle.frame_reader.specs.Pieces.{Held, LineAfter}
-use Rattle.frame_reader.proofs.Holding.{held-counted, line-unchanged, line-then}
+use Rattle.frame_pieces.specs.Newlines.{Held, LineAfter}
+use Rattle.frame_pieces.proofs.Holding.{held-counted, line-unchanged, line-then}
 use Rattle.frame_reader.proofs.Stepping.{Sizes, Going, going-none, going-step, going-hold, going-end}
 use Rattle.frame_reader.proofs.step.Statement.{statement}
 use Rattle.frame_reader.proofs.step.Tie as tie

@@ -36,7 +36,7 @@ product-words-requires c κs = let if1 = c .before in
     let rp = if1 .before in
     let s = rp .before .before .before .before .args in
     let a = product-accepted narrow (s .n) _ (s .f .now) (s .g .now) (length (s .out .now)) (rp .refusal-product .ensures) (if1 .if1 .left) in
-    (omega (arith, a .modulus), a .residues)
+    omega (arith, a .modulus)
 
 returns-2 : tie.Need-returns-2
 returns-2 c = let if1 = c .before .before .before .before in

@@ -39,7 +39,7 @@ product-word-requires c κs = let if1 = c .before in
     let s = rp .before .before .before .before .args in
     let a = product-accepted narrow (s .n) _ (s .f .now) (s .g .now) (length (s .out .now)) (rp .refusal-product .ensures)
     (if1 .if1 .left) in
-    (omega (arith, a .modulus), a .residues)
+    omega (arith, a .modulus)
 
 slice-write-out : tie.Need-slice-write-out
 slice-write-out c = let if1 = c .before .before in

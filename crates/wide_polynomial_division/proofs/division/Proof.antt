@@ -1,7 +1,9 @@
 use mathlib.Core.Path.{sym, _∙_}
 use Prim.Native.Nat.{_+_, _-_}
 use native.Mathlib.Omega.{arith}
-use lib.ListN.{length, length-take, length-drop}
+use native.Mathlib.Nat.{sub-zero}
+use lib.ListN.{length}
+use borrow.Rule.Slice.PartMut.{mid-len}
 use Rattle.wide_refusals.specs.Wide.{wide}
 use Rattle.refusals.specs.Conditions.{accepted-two}
 use Rattle.polynomial_division.proofs.Answers.{late-accepted, division-refused, division-late, quotient-is, top-inverse, division-done}
@@ -107,11 +109,10 @@ divide-requires c κs = let if2 = c .before .before in
         modulus = omega (arith, a .0 .modulus);
         some-f = a .0 .some;
         some-g = a .1 .some;
-        length-q = simp (length-take, length-drop) (omega (arith, b .1 .0, m));
-        residues = a .1 .residues;
+        length-q = mid-len 0 (ex .excess .result + 1) (s .q .now) (b .1 .0) ∙ sub-zero (ex .excess .result + 1) ∙ m;
         inverse = top-inverse (s .n) _ (cf .cofactor .result .s) (s .g .now) (cf .cofactor .ensures) (b .0);
       },
-      simp (length-take, length-drop) (omega (arith, b .1 .1, deg-is (s .g .now))),
+      mid-len 0 (length (s .g .now) - 1) (s .r .now) (b .1 .1) ∙ sub-zero (length (s .g .now) - 1) ∙ sym (deg-is (s .g .now)),
     )
 
 returns-3 : tie.Need-returns-3

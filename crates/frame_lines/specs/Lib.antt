@@ -1,0 +1,2 @@
+pub mod FrameLines
+pub mod Heads

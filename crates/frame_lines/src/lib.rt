@@ -1,0 +1,91 @@
+// The lines of the frame program (document 01, "Job frames"): what a line's characters say, and an answer line's characters.
+//
+//   Head          what the head of a line says
+//   read_head     the head of a line
+//   read_words    the words after it
+//   write_line    an answer line
+ghost use mathlib.Core.Path.{_≡_};
+ghost use mathlib.Core.List.{_++_};
+ghost use Prim.Native.Nat.{_+_, _*_, _≤_};
+ghost use lib.ListN.{length, take, drop};
+ghost use Rattle.frame_lines.specs.FrameLines.{answer-line};
+ghost use Rattle.frame_lines.specs.Heads.{HeadOf, WordsRead};
+use hexadecimal::Reading;
+
+// The head of a line: kind, modulus and degrees, where the line can be a frame by its length and its first 14 characters.
+pub enum Head {
+    Frame {
+        kind: u32,
+        n: u32,
+        d: usize,
+        e: usize,
+    },
+    Other,
+}
+
+pub fn read_head(s: &[u8]) -> Head
+    ensures { λ r. ⌜ HeadOf (now (s .entry)) r ⌝ }
+{
+    if s.len() < 14 {
+        return Head::Other;
+    }
+    if s.len() > 798 {
+        return Head::Other;
+    }
+    let Reading::Number(kind) = hexadecimal::number(s, 0, 2) else {
+        return Head::Other;
+    };
+    if kind == 0 {
+        return Head::Other;
+    }
+    if kind > 2 {
+        return Head::Other;
+    }
+    let Reading::Number(n) = hexadecimal::number(s, 2, 8) else {
+        return Head::Other;
+    };
+    let Reading::Number(d) = hexadecimal::number(s, 10, 2) else {
+        return Head::Other;
+    };
+    let Reading::Number(e) = hexadecimal::number(s, 12, 2) else {
+        return Head::Other;
+    };
+    let count = (d as usize) + 1 + ((e as usize) + 1);
+    if s.len() != 14 + 8 * count {
+        return Head::Other;
+    }
+    Head::Frame {
+        kind,
+        n,
+        d: d as usize,
+        e: e as usize,
+    }
+}
+
+// Reads the words of a line that is as long as its head says; answers whether all of its characters are digits.
+pub fn read_words(s: &[u8], words: &mut [u32], count: usize) -> bool
+    requires { ⌜ (length (now s) ≡ 14 + 8 * count) × (count ≤ length (now words)) ⌝ }
+    ensures { λ r. ⌜ WordsRead (now (s .entry)) count (now (words .exit)) r ⌝ }
+{
+    let mut i: usize = 0;
+    while i < count {
+        let Reading::Number(x) = hexadecimal::number(s, 14 + 8 * i, 8) else {
+            return false;
+        };
+        words[i] = x;
+        i += 1;
+    }
+    true
+}
+
+// Writes an answer line from place `at` on; what stands before and after it is left.
+pub fn write_line(out: &mut [u8], at: usize, kind: u32, status: u32, value: u32)
+    requires { ⌜ at + 13 ≤ length (now out) ⌝ }
+    ensures { λ _. ⌜ now (out .exit) ≡
+        take at (now (out .entry)) ++ (answer-line kind status value ++ drop (at + 13) (now (out .entry))) ⌝ }
+{
+    hexadecimal::write(out, at, 2, kind);
+    hexadecimal::write(out, at + 2, 2, status);
+    hexadecimal::write(out, at + 4, 8, value);
+    out[at + 12] = 10;
+}

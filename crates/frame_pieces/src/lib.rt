@@ -1,0 +1,64 @@
+// What an input's pieces are made of: what a read's count means, where a line ends, and how an unfinished line is held.
+//
+//   Input, what_came      what the count of a read means
+//   find_newline          the end of a line
+//   hold                  an unfinished line
+ghost use mathlib.Core.Path.{_≡_};
+ghost use mathlib.Core.Bool.{false};
+ghost use mathlib.Core.List.{List, _++_};
+ghost use Prim.Native.Nat.{ℕ, _≤_};
+ghost use lib.ListN.{length};
+ghost use Rattle.frame_pieces.specs.Inputs.{input-of};
+ghost use Rattle.frame_pieces.specs.Newlines.{has-newline, NewlineAt, Held, LineAfter};
+
+// What the count of a read means: that many characters came, or the input has ended.
+pub enum Input {
+    Ended,
+    Came(usize),
+}
+
+// A read that takes none has come to the end of the input.
+pub fn what_came(count: usize) -> Input
+    ensures { λ r. ⌜ r ≡ input-of count ⌝ }
+{
+    if count == 0 {
+        return Input::Ended;
+    }
+    Input::Came(count)
+}
+
+// The place of the first newline from place `from` on, and the length of the piece where there is none.
+pub fn find_newline(piece: &[u8], from: usize) -> usize
+    requires { ⌜ from ≤ length (now piece) ⌝ }
+    ensures { λ r. ⌜ NewlineAt (now (piece .entry)) from r ⌝ }
+{
+    let mut j = from;
+    while j < piece.len() {
+        if piece[j] == 10 {
+            return j;
+        }
+        j += 1;
+    }
+    j
+}
+
+// Holds part after what is held of an unfinished line. No more than the first 798 words of the buffer are used.
+pub fn hold(held: usize, line: &mut [u8], part: &[u8]) -> usize
+    requires { ⌜ 798 ≤ length (now line) ⌝ }
+    ensures { λ r. ⌜ ((s : List ℕ) → Held s held (now (line .entry)) → has-newline (now (part .entry)) ≡ false
+        → Held (s ++ now (part .entry)) r (now (line .exit))) ⌝ }
+    ensures { λ r. ⌜ LineAfter r (now (line .entry)) (now (line .exit)) ⌝ }
+{
+    if held > 798 {
+        return 799;
+    }
+    if part.len() > 798 - held {
+        return 799;
+    }
+    let mut i: usize = 0;
+    while i < part.len() {
+        line[held + i] = part[i];
+        i += 1;
+    }
+    held + part.len()
+}

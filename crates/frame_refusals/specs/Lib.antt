@@ -1,0 +1,2 @@
+pub mod FrameRefusals
+pub mod JobLaws
