@@ -97,6 +97,9 @@ for damage in cut_short unfinished changed of_another removed; do
 done
 unfinished parts/000002.answers
 expect 0 "status" status parts && says "6 of 7 parts are done" "status with answers unfinished"
+expect 0 "work" work parts/000002.frames
+cp other/000002.done parts/000002.done
+expect 0 "status" status parts && says "6 of 7 parts are done" "status with the word of another input"
 rm parts/000002.done
 expect 1 "join without the word that a part is done" join parts && said 'parts/000002' "join without done"
 expect 0 "work" work parts/000002.frames
@@ -126,12 +129,21 @@ expect 1 "join with frames of another input" join parts && nothing "join with fr
 again
 cp other/000004.* parts
 expect 1 "join with a part of another input" join parts && nothing "join with a part of another input" && said 'another input' "another input"
+expect 1 "status with a part of another input" status parts && nothing "status" && said 'another input' "status with a part of another input"
 again
 rm parts/000006.*
 expect 1 "join without the last part" join parts && nothing "join without the last part" && said 'parts/000006.frames is missing' "the last part"
 again
 for ending in frames sum answers "done"; do cp parts/000005.$ending parts/000004.$ending; done
-expect 1 "join with a part twice" join parts && nothing "join with a part twice"
+expect 1 "join with a part twice" join parts && nothing "join with a part twice" && said 'parts/000004.sum is damaged' "join with a part twice"
+again
+# a part that is whole in itself and tells of this input, with another line in it
+sed -i '5s/.*/zz/' parts/000004.frames
+sum() { sha256sum < "$1" | cut -c 1-64; }
+sed -i "s/frames .*/frames $(sum parts/000004.frames)/" parts/000004.sum
+rm parts/000004.answers
+expect 0 "work of a forged part" work parts/000004.frames
+expect 1 "join with a forged part" join parts && nothing "join with a forged part" && said 'not the input that was cut' "join with a forged part"
 again
 mkdir nothing
 expect 1 "join of an empty folder" join nothing && expect 1 "status of an empty folder" status nothing
