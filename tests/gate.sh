@@ -25,6 +25,22 @@ expect 1 'rt ci\n12 passed, 0 failed\nmake check in CI\nthe gate FAILED: make ch
 expect 1 'rt ci\n\nthe gate FAILED: rt ci has not ended with what it counted' 0 '' 0
 expect 1 'rt ci\n11 passed, 1 failed\nthe gate FAILED: rt ci has not ended with what it counted' 0 '11 passed, 1 failed' 0
 
+# Where CI is set and something is missing, it is installed; that installing fails changes nothing.
+mkdir "$folder/ci"
+for name in bash sh dirname cat env grep id awk mktemp rm tee tail; do ln -s "$(command -v $name)" "$folder/ci/$name"; done
+cp "$folder/rt" "$folder/make" "$folder/ci"
+printf '#!/bin/sh\nshift\nexec "$@"\n' > "$folder/ci/sudo"
+printf '#!/bin/sh\necho "$*" >> "$0.log"\necho apt\necho apt >&2\nexit "$APT"\n' > "$folder/ci/apt-get"
+chmod 755 "$folder/ci/sudo" "$folder/ci/apt-get"
+asked="-q update
+-q -y --no-install-recommends install pari-gp libpari-dev parallel man-db pkg-config"
+for APT in 0 100; do
+    export APT
+    rm -f "$folder/ci/apt-get.log"
+    (export CI=true PATH="$folder/ci" && expect 0 'rt ci\n1 passed, 0 failed\nmake check in CI\n1 passed, 0 failed' 0 '1 passed, 0 failed' 0) || exit 1
+    [ "$(cat "$folder/ci/apt-get.log")" = "$(printf '%s\n' "$asked" | head -n $((APT ? 1 : 2)))" ] || fail "apt-get was asked: $(cat "$folder/ci/apt-get.log")"
+done
+
 # without the kit, in words, from .ci/run and from make
 mkdir "$folder/bin"
 for name in bash sh dirname cat env make gcc mkdir; do ln -s "$(command -v $name)" "$folder/bin/$name"; done
@@ -34,4 +50,4 @@ for call in "bash .ci/run" "make -s -W crates.txt target/bin/desk" "make -s -W .
     grep -q '^The Rattle kit is needed here' "$folder/err" && grep -qF "for on PATH, which is $folder/bin" "$folder/err" ||
         fail "$call without the kit says: $(cat "$folder/out" "$folder/err")"
 done
-echo "the gate: six ways in which it can end, and what is said without the kit, are as expected"
+echo "the gate: the ways in which it can end, what it installs, and what is said without the kit, are as expected"
