@@ -1,6 +1,6 @@
-/* The services of Jingcobu for GP: \r gp/jingcobu.gp, from the root of the sources after make gp. Elsewhere the environment variable
-   JINGCOBU_GP names the file libjingcobu-gp.so. Polynomials over Z or over Z/nZ, or vectors of words as they are sent, constant
-   first. A refusal is an error. */
+/* The services of Jingcobu for GP: \r gp/jingcobu.gp, from the root of the sources after make gp, or \r of the copy that make install
+   puts in share/jingcobu. The environment variable JINGCOBU_GP names another file libjingcobu-gp.so. Polynomials over Z or over Z/nZ, or
+   vectors of words as they are sent, constant first. A refusal is an error. */
 {
   my(file = getenv("JINGCOBU_GP"));
   if (!file, file = "build/libjingcobu-gp.so");
