@@ -26,6 +26,7 @@ typedef struct {
     uint64_t n, h[MOST], resultant[16];
     size_t h_len, count, degree[16];
     uint16_t number[16];
+    int growing;
 } holding;
 
 typedef struct {
@@ -193,7 +194,7 @@ static void drawn_pair(trial *t, size_t fl, size_t gl)
 static void send(trial *t, buffer *b, uint64_t *f, size_t fl, size_t most)
 {
     source *s = &t->from;
-    if (fl && fl <= most && bad(s)) f[once_in(s, 2) ? fl - 1 : below(s, fl)] = large_word(s, t->n, b->size == 8);
+    if (fl && bad(s)) f[once_in(s, 2) ? fl - 1 : below(s, fl)] = large_word(s, t->n, b->size == 8);
     if (fl > most && !once_in(s, 3)) {
         size_t lengths[] = { most + 1, 4097, SIZE_MAX, SIZE_MAX / 4 + 50 };                 /* four times the last is 196 */
         lend_nothing(b, lengths[below(s, 4)]);
@@ -248,7 +249,7 @@ static void sent_product(trial *t)
 static void sent_one(trial *t, int with_modulus)
 {
     source *s = &t->from;
-    size_t fl = bad(s) ? bad_length(s) : drawn_length(s);
+    size_t fl = bad(s) ? bad_length(s) : t->function == ARRIVE && !once_in(s, 4) ? 1 + below(s, 3) : drawn_length(s);
     if (with_modulus) t->n = drawn_modulus(s, 0);
     if (fl) drawn_words(s, t->n, t->f, fl);
     if (with_modulus && bad(s)) t->n = bad_modulus(s, 0);
@@ -281,10 +282,19 @@ static void claimed_multipliers(trial *t, size_t *ul, size_t *vl)
     t->claimed = (uint32_t) (t->claimed * by);
 }
 
+/* another length, with zeros above what was there, and at times a word among them that is not zero */
+static void lengthen(source *s, uint64_t *u, size_t *ul, uint64_t n)
+{
+    static const size_t lengths[] = { 1, 2, 49, 1490, 4095, 4096, 0, 4097, 4200 };
+    size_t l = lengths[below(s, s->trouble ? 9 : 6)];
+    for (size_t i = *ul; i < l; i++) u[i] = 0;
+    if (l && once_in(s, 2)) u[once_in(s, 2) ? l - 1 : below(s, l)] = drawn_word(s, n);
+    *ul = l;
+}
+
 static void sent_claim(trial *t)
 {
     source *s = &t->from;
-    static const size_t lengths[] = { 1, 2, 49, 4095, 4096, 0, 4097, 4200 };
     size_t ul, vl;
     sent_pair(t);
     if (degree_of(&t->in_f) + 1 != t->in_f.length || degree_of(&t->in_g) + 1 != t->in_g.length) ul = vl = t->claimed = 1;
@@ -292,39 +302,51 @@ static void sent_claim(trial *t)
     uint64_t bound = t->n > 1 ? t->n : 2;
     if (once_in(s, 8)) t->claimed = once_in(s, 2) ? below(s, 8) : drawn_word(s, bound);
     if (once_in(s, 8)) t->u[below(s, ul)] = drawn_word(s, bound);
-    if (once_in(s, 60)) {
-        size_t old = ul;
-        ul = lengths[below(s, 8)];
-        for (size_t i = old; i < ul; i++) t->u[i] = 0;
-    }
-    if (once_in(s, 60)) {
-        size_t old = vl;
-        vl = lengths[below(s, 8)];
-        for (size_t i = old; i < vl; i++) t->v[i] = 0;
-    }
+    if (once_in(s, 20)) lengthen(s, t->u, &ul, bound);
+    if (once_in(s, 20)) lengthen(s, t->v, &vl, bound);
     send(t, &t->in_u, t->u, ul, JINGCOBU_MULTIPLIER);
     send(t, &t->in_v, t->v, vl, JINGCOBU_MULTIPLIER);
 }
 
+/* degrees in y and z: small ones, or such that B is 48 to 61, or far above 60 */
+static void drawn_degrees(trial *t)
+{
+    source *s = &t->from;
+    t->d = below(s, 4); t->e = below(s, 4); t->a = below(s, 4); t->b = below(s, 4);
+    switch (below(s, 40)) {
+    case 0: t->d = 48; t->a = 0; t->e = t->b = 1; break;
+    case 1: t->d = 0; t->a = 48; t->e = 1; t->b = 48; break;
+    case 2: t->d = t->e = 6; t->a = t->b = 5; break;
+    case 3: t->d = t->a = 48; break;
+    case 4: t->d = t->e = 1; t->a = 48; t->b = below(s, 14); break;
+    default: break;
+    }
+}
+
+/* a degree above 48, beside the length that belongs to it or another; or a length that belongs to no degrees */
+static size_t bad_degrees(source *s, size_t *d, size_t *a, size_t length)
+{
+    if (once_in(s, 3)) return once_in(s, 2) ? length + 1 : below(s, length);
+    if (once_in(s, 2)) *d = once_in(s, 2) ? 49 : SIZE_MAX - below(s, 2);
+    else *a = once_in(s, 2) ? 49 : SIZE_MAX - below(s, 2);
+    size_t right = (*d + 1) * (*a + 1);
+    return right < TWO_ROOM && once_in(s, 2) ? right : length;
+}
+
 static void sent_two(trial *t)
 {
-    static const uint64_t moduli[] = { 61, 67, 3721, 4087, 4294967291u, 2147483647u, 13845841, 11, 13, 12, 169, 4294967295u };
+    static const uint64_t moduli[] = { 61, 67, 3721, 4087, 4294967291u, 2147483647u, 13845841, 11, 13, 12, 169, 4294967295u, 3233, 3599 };
     source *s = &t->from;
     int bad_f = bad(s), bad_g = bad(s);
-    t->n = moduli[below(s, 12)];
-    t->d = below(s, 4); t->e = below(s, 4); t->a = below(s, 4); t->b = below(s, 4);
-    if (once_in(s, 100)) { t->d = 48; t->a = 0; t->e = t->b = 1; }
-    if (once_in(s, 100)) { t->d = 0; t->a = 48; t->e = 1; t->b = 48; }
-    if (once_in(s, 100)) { t->d = t->e = 6; t->a = t->b = 5; }
-    if (once_in(s, 100)) { t->d = t->a = 48; }
+    t->n = moduli[below(s, 14)];
+    drawn_degrees(t);
     size_t B = t->e * t->a + t->d * t->b, fl = (t->d + 1) * (t->a + 1), gl = (t->e + 1) * (t->b + 1);
     drawn_words(s, t->n, t->f, fl);
     drawn_words(s, t->n, t->g, gl);
-    if (bad_f && once_in(s, 2)) { if (once_in(s, 2)) t->d = 49 + below(s, 2) * (SIZE_MAX - 49); else t->a = 49; } else if (bad_f) fl += once_in(s, 2) ? 1 : -fl;
-    if (bad_g && once_in(s, 2)) { if (once_in(s, 2)) t->e = 49; else t->b = SIZE_MAX - below(s, 2); } else if (bad_g) gl -= once_in(s, 2) ? 1 : gl;
+    if (bad_f) fl = bad_degrees(s, &t->d, &t->a, fl);
+    if (bad_g) gl = bad_degrees(s, &t->e, &t->b, gl);
     if (bad(s)) t->n = bad_modulus(s, 0);
     lend_marked(t, &t->out, B < 61 ? B + 1 : 61);
-    if (fl > TWO_ROOM) fl = TWO_ROOM;
     send(t, &t->in_f, t->f, fl, SIZE_MAX);
     send(t, &t->in_g, t->g, gl, SIZE_MAX);
     if (bad_f && !once_in(s, 3)) lend_nothing(&t->in_f, fl);
@@ -379,6 +401,7 @@ static size_t damaged(source *s, char *text, size_t length)
 static void sent_text(trial *t)
 {
     static const size_t lengths[] = { 0, 1, 767, 768, 769, 800, 3000 };
+    static const char *const whole[] = { "0", "x", "1*x^1", "4294967296", "4294967297", "18446744073709551617", "1*x^18446744073709551618", "00" };
     source *s = &t->from;
     t->n = drawn_modulus(s, 0);
     size_t fl = once_in(s, 40) ? MOST : drawn_length(s), length;
@@ -386,6 +409,7 @@ static void sent_text(trial *t)
     if (once_in(s, 20)) t->f[below(s, fl)] = t->n;
     length = text_of(t->f, fl, t->text);
     if (once_in(s, 2)) length = damaged(s, t->text, length);
+    if (once_in(s, 50)) length = (size_t) sprintf(t->text, "%s", whole[below(s, 8)]);
     if (once_in(s, 100)) { length = lengths[below(s, 7)]; memset(t->text, once_in(s, 2) ? '1' : '+', TEXT_ROOM); }
     if (bad(s)) t->n = bad_modulus(s, 0);
     lend_marked(t, &t->out, JINGCOBU_WORDS);
@@ -405,11 +429,13 @@ static void sent_shares(trial *t)
     }
 }
 
-/* a number that is held, most often or seldom; or any */
-static uint16_t drawn_number(trial *t, int held)
+/* a number that is held, or any: what is held becomes more for a while, and then less */
+static uint16_t drawn_number(trial *t)
 {
     source *s = &t->from;
-    if (t->held.count && once_in(s, 5) != held) return t->held.number[below(s, t->held.count)];
+    if (once_in(s, 60)) t->held.growing = !t->held.growing;
+    int held = once_in(s, 8) != (t->function == LEAVE && !t->held.growing);
+    if (t->held.count && held) return t->held.number[below(s, t->held.count)];
     return (uint16_t) (once_in(s, 20) ? 0 : once_in(s, 2) ? 1 + below(s, 40) : draw(s));
 }
 
@@ -433,7 +459,7 @@ static void sent_state(trial *t)
     t->n = t->held.n;
     t->any_state = once_in(&t->from, 12);
     if (t->any_state) any_bits(&t->from, &t->state);
-    t->number = drawn_number(t, t->function == LEAVE);
+    t->number = drawn_number(t);
     if (t->function == ARRIVE) {
         if (t->n < 2) t->n = 2;
         sent_one(t, 0);

@@ -363,7 +363,7 @@ static const char *wrong_shares(const trial *t)
 /* after an answered start, arrival or leaving; the resultant of an arrival is not yet known */
 static void keep_state(trial *t)
 {
-    holding *x = &t->held, fresh = { .state = t->got.state, .n = t->n, .h_len = t->in_f.length };
+    holding *x = &t->held, fresh = { .state = t->got.state, .n = t->n, .h_len = t->in_f.length, .growing = 1 };
     if (t->function == START && t->replace) {
         memcpy(fresh.h, t->f, fresh.h_len * sizeof *fresh.h);
         *x = fresh;

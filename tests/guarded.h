@@ -12,7 +12,7 @@
 #define PAGE 4096
 #define MARK 0xa7               /* what every byte of a buffer holds that a call may write */
 
-/* ---- drawn numbers: from a seed, or, for a fuzzer, from given bytes and zeros behind them. `longest` asks for long polynomials,
+/* ---- drawn numbers: from a seed, or, for a fuzzer, from given bytes as long as there are some. `longest` asks for long polynomials,
  * `trouble` for several reasons to refuse at once. */
 
 typedef struct { uint64_t state; const uint8_t *bytes; size_t left; int longest, trouble; } source;
@@ -26,7 +26,7 @@ static uint64_t given(source *s)
 
 static uint64_t draw(source *s)
 {
-    if (s->bytes) return given(s);
+    if (s->left) return given(s);
     s->state ^= s->state << 13; s->state ^= s->state >> 7; s->state ^= s->state << 17;
     return s->state * 0x2545f4914f6cdd1du;
 }
