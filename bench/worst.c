@@ -81,7 +81,8 @@ static uint32_t call(enum service s, const pair *p)
     size_t fl = f_words(p), gl = g_words(p);
     switch (s) {
     case RESULTANT: return jingcobu_resultant(n, f, fl, g, gl, work, JINGCOBU_WORK).status;
-    case REDUCED: return jingcobu_reduced_resultant(n, f, fl, g, gl, u, JINGCOBU_COFACTOR, v, JINGCOBU_COFACTOR, work, JINGCOBU_WORK).status;
+    case REDUCED:
+        return jingcobu_reduced_resultant(n, f, fl, g, gl, u, JINGCOBU_COFACTOR, v, JINGCOBU_COFACTOR, work, JINGCOBU_WORK).status;
     case DIVISOR: return jingcobu_divisor(n, f, fl, g, gl, work, JINGCOBU_WORK).status;
     case COFACTORS: return jingcobu_resultant_cofactors(n, f, fl, g, gl, u, MOST, v, MOST, work, JINGCOBU_WORK).status;
     case WHY: return jingcobu_why(n, f, fl, g, gl, out, JINGCOBU_COMMON, work, JINGCOBU_WORK).status;
@@ -113,13 +114,15 @@ static void compare(const pair *p)
     uint32_t n = (uint32_t) p->n;
     size_t fl = f_words(p), gl = g_words(p);
     prepare(RESULTANT, p);
-    uint32_t r = jingcobu_resultant(n, f, fl, g, gl, work, JINGCOBU_WORK).value, D = jingcobu_divisor(n, f, fl, g, gl, work, JINGCOBU_WORK).value;
+    uint32_t r = jingcobu_resultant(n, f, fl, g, gl, work, JINGCOBU_WORK).value;
+    uint32_t D = jingcobu_divisor(n, f, fl, g, gl, work, JINGCOBU_WORK).value;
     uint32_t with = jingcobu_resultant_cofactors(n, f, fl, g, gl, u, MOST, v, MOST, work, JINGCOBU_WORK).value;
     uint32_t reduced = jingcobu_reduced_resultant(n, f, fl, g, gl, u, JINGCOBU_COFACTOR, v, JINGCOBU_COFACTOR, work, JINGCOBU_WORK).value;
     uint64_t wide = jingcobu64_resultant(p->n, p->f, fl, p->g, gl, work64, JINGCOBU64_WORK).value;
     if (r == with && D == reduced && wide == r) return;
     wrong++;
-    printf("WRONG: n = %u, d = %zu, e = %zu: resultants %u %u %llu, D %u %u\n", n, p->d, p->e, r, with, (unsigned long long) wide, D, reduced);
+    printf("WRONG: n = %u, d = %zu, e = %zu: resultants %u %u %llu, D %u %u\n", n, p->d, p->e, r, with, (unsigned long long) wide, D,
+           reduced);
 }
 
 /* ---- random pairs */

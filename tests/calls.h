@@ -6,8 +6,8 @@
 #include "naive.h"
 #include "../include/jingcobu.h"
 
-enum function { PRODUCT, PRODUCT_WORD, TRUE_DEGREE, RESULTANT, REDUCED, DIVISOR, COFACTORS, WHY, CLAIM, TWO, GCD, START, ARRIVE, LEAVE, READ,
-    READ_TEXT, WRITE_TEXT, SHARES, PRODUCT64, RESULTANT64, REDUCED64, FUNCTIONS };
+enum function { PRODUCT, PRODUCT_WORD, TRUE_DEGREE, RESULTANT, REDUCED, DIVISOR, COFACTORS, WHY, CLAIM, TWO, GCD, START, ARRIVE, LEAVE,
+    READ, READ_TEXT, WRITE_TEXT, SHARES, PRODUCT64, RESULTANT64, REDUCED64, FUNCTIONS };
 
 static const char *const names[FUNCTIONS] = { "product", "product_word", "true_degree", "resultant", "reduced_resultant", "divisor",
     "resultant_cofactors", "why", "check_claim", "resultant_two", "gcd", "factors_start", "factors_arrive", "factors_leave", "factors_read",
@@ -159,7 +159,8 @@ static size_t bad_length(source *s)
  * are zero */
 static void drawn_words(source *s, uint64_t n, uint64_t *f, size_t fl)
 {
-    uint64_t by = once_in(s, 4) ? some_prime(s, n) : 1, others = once_in(s, 6) ? some_prime(s, n) : 1, each = once_in(s, 4) ? 1 + below(s, 3) : 0;
+    uint64_t by = once_in(s, 4) ? some_prime(s, n) : 1, others = once_in(s, 6) ? some_prime(s, n) : 1;
+    uint64_t each = once_in(s, 4) ? 1 + below(s, 3) : 0;
     for (size_t i = 0; i < fl; i++) {
         f[i] = times(n, drawn_word(s, n), by % n);
         if (i) f[i] = times(n, f[i], others % n);
@@ -274,7 +275,8 @@ static void claimed_multipliers(trial *t, size_t *ul, size_t *vl)
     size_t fl = t->in_f.length, gl = t->in_g.length;
     for (size_t i = 0; i < fl && i < MOST; i++) f[i] = (uint32_t) t->f[i];
     for (size_t i = 0; i < gl && i < MOST; i++) g[i] = (uint32_t) t->g[i];
-    jingcobu_answer r = jingcobu_reduced_resultant((uint32_t) t->n, f, fl, g, gl, u, JINGCOBU_COFACTOR, v, JINGCOBU_COFACTOR, work, JINGCOBU_WORK);
+    jingcobu_answer r = jingcobu_reduced_resultant((uint32_t) t->n, f, fl, g, gl, u, JINGCOBU_COFACTOR, v, JINGCOBU_COFACTOR, work,
+                                                   JINGCOBU_WORK);
     *ul = *vl = r.status ? 1 : cofactor_length(t->n, fl, gl);
     t->claimed = r.status ? 1 : r.value;
     uint64_t by = !r.status && once_in(s, 4) ? 1 + below(s, 6) : 1;
@@ -401,7 +403,8 @@ static size_t damaged(source *s, char *text, size_t length)
 static void sent_text(trial *t)
 {
     static const size_t lengths[] = { 0, 1, 767, 768, 769, 800, 3000 };
-    static const char *const whole[] = { "0", "x", "1*x^1", "4294967296", "4294967297", "18446744073709551617", "1*x^18446744073709551618", "00" };
+    static const char *const whole[] = { "0", "x", "1*x^1", "4294967296", "4294967297", "18446744073709551617",
+        "1*x^18446744073709551618", "00" };
     source *s = &t->from;
     t->n = drawn_modulus(s, 0);
     size_t fl = once_in(s, 40) ? MOST : drawn_length(s), length;

@@ -210,7 +210,8 @@ static const char *wrong_product(const trial *t)
     size_t fl = buffer_f(t)->length, gl = buffer_g(t)->length, l = fl + gl - 1;
     if (t->got.value[0]) return "the value is not 0";
     for (size_t k = 0; k < l; k++)
-        if ((t->function != PRODUCT_WORD || k == t->k) && get(out, k) != product_word(t->n, t->f, fl, t->g, gl, k)) return "a word of the product";
+        if ((t->function != PRODUCT_WORD || k == t->k) && get(out, k) != product_word(t->n, t->f, fl, t->g, gl, k))
+            return "a word of the product";
     if (t->function != PRODUCT_WORD) return kept_from(out, l) ? NULL : "words beyond the product";
     if (t->k >= l) return kept_from(out, 0) ? NULL : "a word is written for a k above d + e";
     size_t at = out->at + 4 * t->k;
@@ -283,7 +284,8 @@ static const char *wrong_why(trial *t)
         for (size_t i = 0; i < gl; i++) if (t->g[i] % m) return "g is not zero modulo m";
         return NULL;
     }
-    if (degree < 1 || degree > 48 || get(&t->out, degree) != 1 || !zeros_to(&t->out, degree + 1, MOST)) return "w is not monic of its degree";
+    if (degree < 1 || degree > 48) return "the degree of w";
+    if (get(&t->out, degree) != 1 || !zeros_to(&t->out, degree + 1, MOST)) return "w is not monic of its degree";
     words_in(&t->out, w, degree + 1);
     return multiple_of(m, t->f, fl, w, degree) && multiple_of(m, t->g, gl, w, degree) ? NULL : "w does not divide both";
 }
@@ -393,8 +395,10 @@ static const char *wrong_state(trial *t)
 {
     jingcobu_answer r = jingcobu_factors_read(t->got.state);
     keep_state(t);
-    if (t->function == ARRIVE) t->held.resultant[t->held.count - 1] = naive_resultant(t->n, t->f, t->in_f.length, t->held.h, t->held.h_len);
-    return r.status == 0 && r.value == (t->function == START ? 1 : held_product(&t->held)) ? NULL : "the reading of the state that came back";
+    if (t->function == ARRIVE)
+        t->held.resultant[t->held.count - 1] = naive_resultant(t->n, t->f, t->in_f.length, t->held.h, t->held.h_len);
+    uint64_t right = t->function == START ? 1 : held_product(&t->held);
+    return r.status == 0 && r.value == right ? NULL : "the reading of the state that came back";
 }
 
 /* a state that no start made: the call answers or refuses, a reading is a residue, and what was made is not kept */

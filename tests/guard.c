@@ -19,8 +19,8 @@ static void print_call(const trial *t, const char *what, long number)
     printf("FAILED: %s: %s, call %ld\n", names[t->function], what, number);
     printf("  status %u where %u is right; values %llu %llu %llu %llu\n", t->got.status, refusal(t), (unsigned long long) t->got.value[0],
            (unsigned long long) t->got.value[1], (unsigned long long) t->got.value[2], (unsigned long long) t->got.value[3]);
-    printf("  n = %llu, number %u, claimed %llu, d a e b %zu %zu %zu %zu, k %zu, work %zu words, out %zu\n", (unsigned long long) t->n, t->number,
-           (unsigned long long) t->claimed, t->d, t->a, t->e, t->b, t->k, buffer_work(t)->length, buffer_out(t)->length);
+    printf("  n = %llu, number %u, claimed %llu, d a e b %zu %zu %zu %zu, k %zu, work %zu words, out %zu\n", (unsigned long long) t->n,
+           t->number, (unsigned long long) t->claimed, t->d, t->a, t->e, t->b, t->k, buffer_work(t)->length, buffer_out(t)->length);
     print_words("f", t->f, buffer_f(t)->length);
     print_words("g", t->g, buffer_g(t)->length);
     print_words("u", t->u, t->in_u.length);
@@ -39,7 +39,8 @@ int main(int argc, char **argv)
             if (what) { print_call(t, what, i); return 1; }
             answered[function] += t->got.status == 0;
         }
-    for (int function = 0; function < FUNCTIONS; function++) printf("%-20s %ld answered, %ld refused\n", names[function], answered[function], calls - answered[function]);
+    for (int function = 0; function < FUNCTIONS; function++)
+        printf("%-20s %ld answered, %ld refused\n", names[function], answered[function], calls - answered[function]);
     printf("guard: %ld calls, all right\n", calls * FUNCTIONS);
     return 0;
 }

@@ -123,7 +123,8 @@ static void touched(int signal, siginfo_t *info, void *context)
 {
     char line[200];
     (void) context;
-    int l = snprintf(line, sizeof line, "FAILED: signal %d at address %p in %s, call %ld\n", signal, info->si_addr, running, running_number);
+    int l = snprintf(line, sizeof line, "FAILED: signal %d at address %p in %s, call %ld\n", signal, info->si_addr, running,
+                     running_number);
     if (write(1, line, (size_t) l) != l) _exit(2);
     _exit(1);
 }

@@ -1663,7 +1663,8 @@ static const results no_results = { NOWHERE, NOWHERE, NOWHERE, NOWHERE, SIZE_MAX
 #define WORK r->work, r->work_len
 
 /* every function of two polynomials */
-static void unread_pair(uint32_t n, const uint32_t *f, size_t fl, const uint32_t *g, size_t gl, const results *r, uint32_t status, const char *where)
+static void unread_pair(uint32_t n, const uint32_t *f, size_t fl, const uint32_t *g, size_t gl, const results *r, uint32_t status,
+                        const char *where)
 {
     const uint32_t one = 1;
     REFUSED(jingcobu_product(n, f, fl, g, gl, OUT), status, "unread: product", where);
@@ -1675,7 +1676,8 @@ static void unread_pair(uint32_t n, const uint32_t *f, size_t fl, const uint32_t
     REFUSED(jingcobu_why(n, f, fl, g, gl, OUT, WORK), status, "unread: why", where);
     REFUSED(jingcobu_check_claim(n, f, fl, g, gl, 1, &one, 1, &one, 1, WORK), status, "unread: check_claim", where);
     REFUSED(jingcobu_check_claim(n, f, fl, g, gl, 1, NOWHERE, SIZE_MAX, NOWHERE, SIZE_MAX, WORK), status, "unread: check_claim", where);
-    REFUSED(jingcobu_resultant_two(n, f, fl, 0, fl == 2 ? 1 : 48, g, gl, 0, gl == 2 ? 1 : 48, OUT, WORK), status, "unread: resultant_two", where);
+    REFUSED(jingcobu_resultant_two(n, f, fl, 0, fl == 2 ? 1 : 48, g, gl, 0, gl == 2 ? 1 : 48, OUT, WORK), status, "unread: resultant_two",
+            where);
     REFUSED(jingcobu_resultant_two(n, f, fl, fl - 1, 0, g, gl, gl - 1, 0, OUT, WORK), status, "unread: resultant_two", where);
 }
 
@@ -1696,10 +1698,12 @@ static void unread_others(uint32_t n, size_t length, const results *r, const cha
     if (length > 4096) {
         REFUSED(jingcobu_check_claim(n, f, 2, f, 2, 1, NOWHERE, length, f, 2, WORK), multiplier, "unread: check_claim, u", where);
         REFUSED(jingcobu_check_claim(n, f, 2, f, 2, 1, f, 2, NOWHERE, length, WORK), multiplier, "unread: check_claim, v", where);
-        REFUSED(jingcobu_check_claim(n, NOWHERE, 2, NOWHERE, 2, 1, NOWHERE, 2, NOWHERE, length, WORK), multiplier, "unread: check_claim", where);
+        REFUSED(jingcobu_check_claim(n, NOWHERE, 2, NOWHERE, 2, 1, NOWHERE, 2, NOWHERE, length, WORK), multiplier, "unread: check_claim",
+                where);
     }
     const size_t bytes = length == 50 ? 768 : length;
-    REFUSED(jingcobu_read_text(n, (const uint8_t *) NOWHERE, bytes, OUT), n < 2 ? JINGCOBU_BAD_MODULUS : JINGCOBU_NO_TEXT, "unread: read_text", where);
+    REFUSED(jingcobu_read_text(n, (const uint8_t *) NOWHERE, bytes, OUT), n < 2 ? JINGCOBU_BAD_MODULUS : JINGCOBU_NO_TEXT,
+            "unread: read_text", where);
 }
 
 /* no word and no pointer anywhere */
@@ -1709,7 +1713,8 @@ static void nothing_lent(void)
     static const jingcobu_factors seven = { .n = 7, .h_len = 1 };
     unread_pair(7, NULL, 0, NULL, 0, &none, JINGCOBU_BAD_LENGTH, "nothing is lent");
     unread_one(seven, NULL, 0, &none, JINGCOBU_BAD_LENGTH, "nothing is lent");
-    REFUSED(jingcobu_check_claim(7, seven.h, 1, seven.h, 1, 1, NULL, 0, NULL, 0, NULL, 0), JINGCOBU_BAD_MULTIPLIER, "no multipliers", "nothing is lent");
+    REFUSED(jingcobu_check_claim(7, seven.h, 1, seven.h, 1, 1, NULL, 0, NULL, 0, NULL, 0), JINGCOBU_BAD_MULTIPLIER, "no multipliers",
+            "nothing is lent");
     REFUSED(jingcobu_read_text(7, NULL, 0, NULL, 0), JINGCOBU_NO_TEXT, "read_text", "nothing is lent");
 }
 

@@ -427,13 +427,14 @@ static void both(void)
 /* ---- lengths that are refused unread */
 
 /* every function, with results in marked words, or, since they must not be touched either, in SIZE_MAX words that are not there */
-static void unread_pair(uint64_t n, const uint64_t *f, size_t fl, const uint64_t *g, size_t gl, int results, uint32_t status, const char *where)
+static void unread_pair(uint64_t n, const uint64_t *f, size_t fl, const uint64_t *g, size_t gl, int results, uint32_t status,
+                        const char *where)
 {
     uint64_t *o = results ? out + MARGIN : NOWHERE, *c = results ? u + MARGIN : NOWHERE, *w = results ? work + MARGIN : NOWHERE;
     size_t ol = results ? 100 : SIZE_MAX, cl = results ? MORE_COFACTOR : SIZE_MAX, wl = results ? MORE_WORK : SIZE_MAX;
     REFUSED(jingcobu64_product(n, f, fl, g, gl, o, ol), status, "unread: product", where);
     REFUSED(jingcobu64_resultant(n, f, fl, g, gl, w, wl), status, "unread: resultant", where);
-    REFUSED(jingcobu64_reduced_resultant(n, f, fl, g, gl, c, cl, results ? v + MARGIN : c, cl, w, wl), status, "unread: reduced_resultant", where);
+    REFUSED(jingcobu64_reduced_resultant(n, f, fl, g, gl, c, cl, results ? v + MARGIN : c, cl, w, wl), status, "unread: reduced", where);
 }
 
 static void unread(void)
@@ -456,7 +457,8 @@ static void unread(void)
     }
     REFUSED(jingcobu64_product(7, NULL, 0, NULL, 0, NULL, 0), JINGCOBU_BAD_LENGTH, "product", "nothing is lent");
     REFUSED(jingcobu64_resultant(7, NULL, 0, NULL, 0, NULL, 0), JINGCOBU_BAD_LENGTH, "resultant", "nothing is lent");
-    REFUSED(jingcobu64_reduced_resultant(7, NULL, 0, NULL, 0, NULL, 0, NULL, 0, NULL, 0), JINGCOBU_BAD_LENGTH, "reduced", "nothing is lent");
+    REFUSED(jingcobu64_reduced_resultant(7, NULL, 0, NULL, 0, NULL, 0, NULL, 0, NULL, 0), JINGCOBU_BAD_LENGTH, "reduced",
+            "nothing is lent");
     expect(kept_but(out, PRODUCT_ROOM, 0) && kept_but(u, COFACTOR_ROOM, 0) && kept_but(v, COFACTOR_ROOM, 0) && kept_but(work, WORK_ROOM, 0),
            "unread: every buffer is as found", "all lengths");
     printf("%ld calls with lengths that are refused unread\n", unread_calls);

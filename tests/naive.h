@@ -195,7 +195,8 @@ static size_t text_of(const uint64_t *f, size_t fl, char *text)
 static uint64_t number_in(const char *text, size_t length, size_t *i)
 {
     uint64_t x = 0;
-    for (int digits = 0; *i < length && text[*i] >= '0' && text[*i] <= '9' && digits < 11; digits++) x = 10 * x + (uint64_t) (text[(*i)++] - '0');
+    size_t end = *i + 11 < length ? *i + 11 : length;
+    while (*i < end && text[*i] >= '0' && text[*i] <= '9') x = 10 * x + (uint64_t) (text[(*i)++] - '0');
     return x;
 }
 

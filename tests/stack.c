@@ -62,6 +62,7 @@ int main(int argc, char **argv)
         printf("%-20s %6zu bytes of stack\n", names[function], most[function]);
         if (most[function] > all[is_wide(function)]) all[is_wide(function)] = most[function];
     }
-    printf("stack: %ld calls on %d bytes, the most seen is %zu bytes with words of 32 bits, %zu with words of 64\n", calls * FUNCTIONS, STACK, all[0], all[1]);
+    printf("stack: %ld calls on %d bytes, the most seen is %zu bytes with words of 32 bits, %zu with words of 64\n", calls * FUNCTIONS,
+           STACK, all[0], all[1]);
     return 0;
 }
