@@ -14,7 +14,12 @@
  *
  * Buffers: a length counts words, that of a text bytes. What is const is read only. No two buffers of one call may overlap. NULL
  * is taken where the length is 0. A buffer may be longer than asked for. Nothing is kept between calls, and no memory is asked
- * for; calls on different buffers may run at the same time.
+ * for; calls on different buffers may run at the same time. A call never needs more than 64 KiB of stack.
+ *
+ * Lengths that are refused unread, however large they are and whatever the pointers are: no word or more than 49 of f, g or h; for a
+ * product also d + e above 48; in two variables a degree above 48, or a length that is not that of the degrees (all these with 2); no
+ * word or more than JINGCOBU_MULTIPLIER of a claimed multiplier (16); more than 767 bytes of a text (17). A call that is refused with
+ * 1, 2 or 16 has looked into no buffer at all.
  */
 #ifndef JINGCOBU_H
 #define JINGCOBU_H
