@@ -103,7 +103,10 @@ size-conditions W n f g u v = ServedModulus W n ∷ ServedLength f ∷ ServedLen
 pub size-listed : (W : Width) (n : ℕ) (f g u v : List ℕ) → Listed (size-refusals W n f g u v) (size-conditions W n f g u v)
 size-listed W n f g u v = (
   (omega arith, modulus-fails W n),
-  ((omega arith, length-fails f), ((omega arith, length-fails g), ((omega arith, multiplier-fails u), ((omega arith, multiplier-fails v), tt)))),
+  (
+    (omega arith, length-fails f),
+    ((omega arith, length-fails g), ((omega arith, multiplier-fails u), ((omega arith, multiplier-fails v), tt))),
+  ),
 )
 
 -- the conditions of an answer: so `status-zero` and `status-is` (refusals/Conditions) say when the status is 0, and when it is k

@@ -10,7 +10,8 @@ returns : tie.Need-returns
 returns c =
     let start = c .before .before .before .before .before .before .before in
     let a = start .args in
-    refused (a .n) (a .f .now) (a .g .now) (a .d) (a .u .now) (a .v .now) (a .work .now) _ (c .before .refusal-claim .ensures) (c .if1 .taken)
+    refused (a .n) (a .f .now) (a .g .now) (a .d) (a .u .now) (a .v .now) (a .work .now) _
+    (c .before .refusal-claim .ensures) (c .if1 .taken)
 
 judge-requires : tie.Need-judge-requires
 judge-requires c κs =
@@ -24,7 +25,8 @@ returns-2 c =
     let j = w .before .before .before .before in
     let i = j .before .before in
     let a = i .before .before .before .before .before .before .before .args in
-    accepted (a .n) (a .f .now) (a .g .now) (a .d) (a .u .now) (a .v .now) (a .work .now) _ (i .before .refusal-claim .ensures) (i .if1 .left)
+    accepted (a .n) (a .f .now) (a .g .now) (a .d) (a .u .now) (a .v .now) (a .work .now) _
+    (i .before .refusal-claim .ensures) (i .if1 .left)
     (j .judge .result) _ _ (j .judge .ensures .0) (w .answered .ensures .0 .0)
     (w .answered .ensures .1 ∙ ap (λ (l : ℕ). replicate l 0) (j .judge .ensures .1 .same)) (c .if2 .taken)
 
@@ -34,7 +36,8 @@ returns-3 c =
     let j = w .before .before .before .before in
     let i = j .before .before in
     let a = i .before .before .before .before .before .before .before .args in
-    failed (a .n) (a .f .now) (a .g .now) (a .d) (a .u .now) (a .v .now) (a .work .now) _ (i .before .refusal-claim .ensures) (i .if1 .left)
+    failed (a .n) (a .f .now) (a .g .now) (a .d) (a .u .now) (a .v .now) (a .work .now) _
+    (i .before .refusal-claim .ensures) (i .if1 .left)
     (j .judge .result) _ _ (j .judge .ensures .0) (w .answered .ensures .0 .0)
     (w .answered .ensures .1 ∙ ap (λ (l : ℕ). replicate l 0) (j .judge .ensures .1 .same)) (c .if2 .left)
 
