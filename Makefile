@@ -104,6 +104,9 @@ check-examples:
 check-guard:
 	@if test -f tests/guard.c; then $(MAKE) -C tests guard; else echo "SKIPPED: tests/guard.c is not there"; fi
 
+check-threads:
+	@if test -f tests/threads.c; then $(MAKE) -C tests threads; else echo "SKIPPED: tests/threads.c is not there"; fi
+
 check-stack:
 	@if test -f tests/stack.c; then $(MAKE) -C tests stack; else echo "SKIPPED: tests/stack.c is not there"; fi
 
@@ -148,6 +151,6 @@ clean:
 	$(MAKE) -C examples clean
 	$(MAKE) -C bench clean
 
-.PHONY: all frames install uninstall gp check check-gate check-host check-examples check-guard check-stack check-desk check-parts check-install \
+.PHONY: all frames install uninstall gp check check-gate check-host check-examples check-guard check-threads check-stack check-desk check-parts check-install \
     check-python check-gp check-sage check-scaling check-readme check-figures figures dist clean
 include tools/build.mk
