@@ -101,6 +101,9 @@ check-gate:
 check-examples:
 	$(MAKE) -C examples
 
+check-header: all
+	tests/header.sh $(VERSION)
+
 check-guard:
 	@if test -f tests/guard.c; then $(MAKE) -C tests guard; else echo "SKIPPED: tests/guard.c is not there"; fi
 
@@ -148,6 +151,6 @@ clean:
 	$(MAKE) -C examples clean
 	$(MAKE) -C bench clean
 
-.PHONY: all frames install uninstall gp check check-gate check-host check-examples check-guard check-stack check-desk check-parts check-install \
+.PHONY: all frames install uninstall gp check check-gate check-host check-examples check-header check-guard check-stack check-desk check-parts check-install \
     check-python check-gp check-sage check-scaling check-readme check-figures figures dist clean
 include tools/build.mk
