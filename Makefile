@@ -1,12 +1,13 @@
 # make            build/libjingcobu.a, build/libjingcobu.so and build/jingcobu-desk. Needs the Rattle kit (rt) and gcc.
 # make frames     answers the frames of examples/ and prints the answers. Needs the kit alone.
-# make install    header, libraries, pkg-config file, jingcobu-desk, jingcobu-parts, manual pages, and what Python and GP need, under PREFIX
-#                 (and DESTDIR, for packages). make uninstall removes them.
+# make install    header, libraries, files for pkg-config and CMake, jingcobu-desk, jingcobu-parts, manual pages, and what Python and GP
+#                 need, under PREFIX (and DESTDIR, for packages). make uninstall removes them.
 # make gp         build/libjingcobu-gp.so, for PARI/GP. Needs libpari-dev too.
 # make check      all tests of what C, Python, GP and shell users see. It says first what is missing (tests/missing), skips what needs it,
 #                 and counts both at the end. Where CI is set, what depends on the clock is left out.
 # make figures    runs the scripts of tools/ that made stored files, and compares; those that take long with FIGURES=all.
-# make dist       build/jingcobu-VERSION.tar.gz, the sources as they are committed. Needs git.
+# make dist       build/jingcobu-VERSION.tar.gz, the sources as they are committed, with CHANGELOG.md, which says what has changed. Needs
+#                 git.
 #
 # The first number of VERSION is that of the shared library's interface: it moves when a program would have to be built anew.
 SHELL = bash -o pipefail
@@ -144,6 +145,8 @@ dist:
 	@mkdir -p build
 	git archive --format=tar --prefix=jingcobu-$(VERSION)/ HEAD | gzip -9n > build/jingcobu-$(VERSION).tar.gz
 	@echo build/jingcobu-$(VERSION).tar.gz
+	@if git cat-file -e HEAD:CHANGELOG.md 2> /dev/null; then echo "what has changed: jingcobu-$(VERSION)/CHANGELOG.md"; \
+	    else echo "there is no CHANGELOG.md in it"; fi
 
 clean:
 	rm -rf build
@@ -151,6 +154,6 @@ clean:
 	$(MAKE) -C examples clean
 	$(MAKE) -C bench clean
 
-.PHONY: all frames install uninstall gp check check-gate check-host check-examples check-header check-guard check-stack check-desk check-parts check-install \
-    check-python check-gp check-sage check-scaling check-readme check-figures figures dist clean
+.PHONY: all frames install uninstall gp check check-gate check-host check-examples check-header check-guard check-stack check-desk \
+    check-parts check-install check-python check-gp check-sage check-scaling check-readme check-figures figures dist clean
 include tools/build.mk
