@@ -15,5 +15,6 @@ each(c, all) =
     foreach([4, 12, 24, 48], d,
       my(all = pairs(n, d));
       printf("%-20s %2d  %8.5s  %8.5s  %8.5s  %8.5s\n", n, d, each((f, g) -> jingcobu_resultant(n, f, g), all),
-        each((f, g) -> polresultant(f, g), all), each((f, g) -> jingcobu_reduced_resultant(n, f, g), all), each((f, g) -> bezout(f, g), all))));
+        each((f, g) -> polresultant(f, g), all), each((f, g) -> jingcobu_reduced_resultant(n, f, g), all),
+        each((f, g) -> bezout(f, g), all))));
 }

@@ -139,9 +139,11 @@ cp -r python/jingcobu "$scratch/elsewhere"
 if lacks libpari-dev || lacks pari-gp; then
     echo "SKIPPED: pari-gp or libpari-dev is not installed, for the GP functions as they are installed"
 else
-    said=$( (cat "$folder/share/jingcobu/jingcobu.gp" && echo 'jingcobu_resultant(12, 2*x + 3, 4*x + 1)') | (cd / && env -u JINGCOBU_GP gp -q -f))
-    [ "$said" = "Mod(2, 12)" ] || fail "the GP functions as they are installed: $said"
-    grep -qF "GP: \\r $folder/share/jingcobu/jingcobu.gp" "$scratch/said" || fail "make install does not say how GP finds the functions"
+    # from another folder, by the line that make install says
+    read=$(sed -n 's/^GP: //p' "$scratch/said")
+    [ "$read" = "read(\"$folder/share/jingcobu/jingcobu.gp\")" ] || fail "make install does not say how GP finds the functions: $read"
+    said=$(printf '%s;\njingcobu_resultant(2^62, 2*x + 3, 4*x + 1)\n' "$read" | (cd / && env -u JINGCOBU_GP gp -q -f 2>&1))
+    [ "$said" = "Mod(4611686018427387894, 4611686018427387904)" ] || fail "the GP functions as they are installed: $said"
 fi
 
 # The manual pages: no warnings, every service and every refusal, and the examples.
