@@ -1,12 +1,13 @@
 # make            build/libjingcobu.a, build/libjingcobu.so and build/jingcobu-desk. Needs the Rattle kit (rt) and gcc.
 # make frames     answers the frames of examples/ and prints the answers. Needs the kit alone.
-# make install    header, libraries, pkg-config file, jingcobu-desk, jingcobu-parts, manual pages, and what Python and GP need, under PREFIX
-#                 (and DESTDIR, for packages). make uninstall removes them.
+# make install    header, libraries, files for pkg-config and CMake, jingcobu-desk, jingcobu-parts, manual pages, and what Python and GP
+#                 need, under PREFIX (and DESTDIR, for packages). make uninstall removes them.
 # make gp         build/libjingcobu-gp.so, for PARI/GP. Needs libpari-dev too.
 # make check      all tests of what C, Python, GP and shell users see. It says first what is missing (tests/missing), skips what needs it,
 #                 and counts both at the end. Where CI is set, what depends on the clock is left out.
 # make figures    runs the scripts of tools/ that made stored files, and compares; those that take long with FIGURES=all.
-# make dist       build/jingcobu-VERSION.tar.gz, the sources as they are committed. Needs git.
+# make dist       build/jingcobu-VERSION.tar.gz, the sources as they are committed, with CHANGELOG.md, which says what has changed. Needs
+#                 git.
 #
 # The first number of VERSION is that of the shared library's interface: it moves when a program would have to be built anew.
 SHELL = bash -o pipefail
@@ -101,18 +102,21 @@ check-gate:
 check-examples:
 	$(MAKE) -C examples
 
+check-header: all
+	tests/header.sh $(VERSION)
+
 check-guard:
-	@if test -f tests/guard.c; then $(MAKE) -C tests guard; else echo "SKIPPED: tests/guard.c is not there"; fi
+	$(MAKE) -C tests guard
 
 check-threads:
-	@if test -f tests/threads.c; then $(MAKE) -C tests threads; else echo "SKIPPED: tests/threads.c is not there"; fi
+	$(MAKE) -C tests threads
 
 check-stack:
-	@if test -f tests/stack.c; then $(MAKE) -C tests stack; else echo "SKIPPED: tests/stack.c is not there"; fi
+	$(MAKE) -C tests stack
 
 # the proved program as it is, then what is installed around it
 check-desk: build/jingcobu-desk
-	@if test -f tests/desk.py; then python3 tests/desk.py target/bin/desk; else echo "SKIPPED: tests/desk.py is not there"; fi
+	python3 tests/desk.py target/bin/desk
 	tests/desk.sh $(VERSION)
 
 check-parts: build/jingcobu-desk build/jingcobu-parts
@@ -144,6 +148,8 @@ dist:
 	@mkdir -p build
 	git archive --format=tar --prefix=jingcobu-$(VERSION)/ HEAD | gzip -9n > build/jingcobu-$(VERSION).tar.gz
 	@echo build/jingcobu-$(VERSION).tar.gz
+	@if git cat-file -e HEAD:CHANGELOG.md 2> /dev/null; then echo "what has changed: jingcobu-$(VERSION)/CHANGELOG.md"; \
+	    else echo "there is no CHANGELOG.md in it"; fi
 
 clean:
 	rm -rf build
@@ -151,6 +157,6 @@ clean:
 	$(MAKE) -C examples clean
 	$(MAKE) -C bench clean
 
-.PHONY: all frames install uninstall gp check check-gate check-host check-examples check-guard check-threads check-stack check-desk check-parts check-install \
-    check-python check-gp check-sage check-scaling check-readme check-figures figures dist clean
+.PHONY: all frames install uninstall gp check check-gate check-host check-examples check-header check-guard check-threads check-stack \
+    check-desk check-parts check-install check-python check-gp check-sage check-scaling check-readme check-figures figures dist clean
 include tools/build.mk

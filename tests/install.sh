@@ -1,8 +1,8 @@
 #!/usr/bin/env bash
 # What make install puts in place, tried in a scratch prefix whose name has a blank, with a umask of 077: what is there and who can read it,
-# the names that the shared library shows, a C program that is built with pkg-config alone, the tree moved elsewhere, DESTDIR, the frame
-# program and its parts, Python, GP, the examples of the manual pages, and that nothing is left. Usage: tests/install.sh VERSION
-# (make check-install)
+# the names that the shared library shows, C programs that are built with pkg-config alone and with CMake's find_package, the tree moved
+# elsewhere, DESTDIR, the frame program and its parts, Python, GP, the manual pages, and that nothing is left.
+# Usage: tests/install.sh VERSION (make check-install)
 set -eu
 cd "$(dirname "$0")/.."
 version=$1
@@ -18,6 +18,7 @@ mkdir -p "$folder/share/jingcobu" "$folder/share/man/man1"
 echo foreign > "$folder/share/jingcobu/foreign"
 (umask 077 && make -s install PREFIX="$folder" > "$scratch/said") || fail "make install"
 for file in include/jingcobu.h lib/libjingcobu.a lib/libjingcobu.so lib/pkgconfig/jingcobu.pc bin/jingcobu-desk libexec/jingcobu/desk \
+    lib/cmake/jingcobu/jingcobu-config.cmake lib/cmake/jingcobu/jingcobu-config-version.cmake share/man/man3/jingcobu_resultant.3 \
     bin/jingcobu-parts share/man/man1/jingcobu-desk.1 share/man/man1/jingcobu-parts.1 share/man/man3/jingcobu.3 \
     share/jingcobu/python/jingcobu/__init__.py share/jingcobu/python/pyproject.toml share/jingcobu/frames.sbatch; do
     [ -s "$folder/$file" ] || fail "$file is not installed"
@@ -82,6 +83,51 @@ else
     export PKG_CONFIG_PATH="$folder/lib/pkgconfig"
 fi
 
+# The same by CMake's find_package, shared and static, then with the tree moved elsewhere; versions that are served and that are not.
+found() { # PREFIX VERSION [LANGUAGE LINES]: a project in a new folder
+    rm -rf "$scratch/cmake"
+    mkdir "$scratch/cmake"
+    cp "$scratch/small.c" "$scratch/cmake"
+    cat > "$scratch/cmake/CMakeLists.txt" << END
+cmake_minimum_required(VERSION 3.13)
+project(small ${3:-NONE})
+find_package(jingcobu $2 CONFIG REQUIRED)
+find_package(jingcobu $2 CONFIG REQUIRED)
+file(WRITE version "\${jingcobu_VERSION}")
+${4-}
+END
+    (cd "$scratch/cmake" && cmake -DCMAKE_PREFIX_PATH="$1" . && cmake --build .) > "$scratch/cmake.log" 2>&1
+}
+programs='add_executable(shared small.c)
+target_link_libraries(shared jingcobu::jingcobu)
+add_executable(static small.c)
+target_link_libraries(static jingcobu::static)'
+cmake_works() { # PREFIX
+    found "$1" "${version%%.*}" C "$programs" || { cat "$scratch/cmake.log"; fail "find_package(jingcobu) with the tree in $1"; }
+    [ "$("$scratch/cmake/shared") $("$scratch/cmake/static")" = "2 0 2 0" ] || fail "the programs of CMake, with the tree in $1"
+    readelf -d "$scratch/cmake/shared" | grep -q "NEEDED.*\[libjingcobu.so.${version%%.*}\]" || fail "CMake: not the shared library"
+    readelf -d "$scratch/cmake/static" | grep -q "libjingcobu" && fail "CMake: jingcobu::static uses the shared library"
+    [ "$(cat "$scratch/cmake/version")" = "$version" ] || fail "the version that CMake says"
+}
+if lacks cmake; then
+    echo "SKIPPED: cmake is not installed, for the programs that it builds"
+else
+    cmake_works "$folder"
+    mv "$folder" "$scratch/moved"
+    cmake_works "$scratch/moved"
+    for ask in "" "$version EXACT" "${version%.*}" "${version%%.*}...<$((${version%%.*} + 1))"; do
+        found "$scratch/moved" "$ask" || fail "find_package(jingcobu $ask) finds nothing"
+    done
+    for ask in "$((${version%%.*} + 1))" "${version%%.*}.99" "$((${version%%.*} - 1)).9" "0.1...0.9" "0.1...<$version"; do
+        if found "$scratch/moved" "$ask"; then fail "find_package(jingcobu $ask) takes $version"; fi
+    done
+    mv "$scratch/moved/include" "$scratch/include"
+    if found "$scratch/moved" ""; then fail "find_package(jingcobu) finds a tree without a header"; fi
+    grep -q "jingcobu.h is not there" "$scratch/cmake.log" || fail "find_package(jingcobu) does not say what is not there"
+    mv "$scratch/include" "$scratch/moved"
+    mv "$scratch/moved" "$folder"
+fi
+
 # The Python package finds the library of its own installation; a copy beside no library and outside the sources finds it by the loader.
 python_says() { (unset JINGCOBU_LIBRARY && cd / && PYTHONDONTWRITEBYTECODE=1 PYTHONPATH="$1" python3 -m jingcobu resultant 12 "2*x+3" "4*x+1"); }
 [ "$(python_says "$folder/share/jingcobu/python")" = 2 ] || fail "the Python package as it is installed"
@@ -93,9 +139,11 @@ cp -r python/jingcobu "$scratch/elsewhere"
 if lacks libpari-dev || lacks pari-gp; then
     echo "SKIPPED: pari-gp or libpari-dev is not installed, for the GP functions as they are installed"
 else
-    said=$( (cat "$folder/share/jingcobu/jingcobu.gp" && echo 'jingcobu_resultant(12, 2*x + 3, 4*x + 1)') | (cd / && env -u JINGCOBU_GP gp -q -f))
-    [ "$said" = "Mod(2, 12)" ] || fail "the GP functions as they are installed: $said"
-    grep -qF "GP: \\r $folder/share/jingcobu/jingcobu.gp" "$scratch/said" || fail "make install does not say how GP finds the functions"
+    # from another folder, by the line that make install says
+    read=$(sed -n 's/^GP: //p' "$scratch/said")
+    [ "$read" = "read(\"$folder/share/jingcobu/jingcobu.gp\")" ] || fail "make install does not say how GP finds the functions: $read"
+    said=$(printf '%s;\njingcobu_resultant(2^62, 2*x + 3, 4*x + 1)\n' "$read" | (cd / && env -u JINGCOBU_GP gp -q -f 2>&1))
+    [ "$said" = "Mod(4611686018427387894, 4611686018427387904)" ] || fail "the GP functions as they are installed: $said"
 fi
 
 # The manual pages: no warnings, every service and every refusal, and the examples.
@@ -106,8 +154,16 @@ else
         warnings=$(MANWIDTH=100 man --warnings -l "$folder/share/man/$page" 2>&1 > "$scratch/page" || echo failed)
         [ -z "$warnings" ] || fail "$page: $warnings"
     done
+    # man finds the page by the name of each function
+    for name in $(cat "$scratch/header") jingcobu_version jingcobu_status_text; do
+        place=$(man -M "$folder/share/man" -w "$name") || fail "man $name finds no page"
+        [ "$(readlink -f "$place")" = "$folder/share/man/man3/jingcobu.3" ] || fail "man $name finds $place"
+    done
+    man -M "$folder/share/man" jingcobu_resultant | grep -q "Sylvester" || fail "man jingcobu_resultant shows another page"
 fi
-for name in $(cat "$scratch/header"); do grep -q "$name" man/jingcobu.3 || fail "jingcobu.3 does not name $name"; done
+for page in man/*; do grep -A1 '^\.SH LICENSE' "$page" | grep -q "^MIT; the Jingcobu authors" || fail "$page says no license"; done
+grep -q '^# .*License: MIT' "$folder/lib/pkgconfig/jingcobu.pc" || fail "jingcobu.pc says no license"
+for name in jingcobu_version jingcobu_status_text $(cat "$scratch/header"); do grep -q "$name" man/jingcobu.3 || fail "jingcobu.3 does not name $name"; done
 for name in $(grep -oE '^    JINGCOBU_[A-Z_]+ = ' include/jingcobu.h | tr -d ' ='); do
     grep -q "$name" man/jingcobu.3 || fail "jingcobu.3 does not name $name"
 done
@@ -166,4 +222,4 @@ grep -q "^installed='/opt/jingcobu/libexec/jingcobu/desk'" "$scratch/dest dir/op
 make -s uninstall DESTDIR="$scratch/dest dir" PREFIX=/opt/jingcobu
 [ -z "$(ls -A "$scratch/dest dir")" ] || fail "uninstall leaves something under DESTDIR"
 if make -s install PREFIX=relative > /dev/null 2>&1 || [ -e relative ]; then fail "a PREFIX that is no whole path is not refused"; fi
-echo "installation: header, libraries, pkg-config, jingcobu-desk, jingcobu-parts, Python, GP and manual pages are in place and work"
+echo "installation: header, libraries, pkg-config, CMake, jingcobu-desk, jingcobu-parts, Python, GP and manual pages are in place and work"
