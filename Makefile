@@ -151,6 +151,6 @@ clean:
 	$(MAKE) -C examples clean
 	$(MAKE) -C bench clean
 
-.PHONY: all frames install uninstall gp check check-gate check-host check-examples check-guard check-threads check-stack check-desk check-parts check-install \
-    check-python check-gp check-sage check-scaling check-readme check-figures figures dist clean
+.PHONY: all frames install uninstall gp check check-gate check-host check-examples check-guard check-threads check-stack \
+    check-desk check-parts check-install check-python check-gp check-sage check-scaling check-readme check-figures figures dist clean
 include tools/build.mk
