@@ -44,13 +44,15 @@ for shell in sh dash bash 'busybox sh'; do
     expect 0 "$shell: a file, input, a file" run "$folder/two" - "$folder/two" < "$folder/one"
     answers "$folder/answer three" "$shell: a file, input, a file"
     expect 1 "$shell: closed input" run <&- && said 'desk: standard input' "closed input" && nothing "$shell: closed input"
-    expect 1 "$shell: closed output" bash -c "exec $shell \"\$0\" >&-" "$desk" < "$folder/one" && said 'desk: standard output' "closed output"
+    expect 1 "$shell: closed output" bash -c "exec $shell \"\$0\" >&-" "$desk" < "$folder/one"
+    said 'desk: standard output' "closed output"
     expect 1 "$shell: both closed" bash -c "exec $shell \"\$0\" >&- <&-" "$desk" && said 'desk: standard input' "both closed"
     expect 1 "$shell: all closed" bash -c "exec $shell \"\$0\" >&- <&- 2>&-" "$desk"
     expect 1 "$shell: closed output and error" bash -c "exec $shell \"\$0\" >&- 2>&-" "$desk" < "$folder/one"
     expect 1 "$shell: a directory" run < / && said 'desk: standard input' "a directory" && nothing "$shell: a directory"
     expect 1 "$shell: /dev/full" bash -c "$shell \"\$0\" > /dev/full" "$desk" < "$frames" && said 'desk: standard output' "/dev/full"
-    expect 1 "$shell: /dev/full, one answer" bash -c "$shell \"\$0\" > /dev/full" "$desk" < "$folder/one" && said 'desk: standard output' "/dev/full"
+    expect 1 "$shell: /dev/full, one answer" bash -c "$shell \"\$0\" > /dev/full" "$desk" < "$folder/one"
+    said 'desk: standard output' "/dev/full, one answer"
 done
 
 # options and names of files
@@ -68,7 +70,8 @@ expect 0 "a file with the name of an option" "$desk" -- --help && answers "answe
 cp one "a  b'\"\$c"
 expect 0 "a file with blanks and quotes" "$desk" "a  b'\"\$c" && answers "answer one" "a file with blanks and quotes"
 expect 1 "no such file" "$desk" one none two && answers "answer one" "no such file" && said '^jingcobu-desk: none: ' "no such file"
-expect 1 "a directory as a file" "$desk" "$folder" && nothing "a directory as a file" && said "^jingcobu-desk: $folder: is a directory" "a directory"
+expect 1 "a directory as a file" "$desk" "$folder" && nothing "a directory as a file"
+said "^jingcobu-desk: $folder: is a directory" "a directory as a file"
 mkdir bin && cp "$desk" "$desk.proved" bin && chmod 755 "$folder" bin bin/* && chmod 644 one && chmod 0 two
 other=
 [ "$(id -u)" != 0 ] || other='setpriv --reuid 65534 --regid 65534 --clear-groups'
@@ -110,7 +113,9 @@ expect 1 "a reader that has gone away, signal ignored" python3 -c "$gone" ignore
 "$desk" "$frames" "$frames" "$frames" > three
 limited() { (ulimit -f 4; exec "$desk" "$frames" "$frames" "$frames" > short); }
 expect 153 "a limit of the file's size" limited
-prefix() { [ "$(wc -c < short)" -lt "$(wc -c < three)" ] && head -c "$(wc -c < short)" three | cmp -s - short || fail "$1: not the first answers"; }
+prefix() {
+    [ "$(wc -c < short)" -lt "$(wc -c < three)" ] && head -c "$(wc -c < short)" three | cmp -s - short || fail "$1: not the first answers"
+}
 prefix "a limit of the file's size"
 ignored() { (trap '' XFSZ; ulimit -f 4; exec "$desk" "$frames" "$frames" "$frames" > short); }
 expect 1 "a limit of the file's size, signal ignored" ignored && said 'desk: standard output' "a limit" && prefix "a limit, signal ignored"

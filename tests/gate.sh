@@ -37,14 +37,19 @@ asked="-q update
 for APT in 0 100; do
     export APT
     rm -f "$folder/ci/apt-get.log"
-    (export CI=true PATH="$folder/ci" && expect 0 'rt ci\n1 passed, 0 failed\nmake check in CI\n1 passed, 0 failed' 0 '1 passed, 0 failed' 0) || exit 1
-    [ "$(cat "$folder/ci/apt-get.log")" = "$(printf '%s\n' "$asked" | head -n $((APT ? 1 : 2)))" ] || fail "apt-get was asked: $(cat "$folder/ci/apt-get.log")"
+    (
+        export CI=true PATH="$folder/ci"
+        expect 0 'rt ci\n1 passed, 0 failed\nmake check in CI\n1 passed, 0 failed' 0 '1 passed, 0 failed' 0
+    ) || exit 1
+    [ "$(cat "$folder/ci/apt-get.log")" = "$(printf '%s\n' "$asked" | head -n $((APT ? 1 : 2)))" ] ||
+        fail "apt-get was asked: $(cat "$folder/ci/apt-get.log")"
 done
 
 # without the kit, in words, from .ci/run and from make
 mkdir "$folder/bin"
 for name in bash sh dirname cat env make gcc mkdir; do ln -s "$(command -v $name)" "$folder/bin/$name"; done
-for call in "bash .ci/run" "make -s -W crates.txt target/bin/desk" "make -s -W ../crates.txt -C examples ../target/staticlib/libengine.a"; do
+for call in "bash .ci/run" "make -s -W crates.txt target/bin/desk" \
+    "make -s -W ../crates.txt -C examples ../target/staticlib/libengine.a"; do
     # shellcheck disable=SC2086
     if PATH=$folder/bin $call > "$folder/out" 2> "$folder/err"; then fail "$call passes without the kit"; fi
     grep -q '^The Rattle kit is needed here' "$folder/err" && grep -qF "for on PATH, which is $folder/bin" "$folder/err" ||

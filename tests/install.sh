@@ -129,7 +129,9 @@ else
 fi
 
 # The Python package finds the library of its own installation; a copy beside no library and outside the sources finds it by the loader.
-python_says() { (unset JINGCOBU_LIBRARY && cd / && PYTHONDONTWRITEBYTECODE=1 PYTHONPATH="$1" python3 -m jingcobu resultant 12 "2*x+3" "4*x+1"); }
+python_says() { # FOLDER
+    (unset JINGCOBU_LIBRARY && cd / && PYTHONDONTWRITEBYTECODE=1 PYTHONPATH="$1" python3 -m jingcobu resultant 12 "2*x+3" "4*x+1")
+}
 [ "$(python_says "$folder/share/jingcobu/python")" = 2 ] || fail "the Python package as it is installed"
 mkdir "$scratch/elsewhere"
 cp -r python/jingcobu "$scratch/elsewhere"
@@ -181,7 +183,8 @@ if lacks parallel; then
     echo "SKIPPED: parallel is not installed, for the example of jingcobu-parts.1"
 else
     (cd "$scratch" && PATH="$folder/bin:$PATH" bash -e parts.1 > parts.out 2> /dev/null) || fail "the example of jingcobu-parts.1"
-    "$folder/bin/jingcobu-desk" "$scratch/frames" | diff - "$scratch/answers" || fail "the example of jingcobu-parts.1 answers something else"
+    "$folder/bin/jingcobu-desk" "$scratch/frames" | diff - "$scratch/answers" ||
+        fail "the example of jingcobu-parts.1 answers something else"
 fi
 blocks man/jingcobu.3 "$scratch/lib."
 mv "$scratch/lib.2" "$scratch/example.c"
@@ -206,7 +209,8 @@ ln -s "$folder/bin/jingcobu-desk" "$scratch/link"
 PYTHONPATH="$folder/share/jingcobu/python" python3 -c 'import jingcobu'
 make -s uninstall PREFIX="$folder"
 left=$(cd "$folder" && find . -mindepth 1 | sort | tr '\n' ' ')
-[ "$left" = "./share ./share/jingcobu ./share/jingcobu/foreign ./share/man ./share/man/man1 " ] || fail "uninstall leaves, or removes too much: $left"
+[ "$left" = "./share ./share/jingcobu ./share/jingcobu/foreign ./share/man ./share/man/man1 " ] ||
+    fail "uninstall leaves, or removes too much: $left"
 rm -rf "$folder"
 make -s install PREFIX="$folder" > /dev/null
 ln -sfn libjingcobu.so."${version%%.*}".99.0 "$folder/lib/libjingcobu.so.${version%%.*}"
@@ -218,7 +222,8 @@ left=$(cd "$folder" && find . -mindepth 1 -not -type d)
 make -s install DESTDIR="$scratch/dest dir" PREFIX=/opt/jingcobu > "$scratch/said"
 [ "$(ls "$scratch/dest dir") $(ls "$scratch/dest dir/opt")" = "opt jingcobu" ] || fail "DESTDIR"
 if grep -rlF "$scratch" "$scratch/dest dir" "$scratch/said"; then fail "what is put in place names DESTDIR"; fi
-grep -q "^installed='/opt/jingcobu/libexec/jingcobu/desk'" "$scratch/dest dir/opt/jingcobu/bin/jingcobu-desk" || fail "the path of the proved program"
+grep -q "^installed='/opt/jingcobu/libexec/jingcobu/desk'" "$scratch/dest dir/opt/jingcobu/bin/jingcobu-desk" ||
+    fail "the path of the proved program"
 make -s uninstall DESTDIR="$scratch/dest dir" PREFIX=/opt/jingcobu
 [ -z "$(ls -A "$scratch/dest dir")" ] || fail "uninstall leaves something under DESTDIR"
 if make -s install PREFIX=relative > /dev/null 2>&1 || [ -e relative ]; then fail "a PREFIX that is no whole path is not refused"; fi

@@ -33,7 +33,8 @@ tail -n 2000 frames > frames.other
 # usage
 for call in "" "cut" "cut frames" "cut frames x" "cut frames x 2 3" "work" "work frames" "join" "join a b" "status" "other x"; do
     # shellcheck disable=SC2086
-    expect 2 "the call '$call'" $call && nothing "the call '$call'" && said '^Usage: jingcobu-parts cut FILE FOLDER COUNT' "the call '$call'"
+    expect 2 "the call '$call'" $call && nothing "the call '$call'"
+    said '^Usage: jingcobu-parts cut FILE FOLDER COUNT' "the call '$call'"
 done
 expect 0 "--help" --help
 grep -q 'status FOLDER' out || fail "--help"
@@ -44,7 +45,8 @@ cat parts/*.frames | cmp -s frames - || fail "the parts are not the input"
 [ "$(ls parts | wc -l)" = 14 ] || fail "cut leaves something beside 7 parts and 7 sums"
 expect 0 "status" status parts && says "0 of 7 parts are done" "status"
 expect 1 "join before work" join parts && nothing "join before work" && said 'parts/000003.frames is not done' "join before work"
-expect 0 "work" work parts/000000.frames && nothing "work" && cmp -s parts/000000.answers <(head -c "$(wc -c < parts/000000.answers)" right) || fail "work"
+expect 0 "work" work parts/000000.frames && nothing "work"
+head -c "$(wc -c < parts/000000.answers)" right | cmp -s - parts/000000.answers || fail "work answers something else"
 expect 0 "work of two parts" work parts/000001.frames parts/000002.frames
 expect 0 "status" status parts && says "3 of 7 parts are done" "status"
 (cd / && JINGCOBU_DESK=$root/build/jingcobu-desk "$parts" work "$folder/parts/000003.frames") || fail "work from elsewhere"
@@ -91,7 +93,8 @@ removed() { rm "$1"; }
 expect 0 "cut of another input" cut frames.other other 7 && work_all other
 for damage in cut_short unfinished changed of_another removed; do
     $damage parts/000002.answers
-    expect 1 "join with answers $damage" join parts && nothing "join with answers $damage" && said 'parts/000002' "join with answers $damage"
+    expect 1 "join with answers $damage" join parts && nothing "join with answers $damage"
+    said 'parts/000002' "join with answers $damage"
     expect 0 "work after answers $damage" work parts/000002.frames
     expect 0 "join after answers $damage" join parts && cmp -s right out || fail "answers $damage: not worked again"
 done
@@ -128,14 +131,18 @@ expect 1 "work with frames of another input" work parts/000004.frames && said 'a
 expect 1 "join with frames of another input" join parts && nothing "join with frames of another input"
 again
 cp other/000004.* parts
-expect 1 "join with a part of another input" join parts && nothing "join with a part of another input" && said 'another input' "another input"
-expect 1 "status with a part of another input" status parts && nothing "status" && said 'another input' "status with a part of another input"
+expect 1 "join with a part of another input" join parts && nothing "join with a part of another input"
+said 'another input' "join with a part of another input"
+expect 1 "status with a part of another input" status parts && nothing "status with a part of another input"
+said 'another input' "status with a part of another input"
 again
 rm parts/000006.*
-expect 1 "join without the last part" join parts && nothing "join without the last part" && said 'parts/000006.frames is missing' "the last part"
+expect 1 "join without the last part" join parts && nothing "join without the last part"
+said 'parts/000006.frames is missing' "join without the last part"
 again
 for ending in frames sum answers "done"; do cp parts/000005.$ending parts/000004.$ending; done
-expect 1 "join with a part twice" join parts && nothing "join with a part twice" && said 'parts/000004.sum is damaged' "join with a part twice"
+expect 1 "join with a part twice" join parts && nothing "join with a part twice"
+said 'parts/000004.sum is damaged' "join with a part twice"
 again
 # a part that is whole in itself and tells of this input, with another line in it
 sed -i '5s/.*/zz/' parts/000004.frames
@@ -143,7 +150,8 @@ sum() { sha256sum < "$1" | cut -c 1-64; }
 sed -i "s/frames .*/frames $(sum parts/000004.frames)/" parts/000004.sum
 rm parts/000004.answers
 expect 0 "work of a forged part" work parts/000004.frames
-expect 1 "join with a forged part" join parts && nothing "join with a forged part" && said 'not the input that was cut' "join with a forged part"
+expect 1 "join with a forged part" join parts && nothing "join with a forged part"
+said 'not the input that was cut' "join with a forged part"
 again
 mkdir nothing
 expect 1 "join of an empty folder" join nothing && expect 1 "status of an empty folder" status nothing
@@ -152,8 +160,8 @@ expect 1 "join of no folder" join nowhere && expect 1 "status of no folder" stat
 # a frame program that fails, says nothing for some lines, or is not there
 fake() { printf '#!/bin/sh\n%s\n' "$1" > fake && chmod 755 fake; }
 rm parts/000001.answers
-for text in 'cat > /dev/null; head -c 13000 /dev/zero; exit 1' 'head -n 5 > /dev/null; echo 010000000002' "'$root/build/jingcobu-desk' | head -c -1" \
-    "'$root/build/jingcobu-desk'; echo 010000000002" 'kill -9 $$'; do
+for text in 'cat > /dev/null; head -c 13000 /dev/zero; exit 1' 'head -n 5 > /dev/null; echo 010000000002' \
+    "'$root/build/jingcobu-desk' | head -c -1" "'$root/build/jingcobu-desk'; echo 010000000002" 'kill -9 $$'; do
     fake "$text"
     JINGCOBU_DESK=$folder/fake expect 1 "a frame program that does: $text" work parts/000001.frames
     [ ! -e parts/000001.answers ] || fail "a frame program that does: $text: its answers are put in place"
