@@ -323,6 +323,21 @@ static void change(const modulus *m, pair *p)
     }
 }
 
+/* whether p is slower than the slowest known: both in turn, and the best call of each, since other work may slow down some; `most`
+ * becomes p's figure then, and the other's best otherwise */
+static int slower(enum service s, const pair *p, const pair *best, double *most)
+{
+    double ours = 1e30, other = *most;
+    for (int i = 0; i < 6; i++) {
+        double t = cost(s, p, 2);
+        if (t < ours) ours = t;
+        if (*most > 0) t = cost(s, best, 2);
+        if (*most > 0 && t < other) other = t;
+    }
+    *most = ours > 1.01 * other ? ours : other;
+    return ours > 1.01 * other;
+}
+
 /* from the slowest known: new pairs for a third of the time, changes of the slowest for the rest */
 static pair search(enum service s, pair best, double most, double seconds)
 {
@@ -333,9 +348,7 @@ static pair search(enum service s, pair best, double most, double seconds)
         const modulus *k = fresh ? drawn_modulus(s) : m;
         pair p = fresh ? nasty_pair(s, k) : best;
         if (!fresh) change(k, &p);
-        double t = cost(s, &p, 1);
-        if (t <= most || (t = cost(s, &p, 4)) <= 1.01 * most) continue;
-        most = t;
+        if (cost(s, &p, 2) <= most || !slower(s, &p, &best, &most)) continue;
         best = p;
         m = k;
     }
