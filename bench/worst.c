@@ -3,8 +3,8 @@
  * several calls, in microseconds of processor time; a random pair has d = e = 48 and words and n drawn evenly (two variables: d = e = 48
  * in y, a = 0 and b = 1 in z, n the largest prime). Where a call is refused, or two services answer different numbers, the program says
  * so and exits with 1.
- * Build and run: make -C bench worst && bench/worst. A search: bench/worst search SECONDS [SEED] > worst.txt, in the folder bench; what
- * worst.txt has is where it begins. */
+ * Build and run: make -C bench slowest. A search: ./worst search SECONDS [SEED [SERVICE]] in the folder bench prints lines for worst.txt;
+ * it begins with what worst.txt has. */
 #include <stdio.h>
 #include <stdlib.h>
 #include <string.h>
@@ -223,8 +223,8 @@ static const modulus moduli[] = {
 static const modulus wide_moduli[] = {
     { 4611686018427387904u, { 2 } }, { 2305843009213693952u, { 2 } }, { 4052555153018976267u, { 3 } }, { 7450580596923828125u, { 5 } },
     { 4738381338321616896u, { 2, 3 } }, { 614889782588491410u, { 2, 3, 5, 7 } }, { 9223371994482243049u, { 3037000493u } },
-    { 9223372036854775807u, { 7, 73, 127, 337 } }, { 9223372036854775783u, { 1 } }, { 4294967296u, { 2 } }, { 6917529027641081856u, { 2, 3 } },
-    { 3909821048582988049u, { 7 } },
+    { 9223372036854775807u, { 7, 73, 127, 337 } }, { 9223372036854775783u, { 1 } }, { 4294967296u, { 2 } },
+    { 6917529027641081856u, { 2, 3 } }, { 3909821048582988049u, { 7 } },
 };
 static const modulus two_moduli[] = {
     { 418195493u, { 53 } }, { 714924299u, { 59 } }, { 844596301u, { 61 } }, { 907383479u, { 53, 59, 61, 67 } }, { 4294967291u, { 1 } },
@@ -323,6 +323,21 @@ static void change(const modulus *m, pair *p)
     }
 }
 
+/* whether p is slower than the slowest known: both in turn, and the best call of each, since other work may slow down some; `most`
+ * becomes p's figure then, and the other's best otherwise */
+static int slower(enum service s, const pair *p, const pair *best, double *most)
+{
+    double ours = 1e30, other = *most;
+    for (int i = 0; i < 6; i++) {
+        double t = cost(s, p, 2);
+        if (t < ours) ours = t;
+        if (*most > 0) t = cost(s, best, 2);
+        if (*most > 0 && t < other) other = t;
+    }
+    *most = ours > 1.01 * other ? ours : other;
+    return ours > 1.01 * other;
+}
+
 /* from the slowest known: new pairs for a third of the time, changes of the slowest for the rest */
 static pair search(enum service s, pair best, double most, double seconds)
 {
@@ -333,9 +348,7 @@ static pair search(enum service s, pair best, double most, double seconds)
         const modulus *k = fresh ? drawn_modulus(s) : m;
         pair p = fresh ? nasty_pair(s, k) : best;
         if (!fresh) change(k, &p);
-        double t = cost(s, &p, 1);
-        if (t <= most || (t = cost(s, &p, 4)) <= 1.01 * most) continue;
-        most = t;
+        if (cost(s, &p, 2) <= most || !slower(s, &p, &best, &most)) continue;
         best = p;
         m = k;
     }
@@ -351,6 +364,7 @@ int main(int argc, char **argv)
     if (argc > 2 && !strcmp(argv[1], "search")) {
         if (argc > 3) state += strtoull(argv[3], NULL, 10);
         for (int s = 0; s < SERVICES; s++) {
+            if (argc > 4 && service_of(argv[4]) != s) continue;
             pair p = search(s, slowest[s], most[s], atof(argv[2]));
             write_pair(s, &p);
         }
@@ -358,8 +372,8 @@ int main(int argc, char **argv)
     }
     for (int s = 0; s < SERVICES; s++) {
         double usual = median(s);
-        printf("%-20s random pairs %9.2f us in the median, the slowest found %10.2f us, ratio %6.1f; n = %llu, d = %zu, e = %zu\n", names[s], usual,
-               most[s], most[s] / usual, (unsigned long long) slowest[s].n, slowest[s].d, slowest[s].e);
+        printf("%-20s random pairs %8.2f us in the median, the slowest found %9.2f us, ratio %5.1f; n = %llu, d = %zu, e = %zu\n", names[s],
+               usual, most[s], most[s] / usual, (unsigned long long) slowest[s].n, slowest[s].d, slowest[s].e);
         if (most[s] == 0) { wrong++; printf("WRONG: no pair of %s is stored\n", names[s]); }
     }
     printf("wrong values of the engine: %d\n", wrong);
