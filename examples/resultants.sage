@@ -23,7 +23,7 @@ def resultant(f, g):
     return f.base_ring()(jingcobu.resultant(n, words(f), words(g)))
 
 def reduced_resultant(f, g):
-    """D, and u and v with u f + v g = D."""
+    """(D, u, v) with u f + v g = D."""
     D, u, v = jingcobu.reduced_resultant(modulus(f, g), words(f), words(g))
     return D, f.parent()(u), f.parent()(v)
 
