@@ -274,7 +274,7 @@ jingcobu64_answer jingcobu64_reduced_resultant(uint64_t n, const uint64_t *f, si
 /* The version of the header that the program was built with. */
 static inline const char *jingcobu_version(void) { return JINGCOBU_VERSION; }
 
-/* What a status says, in words that are never freed; "unknown status" from 18 on. */
+/* What a status says, in words that are never freed; a status from 18 on is unknown. */
 static inline const char *jingcobu_status_text(unsigned status)
 {
     switch (status) {
