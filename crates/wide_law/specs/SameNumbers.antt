@@ -33,7 +33,9 @@ fits-both n l = (l, omega arith)
 
 -- the front of a result buffer after an answer
 product-front : (n : ℕ) (f g b b' : List ℕ) → b' ≡ replaced 0 (product n f g) b → take (length (product n f g)) b' ≡ product n f g
-product-front n f g b b' h = ap (take (length (product n f g))) h ∙ take-at (product n f g) (drop (length (product n f g)) b) (length (product n f g)) refl
+product-front n f g b b' h =
+    ap (take (length (product n f g))) h
+    ∙ take-at (product n f g) (drop (length (product n f g)) b) (length (product n f g)) refl
 
 -- ---- two calls that answered
 
