@@ -1,9 +1,13 @@
 # make            build/libjingcobu.a, build/libjingcobu.so and build/jingcobu-desk. Needs the Rattle kit (rt) and gcc.
-# make install    header, libraries, pkg-config file, jingcobu-desk and manual pages, under PREFIX (and DESTDIR, for packages).
+# make frames     answers the frames of examples/ and prints the answers. Needs the kit alone.
+# make install    header, libraries, files for pkg-config and CMake, jingcobu-desk, jingcobu-parts, manual pages, and what Python and GP
+#                 need, under PREFIX (and DESTDIR, for packages). make uninstall removes them.
 # make gp         build/libjingcobu-gp.so, for PARI/GP. Needs libpari-dev too.
-# make check      all tests of what C, Python, GP and shell users see. Needs also python3, man-db, pkg-config, libpari-dev, pari-gp and
-#                 parallel; sage is tried where it is installed.
-# make dist       build/jingcobu-VERSION.tar.gz, the sources as they are committed. Needs git.
+# make check      all tests of what C, Python, GP and shell users see. It says first what is missing (tests/missing), skips what needs it,
+#                 and counts both at the end. Where CI is set, what depends on the clock is left out.
+# make figures    runs the scripts of tools/ that made stored files, and compares; those that take long with FIGURES=all.
+# make dist       build/jingcobu-VERSION.tar.gz, the sources as they are committed, with CHANGELOG.md, which says what has changed. Needs
+#                 git.
 #
 # The first number of VERSION is that of the shared library's interface: it moves when a program would have to be built anew.
 SHELL = bash -o pipefail
@@ -13,7 +17,9 @@ PREFIX ?= /usr/local
 INCLUDEDIR ?= $(PREFIX)/include
 LIBDIR ?= $(PREFIX)/lib
 BINDIR ?= $(PREFIX)/bin
-MANDIR ?= $(PREFIX)/share/man
+LIBEXECDIR ?= $(PREFIX)/libexec
+DATADIR ?= $(PREFIX)/share
+MANDIR ?= $(DATADIR)/man
 
 # 1: every service of the header must be in the library, and every test is run. 0: tests of services that it has not are skipped.
 JINGCOBU_ALL ?= 1
@@ -24,7 +30,7 @@ ENGINE = target/staticlib/libengine.a
 SONAME = libjingcobu.so.$(MAJOR)
 SHARED = libjingcobu.so.$(VERSION)
 
-all: build/libjingcobu.a build/libjingcobu.so build/jingcobu-desk
+all: build/libjingcobu.a build/libjingcobu.so build/jingcobu-desk build/jingcobu-parts
 
 build/libjingcobu.a: $(ENGINE)
 	@mkdir -p build
@@ -40,27 +46,41 @@ build/libjingcobu.so: build/$(SHARED)
 	ln -sf $(SHARED) build/$(SONAME)
 	ln -sf $(SONAME) $@
 
-build/jingcobu-desk: target/bin/desk
+# The proved program, and beside it the shell program around it that users call.
+build/jingcobu-desk.proved: target/bin/desk
 	@mkdir -p build
 	cp target/bin/desk $@
 
-install: all
-	install -d $(DESTDIR)$(INCLUDEDIR) $(DESTDIR)$(LIBDIR)/pkgconfig $(DESTDIR)$(BINDIR) $(DESTDIR)$(MANDIR)/man1 $(DESTDIR)$(MANDIR)/man3
-	install -m 644 include/jingcobu.h $(DESTDIR)$(INCLUDEDIR)
-	install -m 644 build/libjingcobu.a $(DESTDIR)$(LIBDIR)
-	install -m 755 build/$(SHARED) $(DESTDIR)$(LIBDIR)
-	ln -sf $(SHARED) $(DESTDIR)$(LIBDIR)/$(SONAME)
-	ln -sf $(SONAME) $(DESTDIR)$(LIBDIR)/libjingcobu.so
-	sed -e 's|@INCLUDEDIR@|$(INCLUDEDIR)|' -e 's|@LIBDIR@|$(LIBDIR)|' -e 's|@VERSION@|$(VERSION)|' tools/jingcobu.pc.in \
-	    > $(DESTDIR)$(LIBDIR)/pkgconfig/jingcobu.pc
-	install -m 755 build/jingcobu-desk $(DESTDIR)$(BINDIR)
-	install -m 644 man/jingcobu-desk.1 $(DESTDIR)$(MANDIR)/man1
-	install -m 644 man/jingcobu.3 $(DESTDIR)$(MANDIR)/man3
+build/jingcobu-desk: tools/jingcobu-desk build/jingcobu-desk.proved Makefile
+	sed -e 's|@VERSION@|$(VERSION)|' -e 's|@PROGRAM@||' tools/jingcobu-desk > $@.new
+	chmod 755 $@.new
+	mv $@.new $@
+
+build/jingcobu-parts: tools/jingcobu-parts
+	@mkdir -p build
+	cp tools/jingcobu-parts $@
+
+frames: build/jingcobu-desk
+	@build/jingcobu-desk examples/frames
+
+# Places can have blanks: they reach the script in its environment.
+install uninstall: export VERSION := $(VERSION)
+install uninstall: export DESTDIR := $(DESTDIR)
+install uninstall: export PREFIX := $(PREFIX)
+install uninstall: export INCLUDEDIR := $(INCLUDEDIR)
+install uninstall: export LIBDIR := $(LIBDIR)
+install uninstall: export BINDIR := $(BINDIR)
+install uninstall: export LIBEXECDIR := $(LIBEXECDIR)
+install uninstall: export DATADIR := $(DATADIR)
+install uninstall: export MANDIR := $(MANDIR)
+
+# The GP functions too, where libpari-dev is installed.
+GP_TOO := $(if $(filter libpari-dev,$(shell tests/missing)),,gp)
+install: all $(GP_TOO)
+	@tools/install put
 
 uninstall:
-	rm -f $(DESTDIR)$(INCLUDEDIR)/jingcobu.h $(DESTDIR)$(LIBDIR)/libjingcobu.a $(DESTDIR)$(LIBDIR)/libjingcobu.so* \
-	    $(DESTDIR)$(LIBDIR)/pkgconfig/jingcobu.pc $(DESTDIR)$(BINDIR)/jingcobu-desk $(DESTDIR)$(MANDIR)/man1/jingcobu-desk.1 \
-	    $(DESTDIR)$(MANDIR)/man3/jingcobu.3
+	@tools/install remove
 
 # The GP functions, with the engine inside. Where not every service has to be there, a missing one fails when it is called.
 gp: build/libjingcobu-gp.so
@@ -69,12 +89,38 @@ build/libjingcobu-gp.so: gp/jingcobu.c include/jingcobu.h build/libjingcobu.a
 	    $(if $(filter 1,$(JINGCOBU_ALL)),-Wl$(comma)-z$(comma)defs) -lpari
 comma = ,
 
-check: check-host check-install check-python check-gp check-sage check-scaling check-readme
-	@echo "make check: all passed"
+# Every part, and how many passed and were skipped.
+check:
+	@+tests/check "$(MAKE)"
 
 check-host:
 	$(MAKE) -C tests
+
+check-gate:
+	tests/gate.sh
+
+check-examples:
 	$(MAKE) -C examples
+
+check-header: all
+	tests/header.sh $(VERSION)
+
+check-guard:
+	$(MAKE) -C tests guard
+
+check-threads:
+	$(MAKE) -C tests threads
+
+check-stack:
+	$(MAKE) -C tests stack
+
+# the proved program as it is, then what is installed around it
+check-desk: build/jingcobu-desk
+	python3 tests/desk.py target/bin/desk
+	tests/desk.sh $(VERSION)
+
+check-parts: build/jingcobu-desk build/jingcobu-parts
+	tests/parts.sh
 
 check-install: all
 	tests/install.sh $(VERSION)
@@ -86,19 +132,24 @@ check-gp: gp
 	gp/test
 
 check-sage: all
-	@if command -v sage > /dev/null; then sage examples/resultants.sage | diff -u examples/resultants.expected - && rm -f examples/*.sage.py; \
-	    else echo "SKIPPED: sage is not installed"; fi
-
-check-readme: all gp
-	tests/readme.py
+	sage examples/resultants.sage | diff -u examples/resultants.expected -
+	rm -f examples/*.sage.py
 
 check-scaling: all
 	tests/scaling.sh
+
+check-readme: all $(GP_TOO)
+	tests/readme.py
+
+figures check-figures:
+	python3 tests/figures.py $(FIGURES)
 
 dist:
 	@mkdir -p build
 	git archive --format=tar --prefix=jingcobu-$(VERSION)/ HEAD | gzip -9n > build/jingcobu-$(VERSION).tar.gz
 	@echo build/jingcobu-$(VERSION).tar.gz
+	@if git cat-file -e HEAD:CHANGELOG.md 2> /dev/null; then echo "what has changed: jingcobu-$(VERSION)/CHANGELOG.md"; \
+	    else echo "there is no CHANGELOG.md in it"; fi
 
 clean:
 	rm -rf build
@@ -106,5 +157,6 @@ clean:
 	$(MAKE) -C examples clean
 	$(MAKE) -C bench clean
 
-.PHONY: all install uninstall gp check check-host check-install check-python check-gp check-sage check-scaling check-readme dist clean
+.PHONY: all frames install uninstall gp check check-gate check-host check-examples check-header check-guard check-threads check-stack \
+    check-desk check-parts check-install check-python check-gp check-sage check-scaling check-readme check-figures figures dist clean
 include tools/build.mk

@@ -12,6 +12,7 @@
 #include <flint/fmpz.h>
 #include <flint/fmpz_poly.h>
 #include "../include/jingcobu.h"
+#include "temporary.h"
 
 #define POOL 100
 #define PASSES 15
@@ -113,8 +114,8 @@ static double engine_reduced(uint32_t n, int d)
 /* PARI, by its own clock, on the pool as it stands */
 static void pari(uint32_t n, int d, double ours)
 {
-    const char *script = "/tmp/jingcobu_bench.gp";
-    FILE *out = fopen(script, "w");
+    char script[PATH_ROOM], command[PATH_ROOM + 100];
+    FILE *out = temporary(script);
     if (!out) return;
     fprintf(out, "F=vector(%d);G=vector(%d);\n", POOL, POOL);
     for (int p = 0; p < POOL; p++)
@@ -125,7 +126,8 @@ static void pari(uint32_t n, int d, double ours)
         }
     fprintf(out, "b=10^9;for(s=1,5,t=getabstime();for(r=1,20,for(i=1,%d,polresultant(F[i],G[i])));b=min(b,getabstime()-t));print(b*1000./(20*%d));\n", POOL, POOL);
     fclose(out);
-    FILE *in = popen("gp -q -f /tmp/jingcobu_bench.gp < /dev/null 2> /dev/null", "r");
+    snprintf(command, sizeof command, "gp -q -f '%s' < /dev/null 2> /dev/null", script);
+    FILE *in = popen(command, "r");
     double theirs = 0;
     if (in && fscanf(in, "%lf", &theirs) == 1)
         printf("n = %u, d = e = %2d: resultant %8.2f us, PARI polresultant            %8.2f us, ratio %.2f\n", n, d, ours, theirs, ours / theirs);

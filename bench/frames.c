@@ -6,6 +6,7 @@
 #include <string.h>
 #include <time.h>
 #include "../include/jingcobu.h"
+#include "temporary.h"
 
 /* as in the header, where it stands there already */
 jingcobu_answer jingcobu_divisor(uint32_t n, const uint32_t *f, size_t f_len, const uint32_t *g, size_t g_len, uint32_t *work,
@@ -36,12 +37,12 @@ static jingcobu_answer engine_answer(int kind, const uint32_t *w, int d)
 
 static void measure(const char *desk, int kind, int count, int d)
 {
-    char command[500];
-    snprintf(command, sizeof command, "%s < /tmp/jingcobu_frames > /tmp/jingcobu_answers", desk);
-    const char *in = "/tmp/jingcobu_frames", *out = "/tmp/jingcobu_answers";
+    char command[3 * PATH_ROOM], in[PATH_ROOM], out[PATH_ROOM];
     uint32_t *words = malloc((size_t) count * 2 * (d + 1) * sizeof *words), *values = malloc((size_t) count * sizeof *values);
-    FILE *file = fopen(in, "w");
-    if (!words || !values || !file) exit(1);
+    FILE *file = temporary(in), *answers = temporary(out);
+    if (!words || !values || !file || !answers) exit(1);
+    fclose(answers);
+    snprintf(command, sizeof command, "'%s' < '%s' > '%s'", desk, in, out);
     for (int i = 0; i < count; i++) {
         uint32_t *w = words + (size_t) i * 2 * (d + 1);
         fprintf(file, "%02x%08x%02x%02x", kind, MODULUS, d, d);

@@ -11,6 +11,7 @@
 #include <flint/flint.h>
 #include <flint/nmod_mpoly.h>
 #include "../include/jingcobu.h"
+#include "temporary.h"
 
 jingcobu_answer jingcobu_resultant_two(uint32_t n, const uint32_t *f, size_t f_len, size_t d, size_t a, const uint32_t *g, size_t g_len,
                                        size_t e, size_t b, uint32_t *out, size_t out_len, uint32_t *work, size_t work_len);
@@ -111,9 +112,9 @@ static void polynomial_gp(FILE *s, const char *name, int p, const uint32_t *f, s
 static double pari(uint32_t n, size_t d, size_t a)
 {
     int rounds = d * a < 20 ? 50 : 5;
-    const char *script = "/tmp/jingcobu_two.gp";
+    char script[PATH_ROOM], command[PATH_ROOM + 100];
     double theirs = -1;
-    FILE *s = fopen(script, "w");
+    FILE *s = temporary(script);
     if (!s) return -1;
     fprintf(s, "y;z;n=%u;f=vector(%d);g=vector(%d);\n", n, POOL, POOL);
     for (int p = 0; p < POOL; p++) {
@@ -123,7 +124,8 @@ static double pari(uint32_t n, size_t d, size_t a)
     fprintf(s, "best=10^9;for(k=1,5,gettime();for(r=1,%d,for(p=1,%d,polresultant(f[p],g[p],y)));best=min(best,gettime()));print(best*1000./%d);\n",
             rounds, POOL, rounds * POOL);
     fclose(s);
-    FILE *in = popen("gp -q -f /tmp/jingcobu_two.gp < /dev/null 2> /dev/null", "r");
+    snprintf(command, sizeof command, "gp -q -f '%s' < /dev/null 2> /dev/null", script);
+    FILE *in = popen(command, "r");
     if (in) {
         if (fscanf(in, "%lf", &theirs) != 1) theirs = -1;
         pclose(in);

@@ -1,4 +1,5 @@
-/* Fills a small table through jingcobu.h: pairs of polynomials, their resultants, and their reduced resultants with cofactors.
+/* Fills a small table through jingcobu.h: pairs of polynomials, their resultants, and their reduced resultants D. The cofactors u and v
+ * that come with D are not printed, because more than one pair is right; they are multiplied out: u f + v g must be D.
  * Build and run: make -C examples, which also holds the output to the file `expected`. */
 #include <stdio.h>
 #include "../include/jingcobu.h"
@@ -24,13 +25,6 @@ static void show(const char *name, const uint32_t *w, size_t l)
     for (size_t i = 0; i < l; i++) printf("%s%u", i ? "," : " ", w[i]);
 }
 
-/* a cofactor of L words up to its highest word that is not zero, since L is far above its degree as a rule */
-static void show_cofactor(const char *name, const uint32_t *w, size_t l)
-{
-    while (l > 1 && w[l - 1] == 0) l--;
-    show(name, w, l);
-}
-
 /* L = K * max(d, e) + 1 */
 static size_t cofactor_length(uint32_t n, size_t f_len, size_t g_len)
 {
@@ -39,8 +33,24 @@ static size_t cofactor_length(uint32_t n, size_t f_len, size_t g_len)
     return k * ((f_len > g_len ? f_len : g_len) - 1) + 1;
 }
 
+/* whether u f + v g is the constant D modulo n */
+static int combines(const struct row *r, const uint32_t *u, const uint32_t *v, size_t l, uint32_t D)
+{
+    size_t longer = r->f_len > r->g_len ? r->f_len : r->g_len;
+    for (size_t k = 0; k < l + longer - 1; k++) {
+        uint64_t sum = 0;
+        for (size_t i = 0; i < r->f_len && i <= k; i++)
+            if (k - i < l) sum = (sum + (uint64_t)r->f[i] * u[k - i]) % r->n;
+        for (size_t i = 0; i < r->g_len && i <= k; i++)
+            if (k - i < l) sum = (sum + (uint64_t)r->g[i] * v[k - i]) % r->n;
+        if (sum != (k == 0 ? D % r->n : 0)) return 0;
+    }
+    return 1;
+}
+
 int main(void)
 {
+    int wrong = 0;
     static uint32_t work[JINGCOBU_WORK], u[JINGCOBU_COFACTOR], v[JINGCOBU_COFACTOR];
     for (size_t i = 0; i < sizeof table / sizeof *table; i++) {
         const struct row *r = &table[i];
@@ -54,13 +64,12 @@ int main(void)
                                        work, JINGCOBU_WORK);
         if (a.status == JINGCOBU_OK) {
             size_t l = cofactor_length(r->n, r->f_len, r->g_len);
-            printf(", D %u with", a.value);
-            show_cofactor("u", u, l);
-            show_cofactor("v", v, l);
-            printf("\n");
+            int right = combines(r, u, v, l, a.value);
+            wrong += !right;
+            printf(", D %u %s u f + v g\n", a.value, right ? "=" : "IS NOT");
         } else {
             printf(", D refused with %u\n", a.status);
         }
     }
-    return 0;
+    return wrong != 0;
 }

@@ -1,96 +1,187 @@
 /* The services for PARI/GP: GP's polynomials or vectors in, GP's values out. jingcobu.gp installs the functions; make gp builds this
  * file, with the engine inside, as build/libjingcobu-gp.so.
  *
- *   a polynomial or a number   coefficients t_INT, which are reduced modulo n, or t_INTMOD modulo n; the sent degree is its degree
- *                              as GP has it, before the reduction; the zero polynomial is sent as the single word 0
- *   a vector                   the words as they are sent, constant first: nothing is reduced, and a zero top counts
+ *   a polynomial or a number     coefficients t_INT, which are reduced modulo n, or t_INTMOD modulo n; the sent degree is its degree
+ *                                as GP has it, before the reduction; the zero polynomial is sent as the single word 0
+ *   a vector (also a Vecsmall)   the words as they are sent, constant first: nothing is reduced, and a zero top counts
  *
- * Residues come back as t_INTMOD modulo n, polynomials with such coefficients. A refusal is an error that iferr can catch. */
+ * Residues come back as t_INTMOD modulo n, polynomials with such coefficients. The engine decides what is refused; a refusal is an error
+ * that iferr can catch, and so is a number that fits no word. Errors name the function and the argument; words are counted from 1, as
+ * GP counts.
+ *
+ * Words are gathered in 64 bits. The services for words of 32 bits are called where n and all words fit them, otherwise those of 64
+ * bits, which answer the same numbers; where there is none, n above 4294967295 is an error. */
 #include <pari/pari.h>
 #include "jingcobu.h"
 
 #define SEEN __attribute__((visibility("default")))
+#define MOST 49UL            /* words of a polynomial */
+#define NARROW 0xffffffffUL
+#define WIDE 0x7fffffffffffffffUL
 
-static const char *const meaning[] = {
-    "", "n is 0 or 1", "a polynomial has no word or more than 49, or the sent degrees do not fit", "a word or a residue is n or more",
-    "the divisor's top word is not a unit", "not a unit polynomial times a monic one", "a result buffer is too short",
-    "fewer than 8192 working words", "the line is not a frame", "both sent degrees are 0: the resultant has no cofactors",
-    "the top word of f or g is zero", "a prime up to e a + d b divides n", "e a + d b is above 60", "too many factors",
-    "the number of a factor", "the number of frames", "a multiplier has no word or more than 4096", "not a text of the notation"
-};
+typedef struct { const char *name; ulong n, most; } call;  /* most: the largest modulus that the function has */
 
-static void accept(uint32_t status)
+/* row: the words of one row where it is a polynomial in two variables, otherwise 0; variable: -1 where there is none */
+typedef struct { const char *name; ulong *words; uint32_t *narrow; size_t count, limit, row; long variable; int fits; } sent;
+
+/* ---- errors */
+
+/* an argument, its row and a word of it; what is 0 is left out */
+typedef struct { const char *name; size_t row, k; } spot;
+
+static const char *text(const call *c, spot s)
 {
-    if (status) pari_err(e_MISC, "jingcobu refuses with %ld: %s", (long) status, status < 18 ? meaning[status] : "unknown");
+    const char *row = s.row ? stack_sprintf(": row %lu", (ulong) s.row) : "", *k = s.k ? stack_sprintf(": word %lu", (ulong) s.k) : "";
+    return stack_sprintf("%s: %s%s%s", c->name, s.name, row, k);
+}
+
+/* a refused length or word, with its argument; where none can be named, what the status says */
+static void refuse(const call *c, uint32_t status, const sent *p, int count)
+{
+    if (status == JINGCOBU_BAD_MODULUS) pari_err(e_MISC, "%s refuses with 1: n is %lu, not from 2 to %lu", c->name, c->n, c->most);
+    for (int i = 0; i < count; i++) {
+        int length = status == JINGCOBU_BAD_LENGTH ? p[i].limit == MOST : status == JINGCOBU_BAD_MULTIPLIER && p[i].limit != MOST;
+        if (length && !p[i].row && (!p[i].count || p[i].count > p[i].limit))
+            pari_err(e_MISC, "%s refuses with %ld: %s has %lu words, not from 1 to %lu", c->name, (long) status, p[i].name,
+                     (ulong) p[i].count, (ulong) p[i].limit);
+        for (size_t k = 0; status == JINGCOBU_BAD_WORD && k < p[i].count; k++)
+            if (p[i].words[k] >= c->n)
+                pari_err(e_MISC, "%s refuses with 3: %s%s: word %lu is %lu, not from 0 to %lu", c->name, p[i].name,
+                         p[i].row ? stack_sprintf(": row %lu", (ulong) (k / p[i].row + 1)) : "",
+                         (ulong) (p[i].row ? k % p[i].row : k) + 1, p[i].words[k], c->n - 1);
+    }
+    pari_err(e_MISC, "%s refuses with %ld: %s", c->name, (long) status, jingcobu_status_text(status));
+}
+
+static void accept(const call *c, uint32_t status, const sent *p, int count)
+{
+    if (status) refuse(c, status, p, count);
 }
 
 /* ---- what comes in */
 
-typedef struct { uint32_t *words; size_t count; long variable; } sent;  /* variable: -1 where there is none */
-
-static uint32_t word(GEN x)
+static call asked(const char *name, GEN n, ulong most)
 {
-    if (typ(x) != t_INT) pari_err_TYPE("jingcobu", x);
-    if (signe(x) < 0 || cmpiu(x, 0xffffffffUL) > 0)
-        pari_err(e_MISC, "jingcobu: %Ps is not from 0 to 4294967295", x);
-    return (uint32_t) itou(x);
+    call c = { name, 0, most };
+    if (typ(n) != t_INT) pari_err_TYPE(text(&c, (spot) { "n", 0, 0 }), n);
+    if (signe(n) < 0 || (most == WIDE && lgefint(n) > 3)) pari_err(e_MISC, "%s: n is %Ps, not from 2 to %lu", name, n, most);
+    if (most == NARROW && cmpiu(n, most) > 0)
+        pari_err(e_MISC, "%s: n is %Ps, and this function has words of 32 bits only: n is from 2 to %lu", name, n, most);
+    c.n = itou(n);
+    return c;
 }
 
-static uint32_t *room(size_t count) { return (uint32_t *) stack_malloc((count ? count : 1) * sizeof(uint32_t)); }
+/* a number as it is sent; what fits no word is not sent */
+static ulong word(const call *c, spot s, GEN x, ulong top)
+{
+    if (typ(x) != t_INT) pari_err_TYPE(text(c, s), x);
+    if (signe(x) < 0 || cmpiu(x, c->most == NARROW ? NARROW : ~0UL) > 0)
+        pari_err(e_MISC, "%s is %Ps, not from 0 to %lu", text(c, s), x, top);
+    return itou(x);
+}
+
+static void *room(size_t count, size_t size) { return stack_malloc((count ? count : 1) * size); }
 
 /* a coefficient that is reduced; n = 0 is refused later */
-static uint32_t residue(uint32_t n, GEN x)
+static ulong residue(const call *c, spot s, GEN x)
 {
     if (typ(x) == t_INTMOD) {
-        if (!equaliu(gel(x, 1), n)) pari_err_MODULUS("jingcobu", gel(x, 1), utoi(n));
-        return (uint32_t) itou(gel(x, 2));
+        if (!equaliu(gel(x, 1), c->n)) pari_err_MODULUS(text(c, s), gel(x, 1), utoi(c->n));
+        return itou(gel(x, 2));
     }
-    if (typ(x) != t_INT) pari_err_TYPE("jingcobu", x);
-    return n ? (uint32_t) umodiu(x, n) : 0;
+    if (typ(x) != t_INT) pari_err_TYPE(text(c, s), x);
+    return c->n ? umodiu(x, c->n) : 0;
 }
 
-static sent polynomial(uint32_t n, GEN x)
+static ulong sent_word(const call *c, spot s, GEN x)
 {
-    sent p = { NULL, 1, -1 };
-    switch (typ(x)) {
-    case t_VEC: case t_COL:
-        p.count = lg(x) - 1;
-        p.words = room(p.count);
-        for (size_t i = 0; i < p.count; i++) p.words[i] = typ(gel(x, i + 1)) == t_INTMOD ? residue(n, gel(x, i + 1)) : word(gel(x, i + 1));
-        return p;
-    case t_POL:
-        p.variable = varn(x);
-        p.count = lgpol(x) ? lgpol(x) : 1;
-        p.words = room(p.count);
-        p.words[0] = 0;
-        for (long i = 0; i < lgpol(x); i++) p.words[i] = residue(n, gel(x, i + 2));
-        return p;
-    default:
-        p.words = room(1);
-        p.words[0] = residue(n, x);
-        return p;
+    return typ(x) == t_INTMOD ? residue(c, s, x) : word(c, s, x, c->n ? c->n - 1 : 0);
+}
+
+static int is_vector(GEN x) { return typ(x) == t_VEC || typ(x) == t_COL || typ(x) == t_VECSMALL; }
+
+static ulong entry(const call *c, spot s, GEN x)
+{
+    return sent_word(c, s, typ(x) == t_VECSMALL ? stoi(x[s.k]) : gel(x, s.k));
+}
+
+/* The words of 32 bits, where n and all of them fit. A length above its limit is refused unread, so its words are not gathered. */
+static void fit(const call *c, sent *p)
+{
+    p->fits = c->n <= NARROW;
+    if (p->count > p->limit) return;
+    p->narrow = room(p->count, sizeof(uint32_t));
+    for (size_t i = 0; i < p->count; i++) {
+        p->narrow[i] = (uint32_t) p->words[i];
+        p->fits &= p->words[i] <= NARROW;
     }
 }
 
-static long variable(sent f, sent g)
+static sent polynomial(const call *c, const char *name, GEN x, size_t limit, size_t row)
 {
-    if (f.variable >= 0 && g.variable >= 0 && f.variable != g.variable) pari_err(e_MISC, "jingcobu: two different variables");
+    sent p = { name, NULL, NULL, 1, limit, 0, -1, 0 };
+    if (is_vector(x)) p.count = lg(x) - 1;
+    else if (typ(x) == t_POL) p.variable = varn(x), p.count = lgpol(x) ? lgpol(x) : 1;
+    p.words = room(p.count > limit ? 1 : p.count, sizeof(ulong));
+    p.narrow = room(1, sizeof(uint32_t));
+    p.words[0] = 0;
+    p.narrow[0] = 0;
+    if (p.count <= limit) {
+        if (is_vector(x))
+            for (size_t i = 0; i < p.count; i++) p.words[i] = entry(c, (spot) { name, row, i + 1 }, x);
+        else if (typ(x) == t_POL)
+            for (long i = 0; i < lgpol(x); i++) p.words[i] = residue(c, (spot) { name, row, 0 }, gel(x, i + 2));
+        else p.words[0] = residue(c, (spot) { name, row, 0 }, x);
+    }
+    fit(c, &p);
+    return p;
+}
+
+static long variable(const call *c, sent f, sent g)
+{
+    if (f.variable >= 0 && g.variable >= 0 && f.variable != g.variable)
+        pari_err(e_MISC, "%s: %s and %s have different variables", c->name, f.name, g.name);
     return f.variable >= 0 ? f.variable : g.variable >= 0 ? g.variable : 0;
 }
 
-/* ---- what goes out */
+/* two polynomials of one variable, x */
+typedef struct { sent p[2]; long x; int narrow; } pair;
 
-static GEN out_polynomial(uint32_t n, const uint32_t *w, size_t count, long v)
+static pair both(const call *c, GEN F, GEN G)
 {
-    GEN c = cgetg(count + 1, t_VEC);
-    for (size_t i = 0; i < count; i++) gel(c, i + 1) = mkintmodu(w[i], n);
-    return RgV_to_RgX(c, v);
+    pair q = { { polynomial(c, "f", F, MOST, 0), polynomial(c, "g", G, MOST, 0) }, 0, 0 };
+    q.x = variable(c, q.p[0], q.p[1]);
+    q.narrow = q.p[0].fits && q.p[1].fits;
+    return q;
 }
 
-static GEN out_words(const uint32_t *w, size_t count)
+#define F32 q.p[0].narrow, q.p[0].count
+#define G32 q.p[1].narrow, q.p[1].count
+#define F64 (const uint64_t *) q.p[0].words, q.p[0].count
+#define G64 (const uint64_t *) q.p[1].words, q.p[1].count
+#define WORK32 (uint32_t *) room(JINGCOBU_WORK, sizeof(uint32_t)), JINGCOBU_WORK
+#define WORK64 (uint64_t *) room(JINGCOBU64_WORK, sizeof(uint64_t)), JINGCOBU64_WORK
+
+/* ---- what goes out; the words are not on PARI's stack, which is free again before they are read. A vector or a polynomial is made
+ * before its entries are, as PARI's garbage collection wants it. */
+
+typedef union { uint32_t narrow[JINGCOBU64_COFACTOR]; uint64_t wide[JINGCOBU64_COFACTOR]; } words;
+
+static ulong nth(const words *w, int narrow, size_t i) { return narrow ? w->narrow[i] : (ulong) w->wide[i]; }
+
+static GEN out_polynomial(ulong n, const words *w, int narrow, size_t count, long v)
+{
+    while (count && !nth(w, narrow, count - 1)) count--;
+    GEN p = cgetg(count + 2, t_POL);
+    p[1] = evalsigne(count ? 1 : 0) | evalvarn(v);
+    for (size_t i = 0; i < count; i++) gel(p, i + 2) = mkintmodu(nth(w, narrow, i), n);
+    return p;
+}
+
+static GEN out_words(const words *w, int narrow, size_t count)
 {
     GEN c = cgetg(count + 1, t_VEC);
-    for (size_t i = 0; i < count; i++) gel(c, i + 1) = utoi(w[i]);
+    for (size_t i = 0; i < count; i++) gel(c, i + 1) = utoi(nth(w, narrow, i));
     return c;
 }
 
@@ -99,79 +190,104 @@ static GEN out_words(const uint32_t *w, size_t count)
 SEEN GEN gp_resultant(GEN N, GEN F, GEN G)
 {
     pari_sp av = avma;
-    uint32_t n = word(N);
-    sent f = polynomial(n, F), g = polynomial(n, G);
-    variable(f, g);
-    jingcobu_answer a = jingcobu_resultant(n, f.words, f.count, g.words, g.count, room(JINGCOBU_WORK), JINGCOBU_WORK);
-    accept(a.status);
+    call c = asked("jingcobu_resultant", N, WIDE);
+    pair q = both(&c, F, G);
+    jingcobu64_answer a;
+    if (q.narrow) {
+        jingcobu_answer b = jingcobu_resultant((uint32_t) c.n, F32, G32, WORK32);
+        a.value = b.value, a.status = b.status;
+    } else a = jingcobu64_resultant(c.n, F64, G64, WORK64);
+    accept(&c, a.status, q.p, 2);
     set_avma(av);
-    return mkintmodu(a.value, n);
+    return mkintmodu(a.value, c.n);
 }
 
 SEEN GEN gp_divisor(GEN N, GEN F, GEN G)
 {
     pari_sp av = avma;
-    uint32_t n = word(N);
-    sent f = polynomial(n, F), g = polynomial(n, G);
-    variable(f, g);
-    jingcobu_answer a = jingcobu_divisor(n, f.words, f.count, g.words, g.count, room(JINGCOBU_WORK), JINGCOBU_WORK);
-    accept(a.status);
+    call c = asked("jingcobu_divisor", N, NARROW);
+    pair q = both(&c, F, G);
+    jingcobu_answer a = jingcobu_divisor((uint32_t) c.n, F32, G32, WORK32);
+    accept(&c, a.status, q.p, 2);
     set_avma(av);
     return utoi(a.value);
+}
+
+/* the words of a cofactor of D, K times the larger sent degree and one more; one where the call will be refused */
+static size_t cofactor_words(ulong n, const pair *q)
+{
+    size_t most = maxss(q->p[0].count, q->p[1].count);
+    return n < 2 || n > WIDE || !most || most > MOST ? 1 : (size_t) expu(n) * (most - 1) + 1;
 }
 
 /* [D, u, v] with u f + v g = D */
 SEEN GEN gp_reduced(GEN N, GEN F, GEN G)
 {
     pari_sp av = avma;
-    uint32_t n = word(N), *u = room(JINGCOBU_COFACTOR), *v = room(JINGCOBU_COFACTOR), *work = room(JINGCOBU_WORK);
-    sent f = polynomial(n, F), g = polynomial(n, G);
-    long x = variable(f, g);
-    memset(u, 0, JINGCOBU_COFACTOR * sizeof *u);
-    memset(v, 0, JINGCOBU_COFACTOR * sizeof *v);
-    jingcobu_answer a = jingcobu_reduced_resultant(n, f.words, f.count, g.words, g.count, u, JINGCOBU_COFACTOR, v, JINGCOBU_COFACTOR,
-                                                   work, JINGCOBU_WORK);
-    accept(a.status);
-    return gerepilecopy(av, mkvec3(utoi(a.value), out_polynomial(n, u, JINGCOBU_COFACTOR, x), out_polynomial(n, v, JINGCOBU_COFACTOR, x)));
+    call c = asked("jingcobu_reduced_resultant", N, WIDE);
+    pair q = both(&c, F, G);
+    size_t count = cofactor_words(c.n, &q);
+    words u, v;
+    jingcobu64_answer a;
+    if (q.narrow) {
+        jingcobu_answer b = jingcobu_reduced_resultant((uint32_t) c.n, F32, G32, u.narrow, count, v.narrow, count, WORK32);
+        a.value = b.value, a.status = b.status;
+    } else a = jingcobu64_reduced_resultant(c.n, F64, G64, u.wide, count, v.wide, count, WORK64);
+    accept(&c, a.status, q.p, 2);
+    set_avma(av);
+    GEN r = cgetg(4, t_VEC);
+    gel(r, 1) = utoi(a.value);
+    gel(r, 2) = out_polynomial(c.n, &u, q.narrow, count, q.x);
+    gel(r, 3) = out_polynomial(c.n, &v, q.narrow, count, q.x);
+    return r;
 }
 
 /* [the resultant, u, v] with u f + v g equal to it, u of degree below e, v of degree below d */
 SEEN GEN gp_cofactors(GEN N, GEN F, GEN G)
 {
     pari_sp av = avma;
-    uint32_t n = word(N), *work = room(JINGCOBU_WORK);
-    sent f = polynomial(n, F), g = polynomial(n, G);
-    size_t e = g.count ? g.count - 1 : 0, d = f.count ? f.count - 1 : 0;
-    uint32_t *u = room(e), *v = room(d);
-    long x = variable(f, g);
-    jingcobu_answer a = jingcobu_resultant_cofactors(n, f.words, f.count, g.words, g.count, u, e, v, d, work, JINGCOBU_WORK);
-    accept(a.status);
-    return gerepilecopy(av, mkvec3(mkintmodu(a.value, n), out_polynomial(n, u, e, x), out_polynomial(n, v, d, x)));
+    call c = asked("jingcobu_resultant_cofactors", N, NARROW);
+    pair q = both(&c, F, G);
+    size_t e = q.p[1].count && q.p[1].count <= MOST ? q.p[1].count - 1 : 0, d = q.p[0].count && q.p[0].count <= MOST ? q.p[0].count - 1 : 0;
+    words u, v;
+    jingcobu_answer a = jingcobu_resultant_cofactors((uint32_t) c.n, F32, G32, u.narrow, e, v.narrow, d, WORK32);
+    accept(&c, a.status, q.p, 2);
+    set_avma(av);
+    GEN r = cgetg(4, t_VEC);
+    gel(r, 1) = mkintmodu(a.value, c.n);
+    gel(r, 2) = out_polynomial(c.n, &u, 1, e, q.x);
+    gel(r, 3) = out_polynomial(c.n, &v, 1, d, q.x);
+    return r;
 }
 
 /* [0, 0, 0] coprime; [1, m, 0] both are zero modulo m; [2, m, w] w divides both modulo m */
 SEEN GEN gp_why(GEN N, GEN F, GEN G)
 {
     pari_sp av = avma;
-    uint32_t n = word(N), *w = room(JINGCOBU_COMMON), *work = room(JINGCOBU_WORK);
-    sent f = polynomial(n, F), g = polynomial(n, G);
-    long x = variable(f, g);
-    jingcobu_reason a = jingcobu_why(n, f.words, f.count, g.words, g.count, w, JINGCOBU_COMMON, work, JINGCOBU_WORK);
-    accept(a.status);
-    return gerepilecopy(av, mkvec3(utoi(a.ground), utoi(a.m), a.ground == 2 ? out_polynomial(a.m, w, a.degree + 1, x) : gen_0));
+    call c = asked("jingcobu_why", N, NARROW);
+    pair q = both(&c, F, G);
+    words w;
+    jingcobu_reason a = jingcobu_why((uint32_t) c.n, F32, G32, w.narrow, JINGCOBU_COMMON, WORK32);
+    accept(&c, a.status, q.p, 2);
+    set_avma(av);
+    GEN r = cgetg(4, t_VEC);
+    gel(r, 1) = utoi(a.ground);
+    gel(r, 2) = utoi(a.m);
+    gel(r, 3) = a.ground == 2 ? out_polynomial(a.m, &w, 1, a.degree + 1, q.x) : gen_0;
+    return r;
 }
 
 /* 0 where D is the reduced resultant and u f + v g = D; otherwise 1, 2 or 3 */
-SEEN GEN gp_check(GEN N, GEN F, GEN G, GEN D, GEN U, GEN W)
+SEEN GEN gp_check(GEN N, GEN F, GEN G, GEN D, GEN U, GEN V)
 {
     pari_sp av = avma;
-    uint32_t n = word(N), *work = room(JINGCOBU_WORK);
-    sent f = polynomial(n, F), g = polynomial(n, G), u = polynomial(n, U), v = polynomial(n, W);
-    variable(f, g);
-    variable(u, v);
-    jingcobu_answer a = jingcobu_check_claim(n, f.words, f.count, g.words, g.count, word(D), u.words, u.count, v.words, v.count,
-                                             work, JINGCOBU_WORK);
-    accept(a.status);
+    call c = asked("jingcobu_check_claim", N, NARROW);
+    pair q = both(&c, F, G);
+    uint32_t d = (uint32_t) word(&c, (spot) { "D", 0, 0 }, D, NARROW);
+    sent p[] = { q.p[0], q.p[1], polynomial(&c, "u", U, JINGCOBU_MULTIPLIER, 0), polynomial(&c, "v", V, JINGCOBU_MULTIPLIER, 0) };
+    variable(&c, p[2], p[3]);
+    jingcobu_answer a = jingcobu_check_claim((uint32_t) c.n, F32, G32, d, p[2].narrow, p[2].count, p[3].narrow, p[3].count, WORK32);
+    accept(&c, a.status, p, 4);
     set_avma(av);
     return utoi(a.value);
 }
@@ -180,80 +296,111 @@ SEEN GEN gp_check(GEN N, GEN F, GEN G, GEN D, GEN U, GEN W)
 SEEN GEN gp_product(GEN N, GEN F, GEN G)
 {
     pari_sp av = avma;
-    uint32_t n = word(N);
-    sent f = polynomial(n, F), g = polynomial(n, G);
-    size_t count = f.count + g.count ? f.count + g.count - 1 : 0;
-    uint32_t *out = room(count);
-    variable(f, g);
-    jingcobu_answer a = jingcobu_product(n, f.words, f.count, g.words, g.count, out, count);
-    accept(a.status);
-    return gerepilecopy(av, out_words(out, count));
+    call c = asked("jingcobu_product", N, WIDE);
+    pair q = both(&c, F, G);
+    size_t d = q.p[0].count - 1, e = q.p[1].count - 1;
+    size_t count = d < MOST && e < MOST && d + e < MOST ? d + e + 1 : 0;
+    words out;
+    uint32_t status = q.narrow ? jingcobu_product((uint32_t) c.n, F32, G32, out.narrow, count).status
+                               : jingcobu64_product(c.n, F64, G64, out.wide, count).status;
+    if (status == JINGCOBU_BAD_LENGTH && d < MOST && e < MOST)
+        pari_err(e_MISC, "%s refuses with 2: the sent degrees of f and g add up to %lu, above 48", c.name, (ulong) (d + e));
+    accept(&c, status, q.p, 2);
+    set_avma(av);
+    return out_words(&out, q.narrow, count);
 }
 
 /* [g, s, t], the greatest common divisor of a, b and n and its least cofactors */
 SEEN GEN gp_gcd(GEN N, GEN A, GEN B)
 {
     pari_sp av = avma;
-    uint32_t n = word(N), a = typ(A) == t_INTMOD ? residue(n, A) : word(A), b = typ(B) == t_INTMOD ? residue(n, B) : word(B);
-    jingcobu_cofactors c = jingcobu_gcd(n, a, b);
-    accept(c.status);
-    return gerepilecopy(av, mkvec3(utoi(c.g), utoi(c.s), utoi(c.t)));
+    call c = asked("jingcobu_gcd", N, NARROW);
+    ulong a = sent_word(&c, (spot) { "a", 0, 0 }, A), b = sent_word(&c, (spot) { "b", 0, 0 }, B);
+    jingcobu_cofactors r = jingcobu_gcd((uint32_t) c.n, (uint32_t) a, (uint32_t) b);
+    if (r.status == JINGCOBU_BAD_WORD)
+        pari_err(e_MISC, "%s refuses with 3: %s is %lu, not from 0 to %lu", c.name, a >= c.n ? "a" : "b", a >= c.n ? a : b, c.n - 1);
+    accept(&c, r.status, NULL, 0);
+    set_avma(av);
+    GEN out = cgetg(4, t_VEC);
+    gel(out, 1) = utoi(r.g);
+    gel(out, 2) = utoi(r.s);
+    gel(out, 3) = utoi(r.t);
+    return out;
 }
 
 /* ---- two variables */
 
-typedef struct { uint32_t *words; size_t count, d, a; long variable; } grid;
-
-/* rows[i] is the polynomial in the second variable that stands at power i of the first; all rows get the longest one's length */
-static grid rows(uint32_t n, GEN list, int equal)
+/* row i is the polynomial in the second variable that stands at power i - 1 of the first; all rows get the longest one's length. Where
+ * a degree is above 48 the call will be refused unread, and the words are not gathered. */
+static sent rows(const call *c, const char *name, GEN list, int equal)
 {
-    size_t count = lg(list) - 1, most = 0;
-    sent *row = (sent *) stack_malloc((count ? count : 1) * sizeof(sent));
-    grid p = { NULL, 0, 0, 0, -1 };
-    for (size_t i = 0; i < count; i++) {
-        row[i] = polynomial(n, gel(list, i + 1));
-        if (equal && i && row[i].count != row[0].count) pari_err(e_MISC, "jingcobu: rows of different lengths");
+    size_t count = lg(list) - 1, most = count > MOST;
+    sent *row = room(count, sizeof(sent)), p = { name, NULL, NULL, 0, MOST * MOST, 0, -1, 0 };
+    for (size_t i = 0; i < count && count <= MOST; i++) {
+        row[i] = polynomial(c, name, gel(list, i + 1), MOST, i + 1);
+        if (equal && row[i].count != row[0].count)
+            pari_err(e_MISC, "%s: %s: row %lu has %lu words, and row 1 has %lu", c->name, name, (ulong) i + 1, (ulong) row[i].count,
+                     (ulong) row[0].count);
         if (row[i].count > most) most = row[i].count;
         if (row[i].variable < 0) continue;
-        if (p.variable >= 0 && p.variable != row[i].variable) pari_err(e_MISC, "jingcobu: more than two variables");
+        if (p.variable >= 0 && p.variable != row[i].variable) pari_err(e_MISC, "%s: %s has more than two variables", c->name, name);
         p.variable = row[i].variable;
     }
     p.count = count * most;
-    p.d = count ? count - 1 : 0;
-    p.a = most ? most - 1 : 0;
-    p.words = room(p.count);
+    p.row = most;
+    p.narrow = room(1, sizeof(uint32_t));
+    if (count > MOST || most > MOST) return p;
+    p.words = room(p.count, sizeof(ulong));
     for (size_t i = 0; i < count; i++)
         for (size_t k = 0; k < most; k++) p.words[i * most + k] = k < row[i].count ? row[i].words[k] : 0;
+    fit(c, &p);
     return p;
 }
 
 /* a vector of rows, or a polynomial whose first variable is y */
-static grid two(uint32_t n, GEN x, long y)
+static sent two(const call *c, const char *name, GEN x, long y)
 {
-    if (typ(x) == t_VEC || typ(x) == t_COL) {
-        for (long i = 1; i < lg(x); i++) if (typ(gel(x, i)) != t_VEC && typ(gel(x, i)) != t_COL) pari_err_TYPE("jingcobu_two", x);
-        return rows(n, x, 1);
+    if (is_vector(x)) {
+        for (long i = 1; i < lg(x); i++)
+            if (typ(x) == t_VECSMALL || !is_vector(gel(x, i))) pari_err_TYPE(text(c, (spot) { name, i, 0 }), x);
+        return rows(c, name, x, 1);
     }
-    if (typ(x) != t_POL || varn(x) != y) return rows(n, mkvec(x), 0);
+    if (typ(x) != t_POL || varn(x) != y || !lgpol(x)) return rows(c, name, mkvec(x), 0);
     GEN list = cgetg(lgpol(x) + 1, t_VEC);
     for (long i = 0; i < lgpol(x); i++) gel(list, i + 1) = gel(x, i + 2);
-    return lgpol(x) ? rows(n, list, 0) : rows(n, mkvec(gen_0), 0);
+    return rows(c, name, list, 0);
+}
+
+/* the sent degrees in the first and the second variable; 0 where there is no word, which no length fits */
+static size_t first(const sent *p) { return p->count ? p->count / p->row - 1 : 0; }
+static size_t second(const sent *p) { return p->count ? p->row - 1 : 0; }
+
+/* the argument whose length is refused: f before g */
+static void refuse_rows(const call *c, const sent *p)
+{
+    if (p->count && first(p) < MOST && second(p) < MOST) p++;
+    if (!p->count) pari_err(e_MISC, "%s refuses with 2: %s has no word", c->name, p->name);
+    int in_first = first(p) >= MOST;
+    pari_err(e_MISC, "%s refuses with 2: %s has degree %lu in its %s variable, above 48", c->name, p->name,
+             (ulong) (in_first ? first(p) : second(p)), in_first ? "first" : "second");
 }
 
 /* the resultant in the first variable of f and g, a polynomial in the second; words for vectors of rows */
 SEEN GEN gp_two(GEN N, GEN F, GEN G)
 {
     pari_sp av = avma;
-    int vectors = typ(F) == t_VEC || typ(F) == t_COL;
-    uint32_t n = word(N), *work = room(JINGCOBU_WORK), *out = room(JINGCOBU_TWO);
-    if (vectors != (typ(G) == t_VEC || typ(G) == t_COL)) pari_err_TYPE2("jingcobu_two", F, G);
+    call c = asked("jingcobu_resultant_two", N, NARROW);
+    int vectors = is_vector(F);
+    if (vectors != is_vector(G)) pari_err_TYPE2(c.name, F, G);
     long y = vectors ? 0 : varncmp(gvar(F), gvar(G)) <= 0 ? gvar(F) : gvar(G);
-    grid f = two(n, F, y), g = two(n, G, y);
-    if (f.variable >= 0 && g.variable >= 0 && f.variable != g.variable) pari_err(e_MISC, "jingcobu: more than two variables");
-    size_t most = g.d * f.a + f.d * g.a;
-    jingcobu_answer a = jingcobu_resultant_two(n, f.words, f.count, f.d, f.a, g.words, g.count, g.d, g.a, out, JINGCOBU_TWO,
-                                               work, JINGCOBU_WORK);
-    accept(a.status);
-    long z = f.variable >= 0 ? f.variable : g.variable >= 0 ? g.variable : 0;
-    return gerepilecopy(av, vectors ? out_words(out, most + 1) : out_polynomial(n, out, most + 1, z));
+    sent p[] = { two(&c, "f", F, y), two(&c, "g", G, y) };
+    long z = variable(&c, p[0], p[1]);
+    size_t d = first(p), a = second(p), e = first(p + 1), b = second(p + 1), count = e * a + d * b + 1;
+    words out;
+    jingcobu_answer r = jingcobu_resultant_two((uint32_t) c.n, p[0].narrow, p[0].count, d, a, p[1].narrow, p[1].count, e, b,
+                                               out.narrow, JINGCOBU_TWO, WORK32);
+    if (r.status == JINGCOBU_BAD_LENGTH) refuse_rows(&c, p);
+    accept(&c, r.status, p, 2);
+    set_avma(av);
+    return vectors ? out_words(&out, 1, count) : out_polynomial(c.n, &out, 1, count, z);
 }

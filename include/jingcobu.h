@@ -12,15 +12,24 @@
  * every value is 0 (a state of factors is the one that was sent) and every buffer is left as it was found. The refusals are tested
  * in the order in which they stand at the function, and the first that applies is the status.
  *
- * Buffers: a length counts words, that of a text bytes. What is const is read only. No two buffers of one call may overlap. NULL
+ * Buffers: a length counts words, that of a text bytes. What is const is read only, so two const buffers of one call may overlap: f and
+ * g may be the same words. What is written (results and work) may overlap nothing else of the call, const or not. NULL
  * is taken where the length is 0. A buffer may be longer than asked for. Nothing is kept between calls, and no memory is asked
- * for; calls on different buffers may run at the same time.
+ * for; calls on different buffers may run at the same time. A call never needs more than 64 KiB of stack.
+ *
+ * Lengths that are refused unread, however large they are and whatever the pointers are: no word or more than 49 of f, g or h; for a
+ * product also d + e above 48; in two variables a degree above 48, or a length that is not that of the degrees (all these with 2); no
+ * word or more than JINGCOBU_MULTIPLIER of a claimed multiplier (16); more than 767 bytes of a text (17). A call that is refused with
+ * 1, 2 or 16 has looked into no buffer at all.
  */
 #ifndef JINGCOBU_H
 #define JINGCOBU_H
 
 #include <stddef.h>
 #include <stdint.h>
+
+/* The version of this header. A program can be run with a shared library whose first number is the same. */
+#define JINGCOBU_VERSION "1.0.0"
 
 #ifdef __cplusplus
 extern "C" {
@@ -259,6 +268,37 @@ jingcobu64_answer jingcobu64_resultant(uint64_t n, const uint64_t *f, size_t f_l
  * Refusals: 1 (n is 0 or 1, or 2^63 or more), 2, 3, 6, 7. */
 jingcobu64_answer jingcobu64_reduced_resultant(uint64_t n, const uint64_t *f, size_t f_len, const uint64_t *g, size_t g_len,
                                                uint64_t *u, size_t u_len, uint64_t *v, size_t v_len, uint64_t *work, size_t work_len);
+
+/* ---- of this header alone: the library has no such names */
+
+/* The version of the header that the program was built with. */
+static inline const char *jingcobu_version(void) { return JINGCOBU_VERSION; }
+
+/* What a status says, in words that are never freed; a status from 18 on is unknown. */
+static inline const char *jingcobu_status_text(unsigned status)
+{
+    switch (status) {
+    case JINGCOBU_OK: return "answered";
+    case JINGCOBU_BAD_MODULUS: return "the modulus n is 0 or 1, or with words of 64 bits 2^63 or more";
+    case JINGCOBU_BAD_LENGTH: return "a polynomial has no word or more than 49, or the sent degrees do not fit";
+    case JINGCOBU_BAD_WORD: return "a word or a residue is n or more";
+    case JINGCOBU_LEAD_NO_UNIT: return "the divisor's top word is not a unit";
+    case JINGCOBU_NO_UNIT_FACTOR: return "not a unit polynomial times a monic one";
+    case JINGCOBU_SHORT_RESULT: return "a result buffer is too short";
+    case JINGCOBU_SHORT_WORK: return "too few working words";
+    case JINGCOBU_NO_FRAME: return "the line is not a frame";
+    case JINGCOBU_NO_COFACTORS: return "both sent degrees are 0: the resultant has no cofactors";
+    case JINGCOBU_EMPTY_TOP: return "the top word of f or g is zero";
+    case JINGCOBU_PRIME_DIVIDES: return "a prime up to e a + d b divides n";
+    case JINGCOBU_TOO_MANY_POINTS: return "e a + d b is above 60";
+    case JINGCOBU_FACTORS_FULL: return "16 factors are held, or the sent degrees would add up to more than 48";
+    case JINGCOBU_BAD_NUMBER: return "the number of a factor is 0, held already, or not held";
+    case JINGCOBU_BAD_FRAMES: return "the number of frames is 0 or above 1024";
+    case JINGCOBU_BAD_MULTIPLIER: return "a multiplier has no word or more than 4096";
+    case JINGCOBU_NO_TEXT: return "not a text of the notation";
+    default: return "unknown status";
+    }
+}
 
 #ifdef __cplusplus
 }

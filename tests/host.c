@@ -1,8 +1,8 @@
 /* A C host that tries the services through the header: the stored pairs with their numbers, D alone, cofactors of both numbers, why
  * two are not coprime, claims true and false, resultants in two variables, products word by word, true degrees, least cofactors of
  * two residues, factors that come and go, texts written, read and damaged, shares of runs, what becomes of every word and byte of
- * every buffer, each refusal and their order, the ends of the ranges, the law of products on drawn triples, and every pair of
- * degrees up to 2 modulo some small n.
+ * every buffer, each refusal and their order, the ends of the ranges, the law of products on drawn triples, every pair of degrees
+ * up to 2 modulo some small n, and lengths that are refused before a word is read.
  * It reads stdin and stdout in the folder that its first word names (crates/vectors), and says "FAILED" and exits with 1 where
  * something is not as it should be; the second word, 100 if there is none, says after how many of these it stops.
  * Build and run: make -C tests (under a stack of 256 KiB; the output is held to the file `expected`). */
@@ -1651,6 +1651,99 @@ static void claims(void)
     printf("claims: %ld accepted, the first test failed in %ld, the second in %ld, the third in %ld\n", given[0], given[1], given[2], given[3]);
 }
 
+/* ---- lengths that are refused unread */
+
+/* what a call is lent to write into: marked words, or, since it must not be touched either, SIZE_MAX words that are not there */
+typedef struct { uint32_t *out, *u, *v, *work; size_t out_len, u_len, v_len, work_len; } results;
+static const results marked = { out + MARGIN, u + MARGIN, v + MARGIN, work + MARGIN, 100, 1600, 1600, 9000 };
+static const results no_results = { NOWHERE, NOWHERE, NOWHERE, NOWHERE, SIZE_MAX, SIZE_MAX, SIZE_MAX, SIZE_MAX };
+#define OUT r->out, r->out_len
+#define U r->u, r->u_len
+#define V r->v, r->v_len
+#define WORK r->work, r->work_len
+
+/* every function of two polynomials */
+static void unread_pair(uint32_t n, const uint32_t *f, size_t fl, const uint32_t *g, size_t gl, const results *r, uint32_t status,
+                        const char *where)
+{
+    const uint32_t one = 1;
+    REFUSED(jingcobu_product(n, f, fl, g, gl, OUT), status, "unread: product", where);
+    REFUSED(jingcobu_product_word(n, f, fl, g, gl, OUT, 0), status, "unread: product_word", where);
+    REFUSED(jingcobu_resultant(n, f, fl, g, gl, WORK), status, "unread: resultant", where);
+    REFUSED(jingcobu_reduced_resultant(n, f, fl, g, gl, U, V, WORK), status, "unread: reduced_resultant", where);
+    REFUSED(jingcobu_divisor(n, f, fl, g, gl, WORK), status, "unread: divisor", where);
+    REFUSED(jingcobu_resultant_cofactors(n, f, fl, g, gl, U, V, WORK), status, "unread: resultant_cofactors", where);
+    REFUSED(jingcobu_why(n, f, fl, g, gl, OUT, WORK), status, "unread: why", where);
+    REFUSED(jingcobu_check_claim(n, f, fl, g, gl, 1, &one, 1, &one, 1, WORK), status, "unread: check_claim", where);
+    REFUSED(jingcobu_check_claim(n, f, fl, g, gl, 1, NOWHERE, SIZE_MAX, NOWHERE, SIZE_MAX, WORK), status, "unread: check_claim", where);
+    REFUSED(jingcobu_resultant_two(n, f, fl, 0, fl == 2 ? 1 : 48, g, gl, 0, gl == 2 ? 1 : 48, OUT, WORK), status, "unread: resultant_two",
+            where);
+    REFUSED(jingcobu_resultant_two(n, f, fl, fl - 1, 0, g, gl, gl - 1, 0, OUT, WORK), status, "unread: resultant_two", where);
+}
+
+/* every function of one polynomial; the state has n */
+static void unread_one(jingcobu_factors s, const uint32_t *f, size_t fl, const results *r, uint32_t status, const char *where)
+{
+    REFUSED(jingcobu_true_degree(s.n, f, fl), status, "unread: true_degree", where);
+    REFUSED(jingcobu_factors_start(s.n, f, fl), status, "unread: factors_start", where);
+    REFUSED(jingcobu_factors_arrive(s, 1, f, fl, WORK), status, "unread: factors_arrive", where);
+    REFUSED(jingcobu_write_text(s.n, f, fl, (uint8_t *) r->out, r->out_len), status, "unread: write_text", where);
+}
+
+/* a claim's multipliers have at most 4096 words, a text at most 767 bytes */
+static void unread_others(uint32_t n, size_t length, const results *r, const char *where)
+{
+    const uint32_t f[] = { 1, 2 };
+    uint32_t multiplier = n < 2 ? JINGCOBU_BAD_MODULUS : JINGCOBU_BAD_MULTIPLIER;
+    if (length > 4096) {
+        REFUSED(jingcobu_check_claim(n, f, 2, f, 2, 1, NOWHERE, length, f, 2, WORK), multiplier, "unread: check_claim, u", where);
+        REFUSED(jingcobu_check_claim(n, f, 2, f, 2, 1, f, 2, NOWHERE, length, WORK), multiplier, "unread: check_claim, v", where);
+        REFUSED(jingcobu_check_claim(n, NOWHERE, 2, NOWHERE, 2, 1, NOWHERE, 2, NOWHERE, length, WORK), multiplier, "unread: check_claim",
+                where);
+    }
+    const size_t bytes = length == 50 ? 768 : length;
+    REFUSED(jingcobu_read_text(n, (const uint8_t *) NOWHERE, bytes, OUT), n < 2 ? JINGCOBU_BAD_MODULUS : JINGCOBU_NO_TEXT,
+            "unread: read_text", where);
+}
+
+/* no word and no pointer anywhere */
+static void nothing_lent(void)
+{
+    static const results none;
+    static const jingcobu_factors seven = { .n = 7, .h_len = 1 };
+    unread_pair(7, NULL, 0, NULL, 0, &none, JINGCOBU_BAD_LENGTH, "nothing is lent");
+    unread_one(seven, NULL, 0, &none, JINGCOBU_BAD_LENGTH, "nothing is lent");
+    REFUSED(jingcobu_check_claim(7, seven.h, 1, seven.h, 1, 1, NULL, 0, NULL, 0, NULL, 0), JINGCOBU_BAD_MULTIPLIER, "no multipliers",
+            "nothing is lent");
+    REFUSED(jingcobu_read_text(7, NULL, 0, NULL, 0), JINGCOBU_NO_TEXT, "read_text", "nothing is lent");
+}
+
+static void unread(void)
+{
+    const uint32_t f[] = { 1, 2 };
+    char where[80];
+    watch();
+    mark(out, PRODUCT_ROOM); mark(u, COFACTOR_ROOM); mark(v, COFACTOR_ROOM); mark(work, WORK_ROOM);
+    for (size_t i = 0; i < 12; i++) {
+        size_t length = refused_lengths[i % 3];
+        uint32_t n = i / 3 % 2 ? 1 : 7, status = n < 2 ? JINGCOBU_BAD_MODULUS : JINGCOBU_BAD_LENGTH;
+        const results *r = i < 6 ? &marked : &no_results;
+        jingcobu_factors s = { .n = n, .h_len = 1, .h = { 1 } };
+        snprintf(where, sizeof where, "%zu words modulo %u%s", length, n, i < 6 ? "" : ", no results");
+        unread_pair(n, NOWHERE, length, f, 2, r, status, where);
+        unread_pair(n, f, 2, NOWHERE, length, r, status, where);
+        unread_pair(n, NOWHERE, length, NOWHERE, length, r, status, where);
+        unread_pair(n, NOWHERE, 2, NOWHERE, length, r, status, where);
+        unread_pair(n, NOWHERE, length, NOWHERE, 2, r, status, where);
+        unread_one(s, NOWHERE, length, r, status, where);
+        unread_others(n, length, r, where);
+    }
+    nothing_lent();
+    expect(kept_but(out, PRODUCT_ROOM, 0) && kept_but(u, COFACTOR_ROOM, 0) && kept_but(v, COFACTOR_ROOM, 0) && kept_but(work, WORK_ROOM, 0),
+           "unread: every buffer is as found", "all lengths");
+    printf("%ld calls with lengths that are refused unread\n", unread_calls);
+}
+
 int main(int argc, char **argv)
 {
     if (argc > 2) most_failed = atol(argv[2]);
@@ -1673,6 +1766,7 @@ int main(int argc, char **argv)
     points();
     claims();
     small_pairs();
+    unread();
     printf("%ld passed, %ld failed\n", tried - failed, failed);
     return failed != 0;
 }

@@ -1,6 +1,6 @@
 /* A C host that tries the services with words of 64 bits through the header: the stored pairs with their numbers, what becomes of every
- * word of every buffer, each refusal and their order, the ends of the ranges, the law of products on drawn triples, and that both sets of
- * services answer the same numbers where n and the words fit 32 bits.
+ * word of every buffer, each refusal and their order, the ends of the ranges, the law of products on drawn triples, that both sets of
+ * services answer the same numbers where n and the words fit 32 bits, and lengths that are refused before a word is read.
  * It reads stdin and stdout in the folder that its first word names (crates/wide_vectors), and says "FAILED" and exits with 1 where
  * something is not as it should be; the second word, 100 if there is none, says after how many of these it stops.
  * Build and run: make -C tests (under a stack of 256 KiB; the output is held to the file `expected64`). */
@@ -424,6 +424,46 @@ static void both(void)
     printf("%d drawn pairs, and %ld of degrees up to 2, answered alike with words of 32 bits\n", DRAWN, small);
 }
 
+/* ---- lengths that are refused unread */
+
+/* every function, with results in marked words, or, since they must not be touched either, in SIZE_MAX words that are not there */
+static void unread_pair(uint64_t n, const uint64_t *f, size_t fl, const uint64_t *g, size_t gl, int results, uint32_t status,
+                        const char *where)
+{
+    uint64_t *o = results ? out + MARGIN : NOWHERE, *c = results ? u + MARGIN : NOWHERE, *w = results ? work + MARGIN : NOWHERE;
+    size_t ol = results ? 100 : SIZE_MAX, cl = results ? MORE_COFACTOR : SIZE_MAX, wl = results ? MORE_WORK : SIZE_MAX;
+    REFUSED(jingcobu64_product(n, f, fl, g, gl, o, ol), status, "unread: product", where);
+    REFUSED(jingcobu64_resultant(n, f, fl, g, gl, w, wl), status, "unread: resultant", where);
+    REFUSED(jingcobu64_reduced_resultant(n, f, fl, g, gl, c, cl, results ? v + MARGIN : c, cl, w, wl), status, "unread: reduced", where);
+}
+
+static void unread(void)
+{
+    static const uint64_t moduli[] = { 7, 1, LIMIT, LIMIT - 1 };
+    const uint64_t f[] = { 1, 2 };
+    char where[80];
+    watch();
+    mark(out, PRODUCT_ROOM); mark(u, COFACTOR_ROOM); mark(v, COFACTOR_ROOM); mark(work, WORK_ROOM);
+    for (size_t i = 0; i < 24; i++) {
+        size_t length = refused_lengths[i % 3];
+        uint64_t n = moduli[i / 3 % 4];
+        uint32_t status = n < 2 || n >= LIMIT ? JINGCOBU_BAD_MODULUS : JINGCOBU_BAD_LENGTH;
+        snprintf(where, sizeof where, "%zu words modulo %llu%s", length, (unsigned long long) n, i < 12 ? "" : ", no results");
+        unread_pair(n, NOWHERE, length, f, 2, i < 12, status, where);
+        unread_pair(n, f, 2, NOWHERE, length, i < 12, status, where);
+        unread_pair(n, NOWHERE, length, NOWHERE, length, i < 12, status, where);
+        unread_pair(n, NOWHERE, 2, NOWHERE, length, i < 12, status, where);
+        unread_pair(n, NOWHERE, length, NOWHERE, 2, i < 12, status, where);
+    }
+    REFUSED(jingcobu64_product(7, NULL, 0, NULL, 0, NULL, 0), JINGCOBU_BAD_LENGTH, "product", "nothing is lent");
+    REFUSED(jingcobu64_resultant(7, NULL, 0, NULL, 0, NULL, 0), JINGCOBU_BAD_LENGTH, "resultant", "nothing is lent");
+    REFUSED(jingcobu64_reduced_resultant(7, NULL, 0, NULL, 0, NULL, 0, NULL, 0, NULL, 0), JINGCOBU_BAD_LENGTH, "reduced",
+            "nothing is lent");
+    expect(kept_but(out, PRODUCT_ROOM, 0) && kept_but(u, COFACTOR_ROOM, 0) && kept_but(v, COFACTOR_ROOM, 0) && kept_but(work, WORK_ROOM, 0),
+           "unread: every buffer is as found", "all lengths");
+    printf("%ld calls with lengths that are refused unread\n", unread_calls);
+}
+
 int main(int argc, char **argv)
 {
     if (argc > 2) most_failed = atol(argv[2]);
@@ -433,6 +473,7 @@ int main(int argc, char **argv)
     ends();
     products();
     both();
+    unread();
     printf("%ld passed, %ld failed\n", tried - failed, failed);
     return failed != 0;
 }

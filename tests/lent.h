@@ -1,6 +1,8 @@
-/* What both hosts share: counting what was tried, lent buffers with words before and behind what is lent, and polynomials that must
- * only be read. Before it stand `word`, the type of a word; MARK, what a word holds before a call; MOST, the words of a polynomial at
- * the most. */
+/* What both hosts share: counting what was tried, lent buffers with words before and behind what is lent, polynomials that must only
+ * be read, and calls that must refuse a length without a look at what stands there. Before it stand `word`, the type of a word; MARK,
+ * what a word holds before a call; MOST, the words of a polynomial at the most. */
+#include <setjmp.h>
+#include <signal.h>
 #define MARGIN 64       /* a call is lent `length` words from place MARGIN on */
 
 static long tried, failed, most_failed = 100;
@@ -55,3 +57,31 @@ static int same(const word *f, size_t fl, const word *g, size_t gl)
 {
     return (!fl || !memcmp(first_copy, f, fl * sizeof *f)) && (!gl || !memcmp(second_copy, g, gl * sizeof *g));
 }
+
+/* ---- lengths that are refused unread: nothing stands at NOWHERE, and a call that looks there is brought back and has failed */
+
+#define NOWHERE ((word *) 16)
+static const size_t refused_lengths[] = { 50, 4097, SIZE_MAX };
+static sigjmp_buf back;
+static long unread_calls;
+
+static void looked(int signal)
+{
+    (void) signal;
+    siglongjmp(back, 1);
+}
+
+static void watch(void)
+{
+    struct sigaction action = { .sa_handler = looked };
+    sigaction(SIGSEGV, &action, NULL);
+    sigaction(SIGBUS, &action, NULL);
+}
+
+/* the call answers this status and comes back */
+#define REFUSED(call, should, what, where) do { \
+        volatile uint32_t answered_ = 99; \
+        unread_calls++; \
+        if (!sigsetjmp(back, 1)) answered_ = (call).status; \
+        expect(answered_ == (should), what, where); \
+    } while (0)

@@ -92,6 +92,7 @@ enum {
     TWO_11_BEFORE_12, TWO_12_BEFORE_3, TWO_WITHOUT_53, TWO_PRIMES_BELOW_B, TWO_PRIMES_UP_TO_59, TWO_TAKES_LONGER_F, TWO_TAKES_DEGREE_49,
     TWO_WORK_BEFORE_RESULT, TWO_TAKES_8191_WORDS, TWO_LEAVES_THE_LAST_WORKING_WORD, TWO_REFUSED_WIPES_OUT, TWO_REFUSED_WIPES_WORK,
     TWO_HAS_A_VALUE, TWO_WRITES_F,
+    RESULTANT_LOOKS_AT_F, CLAIM_LOOKS_AT_U, READ_LOOKS_AT_THE_TEXT, TWO_LOOKS_AT_G, START_LOOKS_AT_H,
     VERSIONS
 };
 
@@ -103,11 +104,17 @@ static int version(void)
     return found;
 }
 
+/* The library itself, but for a look: what the last versions do before the length is tested. */
+static volatile uint64_t seen;
+static int straight(int w) { return w == RIGHT || w >= RESULTANT_LOOKS_AT_F; }
+
 static void wipe(uint32_t *b, size_t length) { if (length) memset(b, 0, length * sizeof *b); }
 
 jingcobu_answer __wrap_jingcobu_resultant(uint32_t n, const uint32_t *f, size_t fl, const uint32_t *g, size_t gl, uint32_t *work, size_t wl)
 {
     int w = version();
+    if (w == RESULTANT_LOOKS_AT_F && fl) seen = f[0];
+    if (straight(w)) return __real_jingcobu_resultant(n, f, fl, g, gl, work, wl);
     if (w == RESULTANT_WITHOUT_ZERO_TOPS) {
         while (fl > 1 && fl < 50 && f[fl - 1] == 0) fl--;
         while (gl > 1 && gl < 50 && g[gl - 1] == 0) gl--;
@@ -146,6 +153,7 @@ jingcobu_answer __wrap_jingcobu_reduced_resultant(uint32_t n, const uint32_t *f,
                                                   size_t ul, uint32_t *v, size_t vl, uint32_t *work, size_t wl)
 {
     int w = version();
+    if (straight(w)) return __real_jingcobu_reduced_resultant(n, f, fl, g, gl, u, ul, v, vl, work, wl);
     size_t l = 1;
     if (n > 1 && fl && gl) for (uint32_t m = n; m > 1; m /= 2) l += (fl > gl ? fl : gl) - 1;
     uint32_t first_u = ul ? u[0] : 0, first_v = vl ? v[0] : 0;
@@ -189,6 +197,7 @@ jingcobu_answer __wrap_jingcobu_reduced_resultant(uint32_t n, const uint32_t *f,
 jingcobu_answer __wrap_jingcobu_product(uint32_t n, const uint32_t *f, size_t fl, const uint32_t *g, size_t gl, uint32_t *out, size_t ol)
 {
     int w = version();
+    if (straight(w)) return __real_jingcobu_product(n, f, fl, g, gl, out, ol);
     uint32_t top = fl && gl && fl + gl - 1 <= ol ? out[fl + gl - 2] : 0;
     jingcobu_answer a = __real_jingcobu_product(n, f, fl, g, gl, out, ol);
     if (w == PRODUCT_TAKES_DEGREE_49 && a.status == 2 && fl && gl && fl < 50 && gl < 50 && fl + gl == 51) a.status = 0;
@@ -210,6 +219,7 @@ jingcobu_answer __wrap_jingcobu_product_word(uint32_t n, const uint32_t *f, size
                                              size_t k)
 {
     int w = version();
+    if (straight(w)) return __real_jingcobu_product_word(n, f, fl, g, gl, out, ol, k);
     size_t l = fl && gl ? fl + gl - 1 : 0;
     uint32_t found = k < ol ? out[k] : 0;
     jingcobu_answer a = __real_jingcobu_product_word(n, f, fl, g, gl, out, ol, w == WORD_IN_THE_NEXT_PLACE ? k + 1 : k);
@@ -236,6 +246,7 @@ jingcobu_answer __wrap_jingcobu_product_word(uint32_t n, const uint32_t *f, size
 jingcobu_degree __wrap_jingcobu_true_degree(uint32_t n, const uint32_t *f, size_t fl)
 {
     int w = version();
+    if (straight(w)) return __real_jingcobu_true_degree(n, f, fl);
     jingcobu_degree a = __real_jingcobu_true_degree(n, f, fl);
     if (w == DEGREE_REFUSED_HAS_SOME && a.status) a.some = 1;
     if (w == DEGREE_TAKES_LARGE_WORDS_BELOW && a.status == 3 && f[fl - 1] < n && f[fl - 1]) {
@@ -263,6 +274,8 @@ static int ends_with(const uint8_t *text, size_t length, const char *end)
 jingcobu_answer __wrap_jingcobu_read_text(uint32_t n, const uint8_t *text, size_t tl, uint32_t *words, size_t wl)
 {
     int w = version();
+    if (w == READ_LOOKS_AT_THE_TEXT && tl) seen = text[0];
+    if (straight(w)) return __real_jingcobu_read_text(n, text, tl, words, wl);
     uint8_t other[3010];
     uint32_t found[60];
     size_t kept = wl < 60 ? wl : 60;
@@ -307,6 +320,7 @@ jingcobu_answer __wrap_jingcobu_read_text(uint32_t n, const uint8_t *text, size_
 jingcobu_answer __wrap_jingcobu_write_text(uint32_t n, const uint32_t *f, size_t fl, uint8_t *text, size_t tl)
 {
     int w = version();
+    if (straight(w)) return __real_jingcobu_write_text(n, f, fl, text, tl);
     uint8_t found[900], other[900];
     size_t kept = tl < 900 ? tl : 900;
     if (kept) memcpy(found, text, kept);
@@ -335,6 +349,7 @@ jingcobu_answer __wrap_jingcobu_write_text(uint32_t n, const uint32_t *f, size_t
 jingcobu_plan __wrap_jingcobu_shares(uint32_t frames, uint32_t w1, uint32_t w2, uint32_t w3, uint32_t w4)
 {
     int w = version();
+    if (straight(w)) return __real_jingcobu_shares(frames, w1, w2, w3, w4);
     uint32_t waiting[] = { w1, w2, w3, w4 };
     jingcobu_plan p = __real_jingcobu_shares(frames, w1, w2, w3, w4);
     if (w == SHARES_TAKE_0 && frames == 0) p.status = 0;
@@ -363,6 +378,7 @@ jingcobu_plan __wrap_jingcobu_shares(uint32_t frames, uint32_t w1, uint32_t w2, 
 jingcobu_cofactors __wrap_jingcobu_gcd(uint32_t n, uint32_t a, uint32_t b)
 {
     int w = version();
+    if (straight(w)) return __real_jingcobu_gcd(n, a, b);
     jingcobu_cofactors c = __real_jingcobu_gcd(n, a, b);
     if (w == GCD_TAKES_A_ABOVE_N && c.status == 3 && b < n) c = __real_jingcobu_gcd(n, a % n, b);
     if (w == GCD_TAKES_B_ABOVE_N && c.status == 3 && a < n) c = __real_jingcobu_gcd(n, a, b % n);
@@ -411,6 +427,8 @@ static int large(uint32_t n, const uint32_t *f, size_t fl)
 jingcobu_held __wrap_jingcobu_factors_start(uint32_t n, const uint32_t *h, size_t hl)
 {
     int w = version();
+    if (w == START_LOOKS_AT_H && hl) seen = h[0];
+    if (straight(w)) return __real_jingcobu_factors_start(n, h, hl);
     size_t l = hl;
     if (w == START_WITHOUT_ZERO_TOPS) while (l > 1 && l < 50 && h[l - 1] == 0) l--;
     jingcobu_held a = __real_jingcobu_factors_start(n, h, l);
@@ -428,6 +446,7 @@ jingcobu_held __wrap_jingcobu_factors_start(uint32_t n, const uint32_t *h, size_
 jingcobu_held __wrap_jingcobu_factors_arrive(jingcobu_factors s, uint16_t number, const uint32_t *f, size_t fl, uint32_t *work, size_t wl)
 {
     int w = version(), i = number ? at(&s, number) : 16;
+    if (straight(w)) return __real_jingcobu_factors_arrive(s, number, f, fl, work, wl);
     static uint32_t other[8192];
     size_t l = fl;
     if (w == ARRIVAL_WITHOUT_ZERO_TOP) while (l > 1 && l < 50 && f[l - 1] == 0) l--;
@@ -487,6 +506,7 @@ jingcobu_held __wrap_jingcobu_factors_arrive(jingcobu_factors s, uint16_t number
 jingcobu_held __wrap_jingcobu_factors_leave(jingcobu_factors s, uint16_t number)
 {
     int w = version(), i = number ? at(&s, number) : 16;
+    if (straight(w)) return __real_jingcobu_factors_leave(s, number);
     jingcobu_held a = __real_jingcobu_factors_leave(s, number);
     if (w == LEAVING_UNHELD_ANSWERED && a.status == 14 && number) a.status = 0;
     if (w == LEAVING_0_ANSWERED && a.status == 14 && !number) a.status = 0;
@@ -510,6 +530,7 @@ jingcobu_held __wrap_jingcobu_factors_leave(jingcobu_factors s, uint16_t number)
 jingcobu_answer __wrap_jingcobu_factors_read(jingcobu_factors s)
 {
     int w = version(), held = 0;
+    if (straight(w)) return __real_jingcobu_factors_read(s);
     uint64_t sum = 0;
     jingcobu_answer a = __real_jingcobu_factors_read(s);
     for (int i = 0; i < 16; i++) if (s.number[i]) { held++; sum += s.resultant[i]; }
@@ -538,6 +559,7 @@ static uint32_t content(uint32_t n, const uint32_t *f, size_t fl)
 jingcobu_answer __wrap_jingcobu_divisor(uint32_t n, const uint32_t *f, size_t fl, const uint32_t *g, size_t gl, uint32_t *work, size_t wl)
 {
     int w = version();
+    if (straight(w)) return __real_jingcobu_divisor(n, f, fl, g, gl, work, wl);
     jingcobu_answer a = __real_jingcobu_divisor(n, f, fl, g, gl, work, wl);
     if (w == DIVISOR_TAKES_8191_WORDS && a.status == 7 && wl == 8191) {
         wipe(work, wl);
@@ -567,6 +589,7 @@ jingcobu_answer __wrap_jingcobu_resultant_cofactors(uint32_t n, const uint32_t *
                                                     size_t ul, uint32_t *v, size_t vl, uint32_t *work, size_t wl)
 {
     int w = version();
+    if (straight(w)) return __real_jingcobu_resultant_cofactors(n, f, fl, g, gl, u, ul, v, vl, work, wl);
     size_t d = fl ? fl - 1 : 0, e = gl ? gl - 1 : 0, l = fl, m = gl;
     uint32_t top_u = e && e <= ul ? u[e - 1] : 0, top_v = d && d <= vl ? v[d - 1] : 0;
     jingcobu_answer a = w == COFACTORS_OF_EXCHANGED ? __real_jingcobu_resultant_cofactors(n, g, gl, f, fl, v, vl, u, ul, work, wl)
@@ -617,6 +640,7 @@ jingcobu_reason __wrap_jingcobu_why(uint32_t n, const uint32_t *f, size_t fl, co
                                     uint32_t *work, size_t wl)
 {
     int w = version();
+    if (straight(w)) return __real_jingcobu_why(n, f, fl, g, gl, out, ol, work, wl);
     uint32_t found[49], other[49];
     size_t kept = ol < 49 ? ol : 49;
     if (kept) memcpy(found, out, kept * sizeof *found);
@@ -679,6 +703,8 @@ jingcobu_answer __wrap_jingcobu_check_claim(uint32_t n, const uint32_t *f, size_
                                             const uint32_t *u, size_t ul, const uint32_t *v, size_t vl, uint32_t *work, size_t wl)
 {
     int w = version();
+    if (w == CLAIM_LOOKS_AT_U && ul) seen = u[0];
+    if (straight(w)) return __real_jingcobu_check_claim(n, f, fl, g, gl, d, u, ul, v, vl, work, wl);
     static uint32_t zeros[4096];
     uint32_t D = d;
     size_t count = ul + fl > vl + gl ? ul + fl - 1 : vl + gl - 1;
@@ -754,6 +780,8 @@ jingcobu_answer __wrap_jingcobu_resultant_two(uint32_t n, const uint32_t *f, siz
                                               size_t e, size_t b, uint32_t *out, size_t ol, uint32_t *work, size_t wl)
 {
     int w = version();
+    if (w == TWO_LOOKS_AT_G && gl) seen = g[0];
+    if (straight(w)) return __real_jingcobu_resultant_two(n, f, fl, d, a, g, gl, e, b, out, ol, work, wl);
     int order = w == TWO_TOP_FIRST_IN_Y ? TOP_FIRST_IN_Y : w == TWO_TOP_FIRST_IN_Z ? TOP_FIRST_IN_Z : w == TWO_GROUPS_OF_Z ? GROUPS_OF_Z
         : w == TWO_OF_CONSTANTS_IN_Z ? CONSTANTS_IN_Z : AS_SENT;
     static uint32_t f_other[2500], g_other[2500], longer[61];

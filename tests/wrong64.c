@@ -28,6 +28,7 @@ enum {
     PRODUCT_ONE_TOO_HIGH, PRODUCT_LOSES_THE_HIGH_HALF, PRODUCT_OF_LOW_HALVES, PRODUCT_LEAVES_A_ZERO_TOP, PRODUCT_CHANGES_A_WORD_BEYOND,
     PRODUCT_HAS_A_VALUE, PRODUCT_TAKES_DEGREE_49, PRODUCT_WORDS_BEFORE_LENGTHS, PRODUCT_ANSWERS_2_TO_63, PRODUCT_REFUSES_ENOUGH_WORDS,
     PRODUCT_REFUSED_WIPES, PRODUCT_WRITES_F,
+    RESULTANT_LOOKS_AT_F, REDUCED_LOOKS_AT_G,
     VERSIONS
 };
 
@@ -38,6 +39,10 @@ static int version(void)
     if (found >= VERSIONS) exit(99);
     return found;
 }
+
+/* The library itself, but for a look: what the last versions do before the length is tested. */
+static volatile uint64_t seen;
+static int straight(int w) { return w == RIGHT || w >= RESULTANT_LOOKS_AT_F; }
 
 static void wipe(uint64_t *b, size_t length) { if (length) memset(b, 0, length * sizeof *b); }
 
@@ -56,6 +61,8 @@ static int has_large_word(uint64_t n, const uint64_t *f, size_t fl)
 jingcobu64_answer __wrap_jingcobu64_resultant(uint64_t n, const uint64_t *f, size_t fl, const uint64_t *g, size_t gl, uint64_t *work, size_t wl)
 {
     int w = version();
+    if (w == RESULTANT_LOOKS_AT_F && fl) seen = f[0];
+    if (straight(w)) return __real_jingcobu64_resultant(n, f, fl, g, gl, work, wl);
     if (w == RESULTANT_WITHOUT_ZERO_TOPS) {
         while (fl > 1 && fl < 50 && f[fl - 1] == 0) fl--;
         while (gl > 1 && gl < 50 && g[gl - 1] == 0) gl--;
@@ -98,6 +105,8 @@ jingcobu64_answer __wrap_jingcobu64_reduced_resultant(uint64_t n, const uint64_t
                                                       size_t ul, uint64_t *v, size_t vl, uint64_t *work, size_t wl)
 {
     int w = version();
+    if (w == REDUCED_LOOKS_AT_G && gl) seen = g[0];
+    if (straight(w)) return __real_jingcobu64_reduced_resultant(n, f, fl, g, gl, u, ul, v, vl, work, wl);
     size_t l = 1, k = 0;
     for (uint64_t m = n; m > 1; m /= 2) k++;
     if (fl && gl) l += k * ((fl > gl ? fl : gl) - 1);
@@ -147,6 +156,7 @@ jingcobu64_answer __wrap_jingcobu64_reduced_resultant(uint64_t n, const uint64_t
 jingcobu64_answer __wrap_jingcobu64_product(uint64_t n, const uint64_t *f, size_t fl, const uint64_t *g, size_t gl, uint64_t *out, size_t ol)
 {
     int w = version();
+    if (straight(w)) return __real_jingcobu64_product(n, f, fl, g, gl, out, ol);
     size_t l = fl && gl ? fl + gl - 1 : 0;
     uint64_t top = l && l <= ol ? out[l - 1] : 0;
     jingcobu64_answer a = __real_jingcobu64_product(n, f, fl, g, gl, out, ol);

@@ -6,9 +6,9 @@ CRATES := $(ROOT)/crates.txt $(wildcard $(ROOT)/crates $(ROOT)/crates/* $(PARTS:
     $(PARTS:%=$(ROOT)/crates/*/%/*.rt) $(PARTS:%=$(ROOT)/crates/*/%/*.antt))
 
 $(ROOT)/target/staticlib/lib%.a: $(CRATES)
-	cd $(ROOT) && rt staticlib $*
+	cd $(ROOT) && tools/need-rt && rt staticlib $*
 
 $(ROOT)/target/bin/%: $(CRATES)
-	cd $(ROOT) && rt check $* && touch target/bin/$*
+	cd $(ROOT) && tools/need-rt && rt check $* && touch target/bin/$*
 
 .NOTPARALLEL:

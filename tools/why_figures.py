@@ -3,7 +3,7 @@
 Which modulus, ground and divisor are named is not fixed by the papers. This file finds them by the way that docs/changes/W4.md tells,
 over lists of Python's integers, and holds each to what is fixed: D is that of tools/ideal_constants.py, which shares nothing with the
 engine; "coprime" is answered exactly where it is 1, the modulus is above 1 and divides n and D, and the divisor is monic of degree 1 or
-more and leaves no remainder. The frames are those of crates/vectors, with the D stored there."""
+more and leaves no remainder. The frames that the trial reads are the first of crates/vectors, with the D stored there."""
 import os
 from functools import lru_cache
 from math import gcd
@@ -11,6 +11,7 @@ from ideal_constants import reduced_resultant
 
 HERE = os.path.dirname(os.path.abspath(__file__))
 VECTORS = os.path.join(HERE, '..', 'crates', 'vectors')
+FRAMES = os.path.join(HERE, '..', 'crates', 'why_trial', 'stdin')
 MARK = 2882400001
 PRIME = 4294967291
 
@@ -148,8 +149,9 @@ if __name__ == '__main__':
     full_line(7, [], [7], status=2)
     full_line(7, [0], [1, 7], status=3)
     print('6\n7\n0')
-    with open(os.path.join(VECTORS, 'stdin')) as frames, open(os.path.join(VECTORS, 'stdout')) as numbers:
-        for frame, line in zip(frames, numbers):
+    with open(FRAMES) as frames, open(os.path.join(VECTORS, 'stdin')) as drawn, open(os.path.join(VECTORS, 'stdout')) as numbers:
+        for frame, same, line in zip(frames, drawn, numbers):
+            assert frame == same
             words = [int(frame[i : i + 8], 16) for i in range(14, len(frame.strip()), 8)]
             n, d, D = int(frame[2:10], 16), int(frame[10:12], 16), int(line.split()[1], 16)
             full_line(n, words[: d + 1], words[d + 1 :], D)

@@ -1,7 +1,7 @@
 {
   for (i = 1, 300,
     my(n = [4, 6, 12, 36, 210][random(5) + 1], f = vector(1 + random(5), k, random(n)), g = vector(1 + random(5), k, random(n)), D, r);
-    D = jingcobu_reduced(n, f, g)[1]; r = jingcobu_why(n, f, g);
+    D = jingcobu_reduced_resultant(n, f, g)[1]; r = jingcobu_why(n, f, g);
     if ((r[1] == 0) != (D == 1), error([n, f, g, r]));
     if (r[1], if (r[2] < 2 || D % r[2], error([n, f, g, r])));
     if (r[1] == 1, if (f % r[2] != 0 * f || g % r[2] != 0 * g, error([n, f, g, r])));

@@ -1,4 +1,4 @@
-"""Resultants and reduced resultants of polynomials over Z/nZ, for any n from 2 to 4294967295, prime or not.
+"""Resultants and reduced resultants of polynomials over Z/nZ, for any n from 2 to 2^63 - 1, prime or not.
 
 A polynomial is a list of integers from 0 to n - 1, constant first. Its sent degree is one less than its length, at most 48; the top
 word may be zero and counts: the resultant is the Sylvester determinant in the sent degrees.
@@ -11,9 +11,11 @@ word may be zero and counts: the resultant is the Sylvester determinant in the s
 >>> jingcobu.resultant(5, [2, 1, 0], [1, 1]), jingcobu.resultant(5, [2, 1], [1, 1])
 (1, 4)
 
-What the engine refuses raises `Refused`, with the refusal's number and sentence; an integer that fits no word of 32 bits raises
-ValueError, and what is no integer TypeError. The functions may be called from several threads. `product64`, `resultant64` and
-`reduced_resultant64` take words of 64 bits and n up to 9223372036854775807, that is 2^63 - 1.
+What the engine refuses raises `Refused`, with the refusal's number and sentence; an integer that fits no word raises ValueError, and
+what is no integer TypeError; both name the function, the polynomial and the place. The functions may be called from several threads.
+`resultant`, `reduced_resultant` and `product` use words of 32 bits where n and all words fit them, and words of 64 bits otherwise: both
+sets of the engine answer the same numbers. `product64`, `resultant64` and `reduced_resultant64` always use words of 64 bits. The other
+functions have words of 32 bits only.
 
 >>> jingcobu.resultant(5, [2, 7], [1, 1])
 Traceback (most recent call last):
@@ -21,29 +23,26 @@ jingcobu._refusals.Refused: refused with 3: a word or a residue is n or more
 """
 from __future__ import annotations
 
-import ctypes
-import operator
 import threading
 from array import array
 from enum import IntEnum
-from typing import Any, Iterable, List, NamedTuple, Optional, Sequence, Tuple
+from typing import Any, Dict, Iterable, List, NamedTuple, Optional, Sequence, Tuple
 
 from . import _library
 from ._frames import Answer, answers, frame
 from ._library import LibraryMissing
-from ._notation import spell, unspell
+from ._notation import parse, spell, unspell
 from ._refusals import MEANING, Refused
+from ._polynomials import Words
+from ._polynomials import modulus as _modulus, number as _number, pair as _pair, room as _room, trimmed as _trimmed, words as _words
 
 __version__ = "1.0.0"
 __all__ = [
     "Answer", "Claim", "Cofactors", "Factors", "Gcd", "Ground", "LibraryMissing", "MEANING", "Reason", "Reduced", "Refused", "answers",
-    "check_claim", "divisor", "frame", "gcd", "product", "product64", "product_word", "read_text", "reduced_resultant",
+    "check_claim", "divisor", "frame", "gcd", "parse", "product", "product64", "product_word", "read_text", "reduced_resultant",
     "reduced_resultant64", "resultant", "resultant64", "resultant_cofactors", "resultant_two", "resultants", "shares", "spell",
     "true_degree", "unspell", "why", "write_text",
 ]
-
-Words = Sequence[int]
-
 
 class Reduced(NamedTuple):
     """The reduced resultant D, and u and v with u f + v g = D modulo n."""
@@ -94,63 +93,30 @@ class Claim(IntEnum):
     NOT_REDUCED = 3      # the claimed D is not the reduced resultant
 
 
-# ---- words, and the buffers that a call is lent
+# ---- the buffers that a call is lent
 
 _own = threading.local()
+_MOST32, _MOST64 = 2 ** 32 - 1, 2 ** 64 - 1
 
 
-def _work() -> Tuple[Any, int]:
+def _work(width: int = 32) -> "array[int]":
     """The working words of this thread. After an answer they are zero, after a refusal unchanged."""
-    if not hasattr(_own, "work"):
-        _own.work = (ctypes.c_uint32 * _library.WORK)()
-    return _own.work, _library.WORK
+    name = "work%d" % width
+    if not hasattr(_own, name):
+        setattr(_own, name, _room(_library.WORK if width == 32 else _library.WORK64, width))
+    work: "array[int]" = getattr(_own, name)
+    return work
 
 
-def _work64() -> Tuple[Any, int]:
-    """The same of 64 bits."""
-    if not hasattr(_own, "work64"):
-        _own.work64 = (ctypes.c_uint64 * _library.WORK64)()
-    return _own.work64, _library.WORK64
-
-
-def _room(count: int) -> "array[int]":
-    """So many words for a result."""
-    return array("I", bytes(4 * count))
-
-
-def _room64(count: int) -> "array[int]":
-    return array("Q", bytes(8 * count))
-
-
-def _word(x: int, name: str, most: int = 2 ** 32 - 1) -> int:
-    x = operator.index(x)
-    if not 0 <= x <= most:
-        raise ValueError("%s = %d is not from 0 to %d" % (name, x, most))
-    return x
-
-
-def _words(f: Words, name: str) -> "array[int]":
-    try:
-        return array("I", f)
-    except OverflowError:
-        raise ValueError("a word of %s is not from 0 to 4294967295" % name) from None
-
-
-def _word64(x: int, name: str) -> int:
-    return _word(x, name, 2 ** 64 - 1)
-
-
-def _words64(f: Words, name: str) -> "array[int]":
-    return array("Q", [_word64(x, "a word of " + name) for x in f])
-
-
-def _lend(*buffers: "array[int]") -> Tuple[Any, ...]:
-    """Buffers and lengths, as the library takes them; what is lent keeps its words alive."""
+def _call(service: str, *given: Any) -> Any:
+    """The engine's answer; an array is lent as its place and its length, and `given` keeps it alive."""
     lent: List[Any] = []
-    for words in buffers:
-        count = len(words)
-        lent += ((ctypes.c_ubyte * (count * words.itemsize)).from_buffer(words), count) if count else (None, 0)
-    return tuple(lent)
+    for x in given:
+        if isinstance(x, array):
+            lent.extend(x.buffer_info())
+        else:
+            lent.append(x)
+    return _library.service(service)(*lent)
 
 
 def _accept(answer: Any) -> Any:
@@ -163,65 +129,78 @@ def _value(answer: Any) -> int:
     return int(_accept(answer).value)
 
 
-def _trimmed(words: "array[int]") -> List[int]:
-    """The words up to the highest that is not zero; one word where there is none."""
-    count = len(words)
-    while count > 1 and not words[count - 1]:
-        count -= 1
-    return words[:count].tolist()
+def _named(service: str, width: int) -> str:
+    return service if width == 32 else service + "64"
+
+
+def _length(n: int, f: "array[int]", g: "array[int]") -> int:
+    """The words of a cofactor of D: K times the larger sent degree, plus 1. One where the call will be refused for n or a length."""
+    longest = max(len(f), len(g))
+    return (n.bit_length() - 1) * (longest - 1) + 1 if n >= 2 and 1 <= longest <= 49 else 1
 
 
 # ---- resultants
 
 def resultant(n: int, f: Words, g: Words) -> int:
-    """The resultant of f and g, from 0 to n - 1. Refusals: 1, 2, 3.
+    """The resultant of f and g, from 0 to n - 1, for n up to 2^63 - 1. Refusals: 1, 2, 3.
 
     >>> resultant(7, [1, 1], [2, 1]), resultant(7, [2, 1], [1, 1])
     (1, 6)
+    >>> resultant(2 ** 62, [1, 2 ** 40], [3, 1])
+    3298534883327
     """
-    x, y = _words(f, "f"), _words(g, "g")
-    return _value(_library.service("resultant")(_word(n, "n"), *_lend(x, y), *_work()))
+    n, width, x, y = _pair(n, f, g, "resultant")
+    return _value(_call(_named("resultant", width), n, x, y, _work(width)))
 
 
 def resultants(n: int, pairs: Iterable[Tuple[Words, Words]]) -> List[int]:
-    """The resultants of many pairs, with one set of working words. Where a pair is refused, `Refused.place` says which.
+    """The resultants of many pairs. Where a pair is refused, `Refused.place` says which.
 
     >>> resultants(12, [([3, 2], [1, 4]), ([5], [0, 1])])
     [2, 5]
     """
-    call, n = _library.service("resultant"), _word(n, "n")
-    work, found = (ctypes.c_uint32 * _library.WORK)(), []
+    found = []
     for place, (f, g) in enumerate(pairs):
-        x, y = _words(f, "f"), _words(g, "g")
-        answer = call(n, *_lend(x, y), work, _library.WORK)
-        if answer.status:
-            raise Refused(answer.status, place)
-        found.append(answer.value)
+        try:
+            found.append(resultant(n, f, g))
+        except Refused as refused:
+            raise Refused(refused.number, place) from None
     return found
 
 
 def reduced_resultant(n: int, f: Words, g: Words) -> Reduced:
     """The reduced resultant D of f and g with cofactors: the divisor of n whose multiples are exactly the constants that u f + v g
-    can be. D = n says that only 0 is reached. Which cofactors come back is fixed for two constants alone. Refusals: 1, 2, 3.
+    can be. D = n says that only 0 is reached. Which cofactors come back is fixed for two constants alone. n is at most 2^63 - 1.
+    Refusals: 1, 2, 3.
 
     >>> reduced_resultant(6, [5, 0, 1], [3, 1]).D
     2
     >>> reduced_resultant(6, [2], [4])
     Reduced(D=2, u=[0], v=[2])
+    >>> reduced_resultant(3 ** 39, [3 ** 25], [3 ** 30, 1]).D == 3 ** 25
+    True
     """
-    x, y, u, v = _words(f, "f"), _words(g, "g"), _room(_library.COFACTOR), _room(_library.COFACTOR)
-    answer = _accept(_library.service("reduced_resultant")(_word(n, "n"), *_lend(x, y, u, v), *_work()))
+    n, width, x, y = _pair(n, f, g, "reduced_resultant")
+    count = _length(n, x, y)
+    u, v = _room(count, width), _room(count, width)
+    answer = _accept(_call(_named("reduced_resultant", width), n, x, y, u, v, _work(width)))
     return Reduced(answer.value, _trimmed(u), _trimmed(v))
 
 
 def divisor(n: int, f: Words, g: Words) -> int:
-    """D alone, in less time. Refusals: 1, 2, 3.
+    """D alone, in less time, with words of 32 bits. Refusals: 1, 2, 3.
 
     >>> divisor(6, [5, 0, 1], [3, 1])
     2
     """
-    x, y = _words(f, "f"), _words(g, "g")
-    return _value(_library.service("divisor")(_word(n, "n"), *_lend(x, y), *_work()))
+    n, x, y = _pair32(n, f, g, "divisor")
+    return _value(_call("divisor", n, x, y, _work()))
+
+
+def _pair32(n: int, f: Words, g: Words, service: str) -> Tuple[int, "array[int]", "array[int]"]:
+    """n and the words of both polynomials, for a service that has words of 32 bits only."""
+    n = _modulus(n, service, _MOST32)
+    return n, _words(f, "f", service, n), _words(g, "g", service, n)
 
 
 def resultant_cofactors(n: int, f: Words, g: Words) -> Cofactors:
@@ -231,9 +210,9 @@ def resultant_cofactors(n: int, f: Words, g: Words) -> Cofactors:
     >>> resultant_cofactors(7, [1, 1], [2, 1])
     Cofactors(resultant=1, u=[6], v=[1])
     """
-    x, y = _words(f, "f"), _words(g, "g")
+    n, x, y = _pair32(n, f, g, "resultant_cofactors")
     u, v = _room(max(len(y) - 1, 0)), _room(max(len(x) - 1, 0))
-    answer = _accept(_library.service("resultant_cofactors")(_word(n, "n"), *_lend(x, y, u, v), *_work()))
+    answer = _accept(_call("resultant_cofactors", n, x, y, u, v, _work()))
     return Cofactors(answer.value, u.tolist(), v.tolist())
 
 
@@ -244,8 +223,9 @@ def why(n: int, f: Words, g: Words) -> Reason:
     >>> why(7, [6, 0, 1], [1, 1])
     Reason(ground=<Ground.DIVISOR: 2>, m=7, w=[1, 1])
     """
-    x, y, w = _words(f, "f"), _words(g, "g"), _room(_library.COMMON)
-    answer = _accept(_library.service("why")(_word(n, "n"), *_lend(x, y, w), *_work()))
+    n, x, y = _pair32(n, f, g, "why")
+    w = _room(_library.COMMON)
+    answer = _accept(_call("why", n, x, y, w, _work()))
     ground = Ground(answer.ground)
     return Reason(ground, answer.m, w[:answer.degree + 1].tolist() if ground is Ground.DIVISOR else [])
 
@@ -256,18 +236,18 @@ def check_claim(n: int, f: Words, g: Words, d: int, u: Words, v: Words) -> Claim
     >>> check_claim(6, [2], [4], 2, [0], [2])
     <Claim.TRUE: 0>
     """
-    x, y, s, t = _words(f, "f"), _words(g, "g"), _words(u, "u"), _words(v, "v")
-    call = _library.service("check_claim")
-    return Claim(_value(call(_word(n, "n"), *_lend(x, y), _word(d, "d"), *_lend(s, t), *_work())))
+    n, x, y = _pair32(n, f, g, "check_claim")
+    s, t = _words(u, "u", "check_claim", n), _words(v, "v", "check_claim", n)
+    return Claim(_value(_call("check_claim", n, x, y, _number(d, "d", "check_claim", _MOST32), s, t, _work())))
 
 
-def _grid(f: Sequence[Words], name: str) -> Tuple["array[int]", int, int]:
+def _grid(f: Sequence[Words], name: str, n: int) -> Tuple["array[int]", int, int]:
     """The words of a polynomial in y and z, and its sent degrees. Without a word the degrees are sent as 0, which no length fits."""
-    rows = [list(row) for row in f]
+    rows = [_words(row, "%s[%d]" % (name, i), "resultant_two", n).tolist() for i, row in enumerate(f)]
     if any(len(row) != len(rows[0]) for row in rows):
-        raise ValueError("the rows of %s have different lengths" % name)
-    words = _words([w for row in rows for w in row], name)
-    return words, max(len(rows) - 1, 0), max(len(rows[0]) - 1, 0) if rows else 0
+        raise ValueError("resultant_two: the rows of %s have different lengths" % name)
+    found = array("I", [w for row in rows for w in row])
+    return found, max(len(rows) - 1, 0), max(len(rows[0]) - 1, 0) if rows else 0
 
 
 def resultant_two(n: int, f: Sequence[Words], g: Sequence[Words]) -> List[int]:
@@ -280,24 +260,27 @@ def resultant_two(n: int, f: Sequence[Words], g: Sequence[Words]) -> List[int]:
     >>> resultant_two(61, [[0, 60], [1, 0]], [[0, 59], [1, 0]])
     [0, 60, 0]
     """
-    (x, d, a), (y, e, b) = _grid(f, "f"), _grid(g, "g")
+    n = _modulus(n, "resultant_two", _MOST32)
+    (x, d, a), (y, e, b) = _grid(f, "f", n), _grid(g, "g", n)
     out = _room(min(e * a + d * b + 1, _library.MOST_TWO))
-    call = _library.service("resultant_two")
-    _accept(call(_word(n, "n"), *_lend(x), d, a, *_lend(y), e, b, *_lend(out), *_work()))
+    _accept(_call("resultant_two", n, x, d, a, y, e, b, out, _work()))
     return out.tolist()
 
 
 # ---- polynomials and residues
 
 def product(n: int, f: Words, g: Words) -> List[int]:
-    """The product of f and g, of sent degree d + e, also when its top word comes out zero. Refusals: 1, 2 (also d + e above 48), 3.
+    """The product of f and g, of sent degree d + e, also when its top word comes out zero, for n up to 2^63 - 1. Refusals: 1, 2 (also
+    d + e above 48), 3.
 
     >>> product(6, [1, 2], [1, 3])
     [1, 5, 0]
+    >>> product(2 ** 62, [1, 2 ** 31], [1, 2 ** 31])
+    [1, 4294967296, 0]
     """
-    x, y = _words(f, "f"), _words(g, "g")
-    out = _room(max(len(x) + len(y) - 1, 0))
-    _accept(_library.service("product")(_word(n, "n"), *_lend(x, y, out)))
+    n, width, x, y = _pair(n, f, g, "product")
+    out = _room(max(len(x) + len(y) - 1, 0), width)
+    _accept(_call(_named("product", width), n, x, y, out))
     return out.tolist()
 
 
@@ -307,9 +290,9 @@ def product_word(n: int, f: Words, g: Words, k: int) -> Optional[int]:
     >>> product_word(6, [1, 2], [1, 3], 1), product_word(6, [1, 2], [1, 3], 9)
     (5, None)
     """
-    x, y = _words(f, "f"), _words(g, "g")
-    out, k = _room(max(len(x) + len(y) - 1, 0)), _word(k, "k", 2 ** 64 - 1)
-    _accept(_library.service("product_word")(_word(n, "n"), *_lend(x, y, out), k))
+    n, x, y = _pair32(n, f, g, "product_word")
+    out, k = _room(max(len(x) + len(y) - 1, 0)), _number(k, "k", "product_word", _MOST64)
+    _accept(_call("product_word", n, x, y, out, k))
     return out[k] if k < len(out) else None
 
 
@@ -319,7 +302,8 @@ def true_degree(n: int, f: Words) -> Optional[int]:
     >>> true_degree(5, [2, 1, 0]), true_degree(5, [3]), true_degree(5, [0, 0])
     (1, 0, None)
     """
-    answer = _accept(_library.service("true_degree")(_word(n, "n"), *_lend(_words(f, "f"))))
+    n = _modulus(n, "true_degree", _MOST32)
+    answer = _accept(_call("true_degree", n, _words(f, "f", "true_degree", n)))
     return answer.degree if answer.some else None
 
 
@@ -329,57 +313,67 @@ def gcd(n: int, a: int, b: int) -> Gcd:
     >>> gcd(12, 8, 6)
     Gcd(g=2, s=1, t=1)
     """
-    answer = _accept(_library.service("gcd")(_word(n, "n"), _word(a, "a"), _word(b, "b")))
+    n = _modulus(n, "gcd", _MOST32)
+    answer = _accept(_call("gcd", n, _number(a, "a", "gcd", _MOST32), _number(b, "b", "gcd", _MOST32)))
     return Gcd(answer.g, answer.s, answer.t)
 
 
-# ---- words of 64 bits
+# ---- words of 64 bits, whatever n and the words are
+
+def _pair64(n: int, f: Words, g: Words, service: str) -> Tuple[int, "array[int]", "array[int]"]:
+    n = _modulus(n, service, _MOST64)
+    return n, _words(f, "f", service, n, 64), _words(g, "g", service, n, 64)
+
 
 def product64(n: int, f: Words, g: Words) -> List[int]:
-    """`product` with words of 64 bits, n up to 2^63 - 1. Refusals: 1, 2 (also d + e above 48), 3.
+    """`product` with words of 64 bits. Refusals: 1, 2 (also d + e above 48), 3.
 
     >>> product64(2 ** 62, [1, 2 ** 31], [1, 2 ** 31])
     [1, 4294967296, 0]
     """
-    x, y = _words64(f, "f"), _words64(g, "g")
-    out = _room64(max(len(x) + len(y) - 1, 0))
-    _accept(_library.service("product64")(_word64(n, "n"), *_lend(x, y, out)))
+    n, x, y = _pair64(n, f, g, "product64")
+    out = _room(max(len(x) + len(y) - 1, 0), 64)
+    _accept(_call("product64", n, x, y, out))
     return out.tolist()
 
 
 def resultant64(n: int, f: Words, g: Words) -> int:
-    """`resultant` with words of 64 bits, n up to 2^63 - 1. Refusals: 1, 2, 3.
+    """`resultant` with words of 64 bits. Refusals: 1, 2, 3.
 
     >>> resultant64(2 ** 62, [1, 2 ** 40], [3, 1])
     3298534883327
     """
-    x, y = _words64(f, "f"), _words64(g, "g")
-    return _value(_library.service("resultant64")(_word64(n, "n"), *_lend(x, y), *_work64()))
+    n, x, y = _pair64(n, f, g, "resultant64")
+    return _value(_call("resultant64", n, x, y, _work(64)))
 
 
 def reduced_resultant64(n: int, f: Words, g: Words) -> Reduced:
-    """`reduced_resultant` with words of 64 bits, n up to 2^63 - 1. Refusals: 1, 2, 3.
+    """`reduced_resultant` with words of 64 bits. Refusals: 1, 2, 3.
 
     >>> reduced_resultant64(3 ** 39, [3 ** 25], [3 ** 30, 1]).D == 3 ** 25
     True
     """
-    x, y, u, v = _words64(f, "f"), _words64(g, "g"), _room64(_library.COFACTOR64), _room64(_library.COFACTOR64)
-    answer = _accept(_library.service("reduced_resultant64")(_word64(n, "n"), *_lend(x, y, u, v), *_work64()))
+    n, x, y = _pair64(n, f, g, "reduced_resultant64")
+    count = _length(n, x, y)
+    u, v = _room(count, 64), _room(count, 64)
+    answer = _accept(_call("reduced_resultant64", n, x, y, u, v, _work(64)))
     return Reduced(answer.value, _trimmed(u), _trimmed(v))
 
 
 # ---- texts, shares and factors
 
 def read_text(n: int, text: str) -> List[int]:
-    """The words that a text spells, up to the top one. Refusals: 1, 17.
+    """The words that a text spells, up to the top one; only the engine's own notation is read (`parse` reads more). Refusals: 1, 17.
 
     >>> read_text(12, "3*x^3+1*x+5")
     [5, 1, 0, 3]
     """
+    if not isinstance(text, str):
+        raise TypeError("read_text: a text is a str, not %s" % type(text).__name__)
     spelled = array("B", text.encode("utf-8", "surrogateescape"))
-    words = _room(_library.WORDS)
-    answer = _accept(_library.service("read_text")(_word(n, "n"), *_lend(spelled, words)))
-    return words[:answer.value].tolist()
+    found = _room(_library.WORDS)
+    answer = _accept(_call("read_text", _modulus(n, "read_text", _MOST32), spelled, found))
+    return found[:answer.value].tolist()
 
 
 def write_text(n: int, f: Words) -> str:
@@ -388,8 +382,9 @@ def write_text(n: int, f: Words) -> str:
     >>> write_text(12, [5, 1, 0, 3, 0])
     '3*x^3+1*x+5'
     """
+    n = _modulus(n, "write_text", _MOST32)
     text = array("B", bytes(_library.TEXT))
-    answer = _accept(_library.service("write_text")(_word(n, "n"), *_lend(_words(f, "f"), text)))
+    answer = _accept(_call("write_text", n, _words(f, "f", "write_text", n), text))
     return text[:answer.value].tobytes().decode("ascii")
 
 
@@ -399,48 +394,78 @@ def shares(frames: int, waiting: Sequence[int]) -> Tuple[int, int, int, int]:
     >>> shares(10, [1, 100, 2, 100])
     (1, 4, 2, 3)
     """
-    if len(waiting) != 4:
-        raise ValueError("four groups wait, not %d" % len(waiting))
-    plan = _accept(_library.service("shares")(_word(frames, "frames"), *(_word(w, "waiting") for w in waiting)))
-    first, second, third, fourth = plan.share
+    counts = list(waiting)
+    if len(counts) != 4:
+        raise ValueError("shares: four groups wait, not %d" % len(counts))
+    groups = (_number(w, "waiting[%d]" % i, "shares", _MOST32) for i, w in enumerate(counts))
+    first, second, third, fourth = _accept(_call("shares", _number(frames, "frames", "shares", _MOST32), *groups)).share
     return first, second, third, fourth
 
 
 class Factors:
-    """One h, and beside it at most 16 factors under numbers from 1 to 65535, which come and go.
+    """One h, and beside it at most 16 factors under numbers from 1 to 65535, which come and go. Threads may share it.
 
     >>> held = Factors(12, [1, 4])
     >>> held.arrive(7, [3, 2])
     >>> held.arrive(8, [5])
     >>> held.resultant()
     10
+    >>> held
+    Factors(n=12, h=[1, 4], degrees={7: 1, 8: 0})
     >>> held.leave(7)
     >>> held.resultant()
     5
 
-    A refused call leaves the factors as they were.
+    A refused call leaves the factors as they were. Two are equal where n, h and, under each number, the sent degree and the resultant
+    with h agree.
     """
 
     def __init__(self, n: int, h: Words) -> None:
         """Nothing beside h. Refusals: 1, 2, 3."""
-        self._state = _accept(_library.service("factors_start")(_word(n, "n"), *_lend(_words(h, "h")))).factors
+        n = _modulus(n, "Factors", _MOST32)
+        self._lock = threading.Lock()
+        self._state = _accept(_call("factors_start", n, _words(h, "h", "Factors", n))).factors
 
     def arrive(self, number: int, f: Words) -> None:
         """Takes f under a number that is free. Refusals: 2, 3, 14 (the number), 13 (16 factors, or degrees above 48 in sum)."""
-        x, number = _words(f, "f"), _word(number, "number", 65535)
-        call = _library.service("factors_arrive")
-        self._state = _accept(call(self._state, number, *_lend(x), *_work())).factors
+        under = _number(number, "number", "Factors.arrive", 65535)
+        with self._lock:
+            x = _words(f, "f", "Factors.arrive", self._state.n)
+            self._state = _accept(_call("factors_arrive", self._state, under, x, _work())).factors
 
     def leave(self, number: int) -> None:
         """Gives up the factor under that number. Refusals: 14."""
-        self._state = _accept(_library.service("factors_leave")(self._state, _word(number, "number", 65535))).factors
+        under = _number(number, "number", "Factors.leave", 65535)
+        with self._lock:
+            self._state = _accept(_call("factors_leave", self._state, under)).factors
 
     def resultant(self) -> int:
         """The resultant of the product of the factors held with h; 1 where none is held."""
-        return _value(_library.service("factors_read")(self._state))
+        with self._lock:
+            return _value(_call("factors_read", self._state))
 
     def copy(self) -> "Factors":
         """The same h and factors, which come and go on their own."""
         other = Factors.__new__(Factors)
-        other._state = _library.State.from_buffer_copy(self._state)
+        other._lock = threading.Lock()
+        with self._lock:
+            other._state = _library.State.from_buffer_copy(self._state)
         return other
+
+    def _held(self) -> Tuple[int, List[int], Dict[int, Tuple[int, int]]]:
+        """n, h, and under each number the sent degree and the resultant."""
+        with self._lock:
+            state = self._state
+            slots = zip(state.number, state.degree, state.resultant)
+            return state.n, list(state.h[:state.h_len]), {k: (d, r) for k, d, r in sorted(slots) if k}
+
+    def __eq__(self, other: object) -> bool:
+        if not isinstance(other, Factors):
+            return NotImplemented
+        return self._held() == other._held()
+
+    __hash__ = None  # type: ignore[assignment]
+
+    def __repr__(self) -> str:
+        n, h, held = self._held()
+        return "Factors(n=%d, h=%r, degrees=%r)" % (n, h, {k: d for k, (d, _) in held.items()})

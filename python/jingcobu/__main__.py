@@ -1,120 +1,242 @@
-"""The command line: python3 -m jingcobu COMMAND ...
+"""The command line: python3 -m jingcobu COMMAND ... (installed: jingcobu COMMAND ...)
 
-    resultant N F G            the resultant
-    reduced   N F G            D and its cofactors
-    cofactors N F G            the resultant and its cofactors
-    why       N F G            why F and G are not coprime
-    check     N F G D U V      whether D is the reduced resultant and U F + V G = D
-    frame     KIND N F G       a frame of the kind resultant or reduced, for jingcobu-desk
-    answers   [FILE]           answer lines of jingcobu-desk (standard input without FILE), in words
-
-Polynomials are texts such as 3*x^3+1*x+5: terms from high power to low, coefficients from 1 to n - 1. Words, constant first, with
-commas between them, are taken too; so a zero on top can be sent: 2,1,0. A refusal goes to standard error, and the status is 1.
+Polynomials are written as people write them, 3*x^2 - x + 1: blanks, minus signs, ** for ^, terms in any order, coefficients of any size,
+which are taken modulo N. Words with commas between them, constant first, are taken too; so a zero on top can be sent: 2,1,0. A text that
+begins with a minus sign stands after --. A refusal or a mistake goes to standard error, and the exit status is 1; so it is where a claim
+is false.
 """
 from __future__ import annotations
 
 import argparse
+import json
 import sys
-from typing import List, Optional
+from typing import Any, Callable, Dict, List, NamedTuple, Optional, Tuple
 
 import jingcobu
 from jingcobu import Claim, Ground, spell
 
-
-def polynomial(n: int, text: str) -> List[int]:
-    """The words of a polynomial of at most 49."""
-    return [int(w) for w in text.split(",")] if "," in text else jingcobu.read_text(n, text)
+MOST_MULTIPLIER = 4096  # words of a claimed multiplier
 
 
-def multiplier(text: str) -> List[int]:
-    """The words of a multiplier of at most 4096."""
-    return [int(w) for w in text.split(",")] if "," in text else jingcobu.unspell(text, 4096)
+class Said(NamedTuple):
+    """What a command found: for people, for programs, and whether the exit status is 0."""
+
+    text: str
+    data: Any
+    good: bool = True
 
 
-def _show(n: int, constant: int, u: List[int], v: List[int]) -> str:
+def _listed(text: str, name: str) -> List[int]:
+    """Words with commas between them."""
+    found = []
+    for place, word in enumerate(text.split(",")):
+        try:
+            found.append(int(word))
+        except ValueError:
+            raise ValueError("%s: word %d is %r, not an integer" % (name, place, word)) from None
+    return found
+
+
+def _words(n: int, text: str, name: str, most: int) -> List[int]:
+    """The words of a polynomial of at most so many words: written with powers of x, or with commas."""
+    if "," not in text or "(" in text:
+        try:
+            return jingcobu.parse(text, n, most=most - 1)
+        except ValueError as error:
+            raise ValueError("%s: %s" % (name, error)) from None
+    return _listed(text, name)
+
+
+def polynomial(n: int, text: str, name: str) -> List[int]:
+    """The words of a polynomial of sent degree at most 48."""
+    return _words(n, text, name, 49)
+
+
+def _pair(n: int, f: str, g: str) -> Tuple[int, List[int], List[int]]:
+    return n, polynomial(n, f, "F"), polynomial(n, g, "G")
+
+
+def _combined(n: int, constant: int, u: List[int], v: List[int]) -> str:
     return "u = %s\nv = %s\nu f + v g = %d modulo %d" % (spell(u), spell(v), constant, n)
 
 
-def resultant(n: int, f: str, g: str) -> str:
-    return str(jingcobu.resultant(n, polynomial(n, f), polynomial(n, g)))
+def resultant(n: int, f: str, g: str) -> Said:
+    """the resultant"""
+    found = jingcobu.resultant(*_pair(n, f, g))
+    return Said(str(found), {"resultant": found})
 
 
-def reduced(n: int, f: str, g: str) -> str:
-    answer = jingcobu.reduced_resultant(n, polynomial(n, f), polynomial(n, g))
-    return "D = %d\n%s" % (answer.D, _show(n, answer.D, answer.u, answer.v))
+def reduced(n: int, f: str, g: str) -> Said:
+    """D and its cofactors"""
+    D, u, v = jingcobu.reduced_resultant(*_pair(n, f, g))
+    return Said("D = %d\n%s" % (D, _combined(n, D, u, v)), {"D": D, "u": u, "v": v})
 
 
-def cofactors(n: int, f: str, g: str) -> str:
-    answer = jingcobu.resultant_cofactors(n, polynomial(n, f), polynomial(n, g))
-    return "resultant %d\n%s" % (answer.resultant, _show(n, answer.resultant, answer.u, answer.v))
+def divisor(n: int, f: str, g: str) -> Said:
+    """D alone, in less time"""
+    found = jingcobu.divisor(*_pair(n, f, g))
+    return Said(str(found), {"D": found})
 
 
-def why(n: int, f: str, g: str) -> str:
-    reason = jingcobu.why(n, polynomial(n, f), polynomial(n, g))
-    if reason.ground is Ground.COPRIME:
-        return "coprime"
-    if reason.ground is Ground.ZERO:
-        return "both are zero modulo %d" % reason.m
-    return "%s divides both modulo %d" % (spell(reason.w), reason.m)
+def cofactors(n: int, f: str, g: str) -> Said:
+    """the resultant and its cofactors"""
+    found, u, v = jingcobu.resultant_cofactors(*_pair(n, f, g))
+    return Said("resultant %d\n%s" % (found, _combined(n, found, u, v)), {"resultant": found, "u": u, "v": v})
 
 
-def check(n: int, f: str, g: str, d: int, u: str, v: str) -> str:
-    claim = jingcobu.check_claim(n, polynomial(n, f), polynomial(n, g), d, multiplier(u), multiplier(v))
-    return {
+def why(n: int, f: str, g: str) -> Said:
+    """why F and G are not coprime"""
+    ground, m, w = jingcobu.why(*_pair(n, f, g))
+    data = {"ground": ground.name.lower(), "m": m, "w": w}
+    if ground is Ground.COPRIME:
+        return Said("coprime", data)
+    if ground is Ground.ZERO:
+        return Said("both are zero modulo %d" % m, data)
+    return Said("%s divides both modulo %d" % (spell(w), m), data)
+
+
+def check(n: int, f: str, g: str, d: int, u: str, v: str) -> Said:
+    """whether D is the reduced resultant and U F + V G = D"""
+    multipliers = [_words(n, text, name, MOST_MULTIPLIER) for text, name in ((u, "U"), (v, "V"))]
+    claim = jingcobu.check_claim(*_pair(n, f, g), d, *multipliers)
+    text = {
         Claim.TRUE: "true",
         Claim.NO_DIVISOR: "false: %d does not divide %d" % (d, n),
         Claim.NOT_COMBINED: "false: u f + v g is not %d modulo %d" % (d, n),
         Claim.NOT_REDUCED: "false: %d is not the reduced resultant" % d,
     }[claim]
+    return Said(text, {"claim": claim.name.lower()}, claim is Claim.TRUE)
 
 
-def frame(kind: str, n: int, f: str, g: str) -> str:
-    return jingcobu.frame(kind, n, polynomial(n, f), polynomial(n, g))
+def product(n: int, f: str, g: str) -> Said:
+    """the product"""
+    found = jingcobu.product(*_pair(n, f, g))
+    return Said(spell(found), {"product": found})
 
 
-def answers(file: Optional[str]) -> str:
+def word(n: int, f: str, g: str, k: int) -> Said:
+    """word K of the product"""
+    found = jingcobu.product_word(*_pair(n, f, g), k)
+    return Said("none" if found is None else str(found), {"word": found})
+
+
+def degree(n: int, f: str) -> Said:
+    """the true degree of F"""
+    found = jingcobu.true_degree(n, polynomial(n, f, "F"))
+    return Said("none" if found is None else str(found), {"degree": found})
+
+
+def gcd(n: int, a: int, b: int) -> Said:
+    """gcd(A, B, N) with its least cofactors"""
+    g, s, t = jingcobu.gcd(n, a, b)
+    return Said("%d = %d * %d + %d * %d modulo %d" % (g, s, a, t, b, n), {"gcd": g, "s": s, "t": t})
+
+
+def two(n: int, f: str, g: str) -> Said:
+    """the resultant in y of two polynomials in y and z: rows of words of z, one row for each power of y, with ; between them"""
+    found = jingcobu.resultant_two(n, _rows(f, "F"), _rows(g, "G"))
+    return Said(spell(found).replace("x", "z"), {"resultant": found})
+
+
+def _rows(text: str, name: str) -> List[List[int]]:
+    return [_listed(row, "%s, row %d" % (name, i)) for i, row in enumerate(text.split(";"))]
+
+
+def shares(frames: int, waiting: List[int]) -> Said:
+    """how many jobs of each of four groups go into a run of FRAMES frames"""
+    found = jingcobu.shares(frames, waiting)
+    return Said(" ".join(str(x) for x in found), {"shares": list(found)})
+
+
+def text(n: int, f: str) -> Said:
+    """F in the engine's own notation, which read_text reads"""
+    words = polynomial(n, f, "F")
+    return Said(jingcobu.write_text(n, words), {"text": jingcobu.write_text(n, words), "words": words})
+
+
+def frame(kind: str, n: int, f: str, g: str) -> Said:
+    """a frame for jingcobu-desk"""
+    line = jingcobu.frame(kind, *_pair(n, f, g))
+    return Said(line, {"frame": line})
+
+
+def answers(file: Optional[str]) -> Said:
+    """answer lines of jingcobu-desk (standard input without FILE), in words"""
     if file is None:
         found = jingcobu.answers(sys.stdin)
     else:
         with open(file, encoding="ascii") as lines:
             found = jingcobu.answers(lines)
-    return "\n".join(answer.sentence() for answer in found)
+    return Said("\n".join(answer.sentence() for answer in found), [answer._asdict() for answer in found])
+
+
+class Command(NamedTuple):
+    work: Callable[..., Said]
+    arguments: Tuple[Tuple[str, Dict[str, Any]], ...]
+    example: str
+
+
+_N: Tuple[str, Dict[str, Any]] = ("n", {"type": int, "metavar": "N", "help": "the modulus, 2 or more"})
+_F: Tuple[str, Dict[str, Any]] = ("f", {"metavar": "F", "help": "a polynomial, as 3*x^2 - x + 1 or 1,11,3"})
+_G: Tuple[str, Dict[str, Any]] = ("g", {"metavar": "G", "help": "a polynomial"})
+
+
+def _integer(name: str, said: str) -> Tuple[str, Dict[str, Any]]:
+    return name, {"type": int, "metavar": name.upper(), "help": said}
+
+
+def _text(name: str, said: str) -> Tuple[str, Dict[str, Any]]:
+    return name, {"metavar": name.upper(), "help": said}
+
+
+COMMANDS = {
+    "resultant": Command(resultant, (_N, _F, _G), "12 '2*x + 3' '4*x + 1'"),
+    "reduced": Command(reduced, (_N, _F, _G), "6 2 4"),
+    "divisor": Command(divisor, (_N, _F, _G), "6 'x^2 - 1' 'x + 3'"),
+    "cofactors": Command(cofactors, (_N, _F, _G), "12 '2*x + 3' '4*x + 1'"),
+    "why": Command(why, (_N, _F, _G), "7 'x^2 - 1' 'x + 1'"),
+    "check": Command(check, (_N, _F, _G, _integer("d", "the claimed D"), _text("u", "a multiplier"), _text("v", "a multiplier")), "6 2 4 2 0 2"),
+    "product": Command(product, (_N, _F, _G), "6 '2*x + 1' '3*x + 1'"),
+    "word": Command(word, (_N, _F, _G, _integer("k", "which word")), "6 '2*x + 1' '3*x + 1' 1"),
+    "degree": Command(degree, (_N, _F), "5 2,1,0"),
+    "gcd": Command(gcd, (_N, _integer("a", "a residue"), _integer("b", "a residue")), "12 8 6"),
+    "two": Command(two, (_N, _text("f", "rows of words, as 0,60;1,0 for y - z modulo 61"), _text("g", "rows of words")), "61 '0,60;1,0' '0,59;1,0'"),
+    "shares": Command(shares, (_integer("frames", "1 to 1024"), ("waiting", {"type": int, "nargs": 4, "metavar": "W", "help": "jobs that wait"})),
+                      "10 1 100 2 100"),
+    "text": Command(text, (_N, _F), "12 'x - 1'"),
+    "frame": Command(frame, (("kind", {"choices": ["resultant", "reduced"]}), _N, _F, _G), "resultant 12 '2*x + 3' '4*x + 1'"),
+    "answers": Command(answers, (("file", {"nargs": "?", "metavar": "FILE"}),), "answers.txt"),
+}
 
 
 def _parser() -> argparse.ArgumentParser:
-    parser = argparse.ArgumentParser(prog="python3 -m jingcobu", description=__doc__, formatter_class=argparse.RawDescriptionHelpFormatter)
+    shape = argparse.RawDescriptionHelpFormatter
+    parser = argparse.ArgumentParser(prog="jingcobu", description=__doc__, formatter_class=shape)
     parser.add_argument("--version", action="version", version="jingcobu " + jingcobu.__version__)
     commands = parser.add_subparsers(dest="command", required=True, metavar="COMMAND")
-    for work in (resultant, reduced, cofactors, why, check, frame):
-        name = work.__name__
-        command = commands.add_parser(name)
+    for name, (work, arguments, example) in COMMANDS.items():
+        said = (work.__doc__ or "").strip()
+        command = commands.add_parser(name, help=said, description=said, formatter_class=shape, epilog="example: jingcobu %s %s" % (name, example))
         command.set_defaults(work=work)
-        if name == "frame":
-            command.add_argument("kind", choices=["resultant", "reduced"])
-        command.add_argument("n", type=int)
-        command.add_argument("f")
-        command.add_argument("g")
-        if name == "check":
-            command.add_argument("d", type=int)
-            command.add_argument("u")
-            command.add_argument("v")
-    command = commands.add_parser("answers")
-    command.set_defaults(work=answers)
-    command.add_argument("file", nargs="?")
+        command.add_argument("--json", action="store_true", help="the answer as JSON")
+        for argument, options in arguments:
+            command.add_argument(argument, **options)
     return parser
 
 
 def main(arguments: Optional[List[str]] = None) -> int:
     given = vars(_parser().parse_args(arguments))
-    name, work = given.pop("command"), given.pop("work")
+    name, work, as_json = given.pop("command"), given.pop("work"), given.pop("json")
     try:
         said = work(**given)
-    except (ValueError, OSError, jingcobu.LibraryMissing) as error:
+    except (ValueError, TypeError, OSError, jingcobu.LibraryMissing) as error:
         print("jingcobu %s: %s" % (name, error), file=sys.stderr)
         return 1
-    if said:
-        print(said)
-    return 0
+    if as_json:
+        print(json.dumps(said.data))
+    elif said.text:
+        print(said.text)
+    return 0 if said.good else 1
 
 
 if __name__ == "__main__":

@@ -6,7 +6,7 @@ import functools
 import os
 import sys
 from pathlib import Path
-from typing import Any, Iterator, List
+from typing import Any, Iterator, List, Optional
 
 WORK = 8192          # working words
 COFACTOR = 1489      # words that always suffice for a cofactor of D
@@ -89,8 +89,16 @@ SIGNATURES = {
 }
 
 
+def source_tree(package: Path) -> Optional[Path]:
+    """The root of the sources that hold this very package, or None where it is installed or was copied elsewhere."""
+    root = package.parent.parent
+    own = root / "python" / "jingcobu" == package and (root / "python" / "pyproject.toml").is_file()
+    return root if own and (root / "include" / "jingcobu.h").is_file() and (root / "crates.txt").is_file() else None
+
+
 def candidates() -> Iterator[str]:
-    """The files that are tried, in order. JINGCOBU_LIBRARY, where it is set, is the only one."""
+    """The files that are tried, in order. JINGCOBU_LIBRARY, where it is set, is the only one. No folder is looked into that is not the
+    package's own, its sources', or one that the system keeps libraries in."""
     named = os.environ.get("JINGCOBU_LIBRARY")
     if named:
         yield named
@@ -98,7 +106,9 @@ def candidates() -> Iterator[str]:
     here = Path(__file__).resolve().parent
     yield str(here / "libjingcobu.so")
     yield str(here / INTERFACE)
-    yield str(here.parent.parent / "build" / "libjingcobu.so")
+    root = source_tree(here)
+    if root is not None:
+        yield str(root / "build" / "libjingcobu.so")
     yield INTERFACE                                        # where the system's loader looks
     for prefix in dict.fromkeys([sys.prefix, sys.base_prefix, "/usr/local"]):
         yield str(Path(prefix) / "lib" / INTERFACE)

@@ -3,7 +3,7 @@ are longer."""
 from __future__ import annotations
 
 import re
-from typing import List, Sequence
+from typing import List, Optional, Sequence, Tuple
 
 _TERM = re.compile(r"([1-9][0-9]*)(?:\*x(?:\^([1-9][0-9]*))?)?")
 
@@ -46,3 +46,111 @@ def unspell(text: str, most: int) -> List[int]:
     if spell(words) != text:
         raise ValueError("no text of a polynomial: %r" % text)
     return words
+
+
+# ---- polynomials as people and other systems write them
+
+_TOKEN = re.compile(r"\s*(?:(?P<number>[0-9]+)|(?P<power>\*\*|\^)|(?P<sign>[+-])|(?P<times>\*)|(?P<x>x)|(?P<mod>Mod\s*\(\s*(?P<residue>-?[0-9]+)"
+                    r"\s*,\s*(?P<of>[0-9]+)\s*\))|(?P<end>$)|(?P<other>.))", re.S)
+
+
+class _Reading:
+    """The tokens of a text, one after the other."""
+
+    def __init__(self, text: str) -> None:
+        self.text, self.kind, self.match = text, "", _TOKEN.match("")
+        self.next_at = 0
+        self.step()
+
+    def step(self) -> None:
+        self.match = _TOKEN.match(self.text, self.next_at)
+        assert self.match is not None
+        self.next_at = self.match.end()
+        self.kind = next(k for k in ("number", "power", "sign", "times", "x", "mod", "end", "other") if self.match[k] is not None)
+
+    def part(self, name: str) -> str:
+        assert self.match is not None
+        return self.match[name] or ""
+
+    def refuse(self, what: str) -> ValueError:
+        assert self.match is not None
+        return ValueError("character %d of %r: %s" % (self.match.start(self.kind) + 1, self.text, what))
+
+    def take(self, kind: str) -> bool:
+        """Whether the next token is of this kind; it is then passed."""
+        if self.kind != kind:
+            return False
+        self.step()
+        return True
+
+
+def _coefficient(reading: _Reading, n: int) -> Optional[int]:
+    """A number, or a residue as PARI prints it; None where neither stands here."""
+    if reading.kind == "number":
+        found = int(reading.part("number"))
+    elif reading.kind == "mod":
+        if int(reading.part("of")) != n:
+            raise reading.refuse("a residue of another modulus than %d" % n)
+        found = int(reading.part("residue"))
+    else:
+        return None
+    reading.step()
+    return found
+
+
+def _power(reading: _Reading, most: int) -> int:
+    """The power of an x that was passed: 1 where none is written."""
+    if not reading.take("power"):
+        return 1
+    if reading.kind != "number":
+        raise reading.refuse("a power is expected")
+    if int(reading.part("number")) > most:
+        raise reading.refuse("a power above %d" % most)
+    power = int(reading.part("number"))
+    reading.step()
+    return power
+
+
+def _term(reading: _Reading, n: int, most: int) -> Tuple[int, int]:
+    """One term: its coefficient and its power of x."""
+    found = _coefficient(reading, n)
+    if found is not None and not reading.take("times"):
+        return found, 0
+    if not reading.take("x"):
+        raise reading.refuse("x is expected" if found is not None else "a term is expected: a number, x, or both with * between them")
+    return (1 if found is None else found), _power(reading, most)
+
+
+def parse(text: str, n: int, degree: Optional[int] = None, most: int = 48) -> List[int]:
+    """The words of a polynomial in x modulo n as people and PARI, Sage and sympy write it: blanks, minus signs, `x` alone, `**` for `^`,
+    terms in any order, powers that stand twice, coefficients of any size and residues `Mod(3, 12)`. Coefficients are taken modulo n.
+    There is no zero on top but where a sent degree is asked for. A text that is none is a ValueError that says at which character.
+
+    >>> parse("3*x^2 - x + 1", 12)
+    [1, 11, 3]
+    >>> parse("1 + x**2 - 13*x^2", 12), parse("x + 2", 12, degree=3)
+    ([1], [2, 1, 0, 0])
+    >>> parse("3*x^ + 1", 12)
+    Traceback (most recent call last):
+    ValueError: character 6 of '3*x^ + 1': a power is expected
+    """
+    if not isinstance(text, str):
+        raise TypeError("parse: a polynomial is a str, not %s" % type(text).__name__)
+    if n < 1:
+        raise ValueError("parse: n = %d is not from 2 on" % n)
+    reading, words = _Reading(text), [0] * (most + 1)
+    while True:
+        sign, signs = 1, 0
+        while reading.kind == "sign":
+            sign, signs = -sign if reading.part("sign") == "-" else sign, signs + 1
+            reading.step()
+        coefficient, power = _term(reading, n, most)
+        words[power] = (words[power] + sign * coefficient) % n
+        if reading.take("end"):
+            break
+        if reading.kind != "sign":
+            raise reading.refuse("+ or - is expected")
+    top = max((k for k, w in enumerate(words) if w), default=0)
+    if degree is not None and degree < top:
+        raise ValueError("parse: %r has the degree %d, above %d" % (text, top, degree))
+    return words[:(top if degree is None else degree) + 1]

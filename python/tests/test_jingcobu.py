@@ -4,10 +4,12 @@ import ast
 import ctypes
 import doctest
 import io
+import json
 import math
 import os
 import random
 import re
+import shlex
 import shutil
 import subprocess
 import sys
@@ -19,7 +21,7 @@ from contextlib import redirect_stderr, redirect_stdout
 from pathlib import Path
 
 import jingcobu
-from jingcobu import Claim, Factors, Ground, Refused, __main__, _frames, _library, _notation, _refusals
+from jingcobu import Claim, Factors, Ground, Refused, __main__, _frames, _library, _notation, _polynomials, _refusals
 
 HERE = Path(__file__).resolve().parent
 ROOT = HERE.parent.parent
@@ -63,7 +65,7 @@ def drawn(generator, n, d, sparse=4):
 
 class Examples(unittest.TestCase):
     def test_docstrings(self):
-        for module in (jingcobu, _frames, _library, _notation, _refusals, __main__):
+        for module in (jingcobu, _frames, _library, _notation, _polynomials, _refusals, __main__):
             for test in doctest.DocTestFinder().find(module):
                 with self.subTest(test.name):
                     name = test.name.rpartition(".")[2]
@@ -314,7 +316,7 @@ class Refusals(unittest.TestCase):
         self.refused(11, two, 6, [[1, 1], [1, 1]], [[1, 1], [1, 1]])
 
     def test_numbers_that_fit_no_word(self):
-        for bad in (-1, 2 ** 32, 10 ** 30):
+        for bad in (-1, 2 ** 64, 10 ** 30):
             for call in (lambda: jingcobu.resultant(bad, [1], [1]), lambda: jingcobu.resultant(5, [bad], [1]),
                          lambda: jingcobu.gcd(5, bad, 1), lambda: jingcobu.shares(bad, [1, 1, 1, 1]),
                          lambda: jingcobu.resultants(5, [([1], [bad])])):
@@ -331,6 +333,46 @@ class Refusals(unittest.TestCase):
                 jingcobu.resultant(5, [bad], [1])
             with self.assertRaises(TypeError):
                 jingcobu.resultant(bad, [1], [1])
+
+    def test_mistakes_are_told(self):
+        """What is no polynomial is a TypeError, and what fits no word a ValueError; both say of which function, where and what."""
+        for bad in (b"\3\2", bytearray(b"\3\2"), {3, 2}, frozenset([3]), {3: 2}, "32", memoryview(b"\3\2"), 7, None, 1.5):
+            for name in ("resultant", "reduced_resultant", "divisor", "product", "why", "resultant64", "product64"):
+                for pair in ((bad, [1]), ([1], bad)):
+                    with self.assertRaisesRegex(TypeError, "^%s: [fg] is .* not a sequence of integers$" % name):
+                        getattr(jingcobu, name)(12, *pair)
+            with self.assertRaisesRegex(TypeError, "^true_degree: f is "):
+                jingcobu.true_degree(12, bad)
+            with self.assertRaisesRegex(TypeError, "^Factors: h is "):
+                Factors(12, bad)
+        for call, told in (
+                (lambda: jingcobu.resultant(12, [1, 2], [3, -4]), r"resultant: g\[1\] = -4 is not from 0 to 11"),
+                (lambda: jingcobu.divisor(12, [1, 2 ** 32], [3]), r"divisor: f\[1\] = 4294967296 is not from 0 to 11"),
+                (lambda: jingcobu.resultant_two(12, [[1], [-1]], [[1]]), r"resultant_two: f\[1\]\[0\] = -1 is not from 0 to 11"),
+                (lambda: jingcobu.check_claim(12, [1], [1], 1, [-1], [1]), r"check_claim: u\[0\] = -1 is not from 0 to 11"),
+                (lambda: jingcobu.resultant(-7, [1], [1]), "resultant: n = -7 is not from 2 to 9223372036854775807"),
+                (lambda: jingcobu.why(2 ** 40, [1], [1]), "why: n = 1099511627776 is not from 2 to 4294967295; this service has words of 32 bits only"),
+                (lambda: jingcobu.gcd(12, -1, 0), "gcd: a = -1 is not from 0 to 4294967295")):
+            with self.assertRaisesRegex(ValueError, "^" + told + "$"):
+                call()
+        for call, told in (
+                (lambda: jingcobu.resultant(12, [1, 2.0], [3]), r"resultant: f\[1\] is 2.0 of type float, not an integer"),
+                (lambda: jingcobu.resultant("12", [1], [3]), "resultant: n is '12' of type str, not an integer"),
+                (lambda: jingcobu.gcd(12, None, 0), "gcd: a is None of type NoneType, not an integer"),
+                (lambda: jingcobu.read_text(12, b"1"), "read_text: a text is a str, not bytes")):
+            with self.assertRaisesRegex(TypeError, "^" + told + "$"):
+                call()
+
+    def test_width_chosen(self):
+        """n and words that do not fit 32 bits go to the set of 64 bits, with its refusals."""
+        n = 2 ** 40 + 15
+        self.assertEqual(jingcobu.resultant(n, [1, 1], [2, 1]), jingcobu.resultant64(n, [1, 1], [2, 1]))
+        self.assertEqual(jingcobu.product(n, [n - 1], [n - 1]), [1])
+        self.assertEqual(jingcobu.reduced_resultant(n, [3], [5]), jingcobu.reduced_resultant64(n, [3], [5]))
+        self.assertEqual(jingcobu.resultant(2 ** 63 - 1, iter([1, 1]), range(2)), jingcobu.resultant64(2 ** 63 - 1, [1, 1], [0, 1]))
+        for n, f, number in ((2 ** 63, [1], 1), (12, [2 ** 40], 3), (12, [1] * 50, 2), (2 ** 32, [1] * 50, 2)):
+            for function in (jingcobu.resultant, jingcobu.reduced_resultant, jingcobu.product):
+                self.refused(number, function, n, f, [1])
 
     def test_place(self):
         with self.assertRaises(Refused) as caught:
@@ -480,6 +522,76 @@ class Laws(unittest.TestCase):
         self.assertEqual(wrong, [])
 
 
+class Sharing(unittest.TestCase):
+    def test_factors_and_threads(self):
+        """Sixteen threads whose factors arrive and leave at one object: none is lost."""
+        held, wrong = Factors(4294967291, [5, 1]), []
+
+        def run(number):
+            for _ in range(200):
+                held.arrive(number, [number])
+                try:
+                    held.leave(number)
+                except Refused as refused:
+                    wrong.append(refused)
+            held.arrive(number, [number])
+
+        threads = [threading.Thread(target=run, args=(k,)) for k in range(1, 17)]
+        for thread in threads:
+            thread.start()
+        for thread in threads:
+            thread.join()
+        self.assertEqual(wrong, [])
+        self.assertEqual(held.resultant(), math.factorial(16) % 4294967291)
+        self.assertEqual(repr(held), "Factors(n=4294967291, h=[5, 1], degrees=%r)" % {k: 0 for k in range(1, 17)})
+
+    def test_equality(self):
+        one, other = Factors(12, [1, 4]), Factors(12, [1, 4])
+        for number, f in ((7, [3, 2]), (8, [5])):
+            one.arrive(number, f)
+        for number, f in ((8, [5]), (7, [3, 2])):
+            self.assertNotEqual(one, other)
+            other.arrive(number, f)
+        self.assertEqual(one, other)
+        self.assertEqual(one, one.copy())
+        other.leave(8)
+        self.assertNotEqual(one, other)
+        self.assertNotEqual(Factors(12, [1, 4]), Factors(12, [1, 4, 0]))
+        self.assertNotEqual(Factors(12, [1, 4]), Factors(13, [1, 4]))
+        self.assertNotEqual(one, "Factors")
+
+
+class Parsing(unittest.TestCase):
+    def test_as_others_print(self):
+        for text, words in (("3*x^2 - x + 1", [1, 11, 3]), ("x", [0, 1]), ("-x", [0, 11]), ("- 1", [11]), ("3*x**2+2", [2, 0, 3]), ("0", [0]),
+                            ("12*x^2 + x", [0, 1]), ("1 + x + x^2", [1, 1, 1]), ("x + x + x", [0, 3]), ("x^0", [1]), ("25", [1]), ("+x", [0, 1]),
+                            ("Mod(2, 12)*x + Mod(3, 12)", [3, 2]), ("x - -1", [1, 1]), ("100000000000000000000000*x", [0, 4]), (" x\t^ 2 ", [0, 0, 1]),
+                            ("x^48", [0] * 48 + [1])):
+            with self.subTest(text):
+                self.assertEqual(jingcobu.parse(text, 12), words)
+        self.assertEqual(jingcobu.parse("x", 12, degree=2), [0, 1, 0])
+
+    def test_own_notation(self):
+        generator = random.Random(13)
+        for _ in range(300):
+            n = generator.choice(MODULI)
+            text = jingcobu.spell(drawn(generator, n, generator.randrange(49)))
+            self.assertEqual(jingcobu.parse(text, n), jingcobu.read_text(n, text))
+
+    def test_places(self):
+        for text, place, said in (("", 1, "a term"), ("   ", 4, "a term"), ("3*x^", 5, "a power"), ("3x", 2, "+ or -"), ("x^49", 3, "above 48"), ("y", 1, "a term"),
+                                  ("x^-1", 3, "a power"), ("2*", 3, "x is"), ("2*3", 3, "x is"), ("x +", 4, "a term"), ("x x", 3, "+ or -"), ("x,1", 2, "+ or -"),
+                                  ("Mod(1, 7)*x", 1, "another modulus"), ("x^1.5", 4, "+ or -"), ("1/2", 2, "+ or -"), ("(x)", 1, "a term"), ("x^2\u0665", 4, "+ or -")):
+            with self.subTest(text):
+                with self.assertRaisesRegex(ValueError, "^character %d of .*: .*%s" % (place, re.escape(said))):
+                    jingcobu.parse(text, 12)
+        with self.assertRaisesRegex(ValueError, "has the degree 2, above 1"):
+            jingcobu.parse("x^2", 12, degree=1)
+        for bad in (b"x", 3, None, [1]):
+            with self.assertRaises(TypeError):
+                jingcobu.parse(bad, 12)
+
+
 @unittest.skipUnless(shutil.which("gp"), "PARI's gp is not installed")
 class Pari(unittest.TestCase):
     def test_integer_determinants(self):
@@ -509,7 +621,32 @@ class CommandLine(unittest.TestCase):
         self.assertEqual(self.run_main("resultant", "12", "2*x+3", "4*x+1"), "2\n")
         self.assertEqual(self.run_main("resultant", "5", "2,1,0", "1*x+1"), "1\n")
         self.assertEqual(self.run_main("resultant", "1", "0", "0", status=1), "jingcobu resultant: refused with 1: %s\n" % jingcobu.MEANING[1])
-        self.assertIn("refused with 17", self.run_main("resultant", "12", "x", "1", status=1))
+        self.assertEqual(self.run_main("resultant", "12", "2*x + 3", "16*x - 11"), "2\n")
+        self.assertEqual(self.run_main("resultant", "12", "y", "1", status=1),
+                         "jingcobu resultant: F: character 1 of 'y': a term is expected: a number, x, or both with * between them\n")
+        self.assertEqual(self.run_main("resultant", "12", "1,y", "1", status=1), "jingcobu resultant: F: word 1 is 'y', not an integer\n")
+        self.assertEqual(self.run_main("resultant", str(2 ** 62), "1,%d" % 2 ** 40, "x + 3"), "3298534883327\n")
+
+    @needs("resultant_cofactors", "why", "check_claim", "resultant_two")
+    def test_every_command(self):
+        """Every service has a command; its example runs, and --json is the same answer."""
+        covered = {"resultant": "resultant", "reduced_resultant": "reduced", "divisor": "divisor", "resultant_cofactors": "cofactors", "why": "why",
+                   "check_claim": "check", "product": "product", "product_word": "word", "true_degree": "degree", "gcd": "gcd", "resultant_two": "two",
+                   "shares": "shares", "write_text": "text", "read_text": "text"}
+        left = {name for name in _library.SIGNATURES if not name.endswith("64") and not name.startswith("factors_")} - set(covered)
+        self.assertEqual(left, set())
+        self.assertEqual(set(covered.values()) | {"frame", "answers"}, set(__main__.COMMANDS))
+        for name, command in __main__.COMMANDS.items():
+            if name != "answers":
+                words = shlex.split(command.example)
+                self.assertTrue(self.run_main(name, *words).strip(), name)
+                self.assertIsInstance(json.loads(self.run_main(name, "--json", *words)), dict)
+        for words, data in ((("reduced", "--json", "6", "2", "4"), {"D": 2, "u": [0], "v": [2]}), (("degree", "--json", "5", "0,0"), {"degree": None}),
+                            (("product", "--json", "6", "2*x + 1", "3*x + 1"), {"product": [1, 5, 0]}), (("word", "--json", "6", "1,2", "1,3", "1"), {"word": 5}),
+                            (("two", "--json", "61", "0,60;1,0", "0,59;1,0"), {"resultant": [0, 60, 0]}), (("gcd", "--json", "12", "8", "6"), {"gcd": 2, "s": 1, "t": 1}),
+                            (("shares", "--json", "10", "1", "100", "2", "100"), {"shares": [1, 4, 2, 3]})):
+            self.assertEqual(json.loads(self.run_main(*words)), data)
+        self.assertEqual(self.run_main("two", "61", "0,x", "1", status=1), "jingcobu two: F, row 0: word 1 is 'x', not an integer\n")
 
     def test_reduced(self):
         self.assertEqual(self.run_main("reduced", "6", "2", "4"), "D = 2\nu = 0\nv = 2\nu f + v g = 2 modulo 6\n")
@@ -523,9 +660,11 @@ class CommandLine(unittest.TestCase):
         self.assertEqual(self.run_main("why", "7", "1*x^2+6", "1*x+1"), "1*x+1 divides both modulo 7\n")
         self.assertEqual(self.run_main("why", "9", "3*x+3", "6"), "both are zero modulo 3\n")
         self.assertEqual(self.run_main("check", "6", "2", "4", "2", "0", "2"), "true\n")
-        self.assertEqual(self.run_main("check", "6", "2", "4", "5", "0", "2"), "false: 5 does not divide 6\n")
-        self.assertEqual(self.run_main("check", "6", "2", "4", "2", "0", "1"), "false: u f + v g is not 2 modulo 6\n")
-        self.assertEqual(self.run_main("check", "6", "2", "4", "6", "0", "0"), "false: 6 is not the reduced resultant\n")
+        for d, v, said in (("5", "2", "5 does not divide 6"), ("2", "1", "u f + v g is not 2 modulo 6"), ("6", "0", "6 is not the reduced resultant")):
+            out = io.StringIO()
+            with redirect_stdout(out):
+                self.assertEqual(__main__.main(["check", "6", "2", "4", d, "0", v]), 1)
+            self.assertEqual(out.getvalue(), "false: %s\n" % said)
 
     def test_frames(self):
         lines = [self.run_main("frame", kind, "12", "2*x+3", "4*x+1") for kind in ("resultant", "reduced")]
@@ -574,6 +713,18 @@ class CommandLine(unittest.TestCase):
             said = subprocess.run([sys.executable, "-c", "import jingcobu._library as l; print(l.library()._name)"], capture_output=True,
                                   text=True, cwd=folder, env={**environment, "PYTHONPATH": folder})
             self.assertEqual(said.stdout.strip(), str(Path(folder).resolve() / "jingcobu" / "libjingcobu.so"))
+
+    def test_a_copy_elsewhere(self):
+        """A copy of the package under a shared folder does not take a library from a folder beside it."""
+        with tempfile.TemporaryDirectory() as folder:
+            shutil.copytree(HERE.parent / "jingcobu", Path(folder) / "python" / "jingcobu")
+            (Path(folder) / "build").mkdir()
+            shutil.copy(_library.library()._name, Path(folder) / "build" / "libjingcobu.so")
+            environment = {k: x for k, x in os.environ.items() if k != "JINGCOBU_LIBRARY"}
+            said = subprocess.run([sys.executable, "-c", "import jingcobu._library as l; print(*l.candidates())"], capture_output=True, text=True,
+                                  cwd=folder, env={**environment, "PYTHONPATH": str(Path(folder) / "python")})
+            self.assertEqual((said.returncode, said.stderr), (0, ""))
+            self.assertNotIn(str(Path(folder).resolve() / "build"), said.stdout)
 
 
 if __name__ == "__main__":
