@@ -18,7 +18,7 @@ from pathlib import Path
 
 ROOT = Path(__file__).resolve().parent.parent
 SLOW = set()             # names of scripts that take more than a minute on one core
-HELPERS = {"ideal_constants.py", "draw_frames.py"}      # the one is what others stand on, the other draws what is not stored
+HELPERS = {"ideal_constants.py", "draw_frames.py", "draw_run.py"}   # what others stand on; what is not stored; a picture in docs/
 MADE = re.compile(r"(?:> )?crates/\w+/(?:stdin|stdout)")
 
 
