@@ -635,9 +635,9 @@ class CommandLine(unittest.TestCase):
                    "shares": "shares", "write_text": "text", "read_text": "text"}
         left = {name for name in _library.SIGNATURES if not name.endswith("64") and not name.startswith("factors_")} - set(covered)
         self.assertEqual(left, set())
-        self.assertEqual(set(covered.values()) | {"frame", "answers"}, set(__main__.COMMANDS))
+        self.assertEqual(set(covered.values()) | {"frame", "frames", "answers"}, set(__main__.COMMANDS))
         for name, command in __main__.COMMANDS.items():
-            if name != "answers":
+            if name not in ("answers", "frames"):
                 words = shlex.split(command.example)
                 self.assertTrue(self.run_main(name, *words).strip(), name)
                 self.assertIsInstance(json.loads(self.run_main(name, "--json", *words)), dict)
@@ -693,6 +693,37 @@ class CommandLine(unittest.TestCase):
             right.append((1 if kind == "resultant" else 2, 10 if empty else 0, value))
         said = subprocess.run([str(ROOT / "build" / "jingcobu-desk")], input="\n".join(lines) + "\n", capture_output=True, text=True, check=True)
         self.assertEqual(jingcobu.answers(said.stdout.splitlines()), right)
+
+    @unittest.skipUnless((ROOT / "build" / "jingcobu-desk").exists(), "build/jingcobu-desk is not there")
+    def test_frames_of_a_file(self):
+        """The answers of the frame program; the lines done are told to a terminal and to nothing else."""
+        file = str(ROOT / "examples" / "frames")
+        right = ["010000000002", "020000000001", "ff0800000000", "ff0800000000"]
+        self.assertEqual(self.run_main("frames", file).split(), right)
+        data = json.loads(self.run_main("frames", "--json", file))
+        self.assertEqual([(a["kind"], a["status"], a["value"]) for a in data], [(1, 0, 2), (2, 0, 1), (255, 8, 0), (255, 8, 0)])
+        self.assertIn("No such file", self.run_main("frames", file + ".none", status=1))
+        command = [sys.executable, "-m", "jingcobu", "frames", file]
+        said = subprocess.run(command, capture_output=True, text=True)
+        self.assertEqual((said.returncode, said.stdout.split(), said.stderr), (0, right, ""))
+        host, terminal = os.openpty()
+        with open(host, "rb", buffering=0) as shown:
+            said = subprocess.run(command, stdout=subprocess.PIPE, stderr=terminal, text=True)
+            os.close(terminal)
+            told = shown.read(4096).decode().replace("\r\n", "\n")
+        self.assertEqual((said.returncode, said.stdout.split()), (0, right))
+        self.assertEqual(told, "".join("\r%d of 4 lines" % k for k in range(1, 5)) + "\n")
+        with tempfile.TemporaryDirectory() as folder:
+            empty, failing = Path(folder) / "empty", Path(folder) / "desk"
+            empty.write_text("")
+            self.assertEqual(self.run_main("frames", str(empty)), "")
+            failing.write_text("#!/bin/sh\necho 010000000002\nexit 1\n")
+            failing.chmod(0o755)
+            said = subprocess.run(command, capture_output=True, text=True, env={**os.environ, "JINGCOBU_DESK": str(failing)})
+            self.assertEqual((said.returncode, said.stdout), (1, "010000000002\n"))
+            said = subprocess.run(command, capture_output=True, text=True, env={**os.environ, "JINGCOBU_DESK": str(failing) + ".none"})
+            self.assertEqual(said.returncode, 1)
+            self.assertIn("No such file", said.stderr)
 
     def test_as_a_program(self):
         said = subprocess.run([sys.executable, "-m", "jingcobu", "resultant", "12", "2*x+3", "4*x+1"], capture_output=True, text=True)
