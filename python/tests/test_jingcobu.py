@@ -3,6 +3,7 @@ command line. Where JINGCOBU_ALL is 0, tests of services that the library has no
 import ast
 import ctypes
 import doctest
+import importlib.util
 import io
 import json
 import math
@@ -744,6 +745,27 @@ class CommandLine(unittest.TestCase):
             said = subprocess.run([sys.executable, "-c", "import jingcobu._library as l; print(l.library()._name)"], capture_output=True,
                                   text=True, cwd=folder, env={**environment, "PYTHONPATH": folder})
             self.assertEqual(said.stdout.strip(), str(Path(folder).resolve() / "jingcobu" / "libjingcobu.so"))
+
+    @unittest.skipUnless(importlib.util.find_spec("wheel") and importlib.util.find_spec("pip"), "pip or wheel is not installed")
+    def test_wheels(self):
+        """A wheel with the library in it is for its platform, one without it for all; each installs, with the command."""
+        with tempfile.TemporaryDirectory() as folder:
+            for held, platform in ((False, "any"), (True, "linux_x86_64")):
+                source, wheels, place = (Path(folder) / ("%s%d" % (name, held)) for name in ("source", "wheels", "place"))
+                shutil.copytree(HERE.parent, source, ignore=shutil.ignore_patterns("tests", "__pycache__"))
+                if held:
+                    shutil.copy(_library.library()._name, source / "jingcobu" / "libjingcobu.so")
+                pip = [sys.executable, "-m", "pip", "-q", "--disable-pip-version-check"]
+                subprocess.run([*pip, "wheel", "--no-build-isolation", "--no-deps", "-w", str(wheels), str(source)], check=True, capture_output=True)
+                (wheel,) = wheels.iterdir()
+                self.assertEqual(wheel.name, "jingcobu-%s-py3-none-%s.whl" % (jingcobu.__version__, platform))
+                subprocess.run([*pip, "install", "--no-deps", "--target", str(place), str(wheel)], check=True, capture_output=True)
+                environment = {**os.environ, "PYTHONPATH": str(place), "JINGCOBU_LIBRARY": _library.library()._name}
+                if held:
+                    del environment["JINGCOBU_LIBRARY"]
+                said = subprocess.run([str(place / "bin" / "jingcobu"), "resultant", "12", "2*x + 3", "4*x + 1"], capture_output=True, text=True,
+                                      cwd=folder, env=environment)
+                self.assertEqual((said.stdout, said.stderr), ("2\n", ""))
 
     def test_a_copy_elsewhere(self):
         """A copy of the package under a shared folder does not take a library from a folder beside it."""
