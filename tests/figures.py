@@ -19,11 +19,7 @@ from pathlib import Path
 
 ROOT = Path(__file__).resolve().parent.parent
 SLOW = set()             # names of scripts that take more than a minute on one core
-<<<<<<< HEAD
-HELPERS = {"ideal_constants.py", "draw_frames.py", "draw_run.py"}   # what others stand on; what is not stored; a picture in docs/
-=======
-HELPERS = {"reference.py", "ideal_constants.py", "draw_frames.py"}      # two that others stand on, and one that draws what is not stored
->>>>>>> r39-tools
+HELPERS = {"reference.py", "ideal_constants.py", "draw_frames.py", "draw_run.py"}   # what others stand on; what is not stored; a picture of docs/
 MADE = re.compile(r"(?:> )?crates/\w+/(?:stdin|stdout)")
 
 
