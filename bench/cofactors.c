@@ -4,56 +4,16 @@
 #include <stdio.h>
 #include <stdlib.h>
 #include <string.h>
-#include <time.h>
 #include <flint/flint.h>
 #include <flint/fmpz.h>
 #include <flint/fmpz_poly.h>
-#include "../include/jingcobu.h"
 
 #define POOL 100
 #define PASSES 9
-#define MOST 49
+#include "pool.h"
 
-static uint32_t work[JINGCOBU_WORK], u[JINGCOBU_COFACTOR], v[JINGCOBU_COFACTOR];
-static uint32_t first[POOL][MOST], second[POOL][MOST];
+static uint32_t u[JINGCOBU_COFACTOR], v[JINGCOBU_COFACTOR];
 static volatile uint32_t sink;
-static int wrong;
-
-static uint64_t state = 20261115;
-static uint32_t draw(void)
-{
-    state ^= state << 13; state ^= state >> 7; state ^= state << 17;
-    return (uint32_t) (state >> 16);
-}
-
-static double now(void)
-{
-    struct timespec t;
-    clock_gettime(CLOCK_MONOTONIC, &t);
-    return t.tv_sec * 1e6 + t.tv_nsec / 1e3;
-}
-
-static void fill(uint32_t n, int d)
-{
-    for (int p = 0; p < POOL; p++)
-        for (int k = 0; k <= d; k++) {
-            first[p][k] = draw() % n;
-            second[p][k] = draw() % n;
-        }
-}
-
-/* each word a random residue times up to three primes of n, and at least one at the top */
-static void fill_divisors(uint32_t n, const uint32_t *primes, int count, int d)
-{
-    for (int p = 0; p < POOL; p++)
-        for (int k = 0; k <= d; k++)
-            for (int side = 0; side < 2; side++) {
-                uint64_t x = draw() % n;
-                int many = draw() % 4 + (k == d);
-                for (int j = 0; j < many; j++) x = x * primes[draw() % count] % n;
-                (side ? second : first)[p][k] = (uint32_t) x;
-            }
-}
 
 static jingcobu_answer answer(uint32_t n, int d, int p)
 {
@@ -61,7 +21,7 @@ static jingcobu_answer answer(uint32_t n, int d, int p)
 }
 
 /* u f + v g is the value, and the value is the resultant */
-static void check(uint32_t n, int d, int p)
+static void compare(uint32_t n, int d, int p)
 {
     jingcobu_answer r = jingcobu_resultant(n, first[p], d + 1, second[p], d + 1, work, JINGCOBU_WORK), a = answer(n, d, p);
     int good = a.status == JINGCOBU_OK && r.status == JINGCOBU_OK && a.value == r.value;
@@ -74,22 +34,14 @@ static void check(uint32_t n, int d, int p)
             }
         good = good && x == (k ? 0 : a.value);
     }
-    if (good) return;
-    wrong++;
-    printf("WRONG: n = %u, d = e = %d, pair %d: value %u and status %u, resultant %u\n", n, d, p, a.value, a.status, r.value);
-}
-
-static int order(const void *a, const void *b)
-{
-    double x = *(const double *) a, y = *(const double *) b;
-    return x < y ? -1 : x > y;
+    check(good, "n = %u, d = e = %d, pair %d: value %u and status %u, resultant %u", n, d, p, a.value, a.status, r.value);
 }
 
 static void prime(uint32_t n, int d)
 {
     double ours = 1e30, reduced = 1e30;
-    fill(n, d);
-    for (int p = 0; p < POOL; p++) check(n, d, p);
+    fill(n, d + 1);
+    for (int p = 0; p < POOL; p++) compare(n, d, p);
     for (int pass = 0; pass < PASSES; pass++) {
         double t = now();
         for (int p = 0; p < POOL; p++) sink = answer(n, d, p).value;
@@ -107,14 +59,14 @@ static void prime(uint32_t n, int d)
 static void divisors(uint32_t n, const uint32_t *primes, int count, int d)
 {
     static double ours[POOL], theirs[POOL];
-    fill_divisors(n, primes, count, d);
+    fill_divisors(n, primes, count, d + 1, 1);
     fmpz_t r, modulus;
     fmpz_poly_t f, g, s, t;
     fmpz_init(r);
     fmpz_init_set_ui(modulus, n);
     fmpz_poly_init(f); fmpz_poly_init(g); fmpz_poly_init(s); fmpz_poly_init(t);
     for (int p = 0; p < POOL; p++) {
-        check(n, d, p);
+        compare(n, d, p);
         ours[p] = theirs[p] = 1e30;
         for (int pass = 0; pass < 3; pass++) {
             double x = now();
@@ -133,8 +85,8 @@ static void divisors(uint32_t n, const uint32_t *primes, int count, int d)
         fmpz_poly_scalar_mod_fmpz(t, t, modulus);
         theirs[p] = now() - x;
     }
-    qsort(ours, POOL, sizeof *ours, order);
-    qsort(theirs, POOL, sizeof *theirs, order);
+    qsort(ours, POOL, sizeof *ours, by_size);
+    qsort(theirs, POOL, sizeof *theirs, by_size);
     printf("n = %u, d = e = %2d, zero divisors: median %8.2f us, worst %8.2f us; FLINT fmpz_poly_xgcd: median %8.2f us, worst %8.2f us\n", n, d,
            ours[POOL / 2], ours[POOL - 1], theirs[POOL / 2], theirs[POOL - 1]);
     fmpz_clear(r);

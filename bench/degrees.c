@@ -4,40 +4,24 @@
  * make -C bench plot runs it and draws docs/time-prime.svg and docs/time-composite.svg from what it writes. */
 #include <stdio.h>
 #include <stdlib.h>
-#include <time.h>
 #include <flint/flint.h>
 #include <flint/nmod_poly.h>
 #include <flint/fmpz.h>
 #include <flint/fmpz_poly.h>
 #include <pari/pari.h>
-#include "../include/jingcobu.h"
 
 #define POOL 100
-#define MOST 49
+#define CLOCK CLOCK_PROCESS_CPUTIME_ID
+#include "pool.h"
+
 #define PRIME 4294967291u
 #define COMPOSITE 2176782336u      /* 6^12 */
 
-static uint32_t work[JINGCOBU_WORK], first[POOL][MOST], second[POOL][MOST], value[POOL];
+static uint32_t value[POOL];
 static volatile uint32_t sink;
-static int wrong;
-
-static uint64_t state = 20261115;
-static uint32_t draw(void)
-{
-    state ^= state << 13; state ^= state >> 7; state ^= state << 17;
-    return (uint32_t) (state >> 16);
-}
-
-/* time of the processor, so that other work on the machine does not count */
-static double now(void)
-{
-    struct timespec t;
-    clock_gettime(CLOCK_PROCESS_CPUTIME_ID, &t);
-    return t.tv_sec * 1e6 + t.tv_nsec / 1e3;
-}
 
 /* the pool; where n is composite each word is a residue times up to three of its primes */
-static void fill(uint32_t n, int d)
+static void fill_either(uint32_t n, int d)
 {
     for (int p = 0; p < POOL; p++)
         for (int side = 0; side < 2; side++)
@@ -62,9 +46,7 @@ static void fill(uint32_t n, int d)
 
 static void compare(const char *with, uint32_t n, int d, int p, uint32_t other)
 {
-    if (value[p] == other) return;
-    wrong++;
-    fprintf(stderr, "WRONG: n = %u, d = e = %d, pair %d: %u, %s %u\n", n, d, p, value[p], with, other);
+    check(value[p] == other, "n = %u, d = e = %d, pair %d: %u, %s %u", n, d, p, value[p], with, other);
 }
 
 static double engine(uint32_t n, int d)
@@ -72,7 +54,7 @@ static double engine(uint32_t n, int d)
     double best;
     for (int p = 0; p < POOL; p++) {
         jingcobu_answer a = jingcobu_resultant(n, first[p], d + 1, second[p], d + 1, work, JINGCOBU_WORK);
-        if (a.status) { fprintf(stderr, "WRONG: refused with %u\n", a.status); exit(1); }
+        check(a.status == JINGCOBU_OK, "n = %u, d = e = %d, pair %d: refused with %u", n, d, p, a.status);
         value[p] = a.value;
     }
     TIME(best, 15, 10, sink = jingcobu_resultant(n, first[p], d + 1, second[p], d + 1, work, JINGCOBU_WORK).value);
@@ -160,7 +142,7 @@ int main(void)
     printf("# FLINT %s, %s\n", FLINT_VERSION, paricfg_version);
     printf("# n = %u (prime): degree, jingcobu_resultant, FLINT nmod_poly_resultant, PARI polresultant over t_INTMOD\n", PRIME);
     for (int d = 6; d <= 48; d += 6) {
-        fill(PRIME, d);
+        fill_either(PRIME, d);
         double a = engine(PRIME, d), b = flint_prime(PRIME, d), c = pari(PRIME, d);
         printf("%d %.2f %.2f %.2f\n", d, a, b, c);
         fflush(stdout);
@@ -168,7 +150,7 @@ int main(void)
     printf("\n\n# n = %u (6^12), zero divisors: degree, jingcobu_resultant, FLINT fmpz_poly_resultant modulo n, "
            "PARI polresultant over t_INT modulo n\n", COMPOSITE);
     for (int d = 6; d <= 48; d += 6) {
-        fill(COMPOSITE, d);
+        fill_either(COMPOSITE, d);
         double a = engine(COMPOSITE, d), b = flint_integers(COMPOSITE, d), c = pari(COMPOSITE, d);
         printf("%d %.2f %.2f %.2f\n", d, a, b, c);
         fflush(stdout);

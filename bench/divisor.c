@@ -4,69 +4,13 @@
  * with 1. Build and run: make -C bench */
 #include <stdio.h>
 #include <stdlib.h>
-#include <time.h>
-#include "../include/jingcobu.h"
-
-/* as in the header, where it stands there already */
-jingcobu_answer jingcobu_divisor(uint32_t n, const uint32_t *f, size_t f_len, const uint32_t *g, size_t g_len, uint32_t *work,
-                                 size_t work_len);
 
 #define POOL 100
 #define PASSES 15
-#define MOST 49
+#include "pool.h"
 
-static uint32_t work[JINGCOBU_WORK], u[JINGCOBU_COFACTOR], v[JINGCOBU_COFACTOR];
-static uint32_t first[POOL][MOST], second[POOL][MOST];
+static uint32_t u[JINGCOBU_COFACTOR], v[JINGCOBU_COFACTOR];
 static volatile uint32_t sink;
-
-static uint64_t state = 20261115;
-static uint32_t draw(void)
-{
-    state ^= state << 13; state ^= state >> 7; state ^= state << 17;
-    return (uint32_t) (state >> 16);
-}
-
-static int wrong;
-
-static double now(void)
-{
-    struct timespec t;
-    clock_gettime(CLOCK_MONOTONIC, &t);
-    return t.tv_sec * 1e6 + t.tv_nsec / 1e3;
-}
-
-static void fill(uint32_t n, int d)
-{
-    for (int p = 0; p < POOL; p++)
-        for (int k = 0; k <= d; k++) {
-            first[p][k] = draw() % n;
-            second[p][k] = draw() % n;
-        }
-    for (int p = 0; p < POOL; p++) {
-        if (first[p][d] == 0) first[p][d] = 1;
-        if (second[p][d] == 0) second[p][d] = 1;
-    }
-}
-
-/* each word a random residue times up to three primes of n: most of them zero divisors */
-static void fill_divisors(uint32_t n, const uint32_t *primes, int count, int d)
-{
-    for (int p = 0; p < POOL; p++)
-        for (int k = 0; k <= d; k++)
-            for (int side = 0; side < 2; side++) {
-                uint64_t x = draw() % n;
-                int many = draw() % 4;
-                for (int j = 0; j < many; j++) x = x * primes[draw() % count] % n;
-                if (k == d && x == 0) x = primes[0];
-                (side ? second : first)[p][k] = (uint32_t) x;
-            }
-}
-
-static int by_size(const void *a, const void *b)
-{
-    double x = *(const double *) a, y = *(const double *) b;
-    return (x > y) - (x < y);
-}
 
 /* both services for D answer the same number for every pair of the pool */
 static void compare(uint32_t n, int d)
@@ -75,10 +19,9 @@ static void compare(uint32_t n, int d)
         jingcobu_answer a = jingcobu_divisor(n, first[p], d + 1, second[p], d + 1, work, JINGCOBU_WORK);
         jingcobu_answer b = jingcobu_reduced_resultant(n, first[p], d + 1, second[p], d + 1, u, JINGCOBU_COFACTOR, v, JINGCOBU_COFACTOR,
                                                        work, JINGCOBU_WORK);
-        if (a.status == JINGCOBU_OK && b.status == JINGCOBU_OK && a.value == b.value) continue;
-        wrong++;
-        printf("WRONG: n = %u, d = e = %d, pair %d: D alone %u and status %u, with cofactors %u and status %u\n", n, d, p, a.value,
-               a.status, b.value, b.status);
+        check(a.status == JINGCOBU_OK && b.status == JINGCOBU_OK && a.value == b.value,
+              "n = %u, d = e = %d, pair %d: D alone %u and status %u, with cofactors %u and status %u", n, d, p, a.value, a.status,
+              b.value, b.status);
     }
 }
 
@@ -109,7 +52,7 @@ static double reduced(uint32_t n, int d)
 static void prime_modulus(uint32_t n, int d)
 {
     double r = 1e30, e = 1e30, c = 1e30;
-    fill(n, d);
+    fill(n, d + 1);
     compare(n, d);
     for (int pass = 0; pass < 10 * PASSES; pass++) {
         double t = resultants(n, d);
@@ -126,7 +69,7 @@ static void prime_modulus(uint32_t n, int d)
 static void composite(uint32_t n, const char *name, const uint32_t *primes, int count, int d)
 {
     double ratio[POOL], saved[POOL];
-    fill_divisors(n, primes, count, d);
+    fill_divisors(n, primes, count, d + 1, 0);
     compare(n, d);
     for (int p = 0; p < POOL; p++) {
         double r = 1e30, e = 1e30, c = 1e30;

@@ -4,40 +4,27 @@
 #include <stdio.h>
 #include <stdlib.h>
 #include <string.h>
-#include <time.h>
 #include <sys/wait.h>
 #include <unistd.h>
 #include <flint/flint.h>
 #include <flint/nmod_poly.h>
 #include <flint/fmpz.h>
 #include <flint/fmpz_poly.h>
-#include "../include/jingcobu.h"
 #include "temporary.h"
 
 #define POOL 100
 #define PASSES 15
-#define MOST 49
+#include "pool.h"
 
-static uint32_t work[JINGCOBU_WORK], u[JINGCOBU_COFACTOR], v[JINGCOBU_COFACTOR];
-static uint32_t first[POOL][MOST], second[POOL][MOST];
+static uint32_t u[JINGCOBU_COFACTOR], v[JINGCOBU_COFACTOR];
 static volatile uint32_t sink;
-
-static uint64_t state = 20261115;
-static uint32_t draw(void)
-{
-    state ^= state << 13; state ^= state >> 7; state ^= state << 17;
-    return (uint32_t) (state >> 16);
-}
-
-static int wrong;
 
 /* the resultant of pair p, compared with another number of it */
 static void compare(const char *with, uint32_t n, int d, int p, uint32_t other)
 {
     jingcobu_answer a = jingcobu_resultant(n, first[p], d + 1, second[p], d + 1, work, JINGCOBU_WORK);
-    if (a.status == JINGCOBU_OK && a.value == other) return;
-    wrong++;
-    printf("WRONG: n = %u, d = e = %d, pair %d: value %u and status %u, %s %u\n", n, d, p, a.value, a.status, with, other);
+    check(a.status == JINGCOBU_OK && a.value == other, "n = %u, d = e = %d, pair %d: value %u and status %u, %s %u", n, d, p, a.value,
+          a.status, with, other);
 }
 
 /* D of pair p, compared with n (common factor) or 1 (none), for prime n */
@@ -45,44 +32,8 @@ static void compare_reduced(uint32_t n, int d, int p, int common)
 {
     jingcobu_answer a = jingcobu_reduced_resultant(n, first[p], d + 1, second[p], d + 1, u, JINGCOBU_COFACTOR, v, JINGCOBU_COFACTOR,
                                                    work, JINGCOBU_WORK);
-    if (a.status == JINGCOBU_OK && a.value == (common ? n : 1)) return;
-    wrong++;
-    printf("WRONG: n = %u, d = e = %d, pair %d: D %u and status %u, but the polynomials have %s\n", n, d, p, a.value, a.status,
-           common ? "a common factor" : "no common factor");
-}
-
-static double now(void)
-{
-    struct timespec t;
-    clock_gettime(CLOCK_MONOTONIC, &t);
-    return t.tv_sec * 1e6 + t.tv_nsec / 1e3;
-}
-
-static void fill(uint32_t n, int d)
-{
-    for (int p = 0; p < POOL; p++)
-        for (int k = 0; k <= d; k++) {
-            first[p][k] = draw() % n;
-            second[p][k] = draw() % n;
-        }
-    for (int p = 0; p < POOL; p++) {
-        if (first[p][d] == 0) first[p][d] = 1;
-        if (second[p][d] == 0) second[p][d] = 1;
-    }
-}
-
-/* each word a random residue times up to three primes of n: most of them zero divisors */
-static void fill_divisors(uint32_t n, const uint32_t *primes, int count, int d)
-{
-    for (int p = 0; p < POOL; p++)
-        for (int k = 0; k <= d; k++)
-            for (int side = 0; side < 2; side++) {
-                uint64_t x = draw() % n;
-                int many = draw() % 4;
-                for (int j = 0; j < many; j++) x = x * primes[draw() % count] % n;
-                if (k == d && x == 0) x = primes[0];
-                (side ? second : first)[p][k] = (uint32_t) x;
-            }
+    check(a.status == JINGCOBU_OK && a.value == (common ? n : 1), "n = %u, d = e = %d, pair %d: D %u and status %u, "
+          "but the polynomials have %s", n, d, p, a.value, a.status, common ? "a common factor" : "no common factor");
 }
 
 static double engine_resultant(uint32_t n, int d)
@@ -141,7 +92,7 @@ static void prime_modulus(uint32_t n, int d)
 {
     static nmod_poly_t f[POOL], g[POOL];
     nmod_poly_t h, s, t;
-    fill(n, d);
+    fill(n, d + 1);
     nmod_poly_init(h, n); nmod_poly_init(s, n); nmod_poly_init(t, n);
     for (int p = 0; p < POOL; p++) {
         nmod_poly_init(f[p], n); nmod_poly_init(g[p], n);
@@ -176,18 +127,12 @@ static void prime_modulus(uint32_t n, int d)
     nmod_poly_clear(h); nmod_poly_clear(s); nmod_poly_clear(t);
 }
 
-static int by_size(const void *a, const void *b)
-{
-    double x = *(const double *) a, y = *(const double *) b;
-    return x < y ? -1 : x > y;
-}
-
 static void composite(uint32_t n, const char *name, const uint32_t *primes, int count, int d)
 {
     double ratio[POOL];
     fmpz_poly_t f, g;
     fmpz_t r;
-    fill_divisors(n, primes, count, d);
+    fill_divisors(n, primes, count, d + 1, 0);
     fmpz_poly_init(f); fmpz_poly_init(g); fmpz_init(r);
     for (int p = 0; p < POOL; p++) {
         fmpz_poly_zero(f); fmpz_poly_zero(g);
@@ -261,7 +206,7 @@ static uint32_t integer_resultant(uint32_t n, int d, int p)
 static void where_others_fail(uint32_t n, const char *name, const uint32_t *primes, int count)
 {
     int fails = 0, other = 0;
-    fill_divisors(n, primes, count, 6);
+    fill_divisors(n, primes, count, 7, 0);
     for (int p = 0; p < POOL; p++) {
         uint32_t right = integer_resultant(n, 6, p);
         compare("FLINT fmpz_poly_resultant modulo n", n, 6, p, right);
@@ -277,10 +222,7 @@ static void zero_top(void)
     const uint32_t f[] = { 2, 1, 0 }, g[] = { 1, 1 };
     jingcobu_answer a = jingcobu_resultant(5, f, 3, g, 2, work, JINGCOBU_WORK);
     printf("n = 5, f = 2,1,0, g = 1,1 (sent degrees 2 and 1): resultant %u, FLINT nmod_poly_resultant %ld\n", a.value, flint_resultant(5, f, 3, g, 2));
-    if (a.status != JINGCOBU_OK || a.value != 1) {
-        wrong++;
-        printf("WRONG: n = 5, f = 2,1,0, g = 1,1: value %u and status %u, the resultant is 1\n", a.value, a.status);
-    }
+    check(a.status == JINGCOBU_OK && a.value == 1, "n = 5, f = 2,1,0, g = 1,1: value %u and status %u, the resultant is 1", a.value, a.status);
     fflush(stdout);
     if (system("printf 'print(\"PARI polresultant there: \", lift(polresultant(Mod(1,5)*Polrev([2,1,0]),Mod(1,5)*Polrev([1,1]))))\\nprint(\"PARI polresultant of 3+2x and 1+4x modulo 12: \", iferr(lift(polresultant(Mod(1,12)*Polrev([3,2]),Mod(1,12)*Polrev([1,4]))),E,E), \" (the resultant is 2)\")\\n' | gp -q -f 2> /dev/null")) printf("PARI (gp) did not answer\n");
 }

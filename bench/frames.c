@@ -4,30 +4,12 @@
 #include <stdio.h>
 #include <stdlib.h>
 #include <string.h>
-#include <time.h>
 #include "../include/jingcobu.h"
+#include "common.h"
 #include "temporary.h"
-
-/* as in the header, where it stands there already */
-jingcobu_answer jingcobu_divisor(uint32_t n, const uint32_t *f, size_t f_len, const uint32_t *g, size_t g_len, uint32_t *work,
-                                 size_t work_len);
 
 #define MODULUS 4294967291u
 static uint32_t work[JINGCOBU_WORK];
-static int wrong;
-static uint64_t state = 20261115;
-static uint32_t draw(void)
-{
-    state ^= state << 13; state ^= state >> 7; state ^= state << 17;
-    return (uint32_t) (state >> 16) % MODULUS;
-}
-
-static double now(void)
-{
-    struct timespec t;
-    clock_gettime(CLOCK_MONOTONIC, &t);
-    return t.tv_sec + t.tv_nsec / 1e9;
-}
 
 static jingcobu_answer engine_answer(int kind, const uint32_t *w, int d)
 {
@@ -46,7 +28,7 @@ static void measure(const char *desk, int kind, int count, int d)
     for (int i = 0; i < count; i++) {
         uint32_t *w = words + (size_t) i * 2 * (d + 1);
         fprintf(file, "%02x%08x%02x%02x", kind, MODULUS, d, d);
-        for (int k = 0; k < 2 * (d + 1); k++) fprintf(file, "%08x", w[k] = draw());
+        for (int k = 0; k < 2 * (d + 1); k++) fprintf(file, "%08x", w[k] = draw() % MODULUS);
         fputc('\n', file);
     }
     fclose(file);
@@ -84,7 +66,7 @@ static void measure(const char *desk, int kind, int count, int d)
     remove(in);
     remove(out);
     printf("kind %02x, degree %2d: %d frames, %.0f frames a second; the engine alone would take %.2f of that time; reading and writing cost %.2f of the engine's work\n",
-           kind, d, count, count / program, engine / program, program / engine - 1);
+           kind, d, count, 1e6 * count / program, engine / program, program / engine - 1);
     free(words);
     free(values);
 }

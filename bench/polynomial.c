@@ -8,7 +8,7 @@
 #include <stddef.h>
 #include <stdio.h>
 #include <string.h>
-#include <time.h>
+#include "common.h"
 
 typedef struct { uint32_t value; uint32_t status; } Answer;
 Answer polynomial_bench_product(uint32_t n, const uint32_t *f, size_t f_len, const uint32_t *g, size_t g_len, uint32_t *out, size_t out_len);
@@ -20,20 +20,6 @@ Answer polynomial_bench_division(uint32_t n, const uint32_t *f, size_t f_len, co
 
 static uint32_t first[POOL][49], second[POOL][49];
 static volatile uint32_t modulus = 4294967291u;
-
-static uint64_t state = 20261115;
-static uint32_t draw(void)
-{
-    state ^= state << 13; state ^= state >> 7; state ^= state << 17;
-    return (uint32_t) (state >> 16);
-}
-
-static double now(void)
-{
-    struct timespec t;
-    clock_gettime(CLOCK_MONOTONIC, &t);
-    return t.tv_sec * 1e6 + t.tv_nsec / 1e3;
-}
 
 /* ---- plain C: the same loops, with the same tests of the words */
 
@@ -195,15 +181,12 @@ static double division(int which, size_t fl, size_t gl)
     return best;
 }
 
-static int wrong;
-
 static void differ(const char *what, size_t fl, size_t gl, int p)
 {
-    wrong++;
-    printf("WRONG: %s of %zu by %zu words, pair %d\n", what, fl, gl, p);
+    check(0, "%s of %zu by %zu words, pair %d", what, fl, gl, p);
 }
 
-static void check(size_t fl, size_t gl)
+static void compare(size_t fl, size_t gl)
 {
     uint32_t c[64], d[64];
     for (int p = 0; p < POOL; p++) {
@@ -243,10 +226,10 @@ int main(void)
             first[p][k] = draw() % modulus;
             second[p][k] = draw() % (modulus - 1) + 1;
         }
-    check(25, 25);
-    check(49, 25);
-    check(9, 5);
-    check(5, 5);
+    compare(25, 25);
+    compare(49, 25);
+    compare(9, 5);
+    compare(5, 5);
     printf("%-28s %8s %8s %8s %8s   %s\n", "microseconds a call", "Rattle", "C", "C wide", "one %", "Rattle / C, / C wide");
     row("product 25 by 25 words", product, 25, 25);
     row("product 5 by 5 words", product, 5, 5);

@@ -7,46 +7,17 @@
 #include <stdio.h>
 #include <stdlib.h>
 #include <string.h>
-#include <time.h>
 #include <flint/flint.h>
 #include <flint/nmod_mpoly.h>
-#include "../include/jingcobu.h"
 #include "temporary.h"
-
-jingcobu_answer jingcobu_resultant_two(uint32_t n, const uint32_t *f, size_t f_len, size_t d, size_t a, const uint32_t *g, size_t g_len,
-                                       size_t e, size_t b, uint32_t *out, size_t out_len, uint32_t *work, size_t work_len);
 
 #define POOL 40
 #define PASSES 9
-#define MOST 49
+#define CLOCK CLOCK_PROCESS_CPUTIME_ID
+#include "pool.h"
 
-static uint32_t work[JINGCOBU_WORK], out[61];
-static uint32_t first[POOL][MOST], second[POOL][MOST];
+static uint32_t out[61];
 static volatile uint32_t modulus = 4294967291u;
-static int wrong;
-
-static uint64_t state = 20261115;
-static uint32_t draw(void)
-{
-    state ^= state << 13; state ^= state >> 7; state ^= state << 17;
-    return (uint32_t) (state >> 16);
-}
-
-static double now(void)
-{
-    struct timespec t;
-    clock_gettime(CLOCK_PROCESS_CPUTIME_ID, &t);
-    return t.tv_sec * 1e6 + t.tv_nsec / 1e3;
-}
-
-static void fill(uint32_t n, size_t words)
-{
-    for (int p = 0; p < POOL; p++)
-        for (size_t k = 0; k < words; k++) {
-            first[p][k] = draw() % n;
-            second[p][k] = draw() % n;
-        }
-}
 
 static jingcobu_answer engine(uint32_t n, int p, size_t d, size_t a)
 {
@@ -89,9 +60,8 @@ static double flint(uint32_t n, size_t d, size_t a)
         for (ulong k = 0; k <= 2 * d * a; k++) {
             ulong at[2] = { 0, k };
             ulong x = nmod_mpoly_get_coeff_ui_ui(R, at, ctx);
-            if (r.status == 0 && r.value == 0 && out[k] == x) continue;
-            wrong++;
-            printf("WRONG: n = %u, d = e = %zu, a = b = %zu, pair %d, word %lu: %u and status %u, FLINT %lu\n", n, d, a, p, k, out[k], r.status, x);
+            check(r.status == 0 && r.value == 0 && out[k] == x,
+                  "n = %u, d = e = %zu, a = b = %zu, pair %d, word %lu: %u and status %u, FLINT %lu", n, d, a, p, k, out[k], r.status, x);
         }
         nmod_mpoly_clear(F[p], ctx); nmod_mpoly_clear(G[p], ctx);
     }

@@ -4,12 +4,13 @@
  * with, or a call is refused, the program says which and exits with 1. Build and run: make -C bench */
 #include <stdio.h>
 #include <stdlib.h>
-#include <time.h>
 #include <flint/flint.h>
 #include <flint/nmod_poly.h>
 #include <flint/fmpz.h>
 #include <flint/fmpz_poly.h>
 #include "../include/jingcobu.h"
+#define CLOCK CLOCK_PROCESS_CPUTIME_ID
+#include "common.h"
 
 #define POOL 100
 #define PASSES 15
@@ -19,21 +20,6 @@
 static uint64_t work[JINGCOBU64_WORK], u[JINGCOBU64_COFACTOR], v[JINGCOBU64_COFACTOR];
 static uint64_t first[POOL][MOST], second[POOL][MOST];
 static volatile uint64_t sink;
-static int wrong;
-
-static uint64_t state = 20261115;
-static uint64_t draw(void)
-{
-    state ^= state << 13; state ^= state >> 7; state ^= state << 17;
-    return state;
-}
-
-static double now(void)
-{
-    struct timespec t;
-    clock_gettime(CLOCK_PROCESS_CPUTIME_ID, &t);
-    return t.tv_sec * 1e6 + t.tv_nsec / 1e3;
-}
 
 static jingcobu64_answer resultant(uint64_t n, int d, int p)
 {
@@ -48,9 +34,8 @@ static jingcobu64_answer reduced(uint64_t n, int d, int p)
 /* an answer for pair p, compared with the number that it should be */
 static void compare(const char *what, uint64_t n, int d, int p, jingcobu64_answer a, uint64_t right)
 {
-    if (a.status == JINGCOBU_OK && a.value == right) return;
-    wrong++;
-    printf("WRONG: n = %lu, d = e = %d, pair %d: %s %lu and status %u, FLINT %lu\n", n, d, p, what, a.value, a.status, right);
+    check(a.status == JINGCOBU_OK && a.value == right, "n = %lu, d = e = %d, pair %d: %s %lu and status %u, FLINT %lu", n, d, p, what, a.value,
+          a.status, right);
 }
 
 /* the best of the passes, each over the pool, of two calls in turn: the engine's and FLINT's */
@@ -82,8 +67,8 @@ static void prime_modulus(uint64_t n, int d)
     for (int p = 0; p < POOL; p++) {
         nmod_poly_init(f[p], n); nmod_poly_init(g[p], n);
         for (int k = 0; k <= d; k++) {
-            first[p][k] = draw() % n;
-            second[p][k] = draw() % n;
+            first[p][k] = draw64() % n;
+            second[p][k] = draw64() % n;
             if (k == d && first[p][k] == 0) first[p][k] = 1;
             if (k == d && second[p][k] == 0) second[p][k] = 1;
             nmod_poly_set_coeff_ui(f[p], k, first[p][k]);
@@ -102,17 +87,11 @@ static void prime_modulus(uint64_t n, int d)
     nmod_poly_clear(h); nmod_poly_clear(s); nmod_poly_clear(t);
 }
 
-static int by_size(const void *a, const void *b)
-{
-    double x = *(const double *) a, y = *(const double *) b;
-    return x < y ? -1 : x > y;
-}
-
 /* a random residue times up to three primes of n: most often a zero divisor */
 static uint64_t zero_divisor(uint64_t n, const uint64_t *primes, int count)
 {
-    unsigned __int128 x = draw() % n;
-    for (int many = draw() % 4; many > 0; many--) x = x * primes[draw() % count] % n;
+    unsigned __int128 x = draw64() % n;
+    for (int many = draw64() % 4; many > 0; many--) x = x * primes[draw64() % count] % n;
     return (uint64_t) x;
 }
 

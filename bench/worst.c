@@ -8,8 +8,9 @@
 #include <stdio.h>
 #include <stdlib.h>
 #include <string.h>
-#include <time.h>
 #include "../include/jingcobu.h"
+#define CLOCK CLOCK_PROCESS_CPUTIME_ID
+#include "common.h"
 
 #define MOST 49
 #define ROOM 100
@@ -27,24 +28,10 @@ static uint32_t f[ROOM], g[ROOM], u[JINGCOBU_MULTIPLIER], v[JINGCOBU_MULTIPLIER]
 static uint64_t u64[JINGCOBU64_COFACTOR], v64[JINGCOBU64_COFACTOR], work64[JINGCOBU64_WORK];
 static size_t claim_words;
 static uint32_t claimed;
-static int wrong;
 
-static uint64_t state = 20261115;
-static uint64_t draw(void)
-{
-    state ^= state << 13; state ^= state >> 7; state ^= state << 17;
-    return state * 0x2545f4914f6cdd1du;
-}
-static uint64_t below(uint64_t n) { return (draw() >> 1) % n; }
+static uint64_t below(uint64_t n) { return (draw64() * 0x2545f4914f6cdd1du >> 1) % n; }
 static int once_in(uint64_t n) { return below(n) == 0; }
 static uint64_t times(uint64_t n, uint64_t a, uint64_t b) { return (uint64_t) ((unsigned __int128) a * b % n); }
-
-static double now(void)
-{
-    struct timespec t;
-    clock_gettime(CLOCK_PROCESS_CPUTIME_ID, &t);
-    return t.tv_sec * 1e6 + t.tv_nsec / 1e3;
-}
 
 static int is_wide(enum service s) { return s >= RESULTANT64; }
 static size_t f_words(const pair *p) { return (p->d + 1) * (p->a + 1); }
@@ -119,10 +106,8 @@ static void compare(const pair *p)
     uint32_t with = jingcobu_resultant_cofactors(n, f, fl, g, gl, u, MOST, v, MOST, work, JINGCOBU_WORK).value;
     uint32_t reduced = jingcobu_reduced_resultant(n, f, fl, g, gl, u, JINGCOBU_COFACTOR, v, JINGCOBU_COFACTOR, work, JINGCOBU_WORK).value;
     uint64_t wide = jingcobu64_resultant(p->n, p->f, fl, p->g, gl, work64, JINGCOBU64_WORK).value;
-    if (r == with && D == reduced && wide == r) return;
-    wrong++;
-    printf("WRONG: n = %u, d = %zu, e = %zu: resultants %u %u %llu, D %u %u\n", n, p->d, p->e, r, with, (unsigned long long) wide, D,
-           reduced);
+    check(r == with && D == reduced && wide == r, "n = %u, d = %zu, e = %zu: resultants %u %u %llu, D %u %u", n, p->d, p->e, r, with,
+          (unsigned long long) wide, D, reduced);
 }
 
 /* ---- random pairs */
@@ -134,12 +119,6 @@ static pair random_pair(enum service s)
     for (size_t i = 0; i < f_words(&p); i++) p.f[i] = below(p.n);
     for (size_t i = 0; i < g_words(&p); i++) p.g[i] = below(p.n);
     return p;
-}
-
-static int by_size(const void *a, const void *b)
-{
-    double x = *(const double *) a, y = *(const double *) b;
-    return x < y ? -1 : x > y;
 }
 
 static double median(enum service s)
@@ -203,7 +182,7 @@ static void read_store(pair *slowest, double *most)
     if (!in) return;
     for (int s; (s = read_pair(in, &p)) >= 0;) {
         double t = cost(s, &p, 9);
-        if (t == 0) { wrong++; printf("WRONG: a stored pair of %s is refused\n", names[s]); }
+        check(t != 0, "a stored pair of %s is refused", names[s]);
         if (t > most[s]) { most[s] = t; slowest[s] = p; }
         if (!is_wide(s) && s != TWO) compare(&p);
     }
@@ -374,7 +353,7 @@ int main(int argc, char **argv)
         double usual = median(s);
         printf("%-20s random pairs %8.2f us in the median, the slowest found %9.2f us, ratio %5.1f; n = %llu, d = %zu, e = %zu\n", names[s],
                usual, most[s], most[s] / usual, (unsigned long long) slowest[s].n, slowest[s].d, slowest[s].e);
-        if (most[s] == 0) { wrong++; printf("WRONG: no pair of %s is stored\n", names[s]); }
+        check(most[s] != 0, "no pair of %s is stored", names[s]);
     }
     printf("wrong values of the engine: %d\n", wrong);
     return wrong != 0;

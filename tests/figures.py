@@ -3,6 +3,7 @@
 
     tests/figures.py            every script but those of SLOW, which are named (make figures, make check)
     tests/figures.py all        every script (make figures FIGURES=all)
+    tests/figures.py NAME ..    these alone, such as desk_figures.py
 
 A script says at its head which files it makes: each crates/NAME/stdin or crates/NAME/stdout there is one. It writes them by itself, or
 its output is the one file that is named behind a >. Scripts that call gp are skipped where it is not installed."""
@@ -18,7 +19,7 @@ from pathlib import Path
 
 ROOT = Path(__file__).resolve().parent.parent
 SLOW = set()             # names of scripts that take more than a minute on one core
-HELPERS = {"ideal_constants.py", "draw_frames.py"}      # the one is what others stand on, the other draws what is not stored
+HELPERS = {"reference.py", "ideal_constants.py", "draw_frames.py", "draw_run.py"}   # what others stand on; what is not stored; a picture of docs/
 MADE = re.compile(r"(?:> )?crates/\w+/(?:stdin|stdout)")
 
 
@@ -65,13 +66,17 @@ def wrong(script):
 
 def main():
     scripts = [s for s in sorted((ROOT / "tools").glob("*.py")) if s.name not in HELPERS]
-    left = [s for s in scripts if s.name in SLOW and sys.argv[1:] != ["all"]]
-    needing = [s for s in scripts if "gp(" in s.read_text() or '"gp"' in s.read_text()] if not shutil.which("gp") else []
+    asked = set(sys.argv[1:]) - {"all"}
+    if asked - {s.name for s in scripts}:
+        return "no script of tools/ that makes a stored file: " + ", ".join(sorted(asked - {s.name for s in scripts}))
+    chosen = [s for s in scripts if s.name in asked or not asked]
+    left = [s for s in chosen if s.name in SLOW and not sys.argv[1:]]
+    needing = [s for s in chosen if "gp(" in s.read_text() or '"gp"' in s.read_text()] if not shutil.which("gp") else []
     if left:
         print("left out, because they take more than a minute each (make figures FIGURES=all): " + ", ".join(s.name for s in left))
     if needing:
         print("SKIPPED: gp is not installed, for the figures of " + ", ".join(s.name for s in needing))
-    tried = [s for s in scripts if s not in left and s not in needing]
+    tried = [s for s in chosen if s not in left and s not in needing]
     with ThreadPoolExecutor(max_workers=os.cpu_count()) as pool:
         found = [(s, w) for s, w in zip(tried, pool.map(wrong, tried)) if w]
     for script, why in found:

@@ -19,58 +19,26 @@
 #define BYTE_MARK 0xa7
 
 typedef uint32_t word;
-#include "lent.h"
+typedef jingcobu_answer answer;
+#define SERVICE(name) jingcobu_##name
+#define WORK_LEN JINGCOBU_WORK
+#define COFACTOR_LEN JINGCOBU_COFACTOR
+#define MORE_WORK 9000
+#define MORE_COFACTOR 1600
+#define F_SCALE 0
+#define G_SCALE 0
+#include "both.h"
 
-/* Buffers, with words before and behind what is lent. */
-#define WORK_ROOM (MARGIN + 9000 + MARGIN)
-#define COFACTOR_ROOM (MARGIN + 1600 + MARGIN)
-#define PRODUCT_ROOM (MARGIN + 100 + MARGIN)
 #define MULTIPLIER_ROOM 4200
 #define TEXT_ROOM (MARGIN + 900 + MARGIN)
-static uint32_t work[WORK_ROOM], u[COFACTOR_ROOM], v[COFACTOR_ROOM], out[PRODUCT_ROOM];
 static uint32_t first_multiplier[MULTIPLIER_ROOM], second_multiplier[MULTIPLIER_ROOM];
 static uint8_t written[TEXT_ROOM];
-
-/* whether all words from `from` up to `to`, counted from the first that is lent, are x */
-static int all(const uint32_t *b, size_t from, size_t to, uint32_t x)
-{
-    for (size_t i = from; i < to; i++) if (b[MARGIN + i] != x) return 0;
-    return 1;
-}
 
 /* kept_but for bytes */
 static int bytes_kept_but(const uint8_t *b, size_t room, size_t length)
 {
     for (size_t i = 0; i < room; i++) if ((i < MARGIN || i >= MARGIN + length) && b[i] != BYTE_MARK) return 0;
     return 1;
-}
-
-/* whether u f + v g is the constant c modulo n, u and v being ul and vl words */
-static int combine(uint32_t n, const uint32_t *f, size_t fl, const uint32_t *g, size_t gl, size_t ul, size_t vl, uint32_t c)
-{
-    for (size_t k = 0; k < larger(ul + fl, vl + gl); k++) {
-        uint64_t s = 0;
-        for (size_t i = 0; i <= k && i < ul; i++) if (k - i < fl) s = (s + (uint64_t) u[MARGIN + i] * f[k - i]) % n;
-        for (size_t i = 0; i <= k && i < vl; i++) if (k - i < gl) s = (s + (uint64_t) v[MARGIN + i] * g[k - i]) % n;
-        if (s != (k == 0 ? c % n : 0)) return 0;
-    }
-    return 1;
-}
-
-/* whether s and t are the least cofactors of g = gcd(a, b, n): they fit, and two s that fit differ by a multiple of h / g, with
- * h = gcd(b, n), two t that fit with one s by a multiple of n / h */
-static int least(uint32_t n, uint32_t a, uint32_t b, uint32_t g, uint32_t s, uint32_t t)
-{
-    uint32_t h = common_divisor(b, n);
-    return ((uint64_t) s * a % n + (uint64_t) t * b % n) % n == g % n && s < h / g && t < n / h;
-}
-
-/* word k of the product of f and g */
-static uint32_t product_word(uint32_t n, const uint32_t *f, size_t fl, const uint32_t *g, size_t gl, size_t k)
-{
-    uint64_t s = 0;
-    for (size_t i = 0; i <= k && i < fl; i++) if (k - i < gl) s = (s + (uint64_t) f[i] * g[k - i]) % n;
-    return (uint32_t) s;
 }
 
 /* the text of f, closed by a zero byte as C has it; answers the number of characters */
@@ -125,25 +93,6 @@ static size_t words_of(uint32_t n, const uint8_t *text, size_t length, uint32_t 
 }
 
 /* ---- one call, with all that the header promises of it: the value, the status, every word. `status` is the one it should have. */
-
-static uint32_t product(uint32_t n, const uint32_t *f, size_t fl, const uint32_t *g, size_t gl, size_t ol, uint32_t status, const char *where)
-{
-    mark(out, PRODUCT_ROOM);
-    copy(f, fl, g, gl);
-    jingcobu_answer a = jingcobu_product(n, f, fl, g, gl, lent(out, ol), ol);
-    expect(a.status == status, "product: the status", where);
-    expect(a.value == 0, "product: the value is 0", where);
-    expect(same(f, fl, g, gl), "product: f and g are only read", where);
-    if (status != JINGCOBU_OK) {
-        expect(kept_but(out, PRODUCT_ROOM, 0), "product refused: the buffer is as found", where);
-        return 0;
-    }
-    expect(kept_but(out, PRODUCT_ROOM, fl + gl - 1), "product: words beyond d + e + 1 are unchanged", where);
-    int right = 1;
-    for (size_t k = 0; k < fl + gl - 1; k++) if (out[MARGIN + k] != product_word(n, f, fl, g, gl, k)) right = 0;
-    expect(right, "product: the first d + e + 1 words", where);
-    return a.value;
-}
 
 static void one_word(uint32_t n, const uint32_t *f, size_t fl, const uint32_t *g, size_t gl, size_t ol, size_t k, uint32_t status, const char *where)
 {
@@ -237,52 +186,6 @@ static void shares(uint32_t frames, uint32_t w1, uint32_t w2, uint32_t w3, uint3
     int fourth = 1;
     for (int i = 0; i < 4; i++) if (p.share[i] < frames / 4 && p.share[i] < waiting[i]) fourth = 0;
     expect(fourth, "shares: at least what waits or a fourth", where);
-}
-
-static uint32_t resultant(uint32_t n, const uint32_t *f, size_t fl, const uint32_t *g, size_t gl, size_t wl, uint32_t status, const char *where)
-{
-    mark(work, WORK_ROOM);
-    copy(f, fl, g, gl);
-    jingcobu_answer a = jingcobu_resultant(n, f, fl, g, gl, lent(work, wl), wl);
-    expect(a.status == status, "resultant: the status", where);
-    expect(same(f, fl, g, gl), "resultant: f and g are only read", where);
-    if (status != JINGCOBU_OK) {
-        expect(a.value == 0, "resultant refused: the value is 0", where);
-        expect(kept_but(work, WORK_ROOM, 0), "resultant refused: the working words are as found", where);
-        return 0;
-    }
-    expect(a.value < n, "resultant: below n", where);
-    expect(all(work, 0, wl, 0), "resultant: all working words are zero", where);
-    expect(kept_but(work, WORK_ROOM, wl), "resultant: words that are not lent", where);
-    return a.value;
-}
-
-static uint32_t reduced(uint32_t n, const uint32_t *f, size_t fl, const uint32_t *g, size_t gl, size_t ul, size_t vl, size_t wl, uint32_t status,
-                        const char *where)
-{
-    mark(work, WORK_ROOM); mark(u, COFACTOR_ROOM); mark(v, COFACTOR_ROOM);
-    copy(f, fl, g, gl);
-    jingcobu_answer a = jingcobu_reduced_resultant(n, f, fl, g, gl, lent(u, ul), ul, lent(v, vl), vl, lent(work, wl), wl);
-    expect(a.status == status, "reduced: the status", where);
-    expect(same(f, fl, g, gl), "reduced: f and g are only read", where);
-    if (status != JINGCOBU_OK) {
-        expect(a.value == 0, "reduced refused: the value is 0", where);
-        expect(kept_but(work, WORK_ROOM, 0), "reduced refused: the working words are as found", where);
-        expect(kept_but(u, COFACTOR_ROOM, 0), "reduced refused: u is as found", where);
-        expect(kept_but(v, COFACTOR_ROOM, 0), "reduced refused: v is as found", where);
-        return 1;
-    }
-    size_t l = cofactor_length(n, fl, gl);
-    expect(a.value >= 1 && n % a.value == 0, "reduced: D is at least 1 and divides n", where);
-    expect(all(work, 0, wl, 0), "reduced: all working words are zero", where);
-    expect(kept_but(work, WORK_ROOM, wl), "reduced: words that are not lent", where);
-    expect(kept_but(u, COFACTOR_ROOM, l), "reduced: words of u beyond L are unchanged", where);
-    expect(kept_but(v, COFACTOR_ROOM, l), "reduced: words of v beyond L are unchanged", where);
-    expect(below(u, l, n) && below(v, l, n), "reduced: the words of the cofactors are below n", where);
-    expect(combine(n, f, fl, g, gl, l, l, a.value), "reduced: the cofactors combine f and g to D", where);
-    if (fl == 1 && gl == 1 && a.value)
-        expect(least(n, f[0], g[0], a.value, u[MARGIN], v[MARGIN]), "reduced: the cofactors of two constants are the least", where);
-    return a.value ? a.value : 1;
 }
 
 static uint32_t divisor(uint32_t n, const uint32_t *f, size_t fl, const uint32_t *g, size_t gl, size_t wl, uint32_t status, const char *where)
@@ -514,42 +417,6 @@ static uint32_t reading(jingcobu_factors s, uint32_t status, const char *where)
 
 /* ---- the stored pairs */
 
-/* the number that `count` lower-case hexadecimal digits spell; `*ok` becomes 0 where they are not digits */
-static uint32_t number(const char *s, int count, int *ok)
-{
-    static const char digits[] = "0123456789abcdef";
-    uint32_t x = 0;
-    for (int i = 0; i < count; i++) {
-        const char *p = s[i] ? strchr(digits, s[i]) : NULL;
-        if (!p) { *ok = 0; return 0; }
-        x = 16 * x + (uint32_t) (p - digits);
-    }
-    return x;
-}
-
-/* a frame of kind 01, whole */
-static int read_frame(const char *s, uint32_t *n, size_t *fl, size_t *gl, uint32_t *w)
-{
-    int ok = strlen(s) >= 15 && s[0] == '0' && s[1] == '1';
-    if (!ok) return 0;
-    *n = number(s + 2, 8, &ok);
-    *fl = number(s + 10, 2, &ok) + 1;
-    *gl = number(s + 12, 2, &ok) + 1;
-    if (!ok || *fl > MOST || *gl > MOST || strlen(s) != 14 + 8 * (*fl + *gl) + 1) return 0;
-    for (size_t i = 0; i < *fl + *gl; i++) w[i] = number(s + 14 + 8 * i, 8, &ok);
-    return ok && s[strlen(s) - 1] == '\n';
-}
-
-/* resultant, blank, D */
-static int read_figures(const char *s, uint32_t *r, uint32_t *D)
-{
-    int ok = strlen(s) == 18 && s[8] == ' ' && s[17] == '\n';
-    if (!ok) return 0;
-    *r = number(s, 8, &ok);
-    *D = number(s + 9, 8, &ok);
-    return ok;
-}
-
 /* The product word by word against the product in one call, where d + e is at most 48: after word k the first k + 1 words are made and
  * the others are as found, and a k above d + e writes nothing. */
 static int word_by_word(uint32_t n, const uint32_t *f, size_t fl, const uint32_t *g, size_t gl, const char *where)
@@ -608,92 +475,44 @@ static uint32_t stored_pair(uint32_t n, const uint32_t *f, size_t fl, const uint
     return why(n, f, fl, g, gl, 60, 9000, D, JINGCOBU_OK, where) % 3;
 }
 
+static long full, between, by_words, grounds[3];
+
+static void more_of_pair(const stored *x, const char *where)
+{
+    const uint32_t *f = x->w, *g = x->w + x->fl;
+    grounds[stored_pair(x->n, f, x->fl, g, x->gl, x->r, x->D, where)]++;
+    by_words += word_by_word(x->n, f, x->fl, g, x->gl, where);
+    degree(x->n, f, x->fl, JINGCOBU_OK, where);
+    degree(x->n, g, x->gl, JINGCOBU_OK, where);
+    if (x->fl == MOST && x->gl == MOST) full++;
+    if (x->D > 1 && x->D < x->n) between++;
+}
+
 static void pairs(const char *folder)
 {
-    char path[400], line[1000], figures[100], where[40];
-    uint32_t w[2 * MOST], n, r, D;
-    size_t fl, gl;
-    long count = 0, full = 0, between = 0, by_words = 0, grounds[3] = { 0, 0, 0 };
-    snprintf(path, sizeof path, "%s/stdin", folder);
-    FILE *in = fopen(path, "r");
-    snprintf(path, sizeof path, "%s/stdout", folder);
-    FILE *numbers = fopen(path, "r");
-    expect(in && numbers, "the stored pairs are there", folder);
-    if (!in || !numbers) return;
-    for (;;) {
-        char *a = fgets(line, sizeof line, in), *b = fgets(figures, sizeof figures, numbers);
-        snprintf(where, sizeof where, "line %ld", count + 1);
-        expect(!a == !b, "the files of the stored pairs are equally long", where);
-        if (!a || !b) break;
-        int whole = read_frame(line, &n, &fl, &gl, w) && read_figures(figures, &r, &D);
-        expect(whole, "a frame, a resultant and a D", where);
-        if (!whole) break;
-        expect(resultant(n, w, fl, w + fl, gl, 9000, JINGCOBU_OK, where) == r, "the resultant is the other program's", where);
-        expect(reduced(n, w, fl, w + fl, gl, 1600, 1600, 9000, JINGCOBU_OK, where) == D, "D is the other program's", where);
-        grounds[stored_pair(n, w, fl, w + fl, gl, r, D, where)]++;
-        by_words += word_by_word(n, w, fl, w + fl, gl, where);
-        degree(n, w, fl, JINGCOBU_OK, where);
-        degree(n, w + fl, gl, JINGCOBU_OK, where);
-        count++;
-        if (fl == MOST && gl == MOST) full++;
-        if (D > 1 && D < n) between++;
-    }
-    expect(count >= LEAST_PAIRS, "all the stored pairs were read", folder);
-    fclose(in);
-    fclose(numbers);
+    long count = stored_pairs(folder, "01", LEAST_PAIRS, more_of_pair);
     printf("%ld stored pairs, %ld of them with d = e = 48, %ld with D neither 1 nor n, %ld multiplied word by word\n", count, full, between, by_words);
     printf("of these %ld are coprime, %ld are zero modulo some m, %ld have a common divisor\n", grounds[0], grounds[1], grounds[2]);
 }
 
 /* ---- refusals */
 
-/* Every set of reasons at once: the status is the least number among them. For f and g the reasons are: too long or empty, and a
- * word that is n or more (the last one, or the first). */
-static void orders(void)
+/* The services of two polynomials that only words of 32 bits have. */
+static void more_of_reasons(const reasons *x)
 {
-    enum { N = 1, F = 2, G = 4, WF = 8, WG = 16, U = 32, V = 64, W = 128, SUM = 256, OUT = 512, SETS = 1024 };
-    long sets = 0;
-    for (int other = 0; other < 4; other++)
-        for (int set = 0; set < SETS; set++) {
-            int empty = other & 1, last = other & 2;
-            uint32_t f[60], g[60], n = set & N ? (uint32_t) empty : 7;
-            char where[40];
-            for (int i = 0; i < 60; i++) { f[i] = (uint32_t) (i % 7); g[i] = (uint32_t) ((3 * i + 1) % 7); }
-            size_t fl = set & F ? empty ? 0 : 50 : 5, gl = set & G ? empty ? 0 : 50 : 3;
-            if ((set & SUM) && !(set & F)) fl = 30;                                         /* d + e = 49: too much for a product */
-            if ((set & SUM) && !(set & G)) gl = 21;
-            if ((set & WF) && fl) f[last ? fl - 1 : 0] = n < 7 ? 7 : n;
-            if ((set & WG) && gl) g[last ? gl - 1 : 0] = 4294967295u;
-            size_t d = fl ? fl : 1, e = gl ? gl : 1, l = set & N ? 1 : cofactor_length(n, d, e);
-            size_t ul = l - (set & U ? 1 : 0), vl = l - (set & V ? 1 : 0), wl = set & W ? 8191 : 8192;
-            size_t ol = d + e - 1 - (set & OUT ? 1 : 0);
-            if (ol > 100) ol = 100;
-            if (last && (set & U)) ul = 0;
-            if (last && (set & V)) vl = 0;
-            if (last && (set & W)) wl = 0;
-            if (last && (set & OUT)) ol = 0;
-            uint32_t common = set & N ? JINGCOBU_BAD_MODULUS : set & (F | G) ? JINGCOBU_BAD_LENGTH : 0;
-            uint32_t word = set & (WF | WG) ? JINGCOBU_BAD_WORD : 0, short_work = set & W ? JINGCOBU_SHORT_WORK : 0;
-            uint32_t short_cofactor = set & (U | V) ? JINGCOBU_SHORT_RESULT : 0, short_product = set & OUT ? JINGCOBU_SHORT_RESULT : 0;
-            snprintf(where, sizeof where, "set %d of reasons, %d", set, other);
-            uint32_t three = common ? common : word;
-            resultant(n, fl ? f : NULL, fl, gl ? g : NULL, gl, wl, three ? three : short_work, where);
-            reduced(n, fl ? f : NULL, fl, gl ? g : NULL, gl, ul, vl, wl, three ? three : short_cofactor ? short_cofactor : short_work, where);
-            divisor(n, fl ? f : NULL, fl, gl ? g : NULL, gl, wl, three ? three : short_work, where);
-            why(n, fl ? f : NULL, fl, gl ? g : NULL, gl, set & U ? last ? 0 : 48 : 49, wl, 0,
-                three ? three : set & U ? JINGCOBU_SHORT_RESULT : short_work, where);
-            with_cofactors(n, fl ? f : NULL, fl, gl ? g : NULL, gl, e - 1 - (set & U && e > 1 ? 1 : 0), d - 1 - (set & V && d > 1 ? 1 : 0), wl,
-                           three ? three : short_cofactor ? short_cofactor : short_work, where);
-            with_cofactors(n, f, 1, g, 1, 0, 0, wl, set & N ? JINGCOBU_BAD_MODULUS : f[0] >= n || g[0] >= n ? JINGCOBU_BAD_WORD : JINGCOBU_NO_COFACTORS, where);
-            if (!common && (set & SUM)) common = JINGCOBU_BAD_LENGTH;
-            three = common ? common : word;
-            product(n, fl ? f : NULL, fl, gl ? g : NULL, gl, ol, three ? three : short_product, where);
-            size_t places[] = { 0, d + e - 2, d + e - 1, SIZE_MAX };
-            for (int i = 0; i < 4; i++)
-                one_word(n, fl ? f : NULL, fl, gl ? g : NULL, gl, ol, places[i], three ? three : short_product, where);
-            sets++;
-        }
-    printf("%ld sets of reasons to refuse\n", sets);
+    const uint32_t *f = at_or_null(x->f, x->fl), *g = at_or_null(x->g, x->gl);
+    uint32_t n = x->n, short_work = or_short(x->first, x->set & W, JINGCOBU_SHORT_WORK);
+    uint32_t short_cofactor = or_short(x->first, x->set & (U | V), JINGCOBU_SHORT_RESULT);
+    uint32_t short_divisor = or_short(x->first, x->set & U, JINGCOBU_SHORT_RESULT);
+    divisor(n, f, x->fl, g, x->gl, x->wl, short_work, x->where);
+    why(n, f, x->fl, g, x->gl, x->set & U ? x->last ? 0 : 48 : 49, x->wl, 0, short_divisor ? short_divisor : short_work, x->where);
+    with_cofactors(n, f, x->fl, g, x->gl, x->e - 1 - (x->set & U && x->e > 1 ? 1 : 0), x->d - 1 - (x->set & V && x->d > 1 ? 1 : 0), x->wl,
+                   short_cofactor ? short_cofactor : short_work, x->where);
+    with_cofactors(n, x->f, 1, x->g, 1, 0, 0, x->wl,
+                   x->set & N ? JINGCOBU_BAD_MODULUS : x->f[0] >= n || x->g[0] >= n ? JINGCOBU_BAD_WORD : JINGCOBU_NO_COFACTORS, x->where);
+    size_t places[] = { 0, x->d + x->e - 2, x->d + x->e - 1, SIZE_MAX };
+    for (int i = 0; i < 4; i++)
+        one_word(n, f, x->fl, g, x->gl, x->ol, places[i], or_short(x->of_product, x->set & OUT, JINGCOBU_SHORT_RESULT), x->where);
 }
 
 /* The same for a claim: multipliers of no or too many words, and large words in each polynomial, at either end. */
@@ -897,15 +716,6 @@ static void ends(void)
     uint32_t two[] = { 1, 2 }, three[] = { 5, 3 };
     product(6, two, 2, three, 2, 3, JINGCOBU_OK, "1,2 times 5,3 modulo 6");
     expect(all(out, 0, 1, 5) && all(out, 1, 2, 1) && all(out, 2, 3, 0), "the product is 5,1,0", "1,2 times 5,3 modulo 6");
-}
-
-/* ---- drawn numbers */
-
-static uint64_t state = 20261115;
-static uint32_t draw(void)
-{
-    state ^= state << 13; state ^= state >> 7; state ^= state << 17;
-    return (uint32_t) (state >> 16);
 }
 
 /* ---- true degrees */
@@ -1443,41 +1253,6 @@ static void any_states(void)
     printf("%ld states of any bits, %ld of them took a factor\n", states, answered);
 }
 
-/* ---- the law of products */
-
-static void products(void)
-{
-    static const uint32_t moduli[] = { 2, 4, 6, 8, 12, 30, 36, 210, 2147483648u, 3486784401u, 223092870u, 2176782336u, 4294967291u, 4294967295u };
-    uint32_t f[25], g[25], h[MOST], p[MOST];
-    long nonzero = 0, between = 0;
-    char where[40];
-    for (int t = 0; t < TRIPLES; t++) {
-        uint32_t n = moduli[draw() % (sizeof moduli / sizeof *moduli)], small = 1 + draw() % 30;
-        size_t a = draw() % 9, b = draw() % 9, e = draw() % 9;
-        if (t % 50 == 0) { a = 24; b = 24; e = 48; }
-        for (size_t i = 0; i <= a; i++) f[i] = (uint32_t) ((uint64_t) (draw() % n) * small % n) * (draw() % 4 != 0);
-        for (size_t i = 0; i <= b; i++) g[i] = (uint32_t) ((uint64_t) (draw() % n) * small % n) * (draw() % 4 != 0);
-        for (size_t i = 0; i <= e; i++) h[i] = draw() % n * (draw() % 4 != 0);
-        if (t % 3 == 0) f[a] = 0;
-        if (t % 5 == 0) h[e] = 0;
-        snprintf(where, sizeof where, "triple %d", t);
-        product(n, f, a + 1, g, b + 1, 60, JINGCOBU_OK, where);
-        memcpy(p, out + MARGIN, (a + b + 1) * sizeof *p);
-        uint64_t r = resultant(n, p, a + b + 1, h, e + 1, 8192, JINGCOBU_OK, where);
-        uint64_t rf = resultant(n, f, a + 1, h, e + 1, 8192, JINGCOBU_OK, where), rg = resultant(n, g, b + 1, h, e + 1, 8192, JINGCOBU_OK, where);
-        uint64_t D = reduced(n, p, a + b + 1, h, e + 1, 1489, 1489, 8192, JINGCOBU_OK, where);
-        uint64_t Df = reduced(n, f, a + 1, h, e + 1, 1489, 1489, 8192, JINGCOBU_OK, where);
-        uint64_t Dg = reduced(n, g, b + 1, h, e + 1, 1489, 1489, 8192, JINGCOBU_OK, where);
-        expect(r == rf * rg % n, "the resultant of a product is the product of the resultants", where);
-        expect(D % Df == 0, "D of f divides D of the product", where);
-        expect(D % Dg == 0, "D of g divides D of the product", where);
-        expect(Df * Dg % D == 0, "D of the product divides the product of the D", where);
-        if (r) nonzero++;
-        if (D > 1 && D < n) between++;
-    }
-    printf("%d triples of the law of products, in %ld the resultant is not 0, in %ld D is neither 1 nor n\n", TRIPLES, nonzero, between);
-}
-
 /* ---- D alone, cofactors of the resultant and grounds, of every pair of degrees up to 2 */
 
 /* polynomial number x of l words: its digits to the base n */
@@ -1746,14 +1521,15 @@ static void unread(void)
 
 int main(int argc, char **argv)
 {
+    static const uint32_t moduli[] = { 2, 4, 6, 8, 12, 30, 36, 210, 2147483648u, 3486784401u, 223092870u, 2176782336u, 4294967291u, 4294967295u };
     if (argc > 2) most_failed = atol(argv[2]);
     pairs(argc > 1 ? argv[1] : "../crates/vectors");
-    orders();
+    orders((const word[]) { 0, 1, 0, 1 }, 7, more_of_reasons);
     orders_of_claims();
     orders_of_two();
     orders_of_one();
     words();
-    products();
+    products(moduli, sizeof moduli / sizeof *moduli, TRIPLES);
     degrees();
     texts();
     runs();

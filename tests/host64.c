@@ -15,239 +15,37 @@
 #define MOST 49
 #define MARK 0xabcdef0123456789u
 #define LIMIT ((uint64_t) 1 << 63)
-#define ENOUGH JINGCOBU64_COFACTOR
-#define WORK JINGCOBU64_WORK
-
-typedef unsigned __int128 wide;
 
 typedef uint64_t word;
-#include "lent.h"
-
-/* Buffers, with words before and behind what is lent. */
-#define MORE_WORK (WORK + 600)
-#define MORE_COFACTOR (ENOUGH + 100)
-#define WORK_ROOM (MARGIN + MORE_WORK + MARGIN)
-#define COFACTOR_ROOM (MARGIN + MORE_COFACTOR + MARGIN)
-#define PRODUCT_ROOM (MARGIN + 100 + MARGIN)
-static uint64_t work[WORK_ROOM], u[COFACTOR_ROOM], v[COFACTOR_ROOM], out[PRODUCT_ROOM];
-
-/* whether all words that are lent are zero */
-static int zero(const uint64_t *b, size_t length)
-{
-    for (size_t i = 0; i < length; i++) if (b[MARGIN + i]) return 0;
-    return 1;
-}
-
-static uint64_t times(uint64_t n, uint64_t a, uint64_t b) { return (uint64_t) ((wide) a * b % n); }
-
-/* s and word k of the product of a and b: a sum below 2^64 n, for n below 2^63 and words below n */
-static wide add_word(uint64_t n, wide s, const uint64_t *a, size_t al, const uint64_t *b, size_t bl, size_t k)
-{
-    wide top = (wide) n << 64;
-    for (size_t i = k < bl ? 0 : k - bl + 1; i <= k && i < al; i++) {
-        s += (wide) a[i] * b[k - i];
-        if (s >= top) s -= top;
-    }
-    return s;
-}
-
-/* whether u f + v g, u and v being l words, is the constant c modulo n */
-static int combine(uint64_t n, const uint64_t *f, size_t fl, const uint64_t *g, size_t gl, size_t l, uint64_t c)
-{
-    for (size_t k = 0; k < l + larger(fl, gl); k++)
-        if (add_word(n, add_word(n, 0, f, fl, u + MARGIN, l, k), g, gl, v + MARGIN, l, k) % n != (k == 0 ? c % n : 0)) return 0;
-    return 1;
-}
-
-/* whether s and t are the least cofactors of D = gcd(a, b, n): they fit, and two s that fit differ by a multiple of h / D, with
- * h = gcd(b, n), two t that fit with one s by a multiple of n / h */
-static int least(uint64_t n, uint64_t a, uint64_t b, uint64_t D, uint64_t s, uint64_t t)
-{
-    uint64_t h = common_divisor(b, n);
-    return (times(n, s, a) + times(n, t, b)) % n == D % n && s < h / D && t < n / h;
-}
-
-/* ---- one call, with all that the header promises of it: the value, the status, every word. `status` is the one it should have. */
-
-static void product(uint64_t n, const uint64_t *f, size_t fl, const uint64_t *g, size_t gl, size_t ol, uint32_t status, const char *where)
-{
-    mark(out, PRODUCT_ROOM);
-    copy(f, fl, g, gl);
-    jingcobu64_answer a = jingcobu64_product(n, f, fl, g, gl, lent(out, ol), ol);
-    expect(a.status == status, "product: the status", where);
-    expect(a.value == 0, "product: the value is 0", where);
-    expect(same(f, fl, g, gl), "product: f and g are only read", where);
-    if (status != JINGCOBU_OK) {
-        expect(kept_but(out, PRODUCT_ROOM, 0), "product refused: the buffer is as found", where);
-        return;
-    }
-    expect(kept_but(out, PRODUCT_ROOM, fl + gl - 1), "product: words beyond d + e + 1 are unchanged", where);
-    int right = 1;
-    for (size_t k = 0; k < fl + gl - 1; k++) if (out[MARGIN + k] != add_word(n, 0, f, fl, g, gl, k) % n) right = 0;
-    expect(right, "product: the first d + e + 1 words", where);
-}
-
-static uint64_t resultant(uint64_t n, const uint64_t *f, size_t fl, const uint64_t *g, size_t gl, size_t wl, uint32_t status, const char *where)
-{
-    mark(work, WORK_ROOM);
-    copy(f, fl, g, gl);
-    jingcobu64_answer a = jingcobu64_resultant(n, f, fl, g, gl, lent(work, wl), wl);
-    expect(a.status == status, "resultant: the status", where);
-    expect(same(f, fl, g, gl), "resultant: f and g are only read", where);
-    if (status != JINGCOBU_OK) {
-        expect(a.value == 0, "resultant refused: the value is 0", where);
-        expect(kept_but(work, WORK_ROOM, 0), "resultant refused: the working words are as found", where);
-        return 0;
-    }
-    expect(a.value < n, "resultant: below n", where);
-    expect(zero(work, wl), "resultant: all working words are zero", where);
-    expect(kept_but(work, WORK_ROOM, wl), "resultant: words that are not lent", where);
-    return a.value;
-}
-
-static uint64_t reduced(uint64_t n, const uint64_t *f, size_t fl, const uint64_t *g, size_t gl, size_t ul, size_t vl, size_t wl, uint32_t status,
-                        const char *where)
-{
-    mark(work, WORK_ROOM); mark(u, COFACTOR_ROOM); mark(v, COFACTOR_ROOM);
-    copy(f, fl, g, gl);
-    jingcobu64_answer a = jingcobu64_reduced_resultant(n, f, fl, g, gl, lent(u, ul), ul, lent(v, vl), vl, lent(work, wl), wl);
-    expect(a.status == status, "reduced: the status", where);
-    expect(same(f, fl, g, gl), "reduced: f and g are only read", where);
-    if (status != JINGCOBU_OK) {
-        expect(a.value == 0, "reduced refused: the value is 0", where);
-        expect(kept_but(work, WORK_ROOM, 0), "reduced refused: the working words are as found", where);
-        expect(kept_but(u, COFACTOR_ROOM, 0), "reduced refused: u is as found", where);
-        expect(kept_but(v, COFACTOR_ROOM, 0), "reduced refused: v is as found", where);
-        return 1;
-    }
-    size_t l = cofactor_length(n, fl, gl);
-    expect(a.value >= 1 && n % (a.value ? a.value : 1) == 0, "reduced: D is at least 1 and divides n", where);
-    expect(zero(work, wl), "reduced: all working words are zero", where);
-    expect(kept_but(work, WORK_ROOM, wl), "reduced: words that are not lent", where);
-    expect(kept_but(u, COFACTOR_ROOM, l), "reduced: words of u beyond L are unchanged", where);
-    expect(kept_but(v, COFACTOR_ROOM, l), "reduced: words of v beyond L are unchanged", where);
-    int small = below(u, l, n) && below(v, l, n);
-    expect(small, "reduced: the words of the cofactors are below n", where);
-    expect(small && combine(n, f, fl, g, gl, l, a.value), "reduced: the cofactors combine f and g to D", where);
-    if (fl == 1 && gl == 1 && a.value)
-        expect(least(n, f[0], g[0], a.value, u[MARGIN], v[MARGIN]), "reduced: the cofactors of two constants are the least", where);
-    return a.value ? a.value : 1;
-}
+typedef jingcobu64_answer answer;
+#define SERVICE(name) jingcobu64_##name
+#define WORK_LEN JINGCOBU64_WORK
+#define COFACTOR_LEN JINGCOBU64_COFACTOR
+#define MORE_WORK (WORK_LEN + 600)
+#define MORE_COFACTOR (COFACTOR_LEN + 100)
+#define F_SCALE 50
+#define G_SCALE 58
+#include "both.h"
 
 /* ---- the stored pairs */
 
-/* the number that `count` lower-case hexadecimal digits spell; `*ok` becomes 0 where they are not digits */
-static uint64_t number(const char *s, int count, int *ok)
-{
-    static const char digits[] = "0123456789abcdef";
-    uint64_t x = 0;
-    for (int i = 0; i < count; i++) {
-        const char *p = s[i] ? strchr(digits, s[i]) : NULL;
-        if (!p) { *ok = 0; return 0; }
-        x = 16 * x + (uint64_t) (p - digits);
-    }
-    return x;
-}
+static long full, between, wider;
 
-/* n, d, e and the words, whole */
-static int read_pair(const char *s, uint64_t *n, size_t *fl, size_t *gl, uint64_t *w)
+static void more_of_pair(const stored *x, const char *where)
 {
-    int ok = strlen(s) > 20;
-    if (!ok) return 0;
-    *n = number(s, 16, &ok);
-    *fl = number(s + 16, 2, &ok) + 1;
-    *gl = number(s + 18, 2, &ok) + 1;
-    if (!ok || *fl > MOST || *gl > MOST || strlen(s) != 20 + 16 * (*fl + *gl) + 1) return 0;
-    for (size_t i = 0; i < *fl + *gl; i++) w[i] = number(s + 20 + 16 * i, 16, &ok);
-    return ok && s[strlen(s) - 1] == '\n';
-}
-
-/* resultant, blank, D */
-static int read_figures(const char *s, uint64_t *r, uint64_t *D)
-{
-    int ok = strlen(s) == 34 && s[16] == ' ' && s[33] == '\n';
-    if (!ok) return 0;
-    *r = number(s, 16, &ok);
-    *D = number(s + 17, 16, &ok);
-    return ok;
+    product(x->n, x->w, x->fl, x->w + x->fl, x->gl, 100, x->fl + x->gl <= 50 ? JINGCOBU_OK : JINGCOBU_BAD_LENGTH, where);
+    if (x->fl == MOST && x->gl == MOST) full++;
+    if (x->D > 1 && x->D < x->n) between++;
+    if (x->n >> 32) wider++;
 }
 
 static void pairs(const char *folder)
 {
-    char path[400], line[2000], figures[100], where[40];
-    uint64_t w[2 * MOST], n, r, D;
-    size_t fl, gl;
-    long count = 0, full = 0, between = 0, wider = 0;
-    snprintf(path, sizeof path, "%s/stdin", folder);
-    FILE *in = fopen(path, "r");
-    snprintf(path, sizeof path, "%s/stdout", folder);
-    FILE *numbers = fopen(path, "r");
-    expect(in && numbers, "the stored pairs are there", folder);
-    if (!in || !numbers) return;
-    for (;;) {
-        char *a = fgets(line, sizeof line, in), *b = fgets(figures, sizeof figures, numbers);
-        snprintf(where, sizeof where, "line %ld", count + 1);
-        expect(!a == !b, "the files of the stored pairs are equally long", where);
-        if (!a || !b) break;
-        int whole = read_pair(line, &n, &fl, &gl, w) && read_figures(figures, &r, &D);
-        expect(whole, "a pair, a resultant and a D", where);
-        if (!whole) break;
-        expect(resultant(n, w, fl, w + fl, gl, MORE_WORK, JINGCOBU_OK, where) == r, "the resultant is the other program's", where);
-        expect(reduced(n, w, fl, w + fl, gl, MORE_COFACTOR, MORE_COFACTOR, MORE_WORK, JINGCOBU_OK, where) == D, "D is the other program's", where);
-        product(n, w, fl, w + fl, gl, 100, fl + gl <= 50 ? JINGCOBU_OK : JINGCOBU_BAD_LENGTH, where);
-        count++;
-        if (fl == MOST && gl == MOST) full++;
-        if (D > 1 && D < n) between++;
-        if (n >> 32) wider++;
-    }
-    expect(count >= LEAST_PAIRS, "all the stored pairs were read", folder);
-    fclose(in);
-    fclose(numbers);
+    long count = stored_pairs(folder, "", LEAST_PAIRS, more_of_pair);
     printf("%ld stored pairs, %ld of them with n above 32 bits, %ld with d = e = 48, %ld with D neither 1 nor n\n", count, wider, full, between);
 }
 
 /* ---- refusals */
-
-/* Every set of reasons at once: the status is the least number among them. n is 0, 1, 2^63 or 2^64 - 1; f and g are too long or empty,
- * or have a word that is n or more (the last one, or the first). */
-static void orders(void)
-{
-    enum { N = 1, F = 2, G = 4, WF = 8, WG = 16, U = 32, V = 64, W = 128, SUM = 256, OUT = 512, SETS = 1024 };
-    static const uint64_t bad[] = { 0, 1, LIMIT, UINT64_MAX };
-    long sets = 0;
-    for (int other = 0; other < 4; other++)
-        for (int set = 0; set < SETS; set++) {
-            int empty = other & 1, last = other & 2;
-            uint64_t f[60], g[60], n = set & N ? bad[other] : (uint64_t) 7 << 58;
-            char where[40];
-            for (int i = 0; i < 60; i++) { f[i] = (uint64_t) (i % 7) << 50; g[i] = (uint64_t) ((3 * i + 1) % 7) << 58; }
-            size_t fl = set & F ? empty ? 0 : 50 : 5, gl = set & G ? empty ? 0 : 50 : 3;
-            if ((set & SUM) && !(set & F)) fl = 30;                                         /* d + e = 49: too much for a product */
-            if ((set & SUM) && !(set & G)) gl = 21;
-            if ((set & WF) && fl) f[last ? fl - 1 : 0] = n < 2 ? 7 : n;
-            if ((set & WG) && gl) g[last ? gl - 1 : 0] = UINT64_MAX;
-            size_t d = fl ? fl : 1, e = gl ? gl : 1, l = set & N ? 1 : cofactor_length(n, d, e);
-            size_t ul = l - (set & U ? 1 : 0), vl = l - (set & V ? 1 : 0), wl = set & W ? WORK - 1 : WORK;
-            size_t ol = d + e - 1 - (set & OUT ? 1 : 0);
-            if (ol > 100) ol = 100;
-            if (last && (set & U)) ul = 0;
-            if (last && (set & V)) vl = 0;
-            if (last && (set & W)) wl = 0;
-            if (last && (set & OUT)) ol = 0;
-            uint32_t common = set & N ? JINGCOBU_BAD_MODULUS : set & (F | G) ? JINGCOBU_BAD_LENGTH : 0;
-            uint32_t word = set & (WF | WG) ? JINGCOBU_BAD_WORD : 0, short_work = set & W ? JINGCOBU_SHORT_WORK : 0;
-            uint32_t short_cofactor = set & (U | V) ? JINGCOBU_SHORT_RESULT : 0, short_product = set & OUT ? JINGCOBU_SHORT_RESULT : 0;
-            snprintf(where, sizeof where, "set %d of reasons, %d", set, other);
-            uint32_t three = common ? common : word;
-            resultant(n, fl ? f : NULL, fl, gl ? g : NULL, gl, wl, three ? three : short_work, where);
-            reduced(n, fl ? f : NULL, fl, gl ? g : NULL, gl, ul, vl, wl, three ? three : short_cofactor ? short_cofactor : short_work, where);
-            if (!common && (set & SUM)) common = JINGCOBU_BAD_LENGTH;
-            three = common ? common : word;
-            product(n, fl ? f : NULL, fl, gl ? g : NULL, gl, ol, three ? three : short_product, where);
-            sets++;
-        }
-    printf("%ld sets of reasons to refuse\n", sets);
-}
 
 /* Each place of a word that is n or more, in f and in g. */
 static void words(void)
@@ -263,8 +61,8 @@ static void words(void)
                 uint32_t status = size ? JINGCOBU_BAD_WORD : JINGCOBU_OK;
                 size_t fl = second ? 1 : MOST, gl = second ? MOST : 1;
                 snprintf(where, sizeof where, "word %d modulo 11 * 2^33 at place %zu of %s", size, k, second ? "g" : "f");
-                resultant(n, f, fl, g, gl, WORK, status, where);
-                reduced(n, f, fl, g, gl, ENOUGH, ENOUGH, WORK, status, where);
+                resultant(n, f, fl, g, gl, WORK_LEN, status, where);
+                reduced(n, f, fl, g, gl, COFACTOR_LEN, COFACTOR_LEN, WORK_LEN, status, where);
                 product(n, f, fl, g, gl, 49, status, where);
             }
 }
@@ -277,12 +75,12 @@ static void ends(void)
     uint64_t f[60] = { 0 }, g[60] = { 0 };
     char where[80];
     for (int i = 0; i < 7; i++) {
-        resultant(bad[i], f, 1, g, 1, WORK, JINGCOBU_BAD_MODULUS, "n below 2 or too large");
-        reduced(bad[i], f, 1, g, 1, ENOUGH, ENOUGH, WORK, JINGCOBU_BAD_MODULUS, "n below 2 or too large");
+        resultant(bad[i], f, 1, g, 1, WORK_LEN, JINGCOBU_BAD_MODULUS, "n below 2 or too large");
+        reduced(bad[i], f, 1, g, 1, COFACTOR_LEN, COFACTOR_LEN, WORK_LEN, JINGCOBU_BAD_MODULUS, "n below 2 or too large");
         product(bad[i], f, 1, g, 1, 1, JINGCOBU_BAD_MODULUS, "n below 2 or too large");
         f[1] = g[1] = good[i] - 1;
-        resultant(good[i], f, 2, g, 2, WORK, JINGCOBU_OK, "the ends of n");
-        expect(reduced(good[i], f, 2, g, 2, ENOUGH, ENOUGH, WORK, JINGCOBU_OK, "the ends of n") == good[i], "D of - x and - x is n", "the ends of n");
+        resultant(good[i], f, 2, g, 2, WORK_LEN, JINGCOBU_OK, "the ends of n");
+        expect(reduced(good[i], f, 2, g, 2, COFACTOR_LEN, COFACTOR_LEN, WORK_LEN, JINGCOBU_OK, "the ends of n") == good[i], "D of - x and - x is n", "the ends of n");
         product(good[i], f, 2, g, 2, 3, JINGCOBU_OK, "the ends of n");
         f[1] = g[1] = 0;
     }
@@ -290,7 +88,7 @@ static void ends(void)
         for (size_t gl = 0; gl <= 60; gl++) {
             int right = fl >= 1 && fl <= 49 && gl >= 1 && gl <= 49, fits = right && fl + gl <= 50;
             snprintf(where, sizeof where, "%zu and %zu words", fl, gl);
-            resultant(2, fl ? f : NULL, fl, gl ? g : NULL, gl, WORK, right ? JINGCOBU_OK : JINGCOBU_BAD_LENGTH, where);
+            resultant(2, fl ? f : NULL, fl, gl ? g : NULL, gl, WORK_LEN, right ? JINGCOBU_OK : JINGCOBU_BAD_LENGTH, where);
             product(2, fl ? f : NULL, fl, gl ? g : NULL, gl, 100, fits ? JINGCOBU_OK : JINGCOBU_BAD_LENGTH, where);
             if (fits) product(2, f, fl, g, gl, fl + gl - 2, JINGCOBU_SHORT_RESULT, where);
             if (fits) product(2, f, fl, g, gl, fl + gl - 1, JINGCOBU_OK, where);
@@ -304,71 +102,19 @@ static void ends(void)
                     for (size_t i = 0; i <= d; i++) f[i] = (7 * i + 3) % n;
                     for (size_t i = 0; i <= e; i++) g[i] = (5 * i + n - 1) % n;
                     snprintf(where, sizeof where, "n = %llu, d = %zu, e = %zu", (unsigned long long) n, d, e);
-                    reduced(n, f, d + 1, g, e + 1, l, l, WORK, JINGCOBU_OK, where);
-                    reduced(n, f, d + 1, g, e + 1, l - 1, l, WORK, JINGCOBU_SHORT_RESULT, where);
-                    reduced(n, f, d + 1, g, e + 1, l, l - 1, WORK, JINGCOBU_SHORT_RESULT, where);
-                    reduced(n, f, d + 1, g, e + 1, l, l, WORK - 1, JINGCOBU_SHORT_WORK, where);
+                    reduced(n, f, d + 1, g, e + 1, l, l, WORK_LEN, JINGCOBU_OK, where);
+                    reduced(n, f, d + 1, g, e + 1, l - 1, l, WORK_LEN, JINGCOBU_SHORT_RESULT, where);
+                    reduced(n, f, d + 1, g, e + 1, l, l - 1, WORK_LEN, JINGCOBU_SHORT_RESULT, where);
+                    reduced(n, f, d + 1, g, e + 1, l, l, WORK_LEN - 1, JINGCOBU_SHORT_WORK, where);
                     reduced(n, f, d + 1, g, e + 1, l, l, 8192, JINGCOBU_SHORT_WORK, where);
-                    resultant(n, f, d + 1, g, e + 1, WORK - 1, JINGCOBU_SHORT_WORK, where);
+                    resultant(n, f, d + 1, g, e + 1, WORK_LEN - 1, JINGCOBU_SHORT_WORK, where);
                     resultant(n, f, d + 1, g, e + 1, 8192, JINGCOBU_SHORT_WORK, where);
-                    resultant(n, f, d + 1, g, e + 1, WORK, JINGCOBU_OK, where);
+                    resultant(n, f, d + 1, g, e + 1, WORK_LEN, JINGCOBU_OK, where);
                 }
     /* a product whose top word comes out zero has its sent degree all the same */
     uint64_t two[] = { 1, (uint64_t) 1 << 31 }, three[] = { 5, (uint64_t) 1 << 31 };
     product((uint64_t) 1 << 62, two, 2, three, 2, 3, JINGCOBU_OK, "a zero top");
     expect(out[MARGIN] == 5 && out[MARGIN + 1] == (uint64_t) 6 << 31 && out[MARGIN + 2] == 0, "the product is 5, 6 * 2^31, 0", "a zero top");
-}
-
-/* ---- drawn numbers */
-
-static uint64_t state = 20261115;
-static uint64_t draw(void)
-{
-    state ^= state << 13; state ^= state >> 7; state ^= state << 17;
-    return state;
-}
-
-/* l words, a fourth of them zero; all multiples of `small` */
-static void fill(uint64_t n, uint64_t *f, size_t l, uint64_t small)
-{
-    for (size_t i = 0; i < l; i++) f[i] = times(n, draw() % n, small) * (draw() % 4 != 0);
-}
-
-/* ---- the law of products */
-
-static void products(void)
-{
-    static const uint64_t moduli[] = { 2, 4, 6, 12, 36, 210, 4294967291u, 4294967295u, 4294967296u, 4611686018427387904u, 4052555153018976267u,
-        4738381338321616896u, 614889782588491410u, 9223371994482243049u, 9223372036854775783u, 9223372036854775807u };
-    uint64_t f[25], g[25], h[MOST], p[MOST];
-    long nonzero = 0, between = 0;
-    char where[40];
-    for (int t = 0; t < TRIPLES; t++) {
-        uint64_t n = moduli[draw() % (sizeof moduli / sizeof *moduli)], small = 1 + draw() % 30;
-        size_t a = draw() % 9, b = draw() % 9, e = draw() % 9;
-        if (n == 9223371994482243049u && draw() % 2) small = 3037000493u;
-        if (t % 50 == 0) { a = 24; b = 24; e = 48; }
-        fill(n, f, a + 1, small);
-        fill(n, g, b + 1, small);
-        fill(n, h, e + 1, 1);
-        if (t % 3 == 0) f[a] = 0;
-        if (t % 5 == 0) h[e] = 0;
-        snprintf(where, sizeof where, "triple %d", t);
-        product(n, f, a + 1, g, b + 1, 60, JINGCOBU_OK, where);
-        memcpy(p, out + MARGIN, (a + b + 1) * sizeof *p);
-        uint64_t r = resultant(n, p, a + b + 1, h, e + 1, WORK, JINGCOBU_OK, where);
-        uint64_t rf = resultant(n, f, a + 1, h, e + 1, WORK, JINGCOBU_OK, where), rg = resultant(n, g, b + 1, h, e + 1, WORK, JINGCOBU_OK, where);
-        uint64_t D = reduced(n, p, a + b + 1, h, e + 1, ENOUGH, ENOUGH, WORK, JINGCOBU_OK, where);
-        uint64_t Df = reduced(n, f, a + 1, h, e + 1, ENOUGH, ENOUGH, WORK, JINGCOBU_OK, where);
-        uint64_t Dg = reduced(n, g, b + 1, h, e + 1, ENOUGH, ENOUGH, WORK, JINGCOBU_OK, where);
-        expect(r == times(n, rf, rg), "the resultant of a product is the product of the resultants", where);
-        expect(D % Df == 0, "D of f divides D of the product", where);
-        expect(D % Dg == 0, "D of g divides D of the product", where);
-        expect((wide) Df * Dg % D == 0, "D of the product divides the product of the D", where);
-        if (r) nonzero++;
-        if (D > 1 && D < n) between++;
-    }
-    printf("%d triples of the law of products, in %ld the resultant is not 0, in %ld D is neither 1 nor n\n", TRIPLES, nonzero, between);
 }
 
 /* ---- both sets of services, where n and the words fit 32 bits */
@@ -381,8 +127,8 @@ static int alike(uint32_t n, const uint64_t *f, size_t fl, const uint64_t *g, si
     uint32_t a[MOST], b[MOST];
     for (size_t i = 0; i < fl; i++) a[i] = (uint32_t) f[i];
     for (size_t i = 0; i < gl; i++) b[i] = (uint32_t) g[i];
-    jingcobu64_answer r = jingcobu64_resultant(n, f, fl, g, gl, work, WORK);
-    jingcobu64_answer D = jingcobu64_reduced_resultant(n, f, fl, g, gl, u, ENOUGH, v, ENOUGH, work, WORK);
+    jingcobu64_answer r = jingcobu64_resultant(n, f, fl, g, gl, work, WORK_LEN);
+    jingcobu64_answer D = jingcobu64_reduced_resultant(n, f, fl, g, gl, u, COFACTOR_LEN, v, COFACTOR_LEN, work, WORK_LEN);
     jingcobu64_answer p = jingcobu64_product(n, f, fl, g, gl, out, MOST);
     jingcobu_answer r0 = jingcobu_resultant(n, a, fl, b, gl, narrow_work, JINGCOBU_WORK);
     jingcobu_answer D0 = jingcobu_reduced_resultant(n, a, fl, b, gl, narrow_u, JINGCOBU_COFACTOR, narrow_v, JINGCOBU_COFACTOR, narrow_work, JINGCOBU_WORK);
@@ -466,12 +212,14 @@ static void unread(void)
 
 int main(int argc, char **argv)
 {
+    static const uint64_t moduli[] = { 2, 4, 6, 12, 36, 210, 4294967291u, 4294967295u, 4294967296u, 4611686018427387904u, 4052555153018976267u,
+        4738381338321616896u, 614889782588491410u, 9223371994482243049u, 9223372036854775783u, 9223372036854775807u };
     if (argc > 2) most_failed = atol(argv[2]);
     pairs(argc > 1 ? argv[1] : "../crates/wide_vectors");
-    orders();
+    orders((const word[]) { 0, 1, LIMIT, UINT64_MAX }, (uint64_t) 7 << 58, NULL);
     words();
     ends();
-    products();
+    products(moduli, sizeof moduli / sizeof *moduli, TRIPLES);
     both();
     unread();
     printf("%ld passed, %ld failed\n", tried - failed, failed);

@@ -27,6 +27,13 @@ static int kept_but(const word *b, size_t room, size_t length)
     return 1;
 }
 
+/* whether all words from `from` up to `to`, counted from the first that is lent, are x */
+static int all(const word *b, size_t from, size_t to, word x)
+{
+    for (size_t i = from; i < to; i++) if (b[MARGIN + i] != x) return 0;
+    return 1;
+}
+
 static int below(const word *b, size_t l, word n)
 {
     for (size_t i = 0; i < l; i++) if (b[MARGIN + i] >= n) return 0;

@@ -96,19 +96,8 @@ enum {
     VERSIONS
 };
 
-static int version(void)
-{
-    static int found = -1;
-    if (found < 0) found = getenv("WRONG") ? atoi(getenv("WRONG")) : RIGHT;
-    if (found >= VERSIONS) exit(99);
-    return found;
-}
-
-/* The library itself, but for a look: what the last versions do before the length is tested. */
-static volatile uint64_t seen;
-static int straight(int w) { return w == RIGHT || w >= RESULTANT_LOOKS_AT_F; }
-
-static void wipe(uint32_t *b, size_t length) { if (length) memset(b, 0, length * sizeof *b); }
+typedef uint32_t word;
+#include "wrong.h"
 
 jingcobu_answer __wrap_jingcobu_resultant(uint32_t n, const uint32_t *f, size_t fl, const uint32_t *g, size_t gl, uint32_t *work, size_t wl)
 {
@@ -116,8 +105,8 @@ jingcobu_answer __wrap_jingcobu_resultant(uint32_t n, const uint32_t *f, size_t 
     if (w == RESULTANT_LOOKS_AT_F && fl) seen = f[0];
     if (straight(w)) return __real_jingcobu_resultant(n, f, fl, g, gl, work, wl);
     if (w == RESULTANT_WITHOUT_ZERO_TOPS) {
-        while (fl > 1 && fl < 50 && f[fl - 1] == 0) fl--;
-        while (gl > 1 && gl < 50 && g[gl - 1] == 0) gl--;
+        fl = without_zeros(f, fl);
+        gl = without_zeros(g, gl);
     }
     jingcobu_answer a = w == RESULTANT_OF_EXCHANGED ? __real_jingcobu_resultant(n, g, gl, f, fl, work, wl)
                                                     : __real_jingcobu_resultant(n, f, fl, g, gl, work, wl);
@@ -132,12 +121,6 @@ jingcobu_answer __wrap_jingcobu_resultant(uint32_t n, const uint32_t *f, size_t 
     if (w == RESULTANT_REFUSES_8192_WORDS && wl == 8192) { a.value = 0; a.status = 7; }
     if (w == RESULTANT_REFUSES_DEGREE_48 && fl == 49) { a.value = 0; a.status = 2; }
     if (w == RESULTANT_WRITES_F) ((uint32_t *) f)[0] = 0;
-    return a;
-}
-
-static uint32_t divisor(uint32_t a, uint32_t b)
-{
-    while (b) { uint32_t c = a % b; a = b; b = c; }
     return a;
 }
 
@@ -416,12 +399,6 @@ static uint32_t degrees(const jingcobu_factors *s)
     uint32_t sum = 0;
     for (int i = 0; i < 16; i++) sum += s->degree[i];
     return sum;
-}
-
-static int large(uint32_t n, const uint32_t *f, size_t fl)
-{
-    for (size_t i = 0; i < fl; i++) if (f[i] >= n) return 1;
-    return 0;
 }
 
 jingcobu_held __wrap_jingcobu_factors_start(uint32_t n, const uint32_t *h, size_t hl)

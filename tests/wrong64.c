@@ -32,30 +32,13 @@ enum {
     VERSIONS
 };
 
-static int version(void)
-{
-    static int found = -1;
-    if (found < 0) found = getenv("WRONG") ? atoi(getenv("WRONG")) : RIGHT;
-    if (found >= VERSIONS) exit(99);
-    return found;
-}
-
-/* The library itself, but for a look: what the last versions do before the length is tested. */
-static volatile uint64_t seen;
-static int straight(int w) { return w == RIGHT || w >= RESULTANT_LOOKS_AT_F; }
-
-static void wipe(uint64_t *b, size_t length) { if (length) memset(b, 0, length * sizeof *b); }
+typedef uint64_t word;
+#include "wrong.h"
 
 /* a refusal with `from` becomes one with `to` */
 static void becomes(int wrong, int meets, jingcobu64_answer *a, uint32_t from, uint32_t to)
 {
     if (version() == wrong && meets && a->status == from) a->status = to;
-}
-
-static int has_large_word(uint64_t n, const uint64_t *f, size_t fl)
-{
-    for (size_t i = 0; i < fl; i++) if (f[i] >= n) return 1;
-    return 0;
 }
 
 jingcobu64_answer __wrap_jingcobu64_resultant(uint64_t n, const uint64_t *f, size_t fl, const uint64_t *g, size_t gl, uint64_t *work, size_t wl)
@@ -64,8 +47,8 @@ jingcobu64_answer __wrap_jingcobu64_resultant(uint64_t n, const uint64_t *f, siz
     if (w == RESULTANT_LOOKS_AT_F && fl) seen = f[0];
     if (straight(w)) return __real_jingcobu64_resultant(n, f, fl, g, gl, work, wl);
     if (w == RESULTANT_WITHOUT_ZERO_TOPS) {
-        while (fl > 1 && fl < 50 && f[fl - 1] == 0) fl--;
-        while (gl > 1 && gl < 50 && g[gl - 1] == 0) gl--;
+        fl = without_zeros(f, fl);
+        gl = without_zeros(g, gl);
     }
     uint64_t kept = wl > 8192 ? work[8192] : 0;
     jingcobu64_answer a = w == RESULTANT_OF_EXCHANGED ? __real_jingcobu64_resultant(n, g, gl, f, fl, work, wl)
@@ -92,12 +75,6 @@ jingcobu64_answer __wrap_jingcobu64_resultant(uint64_t n, const uint64_t *f, siz
     if (w == RESULTANT_REFUSES_2_TO_63_LESS_1 && n == LIMIT - 1) { a.value = 0; a.status = 1; }
     if (w == RESULTANT_REFUSES_33_BITS && n >> 32) { a.value = 0; a.status = 1; }
     if (w == RESULTANT_WRITES_F) ((uint64_t *) f)[0] = 0;
-    return a;
-}
-
-static uint64_t divisor(uint64_t a, uint64_t b)
-{
-    while (b) { uint64_t c = a % b; a = b; b = c; }
     return a;
 }
 
@@ -160,7 +137,7 @@ jingcobu64_answer __wrap_jingcobu64_product(uint64_t n, const uint64_t *f, size_
     size_t l = fl && gl ? fl + gl - 1 : 0;
     uint64_t top = l && l <= ol ? out[l - 1] : 0;
     jingcobu64_answer a = __real_jingcobu64_product(n, f, fl, g, gl, out, ol);
-    becomes(PRODUCT_WORDS_BEFORE_LENGTHS, has_large_word(n, f, fl), &a, 2, 3);
+    becomes(PRODUCT_WORDS_BEFORE_LENGTHS, large(n, f, fl), &a, 2, 3);
     becomes(PRODUCT_TAKES_DEGREE_49, fl && gl && fl < 50 && gl < 50 && l == 50, &a, 2, 0);
     becomes(PRODUCT_ANSWERS_2_TO_63, n == LIMIT, &a, 1, 0);
     if (w == PRODUCT_REFUSED_WIPES && a.status) wipe(out, ol);

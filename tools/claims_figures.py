@@ -5,13 +5,9 @@ D is that of tools/ideal_constants.py. The cofactors that the engine finds are n
 to D, so a word more in u at some place adds x times f to that, and multipliers scaled by c combine to c D. A claim with multipliers that are
 known is multiplied out. How often each of the four answers comes is written to standard error."""
 import sys
-from ideal_constants import reduced_resultant
+from reference import drawn, product, reduced_resultant
 
 counts = {}
-
-
-def drawn(x):
-    return (12345 + 1103515245 * x) % 4294967291
 
 
 def fill(k, n, x, c):
@@ -35,16 +31,6 @@ def named(n, D, claimed, combines):
     if not combines:
         return 2
     return 0 if claimed == D else 3
-
-
-def product(n, f, g):
-    out = [0] * (len(f) + len(g) - 1)
-    for i, a in enumerate(f):
-        if a:
-            for j, b in enumerate(g):
-                if b:
-                    out[i + j] = (out[i + j] + a * b) % n
-    return out
 
 
 def combination(n, f, g, u, v):

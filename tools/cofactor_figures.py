@@ -1,11 +1,12 @@
 """The figures of crates/cofactor_trial: python3 tools/cofactor_figures.py > crates/cofactor_trial/stdout
 
 The resultants of all pairs of degrees up to 2 by the formulas of their determinants, which are held to determinants of Sylvester's matrix
-by permutations. Blocks of more than 300,000 pairs are cut to those whose g has the constant 0 or 1. Of each block: n, d, e, how many
-pairs there are, 0 for that none went wrong, and a number made of all resultants in turn.
+by permutations; so are the two determinants of tools/reference.py. Blocks of more than 300,000 pairs are cut to those whose g has the
+constant 0 or 1. Of each block: n, d, e, how many pairs there are, 0 for that none went wrong, and a number made of all resultants in turn.
 With "blocks" as its argument it writes the calls that the trial makes."""
 import itertools
 import sys
+from reference import determinant, determinant_modulo, sylvester
 
 
 def resultant(f, g):
@@ -23,13 +24,11 @@ def resultant(f, g):
     return (f[2] * g[0] - f[0] * g[2]) ** 2 - (f[2] * g[1] - f[1] * g[2]) * (f[1] * g[0] - f[0] * g[1])
 
 
-def determinant(f, g):
-    d, e = len(f) - 1, len(g) - 1
-    rows = [[0] * i + f[::-1] + [0] * (e - 1 - i) for i in range(e)]
-    rows += [[0] * i + g[::-1] + [0] * (d - 1 - i) for i in range(d)]
-    out = 0
-    for p in itertools.permutations(range(d + e)):
-        x = (-1) ** sum(p[i] > p[j] for i in range(d + e) for j in range(i + 1, d + e))
+def by_permutations(rows):
+    """the determinant by its definition"""
+    size, out = len(rows), 0
+    for p in itertools.permutations(range(size)):
+        x = (-1) ** sum(p[i] > p[j] for i in range(size) for j in range(i + 1, size))
         for i, c in enumerate(p):
             x *= rows[i][c]
         out += x
@@ -63,7 +62,9 @@ for d in range(3):
     for e in range(3):
         for words in itertools.product((-2, 1, 3), repeat=d + e + 2):
             f, g = list(words[:d + 1]), list(words[d + 1:])
-            assert resultant(f, g) == determinant(f, g)
+            rows = sylvester(f, g)
+            assert resultant(f, g) == by_permutations(rows) == determinant(rows)
+            assert all(determinant_modulo(n, rows) == resultant(f, g) % n for n in (2, 12, 97))
 for n, d, e, count in blocks():
     x = 0
     for f, g in pairs(n, d, e, count):

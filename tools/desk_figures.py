@@ -1,51 +1,21 @@
 #!/usr/bin/env python3
 """The trial of the frame program: writes crates/desk/stdin and crates/desk/stdout.
 
-The answers are worked out here from document 01 and, for refusal 10, document 02, W5: a resultant is an integer determinant by Bareiss's elimination, reduced
-modulo n; D is the generator of the constants in the span of the shifts of f and g over Z/n, by elimination with row operations
-(small degrees), or 1 where the resultant is a unit. Needs nothing beyond Python's own library; the gate does not run it.
+The answers are worked out here from document 01 and, for refusal 10, document 02, W5: a resultant is that of tools/reference.py, an
+integer determinant by Bareiss's elimination, reduced modulo n; D is the generator of the constants in the span of the shifts of f and g
+over Z/n, by elimination with row operations (small degrees), or 1 where the resultant is a unit: another way than that of
+tools/ideal_constants.py.
 """
 import os
 import random
 import re
 from math import gcd
+from reference import STARRED, UNSTARRED, resultant
 
 HERE = os.path.dirname(os.path.abspath(__file__))
 DESK = os.path.join(HERE, "..", "crates", "desk")
 WORD = 2**32
 BLOCK = 4096
-
-
-def sylvester(f, g):
-    d, e = len(f) - 1, len(g) - 1
-    rows = []
-    for block, shifts in ((f, e), (g, d)):
-        for i in range(shifts):
-            row = [0] * (d + e)
-            for k, a in enumerate(reversed(block)):
-                row[i + k] = a
-            rows.append(row)
-    return rows
-
-
-def determinant(a):
-    """Bareiss: every division is exact."""
-    a, sign, last = [list(r) for r in a], 1, 1
-    for k in range(len(a) - 1):
-        pivot = next((i for i in range(k, len(a)) if a[i][k]), None)
-        if pivot is None:
-            return 0
-        if pivot != k:
-            a[k], a[pivot], sign = a[pivot], a[k], -sign
-        for i in range(k + 1, len(a)):
-            for j in range(k + 1, len(a)):
-                a[i][j] = (a[i][j] * a[k][k] - a[i][k] * a[k][j]) // last
-        last = a[k][k]
-    return sign * a[-1][-1] if a else 1
-
-
-def resultant(n, f, g):
-    return determinant(sylvester(f, g)) % n
 
 
 def reduced(n, f, g):
@@ -131,20 +101,7 @@ def lines():
         b"010000000100000000000000000000",
     ]
     # the pairs with their numbers
-    for n, f, g in (
-        (7, [1, 1], [2, 1]),
-        (7, [2, 1], [1, 1]),
-        (12, [3, 2], [1, 4]),
-        (4, [1, 2], [3, 2]),
-        (6, [2], [4]),
-        (9, [3], [1, 0, 1]),
-        (5, [2, 1, 0], [1, 1]),
-        (5, [2, 1], [1, 1]),
-        (5, [1, 0], [2, 0]),
-        (10, [0, 0], [0]),
-        (6, [5, 0, 1], [3, 1]),
-        (4294967295, [4294967294], [0, 1]),
-    ):
+    for n, f, g in STARRED + [UNSTARRED]:
         out += both(n, f, g)
     # refusals 1, 2 and 3, and their order
     for n, f, g in (

@@ -5,7 +5,7 @@ Writes crates/vectors/stdin (one frame of kind 01 a line) and crates/vectors/std
 resultant is PARI's integer determinant of the Sylvester matrix in the sent degrees, modulo n. D is that of tools/ideal_constants.py,
 which says how it is found and proves it of each pair. Needs gp (PARI). It is not needed to run the gate."""
 import os, random
-from ideal_constants import gp, reduced_resultant
+from reference import STARRED, UNSTARRED, gp, product, reduced_resultant, sylvester
 
 SEED = 20261115
 random.seed(SEED)
@@ -19,10 +19,6 @@ MODULI = [n for n in MODULI if 2 <= n < 2**32]
 
 # odd and below 2^31: the engine holds the words modulo these multiplied by 2^32
 HELD = [3, 9, 3**19, 2**31 - 1, 2147483645, 15, 105, 15015, 111546435, 3**5 * 5**4 * 7**3, 11**3 * 13**2 * 17, 2147483629, 2147483643]
-
-
-STARRED = [(7, [1, 1], [2, 1]), (7, [2, 1], [1, 1]), (12, [3, 2], [1, 4]), (4, [1, 2], [3, 2]), (6, [2], [4]), (9, [3], [1, 0, 1]),
-           (5, [2, 1, 0], [1, 1]), (5, [2, 1], [1, 1]), (5, [1, 0], [2, 0]), (10, [0, 0], [0]), (6, [5, 0, 1], [3, 1])]
 
 
 def divisors_of(n):
@@ -70,25 +66,15 @@ def pair():
     return n, f, g
 
 
-def sylvester(f, g):
-    d, e = len(f) - 1, len(g) - 1
-    rows = [[0] * i + f[::-1] + [0] * (e - 1 - i) for i in range(e)]
-    rows += [[0] * i + g[::-1] + [0] * (d - 1 - i) for i in range(d)]
-    return rows
-
-
-def determinant(m, n):
+def asked_of_gp(m, n):
+    """What gp is asked for: the determinant, modulo n."""
     if len(m) < 2:
         return str(m[0][0] % n if m else 1)
     return 'matdet([%s])%%%d' % (';'.join(','.join(map(str, r)) for r in m), n)
 
 
-def product(n, f, g):
-    return [sum(f[i] * g[k - i] for i in range(len(f)) if 0 <= k - i < len(g)) % n for k in range(len(f) + len(g) - 1)]
-
-
 def main():
-    rows = [(4294967295, [4294967294], [0, 1])]            # the unstarred row of document 01, and after the drawn ones the starred
+    rows = [UNSTARRED]                                     # the unstarred row of document 01, and after the drawn ones the starred
     big = 0
     while len(rows) < 620:
         n, f, g = pair()
@@ -107,7 +93,7 @@ def main():
         n, most = HELD[k % len(HELD)], 48 if k < len(HELD) else random.choice([0, 1, 2, 3, 4, 6, 12, 24, 48])
         d, e = (48, 48) if k < 8 else (random.randrange(most + 1), random.randrange(most + 1))
         rows.append((n, polynomial(n, d, k % 2 == 1), polynomial(n, e, k % 2 == 1)))
-    determinants = gp(['print(%s);' % determinant(sylvester(f, g), n) for n, f, g in rows])
+    determinants = gp(['print(%s);' % asked_of_gp(sylvester(f, g), n) for n, f, g in rows])
     assert len(determinants) == len(rows)
     os.makedirs(out, exist_ok=True)
     with open(os.path.join(out, 'stdin'), 'w') as frames, open(os.path.join(out, 'stdout'), 'w') as figures:

@@ -7,8 +7,8 @@ Writes crates/wide_vectors/stdin (a pair a line in lower-case hexadecimal: n in 
 part of n, and drawn pairs. The resultant is PARI's integer determinant of the Sylvester matrix in the sent degrees, modulo n. D is
 that of tools/ideal_constants.py, over the prime powers of n, which PARI finds. Needs gp (PARI). It is not needed to run the gate."""
 import math, os, random
-from draw_vectors import STARRED, determinant, product, sylvester
-from ideal_constants import Ideal, gp
+from draw_vectors import asked_of_gp
+from reference import STARRED, UNSTARRED, Ideal, gp, product, sylvester
 
 SEED = 20261116
 COUNT = 312
@@ -78,7 +78,7 @@ def common_modulo(n, c):
 
 def main():
     random.seed(SEED)
-    rows = STARRED + [(4294967295, [4294967294], [0, 1])]
+    rows = STARRED + [UNSTARRED]
     for n, c in ((2**62, 2**20), (3**39, 3**13), (6**24, 2**9 * 3**8), (PRODUCTS[4], 230), (2**63 - 25, 2**63 - 25), (2**63 - 1, 7 * 73 * 127),
                  (3037000493**2, 3037000493)):
         rows.append(common_modulo(n, c))
@@ -88,7 +88,7 @@ def main():
         rows.append(pair(n, [p for p, _ in powers[n]], random.choice([0, 1, 2, 3, 4, 5, 5, 8, 8, 12, 20, 20, 30, 47, 48])))
     for n in (2**63 - 1, 2**63 - 25, 2**62, 3**39, 2 * 3, 2):
         assert any(row[0] == n for row in rows)
-    determinants = gp(['print(%s);' % determinant(sylvester(f, g), n) for n, f, g in rows])
+    determinants = gp(['print(%s);' % asked_of_gp(sylvester(f, g), n) for n, f, g in rows])
     assert len(determinants) == len(rows) == COUNT
     os.makedirs(OUT, exist_ok=True)
     with open(os.path.join(OUT, 'stdin'), 'w') as pairs, open(os.path.join(OUT, 'stdout'), 'w') as figures:

@@ -4,34 +4,7 @@ python3 tools/evaluator_figures.py > crates/evaluator_trial/stdout
 
 Each value is the determinant of Sylvester's matrix over the integers, by Bareiss's elimination, reduced modulo n at the very end."""
 from itertools import product
-
-PRIME = 4294967291
-
-
-def mix(h, x):
-    return (x + 1000003 * h) % PRIME
-
-
-def determinant(m):
-    """of a square matrix of integers: Bareiss, every division exact"""
-    m, sign, before = [row[:] for row in m], 1, 1
-    for j in range(len(m) - 1):
-        at = next((i for i in range(j, len(m)) if m[i][j]), None)
-        if at is None:
-            return 0
-        if at != j:
-            m[j], m[at], sign = m[at], m[j], -sign
-        for i in range(j + 1, len(m)):
-            for k in range(j + 1, len(m)):
-                m[i][k] = (m[i][k] * m[j][j] - m[i][j] * m[j][k]) // before
-        before = m[j][j]
-    return sign * m[-1][-1] if m else 1
-
-
-def resultant(n, f, g):
-    d, e = len(f) - 1, len(g) - 1
-    rows = [[0] * i + f[::-1] + [0] * (e - 1 - i) for i in range(e)] + [[0] * i + g[::-1] + [0] * (d - 1 - i) for i in range(d)]
-    return determinant(rows) % n
+from reference import STARRED, UNSTARRED, mix, resultant
 
 
 def evaluate(n, f, g):
@@ -80,10 +53,7 @@ def drawn_pairs(n, s):
     return h
 
 
-FULL = [
-    (7, [1, 1], [2, 1]), (7, [2, 1], [1, 1]), (12, [3, 2], [1, 4]), (4, [1, 2], [3, 2]), (6, [2], [4]), (9, [3], [1, 0, 1]),
-    (5, [2, 1, 0], [1, 1]), (5, [2, 1], [1, 1]), (5, [1, 0], [2, 0]), (10, [0, 0], [0]), (6, [5, 0, 1], [3, 1]),
-    (4294967295, [4294967294], [0, 1]),
+FULL = STARRED + [UNSTARRED] + [
     (0, [0], [0]), (1, [0] * 50, [0]), (7, [0] * 50, [7]), (7, [7], [0] * 50),
     (7, [1, 2, 3, 4, 5, 6, 1, 2, 3], [5]), (7, [1, 2, 3, 4, 5], [2, 0, 6, 1, 3]),
     (7, [1, 2, 3, 4, 5, 6, 1, 2, 3, 4], [7]), (7, [1, 2, 3, 4, 5], [2, 0, 6, 1, 3, 7]),

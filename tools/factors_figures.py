@@ -2,10 +2,7 @@
 
 The factors held are kept as polynomials. For each reading they are multiplied, and the determinant of the Sylvester matrix of their
 product with h is worked by row steps of Euclid's algorithm modulo n. Nothing is taken over from reading to reading."""
-
-
-def drawn(x):
-    return (12345 + 1103515245 * x) % 4294967291
+from reference import determinant_modulo, drawn, product, sylvester
 
 
 def fill(n, x):
@@ -16,34 +13,8 @@ def fill(n, x):
     return out
 
 
-def product(n, f, g):
-    out = [0] * (len(f) + len(g) - 1)
-    for i, a in enumerate(f):
-        for j, b in enumerate(g):
-            out[i + j] = (out[i + j] + a * b) % n
-    return out
-
-
-def determinant(n, m):
-    m = [[x % n for x in row] for row in m]
-    value = 1
-    size = len(m)
-    for c in range(size):
-        for r in range(c + 1, size):
-            while m[r][c]:
-                q = m[c][c] // m[r][c]
-                m[c] = [(x - q * y) % n for x, y in zip(m[c], m[r])]
-                m[c], m[r] = m[r], m[c]
-                value = -value
-        value = value * m[c][c] % n
-    return value % n
-
-
 def resultant(n, f, g):
-    d, e = len(f) - 1, len(g) - 1
-    rows = [[0] * i + f[::-1] + [0] * (e - 1 - i) for i in range(e)]
-    rows += [[0] * i + g[::-1] + [0] * (d - 1 - i) for i in range(d)]
-    return determinant(n, rows)
+    return determinant_modulo(n, sylvester(f, g))
 
 
 class State:

@@ -1,5 +1,5 @@
 #!/usr/bin/env python3
-"""The reduced resultant D of two polynomials, by a way that shares nothing with the engine's: tools/draw_vectors.py takes its D here.
+"""The reduced resultant D of two polynomials, by a way that shares nothing with the engine's: the scripts of tools/ take their D here.
 
     python3 tools/ideal_constants.py          holds the numbers of this file to brute force, to PARI and to the stored pairs
 
@@ -35,6 +35,7 @@ HERE = os.path.dirname(os.path.abspath(__file__))
 VECTORS = os.path.join(HERE, '..', 'crates', 'vectors')
 
 
+@functools.lru_cache(maxsize=None)
 def prime_powers(n):
     """The (p, a) with n the product of the p^a."""
     found, p = [], 2
@@ -45,7 +46,7 @@ def prime_powers(n):
         if a:
             found.append((p, a))
         p += 1
-    return found + [(n, 1)] if n > 1 else found
+    return tuple(found + [(n, 1)] if n > 1 else found)
 
 
 def trimmed(f):

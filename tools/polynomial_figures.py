@@ -2,68 +2,15 @@
 """polynomial_figures.py > crates/polynomial_trial/stdout: the expected output of the polynomial trial, with whole numbers of any size and
 by other methods than the engine's: products by convolution, quotients by long division from the top, unit and monic part by lifting
 them from the radical of n, inverses by the geometric series."""
-from math import gcd
-
-P = 4294967291
-K = lambda n: n.bit_length() - 1
+from reference import divided, drawn, k_of, lead_place, mix, mixed, prime_powers, product, radical, unit
 
 
-def primes(n):
-    out, p = [], 2
-    while p * p <= n:
-        if n % p == 0:
-            out.append(p)
-            while n % p == 0:
-                n //= p
-        p += 1
-    return out + ([n] if n > 1 else [])
-
-
-def radical(n):
-    r = 1
-    for p in primes(n):
-        r *= p
-    return r
-
-
-RADICAL = {}
+def root(n):
+    return radical(prime_powers(n))
 
 
 def nilpotent(n, a):
-    if n not in RADICAL:
-        RADICAL[n] = radical(n)
-    return a % RADICAL[n] == 0
-
-
-def unit(n, a):
-    return gcd(n, a) == 1
-
-
-def mul(n, f, g):
-    out = [0] * (len(f) + len(g) - 1)
-    for i, a in enumerate(f):
-        for j, b in enumerate(g):
-            out[i + j] += a * b
-    return [x % n for x in out]
-
-
-def divide(n, f, g):
-    """Quotient and remainder of f by g, whose top word is a unit, by long division."""
-    r, e, i = list(f), len(g) - 1, pow(g[-1], -1, n)
-    q = [0] * max(1, len(f) - e)
-    for s in range(len(f) - e - 1, -1, -1):
-        c = r[e + s] * i % n
-        q[s] = c
-        for j, b in enumerate(g):
-            r[s + j] = (r[s + j] - c * b) % n
-    return q, (r + [0] * e)[:e]
-
-
-def lead(n, f):
-    t = len(f) - 1
-    while t > 0 and nilpotent(n, f[t]):
-        t -= 1
-    return t
+    return a % root(n) == 0
 
 
 def inverse(n, f):
@@ -71,8 +18,8 @@ def inverse(n, f):
     c = pow(f[0], -1, n)
     v = [0] + [-x * c % n for x in f[1:]]
     out, term = [1], [1]
-    for _ in range(K(n) + 1):
-        term = mul(n, term, v)
+    for _ in range(k_of(n) + 1):
+        term = product(n, term, v)
         while len(term) > 1 and term[-1] == 0:
             term.pop()
         if term == [0]:
@@ -87,7 +34,7 @@ def factors(n, f, t):
     """f = u h by lifting: modulo the radical u is f_t and h is f / f_t; a step takes what is missing to h, and divides again."""
     u, h = [f[t]], [x * pow(f[t], -1, n) % n for x in f[:t + 1]]
     for _ in range(40):
-        full = mul(n, u, h)
+        full = product(n, u, h)
         full += [0] * (len(f) - len(full))
         e = [(a - b) % n for a, b in zip(f + [0] * (len(full) - len(f)), full)]
         while len(e) > 1 and e[-1] == 0:
@@ -96,9 +43,9 @@ def factors(n, f, t):
             return u, h
         # h + dh with dh = e / u modulo h, and u + the exact quotient of f by the new h
         iu = inverse(n, u)
-        _, dh = divide(n, mul(n, e, iu), h)
+        _, dh = divided(n, product(n, e, iu), h)
         h = [(a + b) % n for a, b in zip(h, dh + [0] * (len(h) - len(dh)))]
-        u, _ = divide(n, f, h)
+        u, _ = divided(n, f, h)
         while len(u) > 1 and u[-1] == 0:
             u.pop()
     raise ValueError('no factors')
@@ -106,12 +53,12 @@ def factors(n, f, t):
 
 # ---- the services
 
-def refusal(n, polys, product=False):
+def refusal(n, polys, multiplied=False):
     if n < 2:
         return 1
     if any(not 1 <= len(f) <= 49 for f in polys):
         return 2
-    if product and len(polys[0]) + len(polys[1]) - 2 > 48:
+    if multiplied and len(polys[0]) + len(polys[1]) - 2 > 48:
         return 2
     if any(x >= n for f in polys for x in f):
         return 3
@@ -122,11 +69,11 @@ def put(w, x):
     w[:len(x)] = x
 
 
-def product(n, f, g, a):
+def product_service(n, f, g, a):
     s = refusal(n, [f, g], True)
     if s:
         return 0, s
-    p = mul(n, f, g)
+    p = product(n, f, g)
     if len(a) < len(p):
         return 0, 6
     put(a, p)
@@ -148,7 +95,7 @@ def division(n, f, g, a, b):
         return 0, s
     if not unit(n, g[-1]):
         return 0, 4
-    q, r = divide(n, f, g)
+    q, r = divided(n, f, g)
     if len(a) < len(q) or len(b) < len(r):
         return 0, 6
     put(a, q)
@@ -160,7 +107,7 @@ def unit_times_monic(n, f, a, b, work):
     s = refusal(n, [f])
     if s:
         return 0, s
-    t = lead(n, f)
+    t = lead_place(root(n), f)
     if not unit(n, f[t]):
         return 0, 5
     if len(a) < len(f) or len(b) < len(f):
@@ -168,7 +115,7 @@ def unit_times_monic(n, f, a, b, work):
     if len(work) < 8192:
         return 0, 7
     u, h = factors(n, f, t)
-    assert mul(n, u, h)[:len(f)] == (f + [0] * len(f))[:len(mul(n, u, h)[:len(f)])]
+    assert product(n, u, h)[:len(f)] == (f + [0] * len(f))[:len(product(n, u, h)[:len(f)])]
     assert h[t] == 1 and unit(n, u[0]) and all(nilpotent(n, x) for x in u[1:])
     put(a, u + [0] * (len(f) - len(u)))
     put(b, h + [0] * (len(f) - len(h)))
@@ -182,7 +129,7 @@ def inverse_service(n, f, a, work):
         return 0, s
     if not unit(n, f[0]) or any(not nilpotent(n, x) for x in f[1:]):
         return 0, 5
-    m = K(n) * (len(f) - 1) + 1
+    m = k_of(n) * (len(f) - 1) + 1
     if len(a) < m:
         return 0, 6
     if len(work) < 8192:
@@ -212,7 +159,7 @@ def leading(n, f):
 
 def apply(service, n, f, g, a, b, work):
     if service == 0:
-        return product(n, f, g, a)
+        return product_service(n, f, g, a)
     if service == 1:
         return division(n, f, g, a, b)
     if service == 2:
@@ -225,20 +172,6 @@ def apply(service, n, f, g, a, b, work):
 
 
 # ---- the trial
-
-def mix(h, x):
-    return (x + 1000003 * h) % P
-
-
-def mix_words(h, s):
-    for x in s:
-        h = (x + 1000003 * h) % P
-    return h
-
-
-def draw(x):
-    return (12345 + 1103515245 * x) % P
-
 
 def word(n, kind, x):
     return x % n if kind == 0 else 6 * x % n if kind == 1 else (1 + 6 * x) % n
@@ -255,8 +188,8 @@ def kind_at(pattern, k, t, x):
 def fill(n, l, t, pattern, x):
     f = []
     for k in range(l):
-        z = draw(x)
-        x = draw(z)
+        z = drawn(x)
+        x = drawn(z)
         f.append(word(n, kind_at(pattern, k, t, z // 1024), x))
     return f, x
 
@@ -270,12 +203,12 @@ def needed(service, n, l, m):
         return l + m - 1
     if service == 1:
         return max(l - m, 0) + 1
-    return l if service == 2 else K(n) * (l - 1) + 1
+    return l if service == 2 else k_of(n) * (l - 1) + 1
 
 
 def trial(service, n, x, h):
-    x1 = draw(x)
-    x2 = draw(x1)
+    x1 = drawn(x)
+    x2 = drawn(x1)
     l, m = length_of(x1), length_of(x2)
     f, x3 = fill(n, l, x2 % l, x2 // 7 % 3, x2)
     g, x4 = fill(n, m, m - 1, 1, x3)
@@ -287,8 +220,8 @@ def trial(service, n, x, h):
     first, room = a[:cut], work[:end]
     value, status = apply(service, n, f, g, first, b, room)
     a[:cut], work[:end] = first, room
-    h = mix_words(mix(mix(h, value), status), leading(n, f))
-    return x4, mix_words(mix_words(mix_words(h, a), b), work), status
+    h = mixed(mix(mix(h, value), status), leading(n, f))
+    return x4, mixed(mixed(mixed(h, a), b), work), status
 
 
 SEEN = {}

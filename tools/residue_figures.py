@@ -5,44 +5,13 @@ Every figure is had from the definitions of document 01 and by another method th
 by Python's pow, kinds by the prime factors of n, greatest common divisors by math.gcd, K by the length of n in bits, joined residues
 by search. Of s and t up to n = 64: s is tried from 0 upward until some t fits, and t is then the least of all that fit; at the ends of the
 range they are had by Python's pow."""
-from functools import lru_cache
+import reference
 from math import gcd
-
-PRIME = 4294967291
-
-
-def mix(h, x):
-    return (x + 1000003 * h) % PRIME
-
-
-def prime_factors(n):
-    out, p = [], 2
-    while p * p <= n:
-        while n % p == 0:
-            out.append(p)
-            n //= p
-        p += 1
-    return out + [n] if n > 1 else out
-
-
-FACTORS = {}
+from reference import least_by_inverses, least_by_search, mix, prime_powers
 
 
 def kind(n, a):
-    """('u', inverse), ('n',) or ('s', n1, n2), by the primes of n; n1 has the primes that divide a."""
-    if n not in FACTORS:
-        FACTORS[n] = prime_factors(n)
-    n1 = n2 = 1
-    for p in FACTORS[n]:
-        if a % p == 0:
-            n1 *= p
-        else:
-            n2 *= p
-    if n1 == 1:
-        return ('u', pow(a, -1, n))
-    if n2 == 1:
-        return ('n',)
-    return ('s', n1, n2)
+    return reference.kind(prime_powers(n), a)
 
 
 def refusal(n, *residues):
@@ -66,29 +35,6 @@ def services(n, a, b):
     ]
 
 
-@lru_cache(None)
-def least_multipliers(n, b):
-    """for each residue x the least t with t b = x modulo n"""
-    out = {}
-    for t in range(n):
-        out.setdefault(t * b % n, t)
-    return out
-
-
-def least_by_search(n, a, b, g):
-    """"s is the least number from 0 upward for which some t fits, and t is then the least that fits." (02, W7)"""
-    fits = least_multipliers(n, b)
-    s = next(s for s in range(n) if (g - s * a) % n in fits)
-    return s, fits[(g - s * a) % n]
-
-
-def least_by_inverses(n, a, b, g):
-    h = gcd(b, n)
-    s = pow(a // g, -1, h // g)
-    t = (g - s * a) // h * pow(b // h, -1, n // h) % (n // h)
-    return s, t
-
-
 def combined(n, a, b):
     """g, s, t, the status, and the sum s a + t b as the services of product and sum answer it"""
     status = refusal(n, a, b)
@@ -96,9 +42,8 @@ def combined(n, a, b):
         return (0, 0, 0, 1, 0, 1)
     if status == 3:
         return (0, 0, 0, 3, 0, 0)  # s = t = 0: both products are 0, and so is the sum
-    g = gcd(gcd(a, b), n)
-    s, t = (least_by_search if n <= 64 else least_by_inverses)(n, a, b, g)
-    assert n > 64 or (s, t) == least_by_inverses(n, a, b, g)
+    g, s, t = (least_by_search if n <= 64 else least_by_inverses)(n, a, b)
+    assert n > 64 or (g, s, t) == least_by_inverses(n, a, b)
     return (g, s, t, 0, (s * a + t * b) % n, 0)
 
 

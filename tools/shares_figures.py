@@ -5,13 +5,9 @@ python3 tools/shares_figures.py > crates/shares_trial/stdout
 No frame is given out one at a time: every group is filled to one level, the highest that the frames reach, and what is left goes, one
 each, to the first groups that wait for more."""
 from itertools import product
+from reference import mix
 
-PRIME = 4294967291
 MOST = 4294967295
-
-
-def mix(h, x):
-    return (x + 1000003 * h) % PRIME
 
 
 def shares(frames, waiting):

@@ -4,21 +4,10 @@
 The writer joins Python's own decimals. The reader is a grammar of its own, a regular expression with the rules of W13 that no
 regular expression has tested one by one; it knows nothing of the writer."""
 import re
+from reference import drawn, mixed
 
-PRIME = 4294967291
 LARGEST = 4294967295
 TERM = re.compile(rb'([1-9][0-9]*)(?:\*x(?:\^([1-9][0-9]*))?)?')
-
-
-def mix(numbers):
-    h = 0
-    for x in numbers:
-        h = (x + 1000003 * h) % PRIME
-    return h
-
-
-def drawn(x):
-    return (12345 + 1103515245 * x) % PRIME
 
 
 def write(f):
@@ -63,7 +52,7 @@ def answer_read(n, s, size=50):
 
 def shown(answer):
     status, value, after = answer
-    return ' %d %d %d' % (status, value, mix(after))
+    return ' %d %d %d' % (status, value, mixed(0, after))
 
 
 def text_line(n, s):

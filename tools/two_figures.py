@@ -5,13 +5,9 @@ It needs PARI/gp. The pairs are drawn here; gp works the determinant of the Sylv
 over the integers, and where both top coefficients in y are there its polresultant, which must be the same. The integers are reduced
 modulo n here."""
 import subprocess
+from reference import drawn
 
-PRIME = 4294967291
 asked, lines = [], []
-
-
-def drawn(x):
-    return (12345 + 1103515245 * x) % PRIME
 
 
 def fill(m, x, length):
@@ -24,8 +20,6 @@ def fill(m, x, length):
 
 def refusal(n, f, d, a, g, e, b, lo, lw):
     B = e * a + d * b
-    for w, s, t in ((f, d, a), (g, e, b)):
-        pass
     if n < 2:
         return 1
     for w, s, t in ((f, d, a), (g, e, b)):

@@ -5,33 +5,23 @@ over lists of Python's integers, and holds each to what is fixed: D is that of t
 engine; "coprime" is answered exactly where it is 1, the modulus is above 1 and divides n and D, and the divisor is monic of degree 1 or
 more and leaves no remainder. The frames that the trial reads are the first of crates/vectors, with the D stored there."""
 import os
-from functools import lru_cache
-from math import gcd
-from ideal_constants import reduced_resultant
+from math import gcd, prod
+from reference import cached_constant, divided, drawn, mixed, prime_powers
 
 HERE = os.path.dirname(os.path.abspath(__file__))
 VECTORS = os.path.join(HERE, '..', 'crates', 'vectors')
 FRAMES = os.path.join(HERE, '..', 'crates', 'why_trial', 'stdin')
 MARK = 2882400001
-PRIME = 4294967291
-
-
-@lru_cache(maxsize=None)
-def constant_of(q, f, g):
-    return reduced_resultant(q, list(f), list(g))
 
 
 def reduced(n, f, g):
     """D modulo n, from those modulo the prime powers in n"""
-    value, m, p = 1, n, 2
-    while m > 1:
-        q = 1
-        while m % p == 0:
-            m, q = m // p, q * p
-        if q > 1:
-            value *= constant_of(q, tuple(x % q for x in f), tuple(x % q for x in g))
-        p += 1
-    return value
+    return prod(cached_constant(p, a, tuple(x % p**a for x in f), tuple(x % p**a for x in g)) for p, a in prime_powers(n))
+
+
+def remainder(m, f, h):
+    """f modulo m and h, whose leading word is a unit"""
+    return divided(m, f, h)[1]
 
 
 def stripped(m, f):
@@ -44,16 +34,6 @@ def stripped(m, f):
         m = c
         f.pop()
     return m, f
-
-
-def remainder(m, f, h):
-    """f modulo m and h, whose leading word is a unit"""
-    f, t, i = [x % m for x in f], len(h) - 1, pow(h[-1], -1, m)
-    for k in range(len(f) - 1, t - 1, -1):
-        q = f[k] * i % m
-        for j, x in enumerate(h):
-            f[k - t + j] = (f[k - t + j] - q * x) % m
-    return f[:t]
 
 
 def why(n, f, g, D):
@@ -88,12 +68,6 @@ def held(n, f, g, D, answer):
     return answer
 
 
-def mixed(h, words):
-    for x in words:
-        h = (x + 1000003 * h) % PRIME
-    return h
-
-
 def counted(n, d, t):
     return [t // n**k % n for k in range(d + 1)]
 
@@ -119,9 +93,8 @@ def all_pairs(n, top):
 def drawn_pairs(n):
     def draw():
         for k in range(20000):
-            x = (12345 + 1103515245 * k) % PRIME
-            y = (12345 + 1103515245 * x) % PRIME
-            yield x % n**3, y % n**3
+            x = drawn(k)
+            yield x % n**3, drawn(x) % n**3
     tally(n, 2, 2, draw())
 
 

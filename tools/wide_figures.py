@@ -1,6 +1,6 @@
 #!/usr/bin/env python3
 """Draws the calls of the test program `wide_trial`, words of 64 bits, and what it must write, made outside the engine: the standard
-library and tools/ideal_constants.py are all it needs. It is not needed to run the gate.
+library, tools/reference.py and tools/ideal_constants.py are all it needs. It is not needed to run the gate.
 
 Writes crates/wide_trial/stdin, a call a line, hexadecimal with a blank between: the service in 2 digits (1 sum, 2 difference, 3 times,
 4 power, 5 gcd, 6 kind, 7 product, 8 division, 9 degree, 10 leading, 11 unit times monic, 12 inverse, 13 evaluator, 14 resultant,
@@ -13,7 +13,8 @@ held to search for small n. Quotients: by long division from the top. Unit times
 Inverses: word by word, held to the product. Resultants: determinants of whole numbers, without fractions (Bareiss). D: by an echelon
 basis of the ideal modulo each prime power."""
 import math, os, random
-from ideal_constants import Ideal
+import reference
+from reference import Ideal, divided, k_of, least_by_inverses, least_by_search, product, resultant, unit
 
 SEED = 20261116
 HERE = os.path.dirname(os.path.abspath(__file__))
@@ -41,7 +42,7 @@ MODULI = [
     (2**63 - 1, [(7, 2), (73, 1), (127, 1), (337, 1), (92737, 1), (649657, 1)]),
 ]
 POWERS = dict(MODULI)
-RADICAL = {n: math.prod(p for p, _ in powers) for n, powers in MODULI}
+RADICAL = {n: reference.radical(powers) for n, powers in MODULI}
 SUM, DIFFERENCE, TIMES, POWER, GCD, KIND, PRODUCT, DIVISION, DEGREE, LEADING, MONIC, INVERSE, EVALUATE, RESULTANT, REDUCED, HOW_FAR, \
     LAW = range(1, 18)
 
@@ -75,58 +76,17 @@ class Call:
 
 # ---- figures
 
-def k_of(n):
-    return n.bit_length() - 1
-
-
-def unit(n, a):
-    return math.gcd(n, a) == 1
-
-
 def nilpotent(n, a):
     return a % RADICAL[n] == 0
 
 
-def kind(n, a):
-    n1 = math.prod(p**e for p, e in POWERS[n] if a % p == 0)
-    if n1 == 1:
-        return 'unit %d' % pow(a, -1, n)
-    return 'nilpotent' if n1 == n else 'splits %d %d' % (n1, n // n1)
-
-
-def gcd_least(n, a, b):
-    """g, the least s for which some t fits, and the least such t."""
-    m = math.gcd(b, n)
-    g = math.gcd(a, m)
-    s = pow(a // g, -1, m // g)
-    return g, s, (g - s * a) // m * pow(b // m, -1, n // m) % (n // m)
-
-
-def gcd_by_search(n, a, b):
-    g = math.gcd(a, b, n)
-    return next((g, s, t) for s in range(n) for t in range(n) if (s * a + t * b - g) % n == 0)
-
-
-def product(n, f, g):
-    out = [0] * (len(f) + len(g) - 1)
-    for i, a in enumerate(f):
-        for j, b in enumerate(g):
-            out[i + j] += a * b
-    return [x % n for x in out]
-
-
-def divided(n, f, g):
-    r, e, i = list(f), len(g) - 1, pow(g[-1], -1, n)
-    q = [0] * max(1, len(f) - e)
-    for s in range(len(f) - e - 1, -1, -1):
-        q[s] = r[e + s] * i % n
-        for j, b in enumerate(g):
-            r[s + j] = (r[s + j] - q[s] * b) % n
-    return q, (r + [0] * e)[:e]
-
-
 def lead_place(n, f):
-    return max((k for k, x in enumerate(f) if not nilpotent(n, x)), default=0)
+    return reference.lead_place(RADICAL[n], f)
+
+
+def kind(n, a):
+    name, *numbers = reference.kind(POWERS[n], a)
+    return ' '.join([{'u': 'unit', 'n': 'nilpotent', 's': 'splits'}[name], *map(str, numbers)])
 
 
 def inverse(n, f):
@@ -136,30 +96,6 @@ def inverse(n, f):
         out.append(i * ((k == 0) - sum(f[j] * out[k - j] for j in range(1, min(k, len(f) - 1) + 1))) % n)
     assert product(n, f, out) == [1] + [0] * (len(f) + len(out) - 2)
     return out
-
-
-def sylvester(f, g):
-    d, e = len(f) - 1, len(g) - 1
-    return [[0] * i + f[::-1] + [0] * (e - 1 - i) for i in range(e)] + [[0] * i + g[::-1] + [0] * (d - 1 - i) for i in range(d)]
-
-
-def determinant(m):
-    """Over the whole numbers: every division leaves no remainder (Bareiss)."""
-    m, sign, last = [list(row) for row in m], 1, 1
-    for k in range(len(m)):
-        i = next((i for i in range(k, len(m)) if m[i][k]), None)
-        if i is None:
-            return 0
-        if i != k:
-            m[i], m[k], sign = m[k], m[i], -sign
-        for row in m[k + 1:]:
-            row[k + 1:] = [(m[k][k] * x - row[k] * y) // last for x, y in zip(row[k + 1:], m[k][k + 1:])]
-        last = m[k][k]
-    return sign * last
-
-
-def resultant(n, f, g):
-    return determinant(sylvester(f, g)) % n
 
 
 def reduced(n, f, g):
@@ -278,7 +214,7 @@ def answer_residues(c):
     if c.service == KIND:
         return kind(n, a)
     if c.service == GCD:
-        return 'gcd 0 %d %d %d' % gcd_least(n, a, b)
+        return 'gcd 0 %d %d %d' % least_by_inverses(n, a, b)
     if c.service == POWER:
         return 'power 0 %d' % pow(a, b, n)
     return '%s 0 %d' % (NAMES[c.service], {SUM: a + b, DIFFERENCE: a - b, TIMES: a * b}[c.service] % n)
@@ -501,7 +437,7 @@ def main():
     random.seed(SEED)
     for n, powers in MODULI:
         assert 2 <= n < 2**63 and n == math.prod(p**a for p, a in powers) and all(is_prime(p) for p, _ in powers)
-    assert all(gcd_least(n, a, b) == gcd_by_search(n, a, b) for n in range(2, 21) for a in range(n) for b in range(n))
+    assert all(least_by_inverses(n, a, b) == least_by_search(n, a, b) for n in range(2, 21) for a in range(n) for b in range(n))
     rows = []
     for n, _ in MODULI:
         for c in (*residue_calls(n), *polynomial_calls(n), *resultant_calls(n)):

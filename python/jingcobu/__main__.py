@@ -9,11 +9,12 @@ from __future__ import annotations
 
 import argparse
 import json
+import subprocess
 import sys
 from typing import Any, Callable, Dict, List, NamedTuple, Optional, Tuple
 
 import jingcobu
-from jingcobu import Claim, Ground, spell
+from jingcobu import Claim, Ground, _library, spell
 
 MOST_MULTIPLIER = 4096  # words of a claimed multiplier
 
@@ -170,6 +171,30 @@ def answers(file: Optional[str]) -> Said:
     return Said("\n".join(answer.sentence() for answer in found), [answer._asdict() for answer in found])
 
 
+def _lines(file: str) -> int:
+    """The lines of a file; a last one without a newline counts."""
+    count, last = 0, b"\n"
+    with open(file, "rb") as source:
+        for block in iter(lambda: source.read(1 << 20), b""):
+            count, last = count + block.count(b"\n"), block[-1:]
+    return count + (last != b"\n")
+
+
+def frames(file: str) -> Said:
+    """the answers of jingcobu-desk to the frames of FILE, with the lines done on standard error if that is a terminal"""
+    shown, done, step, found = sys.stderr.isatty(), 0, 0, []
+    whole = _lines(file) if shown else 0
+    with open(file, "rb") as source, subprocess.Popen([_library.program()], stdin=source, stdout=subprocess.PIPE, text=True) as desk:
+        assert desk.stdout is not None
+        for line in desk.stdout:
+            found.append(line.rstrip("\n"))
+            done += 1
+            if shown and (done == whole or done * 100 // whole > step):
+                step = done * 100 // whole
+                print("\r%d of %d lines" % (done, whole), end="\n" if done == whole else "", file=sys.stderr, flush=True)
+    return Said("\n".join(found), [answer._asdict() for answer in jingcobu.answers(found)], desk.returncode == 0)
+
+
 class Command(NamedTuple):
     work: Callable[..., Said]
     arguments: Tuple[Tuple[str, Dict[str, Any]], ...]
@@ -205,6 +230,7 @@ COMMANDS = {
                       "10 1 100 2 100"),
     "text": Command(text, (_N, _F), "12 'x - 1'"),
     "frame": Command(frame, (("kind", {"choices": ["resultant", "reduced"]}), _N, _F, _G), "resultant 12 '2*x + 3' '4*x + 1'"),
+    "frames": Command(frames, (("file", {"metavar": "FILE"}),), "frames.txt"),
     "answers": Command(answers, (("file", {"nargs": "?", "metavar": "FILE"}),), "answers.txt"),
 }
 

@@ -4,6 +4,7 @@ from __future__ import annotations
 import ctypes
 import functools
 import os
+import shutil
 import sys
 from pathlib import Path
 from typing import Any, Iterator, List, Optional
@@ -112,6 +113,20 @@ def candidates() -> Iterator[str]:
     yield INTERFACE                                        # where the system's loader looks
     for prefix in dict.fromkeys([sys.prefix, sys.base_prefix, "/usr/local"]):
         yield str(Path(prefix) / "lib" / INTERFACE)
+
+
+def program() -> str:
+    """The frame program: what JINGCOBU_DESK names, that of the sources that hold this package, or the one on the path."""
+    named = os.environ.get("JINGCOBU_DESK")
+    if named:
+        return named
+    root = source_tree(Path(__file__).resolve().parent)
+    built = root / "build" / "jingcobu-desk" if root is not None else None
+    found = str(built) if built is not None and built.exists() else shutil.which("jingcobu-desk")
+    if found is None:
+        raise LibraryMissing("the frame program jingcobu-desk is not on the path. Run `make` at the root of the sources, or `make install`, or "
+                             "name it in the environment variable JINGCOBU_DESK")
+    return found
 
 
 @functools.lru_cache(maxsize=None)

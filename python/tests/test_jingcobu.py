@@ -3,6 +3,7 @@ command line. Where JINGCOBU_ALL is 0, tests of services that the library has no
 import ast
 import ctypes
 import doctest
+import importlib.util
 import io
 import json
 import math
@@ -635,9 +636,9 @@ class CommandLine(unittest.TestCase):
                    "shares": "shares", "write_text": "text", "read_text": "text"}
         left = {name for name in _library.SIGNATURES if not name.endswith("64") and not name.startswith("factors_")} - set(covered)
         self.assertEqual(left, set())
-        self.assertEqual(set(covered.values()) | {"frame", "answers"}, set(__main__.COMMANDS))
+        self.assertEqual(set(covered.values()) | {"frame", "frames", "answers"}, set(__main__.COMMANDS))
         for name, command in __main__.COMMANDS.items():
-            if name != "answers":
+            if name not in ("answers", "frames"):
                 words = shlex.split(command.example)
                 self.assertTrue(self.run_main(name, *words).strip(), name)
                 self.assertIsInstance(json.loads(self.run_main(name, "--json", *words)), dict)
@@ -694,6 +695,37 @@ class CommandLine(unittest.TestCase):
         said = subprocess.run([str(ROOT / "build" / "jingcobu-desk")], input="\n".join(lines) + "\n", capture_output=True, text=True, check=True)
         self.assertEqual(jingcobu.answers(said.stdout.splitlines()), right)
 
+    @unittest.skipUnless((ROOT / "build" / "jingcobu-desk").exists(), "build/jingcobu-desk is not there")
+    def test_frames_of_a_file(self):
+        """The answers of the frame program; the lines done are told to a terminal and to nothing else."""
+        file = str(ROOT / "examples" / "frames")
+        right = ["010000000002", "020000000001", "ff0800000000", "ff0800000000"]
+        self.assertEqual(self.run_main("frames", file).split(), right)
+        data = json.loads(self.run_main("frames", "--json", file))
+        self.assertEqual([(a["kind"], a["status"], a["value"]) for a in data], [(1, 0, 2), (2, 0, 1), (255, 8, 0), (255, 8, 0)])
+        self.assertIn("No such file", self.run_main("frames", file + ".none", status=1))
+        command = [sys.executable, "-m", "jingcobu", "frames", file]
+        said = subprocess.run(command, capture_output=True, text=True)
+        self.assertEqual((said.returncode, said.stdout.split(), said.stderr), (0, right, ""))
+        host, terminal = os.openpty()
+        with open(host, "rb", buffering=0) as shown:
+            said = subprocess.run(command, stdout=subprocess.PIPE, stderr=terminal, text=True)
+            os.close(terminal)
+            told = shown.read(4096).decode().replace("\r\n", "\n")
+        self.assertEqual((said.returncode, said.stdout.split()), (0, right))
+        self.assertEqual(told, "".join("\r%d of 4 lines" % k for k in range(1, 5)) + "\n")
+        with tempfile.TemporaryDirectory() as folder:
+            empty, failing = Path(folder) / "empty", Path(folder) / "desk"
+            empty.write_text("")
+            self.assertEqual(self.run_main("frames", str(empty)), "")
+            failing.write_text("#!/bin/sh\necho 010000000002\nexit 1\n")
+            failing.chmod(0o755)
+            said = subprocess.run(command, capture_output=True, text=True, env={**os.environ, "JINGCOBU_DESK": str(failing)})
+            self.assertEqual((said.returncode, said.stdout), (1, "010000000002\n"))
+            said = subprocess.run(command, capture_output=True, text=True, env={**os.environ, "JINGCOBU_DESK": str(failing) + ".none"})
+            self.assertEqual(said.returncode, 1)
+            self.assertIn("No such file", said.stderr)
+
     def test_as_a_program(self):
         said = subprocess.run([sys.executable, "-m", "jingcobu", "resultant", "12", "2*x+3", "4*x+1"], capture_output=True, text=True)
         self.assertEqual((said.returncode, said.stdout, said.stderr), (0, "2\n", ""))
@@ -713,6 +745,27 @@ class CommandLine(unittest.TestCase):
             said = subprocess.run([sys.executable, "-c", "import jingcobu._library as l; print(l.library()._name)"], capture_output=True,
                                   text=True, cwd=folder, env={**environment, "PYTHONPATH": folder})
             self.assertEqual(said.stdout.strip(), str(Path(folder).resolve() / "jingcobu" / "libjingcobu.so"))
+
+    @unittest.skipUnless(importlib.util.find_spec("wheel") and importlib.util.find_spec("pip"), "pip or wheel is not installed")
+    def test_wheels(self):
+        """A wheel with the library in it is for its platform, one without it for all; each installs, with the command."""
+        with tempfile.TemporaryDirectory() as folder:
+            for held, platform in ((False, "any"), (True, "linux_x86_64")):
+                source, wheels, place = (Path(folder) / ("%s%d" % (name, held)) for name in ("source", "wheels", "place"))
+                shutil.copytree(HERE.parent, source, ignore=shutil.ignore_patterns("tests", "__pycache__"))
+                if held:
+                    shutil.copy(_library.library()._name, source / "jingcobu" / "libjingcobu.so")
+                pip = [sys.executable, "-m", "pip", "-q", "--disable-pip-version-check"]
+                subprocess.run([*pip, "wheel", "--no-build-isolation", "--no-deps", "-w", str(wheels), str(source)], check=True, capture_output=True)
+                (wheel,) = wheels.iterdir()
+                self.assertEqual(wheel.name, "jingcobu-%s-py3-none-%s.whl" % (jingcobu.__version__, platform))
+                subprocess.run([*pip, "install", "--no-deps", "--target", str(place), str(wheel)], check=True, capture_output=True)
+                environment = {**os.environ, "PYTHONPATH": str(place), "JINGCOBU_LIBRARY": _library.library()._name}
+                if held:
+                    del environment["JINGCOBU_LIBRARY"]
+                said = subprocess.run([str(place / "bin" / "jingcobu"), "resultant", "12", "2*x + 3", "4*x + 1"], capture_output=True, text=True,
+                                      cwd=folder, env=environment)
+                self.assertEqual((said.stdout, said.stderr), ("2\n", ""))
 
     def test_a_copy_elsewhere(self):
         """A copy of the package under a shared folder does not take a library from a folder beside it."""
