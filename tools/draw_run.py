@@ -47,9 +47,9 @@ def run():
     yield from box("box", LEFT, 20, WIDE, 52, "1  run on f and g modulo n",
                    ["the polynomial with fewer words goes first; an exchange costs a sign"], "resultant")
     yield from box("box", LEFT, 100, WIDE, 52, "2  load the words",
-                   ["n odd and below 2^31: multiplied by 2^32 modulo n; otherwise as sent"], "windows, held_windows")
+                   ["n odd and below 2^31: multiplied by 2^32 modulo n; otherwise as sent"], "modulus_windows")
     yield from box("box", LEFT, 180, WIDE, 52, "3  Euclid without inverses",
-                   ["no test and no inverse on the way; zero leading words are dropped"], "resultant_pseudo, resultant_held")
+                   ["no test and no inverse on the way; zero leading words are dropped"], "resultant_euclid")
     yield from box("ask", LEFT, 260, WIDE, 52, "4  one greatest common divisor with n",
                    ["of which kind is the product of the leading words?"], "bezout, residue")
     yield from box("box", LEFT, 360, WIDE, 140, "5  general attempt",

@@ -1,4 +1,4 @@
--- The plain evaluator and the resultant agree wherever both answer: two programs that share no more than the arithmetic of residues
+-- The plain evaluator and the resultant agree wherever both answer (S63): two programs that share no more than the arithmetic of residues
 -- answer one number, since each promises the resultant of the definitions.
 --
 --   evaluator-agrees    where both answer, they answer the same
@@ -11,7 +11,7 @@ use Rattle.refusals.specs.Refusals.{Width, answered}
 use Rattle.evaluator.specs.EvaluatorService.{EvaluatorAnswer}
 use Rattle.resultant_service.specs.ResultantService.{ResultantAnswer}
 
--- "The plain evaluator takes two sent polynomials and answers their Sylvester determinant modulo n": what the resultant is
+-- S41: "The plain evaluator takes two sent polynomials and answers their Sylvester determinant modulo n": what the resultant is
 pub evaluator-agrees : (W W' : Width) (n : ℕ) (f g work work' : List ℕ) (x s y t : ℕ) → EvaluatorAnswer W n f g x s
     → ResultantAnswer W' n f g work work' y t → s ≡ 0 → t ≡ 0 → x ≡ y
 evaluator-agrees W W' n f g work work' x s y t a b p q =

@@ -1,5 +1,5 @@
--- "accepts exactly when …, whoever made the claim": an answer of the engine, D with its cofactors, is accepted as a claim, over any width
--- of at most 64 bits.
+-- S47: "accepts exactly when …, whoever made the claim": an answer of the engine, D with its cofactors, is accepted as a claim, over any
+-- width of at most 64 bits.
 --
 --   own-length       a cofactor has 1 to 4096 words
 --   own-accepted     the answer of the reduced resultant, sent as a claim

@@ -11,7 +11,8 @@ use lib.Seq.{take-at, drop-at}
 use borrow.Rule.Slice.PartMut.{postOf}
 use Rattle.definitions.specs.Polynomials.{Residues}
 
--- "Each cofactor buffer must have L words or more; the first L hold the cofactor, zeros above it, the rest unchanged.": l words of it
+-- S43, S25: "Each cofactor buffer must have L words or more; the first L hold the cofactor, zeros above it, the rest unchanged.": l words
+-- of it
 pub record HoldsCofactor (n l : ℕ) (b b' : List ℕ) : Type 0 where
   pub same : length b' ≡ length b
   pub residues : Residues n (take l b')

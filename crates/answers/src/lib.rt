@@ -3,7 +3,7 @@ ghost use mathlib.Core.Path.{_≡_};
 ghost use lib.ListN.{length, replicate};
 use refusals::Answer;
 
-// The value, with status 0. "After an answered call the working buffer it was lent holds zeros."
+// The value, with status 0. S24: "After an answered call the working buffer it was lent holds zeros."
 pub fn answered(value: u32, work: &mut [u32]) -> Answer
     ensures { λ r. ⌜ (r .value ≡ value) × (r .status ≡ 0) ⌝ }
     ensures { λ _. ⌜ now (work .exit) ≡ replicate (length (now (work .entry))) 0 ⌝ }

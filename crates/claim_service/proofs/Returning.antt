@@ -1,41 +1,16 @@
--- The promise of `check_claim` at each place where it returns, and what the tests ask. s is the first refusal, k the first of the three
--- that fails.
+-- The promise of `check_claim` at each place where it returns. s is the first refusal, k the first of the three that fails.
 use mathlib.Core.Path.{_≡_, refl, sym, subst, _∙_}
-use mathlib.Core.List.{List, [], _∷_, _++_}
+use mathlib.Core.List.{List}
 use Prim.Native.Nat.{ℕ, zero, suc, _≤_}
-use native.Mathlib.Omega.{arith}
 use lib.ListN.{length, replicate}
-use Rattle.refusals.specs.Refusals.{narrow, short, first-refusal}
+use Rattle.refusals.specs.Refusals.{narrow}
 use Rattle.refusals.specs.Conditions.{status-zero}
-use Rattle.refusals.proofs.Statuses.{refused-early, passed-on, left-refused}
+use Rattle.refusals.proofs.Statuses.{left-refused}
 use Rattle.claims.specs.Claims.{Judged, ClaimAsked}
 use Rattle.claim_service.specs.declared.Claim.{Claim}
 use Rattle.claim_service.specs.declared.Claim.the-variants.{Accepted, Fails, Refused}
-use Rattle.claim_service.specs.ClaimService.{size-refusals, word-refusals, claim-refusals, claim-status}
-use Rattle.claim_service.specs.ClaimService.{ServedSizes, size-conditions, size-listed, claim-conditions, claim-listed}
+use Rattle.claim_refusals.specs.ClaimRefusals.{claim-refusals, claim-status, claim-conditions, claim-listed}
 use Rattle.claim_service.specs.ClaimService.{claim-number, claim-value, told, ClaimSaid, ClaimAnswer, ClaimCase}
-
-module _ (n : ℕ) (f g u v : List ℕ) (a : ℕ) (ea : a ≡ first-refusal (size-refusals narrow n f g u v)) where
-  pub sizes-refused : (l : ℕ) → (a ≡ 0 → ⊥) → a ≡ claim-status narrow n f g u v l
-  sizes-refused l h = refused-early (size-refusals narrow n f g u v) (word-refusals n f g u v ++ ((7, short l 8192) ∷ [])) a ea h
-
-  module _ (z : a ≡ 0) where
-    pub sizes-served : ServedSizes f g u v
-    sizes-served =
-        let p = status-zero (size-refusals narrow n f g u v) (size-conditions narrow n f g u v) (size-listed narrow n f g u v) .0
-        (sym ea ∙ z) in
-        record { first = p .1 .0; second = p .1 .1 .0; first-multiplier = p .1 .1 .1 .0; second-multiplier = p .1 .1 .1 .1 .0 }
-
-    sizes-passed : (l b : ℕ) → b ≡ first-refusal (word-refusals n f g u v ++ ((7, short l 8192) ∷ [])) → b ≡ claim-status narrow n f g u v l
-    sizes-passed l b e =
-        passed-on (size-refusals narrow n f g u v) (word-refusals n f g u v ++ ((7, short l 8192) ∷ [])) a b ea z e
-
-    module _ (b : ℕ) (eb : b ≡ first-refusal (word-refusals n f g u v)) (l : ℕ) where
-      pub words-refused : (b ≡ 0 → ⊥) → b ≡ claim-status narrow n f g u v l
-      words-refused h = sizes-passed l b (refused-early (word-refusals n f g u v) ((7, short l 8192) ∷ []) b eb h)
-
-      pub words-passed : b ≡ 0 → (t : ℕ) → t ≡ first-refusal ((7, short l 8192) ∷ []) → t ≡ claim-status narrow n f g u v l
-      words-passed h t et = sizes-passed l t (passed-on (word-refusals n f g u v) ((7, short l 8192) ∷ []) b t eb h et)
 
 refused-told : (s : ℕ) → (s ≡ 0 → ⊥) → Refused s ≡ told s 0
 refused-told zero h = absurd (h refl)

@@ -37,12 +37,12 @@ judged-once (suc (suc (suc zero))) (suc (suc (suc zero))) n f g D u v a b = refl
 judged-once (suc (suc (suc zero))) (suc (suc (suc (suc k)))) n f g D u v a b = absurd b
 judged-once (suc (suc (suc (suc j)))) k n f g D u v a b = absurd a
 
--- "accepts exactly when …", and k exactly where the k-th fails and those before it hold
+-- S47: "accepts exactly when …", and k exactly where the k-th fails and those before it hold
 pub judged-exactly : (j k n : ℕ) (f g : List ℕ) (D : ℕ) (u v : List ℕ) → Judged j n f g D u v
     → (j ≡ k → Judged k n f g D u v) × (Judged k n f g D u v → j ≡ k)
 judged-exactly j k n f g D u v a = (λ e. subst (λ (x : ℕ). Judged x n f g D u v) e a, judged-once j k n f g D u v a)
 
--- "0 divides no n"
+-- S47: "0 divides no n"
 pub zero-fails : (n : ℕ) → 1 ≤ n → (f g u v : List ℕ) → Judged 1 n f g 0 u v
 zero-fails n l f g u v d = let p = pos-of-dvd-of-pos d l in absurd (omega arith)
 

@@ -1,4 +1,4 @@
--- What is said of a claim from elsewhere (02, W12). f and g are polynomials modulo n, D is the number claimed, u and v are the multipliers.
+-- What is said of a claim from elsewhere (S47). f and g are polynomials modulo n, D is the number claimed, u and v are the multipliers.
 --
 --   Judged k n f g D u v        0: all three hold; k from 1 to 3: the k-th fails and those before it hold
 --   Tells b P                   the answer b says whether P holds
@@ -10,8 +10,8 @@ use Prim.Native.Nat.{ℕ, zero, suc, _≤_, _∣_}
 use lib.ListN.{length}
 use Rattle.definitions.specs.Resultants.{Combination, Reduced}
 
--- "accepts exactly when D divides n, the combination gives D modulo n, and D is the reduced resultant as defined … Otherwise it names the
--- first of these three that fails."
+-- S47: "accepts exactly when D divides n, the combination gives D modulo n, and D is the reduced resultant as defined … Otherwise it names
+-- the first of these three that fails."
 abbrev pub Judged : ℕ → ℕ → List ℕ → List ℕ → ℕ → List ℕ → List ℕ → Type 0
 Judged zero n f g D u v = (D ∣ n) × (Combination n f g u v D × Reduced n f g D)
 Judged (suc zero) n f g D u v = D ∣ n → ⊥

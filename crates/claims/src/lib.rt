@@ -1,4 +1,4 @@
-// The three tests of a claim from elsewhere (02, W12): a number D and two multipliers u and v for f and g modulo n.
+// The three tests of a claim from elsewhere (S47): a number D and two multipliers u and v for f and g modulo n.
 //
 //   divides                            the first: D divides n
 //   longest, combined_word, combines   the second: u f + v g is D modulo n, one coefficient at a time; nothing is stored
@@ -13,7 +13,7 @@ ghost use Rattle.windows.specs.Window.{Scratch};
 ghost use Rattle.divisor.specs.Sizes.{DivisorSizes};
 ghost use Rattle.claims.specs.Claims.{Judged, Tells, ClaimLengths, ClaimAsked};
 
-// "0 divides no n"
+// S47: "0 divides no n"
 fn divides(d: u32, n: u32) -> bool
     requires { ⌜ 1 ≤ n ⌝ }
     ensures { λ r. ⌜ Tells r (d ∣ n) ⌝ }
@@ -46,7 +46,7 @@ fn combined_word(n: u32, f: &[u32], g: &[u32], u: &[u32], v: &[u32], k: usize) -
     arithmetic::add_mod(n, a, b)
 }
 
-// "the combination gives D modulo n": the constant is D, and each word above it up to the longer product is 0.
+// S47: "the combination gives D modulo n": the constant is D, and each word above it up to the longer product is 0.
 fn combines(n: u32, f: &[u32], g: &[u32], d: u32, u: &[u32], v: &[u32]) -> bool
     requires { ⌜ ClaimAsked n (now f) (now g) (now u) (now v) ⌝ }
     ensures { λ r. ⌜ Tells r (Combination n (now (f .entry)) (now (g .entry)) (now (u .entry)) (now (v .entry)) d) ⌝ }
@@ -65,7 +65,7 @@ fn combines(n: u32, f: &[u32], g: &[u32], d: u32, u: &[u32], v: &[u32]) -> bool
     true
 }
 
-// "D is the reduced resultant as defined": there is one, and the run finds it.
+// S47: "D is the reduced resultant as defined": there is one, and the run finds it.
 fn is_reduced(work: &mut [u32], n: u32, f: &[u32], g: &[u32], d: u32) -> bool
     requires { ⌜ (2 ≤ n) × DivisorSizes (now f) (now g) (now work) ⌝ }
     ensures { λ r. ⌜ Tells r (Reduced n (now (f .entry)) (now (g .entry)) d) ⌝ }

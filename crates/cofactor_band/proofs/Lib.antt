@@ -1,5 +1,1 @@
-pub mod Cells
-pub mod TwoRows
-pub mod Clearing
-pub mod Moments
 pub mod Turns

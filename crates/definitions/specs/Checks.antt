@@ -1,5 +1,5 @@
--- The definitions at numbers of document 01 where a run goes astray: each check here fails if its definition is changed in the way that
--- document warns of.
+-- The definitions at the numbers of S92, where a run goes astray: each check here fails if its definition is changed in the way that the
+-- clause warns of.
 --
 --   convolve-beyond    a product has no words beyond its length
 --   degree-of-zero, degree-of-constant     the zero polynomial has no degree, the constant 5 has degree 0
@@ -30,7 +30,7 @@ convolve-beyond p q k l = total-zero (suc k) _ (λ i. go i (decLt i (length p)))
     go i (yes h) = ap (λ x. coef p i * x) (List·getD-eq-default q 0 {n = k - i} (omega arith)) ∙ mul-zero (coef p i)
     go i (no h) = ap (λ x. x * coef q (k - i)) (List·getD-eq-default p 0 {n = i} (omega arith)) ∙ zero-mul (coef q (k - i))
 
--- "a zero polynomial and the constant 5 may no longer both show degree 0" (02, W2)
+-- S18: "a zero polynomial and the constant 5 may no longer both show degree 0"
 degree-of-zero : true-degree (0 ∷ 0 ∷ []) ≡ none
 unfolding extent
 degree-of-zero = refl
@@ -39,12 +39,12 @@ degree-of-constant : true-degree (5 ∷ 0 ∷ []) ≡ place 0
 unfolding extent
 degree-of-constant = refl
 
--- "Zero top words dropped: the row modulo 5 with f = 2,1,0 becomes 4 instead of 1."
+-- S92: "Zero top words dropped: the row modulo 5 with f = 2,1,0 becomes 4 instead of 1."
 zero-top : resultant 5 (2 ∷ 1 ∷ 0 ∷ []) (1 ∷ 1 ∷ []) ≡ 1
 unfolding resultant expansion extent
 zero-top = refl
 
--- "Cofactors of D cut to degrees below e and d: modulo 4, 1,2 and 3,2 have none so short."
+-- S92: "Cofactors of D cut to degrees below e and d: modulo 4, 1,2 and 3,2 have none so short."
 long-multipliers : Reached 4 (1 ∷ 2 ∷ []) (3 ∷ 2 ∷ []) 1
 unfolding resultant expansion
 long-multipliers = record {
@@ -61,7 +61,7 @@ long-multipliers = record {
   };
 }
 
--- "D taken as gcd(resultant, n)": the resultant of these two is 0 modulo 4, and D is 1
+-- S92: "D taken as gcd(resultant, n)": the resultant of these two is 0 modulo 4, and D is 1
 not-the-gcd : (D : ℕ) → Reduced 4 (1 ∷ 2 ∷ []) (3 ∷ 2 ∷ []) D → D ≡ 1
 not-the-gcd D r = eq-one-of-dvd-one (r .only 1 (omega arith) long-multipliers)
 

@@ -1,5 +1,5 @@
--- Laplace's expansion and Sylvester's matrix over whatever can be added and multiplied. Integers give the resultant of document 01,
--- polynomials in z with integer coefficients that of two variables (02, W6).
+-- Laplace's expansion and Sylvester's matrix over whatever can be added and multiplied. Integers give the resultant (S8),
+-- polynomials in z with integer coefficients that of two variables (S20).
 --
 --   Operations A          0, 1, sums, products and opposites of A
 --   integers, polynomials     of integers; of polynomials in z, as sequences of their coefficients, the constant first
@@ -52,7 +52,7 @@ module _ {A : Type 0} (O : Operations A) where
   alternating zero F = O .nought
   alternating (suc n) F = O .plus (F zero) (O .opposite (alternating n (λ i. F (suc i))))
 
-  -- n rows and columns. "With d = e = 0 the determinant is 1."
+  -- n rows and columns. S8: "With d = e = 0 the determinant is 1."
   unfoldable pub expansion : ℕ → (ℕ → ℕ → A) → A
   expansion zero a = O .one
   expansion (suc n) a = alternating (suc n) (λ i. O .times (a i 0) (expansion n (λ r c. a (beside i r) (suc c))))
@@ -61,6 +61,6 @@ module _ {A : Type 0} (O : Operations A) where
   abbrev pub entry-of : ℕ → (ℕ → A) → ℕ → ℕ → A
   entry-of d f i j = cond (leb i j) (cond (leb j (i + d)) (f (i + d - j)) (O .nought)) (O .nought)
 
-  -- "first e rows hold f, highest coefficient first, each row one column further right; then d rows hold g likewise"
+  -- S7: "first e rows hold f, highest coefficient first, each row one column further right; then d rows hold g likewise"
   abbrev pub rows-of : ℕ → ℕ → (ℕ → A) → (ℕ → A) → ℕ → ℕ → A
   rows-of d e f g i j = cond (ltb i e) (entry-of d f i j) (entry-of e g (i - e) j)

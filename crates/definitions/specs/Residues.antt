@@ -1,4 +1,4 @@
--- What document 01 says of single residues. n is the modulus, a and b are residues, numbers only.
+-- What S4, S13 and S14 say of single residues. n is the modulus, a and b are residues, numbers only.
 --
 --   K n                    the largest whole number with 2^K <= n
 --   Inverse n a i          i is the inverse of a
@@ -16,11 +16,11 @@ unfoldable pub halvings : ℕ → ℕ → ℕ
 halvings zero n = 0
 halvings (suc s) n = elim (leb 2 n) [ true ↦ suc (halvings s (n / 2)) | false ↦ 0 ]
 
--- "K is the largest whole number with 2^K <= n."
+-- S4: "K is the largest whole number with 2^K <= n."
 unfoldable pub K : ℕ → ℕ
 K n = halvings n n
 
--- "unit with its inverse": the inverse is the residue whose product with a is 1
+-- S13: "unit with its inverse": the inverse is the residue whose product with a is 1
 pub record Inverse (n a i : ℕ) : Type 0 where
   pub below : i < n
   pub one : (a * i) % n ≡ 1 % n
@@ -29,7 +29,7 @@ pub record IsUnit (n a : ℕ) : Type 0 where
   pub inverse : ℕ
   pub is : Inverse n a inverse
 
--- "Nilpotent: some power is 0 (0 is nilpotent)."
+-- S13: "Nilpotent: some power is 0 (0 is nilpotent)."
 pub record IsNilpotent (n a : ℕ) : Type 0 where
   pub exponent : ℕ
   pub power : (a ^ exponent) % n ≡ 0
@@ -38,7 +38,7 @@ pub record IsNilpotent (n a : ℕ) : Type 0 where
 pub record Coprime (a b : ℕ) : Type 0 where
   pub only : (k : ℕ) → k ∣ a → k ∣ b → k ≡ 1
 
--- "n = n1 times n2, both above 1 and coprime, the residue nilpotent modulo n1 and a unit modulo n2."
+-- S13: "n = n1 times n2, both above 1 and coprime, the residue nilpotent modulo n1 and a unit modulo n2."
 pub record Splitting (n a n₁ n₂ : ℕ) : Type 0 where
   pub product : n₁ * n₂ ≡ n
   pub above₁ : 1 < n₁
@@ -54,7 +54,7 @@ pub record Gcd (a b n g : ℕ) : Type 0 where
   pub divides-n : g ∣ n
   pub greatest : (k : ℕ) → k ∣ a → k ∣ b → k ∣ n → k ∣ g
 
--- "g = gcd(a, b, n) from 1 to n, with residues s and t so that s times a plus t times b is g modulo n."
+-- S14: "g = gcd(a, b, n) from 1 to n, with residues s and t so that s times a plus t times b is g modulo n."
 pub record GcdWithCofactors (n a b g s t : ℕ) : Type 0 where
   pub gcd : Gcd a b n g
   pub least : 1 ≤ g
@@ -63,7 +63,7 @@ pub record GcdWithCofactors (n a b g s t : ℕ) : Type 0 where
   pub below-t : t < n
   pub sum : (s * a + t * b) % n ≡ g % n
 
--- "s is the least number from 0 upward for which some t fits, and t is then the least that fits." (02, W7)
+-- S14: "s is the least number from 0 upward for which some t fits, and t is then the least that fits."
 pub record LeastCofactors (n a b g s t : ℕ) : Type 0 where
   pub below-s : s < n
   pub below-t : t < n

@@ -1,4 +1,4 @@
--- What document 02 (W6) says of the resultant of two polynomials in two variables. "The words of f are d + 1 groups of a + 1 words,
+-- What S20 and S48 say of the resultant of two polynomials in two variables. "The words of f are d + 1 groups of a + 1 words,
 -- constant first in y and within each group constant first in z": word j of group i is the coefficient of y to the i, z to the j.
 --
 --   group a f i           the coefficient of y to the i, a polynomial in z
@@ -17,10 +17,10 @@ use Rattle.definitions.specs.Resultants.{residue}
 abbrev pub group : ℕ → List ℕ → ℕ → ℕ → ℤ
 group a f i j = cond (leb j a) (pos (coef f (i * suc a + j))) (pos 0)
 
--- "It must equal the Sylvester determinant worked with polynomials in z": f of degrees d in y and a in z, g of e and b
+-- S20: "It must equal the Sylvester determinant worked with polynomials in z": f of degrees d in y and a in z, g of e and b
 unfoldable pub resultant-two : (n d a e b : ℕ) → List ℕ → List ℕ → ℕ → ℕ
 resultant-two n d a e b f g k = residue n (expansion polynomials (d + e) (rows-of polynomials d e (group a f) (group b g)) k)
 
--- "B = e times a plus d times b"
+-- S20: "B = e times a plus d times b"
 abbrev pub degree-two : (d a e b : ℕ) → ℕ
 degree-two d a e b = e * a + d * b

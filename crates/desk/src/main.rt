@@ -1,4 +1,4 @@
-// The frame program: reads job frames from standard input, one a line, and writes an answer line for each to standard output.
+// The frame program (S64): reads job frames from standard input, one a line, and writes an answer line for each to standard output.
 // It answers the lines that are complete before it reads again. Where a read or a write fails, it says so on standard error, with
 // the reason, and stops; an unfinished line is then not answered. A call that a signal interrupts, or that would have to wait on a
 // non-blocking descriptor, has not failed: it is tried again.

@@ -49,7 +49,7 @@ TrialAnswers n c f g (Found D) = Reduced n f g D
 TrialAnswers n c f g (Divisors p q) = Splitter n p q
 TrialAnswers n c f g Nilpotent = NilpotentOver n c f
 
--- "At a splitting coefficient, each of the two factors is worked as a modulus of its own": D, or the two factors
+-- S80: "At a splitting coefficient, each of the two factors is worked as a modulus of its own": D, or the two factors
 abbrev pub Attempted : ℕ → List ℕ → List ℕ → Attempt → Type 0
 Attempted n f g (Value D) = Reduced n f g D
 Attempted n f g (Splits p q) = SplitOf n p q

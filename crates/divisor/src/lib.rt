@@ -128,8 +128,8 @@ fn joined(a: u32, b: u32) -> u32
     a * b
 }
 
-// "each of the two factors is worked as a modulus of its own": D is the product of the two. The words of f and g may be any; they count
-// modulo n.
+// S80: "each of the two factors is worked as a modulus of its own": D is the product of the two. The words of f and g may be any; they
+// count modulo n.
 pub fn run(w: &mut [u32], n: u32, f: &[u32], g: &[u32]) -> u32
     requires { ⌜ (2 ≤ n) × DivisorSizes (now f) (now g) (now w) ⌝ }
     ensures { λ r. ⌜ Reduced n (now (f .entry)) (now (g .entry)) r ⌝ }

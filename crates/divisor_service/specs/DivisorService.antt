@@ -1,4 +1,4 @@
--- What the service for D alone answers, and what it leaves in every lent word, over any width W. f and g are the polynomials sent.
+-- What the service for D alone answers (S44), and what it leaves in every lent word, over any width W. f and g are the polynomials sent.
 --
 --   divisor-refusals, divisor-status    the refusals in their order, and the number of the first that applies
 --   DivisorLeft                         D, or nothing
@@ -21,7 +21,7 @@ divisor-refusals W n f g l = refusals-two W n f g ++ ((7, short l (W .working)) 
 abbrev pub divisor-status : Width → ℕ → List ℕ → List ℕ → ℕ → ℕ
 divisor-status W n f g l = first-refusal (divisor-refusals W n f g l)
 
--- "D runs from 1 to n and divides n. A constant c from 0 to n - 1 … is reached exactly when D divides c"; of a refusal, "value 0"
+-- S11, S23: "D runs from 1 to n and divides n. A constant c from 0 to n - 1 … is reached exactly when D divides c"; of a refusal, "value 0"
 abbrev pub DivisorLeft : ℕ → ℕ → List ℕ → List ℕ → ℕ → Type 0
 DivisorLeft zero n f g value = Reduced n f g value
 DivisorLeft (suc s) n f g value = value ≡ 0

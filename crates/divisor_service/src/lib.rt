@@ -1,4 +1,4 @@
-// The reduced resultant D alone as a service: from any words and lengths an answer, or a numbered refusal.
+// The reduced resultant D alone as a service (S44): from any words and lengths an answer, or a numbered refusal.
 ghost use Rattle.refusals.specs.Refusals.{narrow};
 ghost use Rattle.divisor_service.specs.DivisorService.{DivisorAnswer};
 use refusals::Answer;

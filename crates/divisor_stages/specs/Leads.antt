@@ -31,7 +31,7 @@ pub record FactorAsked (n b m t i s : ℕ) (w : List ℕ) : Type 0 where
   pub shorter : t < m
   pub lead : LeadingUnit n t i (piece w b m)
 
--- "the polynomial is u times h, h monic of degree t, u a unit polynomial": u does not change what is reached
+-- S17: "the polynomial is u times h, h monic of degree t, u a unit polynomial": u does not change what is reached
 pub record Leading (n b m t i s : ℕ) (w w' : List ℕ) : Type 0 where
   pub shorter : t < m
   pub beyond : Beyond b m s w w'

@@ -19,6 +19,13 @@
 //   jingcobu64_resultant          wide_resultant_service::resultant: words of 64 bits
 //   jingcobu64_reduced_resultant  wide_reduced_service::reduced_resultant
 //   jingcobu64_product            wide_polynomial_product::product
+//   jingcobu_resultants           resultants_service::resultants: many pairs
+//   jingcobu_divisors             divisors_service::divisors
+//   jingcobu64_resultants         wide_resultants_service::resultants
+//   jingcobu64_divisors           wide_divisors_service::divisors
+//   jingcobu64_divisor            wide_divisor_service::divisor
+//   jingcobu64_gcd                wide_residue_services::gcd_with_cofactors
+//   jingcobu64_true_degree        wide_polynomial_degree::true_degree_words
 ghost use mathlib.Core.Path.{_≡_};
 ghost use Rattle.refusals.specs.Refusals.{narrow};
 ghost use Rattle.wide_refusals.specs.Wide.{wide};
@@ -38,6 +45,8 @@ ghost use Rattle.factors.specs.FactorsService.{StartAnswer, ArriveAnswer, Leave
 ghost use Rattle.shares.specs.SharesService.{SharesAnswer};
 ghost use Rattle.claim_service.specs.ClaimService.{ClaimAnswer};
 ghost use Rattle.two_service.specs.TwoService.{TwoAnswer};
+ghost use Rattle.resultants_service.specs.ResultantsService.{ResultantsAnswer};
+ghost use Rattle.divisors_service.specs.DivisorsService.{DivisorsAnswer};
 use factors::Factors;
 use factors::Held;
 use polynomial_degree::DegreeAnswer;
@@ -297,4 +306,106 @@ pub extern "C" fn jingcobu64_product(
         (r .value) (r .status) ⌝ }
 {
     wide_polynomial_product::product(n, f, g, out)
+}
+
+// The resultants of count pairs modulo n, of sent degrees d and e, in the first count words of out.
+#[no_mangle]
+pub extern "C" fn jingcobu_resultants(
+    n: u32,
+    f: &[u32],
+    d: usize,
+    g: &[u32],
+    e: usize,
+    count: usize,
+    out: &mut [u32],
+    work: &mut [u32],
+) -> Answer
+    ensures { λ r. ⌜ ResultantsAnswer narrow n (now (f .entry)) d (now (g .entry)) e count (now (out .entry)) (now (out .exit))
+        (now (work .entry)) (now (work .exit)) (r .value) (r .status) ⌝ }
+{
+    resultants_service::resultants(n, f, d, g, e, count, out, work)
+}
+
+// The reduced resultants D of count pairs modulo n, without cofactors, in the first count words of out.
+#[no_mangle]
+pub extern "C" fn jingcobu_divisors(
+    n: u32,
+    f: &[u32],
+    d: usize,
+    g: &[u32],
+    e: usize,
+    count: usize,
+    out: &mut [u32],
+    work: &mut [u32],
+) -> Answer
+    ensures { λ r. ⌜ DivisorsAnswer narrow n (now (f .entry)) d (now (g .entry)) e count (now (out .entry)) (now (out .exit))
+        (now (work .entry)) (now (work .exit)) (r .value) (r .status) ⌝ }
+{
+    divisors_service::divisors(n, f, d, g, e, count, out, work)
+}
+
+// The resultants of count pairs modulo n, of sent degrees d and e, in the first count words of out, words of 64 bits.
+#[no_mangle]
+pub extern "C" fn jingcobu64_resultants(
+    n: u64,
+    f: &[u64],
+    d: usize,
+    g: &[u64],
+    e: usize,
+    count: usize,
+    out: &mut [u64],
+    work: &mut [u64],
+) -> wide_refusals::Answer
+    ensures { λ r. ⌜ ResultantsAnswer wide n (now (f .entry)) d (now (g .entry)) e count (now (out .entry)) (now (out .exit))
+        (now (work .entry)) (now (work .exit)) (r .value) (r .status) ⌝ }
+{
+    wide_resultants_service::resultants(n, f, d, g, e, count, out, work)
+}
+
+// The reduced resultants D of count pairs modulo n, without cofactors, in the first count words of out, words of 64 bits.
+#[no_mangle]
+pub extern "C" fn jingcobu64_divisors(
+    n: u64,
+    f: &[u64],
+    d: usize,
+    g: &[u64],
+    e: usize,
+    count: usize,
+    out: &mut [u64],
+    work: &mut [u64],
+) -> wide_refusals::Answer
+    ensures { λ r. ⌜ DivisorsAnswer wide n (now (f .entry)) d (now (g .entry)) e count (now (out .entry)) (now (out .exit))
+        (now (work .entry)) (now (work .exit)) (r .value) (r .status) ⌝ }
+{
+    wide_divisors_service::divisors(n, f, d, g, e, count, out, work)
+}
+
+// The reduced resultant D of f and g modulo n, without cofactors, words of 64 bits.
+#[no_mangle]
+pub extern "C" fn jingcobu64_divisor(
+    n: u64,
+    f: &[u64],
+    g: &[u64],
+    work: &mut [u64],
+) -> wide_refusals::Answer
+    ensures { λ r. ⌜ DivisorAnswer wide n (now (f .entry)) (now (g .entry)) (now (work .entry)) (now (work .exit))
+        (r .value) (r .status) ⌝ }
+{
+    wide_divisor_service::divisor(n, f, g, work)
+}
+
+// The greatest common divisor of a, b and n, with its least cofactors, words of 64 bits.
+#[no_mangle]
+pub extern "C" fn jingcobu64_gcd(n: u64, a: u64, b: u64) -> wide_residue_services::GcdAnswer
+    ensures { λ r. ⌜ GcdPromised wide n a b (r .g) (r .s) (r .t) (r .status) ⌝ }
+{
+    wide_residue_services::gcd_with_cofactors(n, a, b)
+}
+
+// The true degree of f: none for the zero polynomial; words of 64 bits.
+#[no_mangle]
+pub extern "C" fn jingcobu64_true_degree(n: u64, f: &[u64]) -> DegreeAnswer
+    ensures { λ r. ⌜ DegreeWordsAnswer wide n (now (f .entry)) (r .some) (r .degree) (r .status) ⌝ }
+{
+    wide_polynomial_degree::true_degree_words(n, f)
 }

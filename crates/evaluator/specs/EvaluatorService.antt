@@ -1,4 +1,4 @@
--- What the plain evaluator answers, over any width W. f and g are the polynomials sent, of degrees d and e.
+-- What the plain evaluator answers (S41), over any width W. f and g are the polynomials sent, of degrees d and e.
 --
 --   too-large                               d + e is above 8
 --   evaluator-refusals, evaluator-status    the refusals in their order, and the number of the first that applies
@@ -16,11 +16,11 @@ use Rattle.definitions.specs.Resultants.{resultant}
 use Rattle.refusals.specs.Refusals.{Width, Tested, bad-modulus, bad-length, all-below, first-refusal, answered}
 use Rattle.refusals.specs.Conditions.{Listed, ServedModulus, ServedLength, modulus-fails, length-fails, words-fail, short-fails}
 
--- "2: … for the plain evaluator, d + e above 8."
+-- S29: "2: … for the plain evaluator, d + e above 8."
 abbrev pub too-large : List ℕ → List ℕ → Bool
 too-large f g = ltb 8 (deg f + deg g)
 
--- "1, 2, 3 … in this order; within a number the first polynomial before the second"
+-- S29: "1, 2, 3 … in this order; within a number the first polynomial before the second"
 abbrev pub evaluator-refusals : Width → ℕ → List ℕ → List ℕ → List Tested
 evaluator-refusals W n f g =
     (1, bad-modulus W n) ∷ (2, bad-length f) ∷ (2, bad-length g) ∷ (2, too-large f g)
@@ -36,7 +36,7 @@ bad-lengths f g = cond (bad-length f) true (cond (bad-length g) true (too-large 
 abbrev pub bad-words : ℕ → List ℕ → List ℕ → Bool
 bad-words n f g = cond (all-below n f) (not (all-below n g)) true
 
--- "The plain evaluator takes two sent polynomials and answers their Sylvester determinant modulo n"
+-- S41: "The plain evaluator takes two sent polynomials and answers their Sylvester determinant modulo n"
 pub record EvaluatorAnswer (W : Width) (n : ℕ) (f g : List ℕ) (value status : ℕ) : Type 0 where
   pub status-is : status ≡ evaluator-status W n f g
   pub value-is : value ≡ answered status (resultant n f g)

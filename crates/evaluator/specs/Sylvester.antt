@@ -11,7 +11,7 @@ use lib.ListN.{length, getD}
 use Rattle.definitions.specs.Resultants.{sylvester}
 use Rattle.evaluator_matrices.specs.Elimination.{cell}
 
--- "serves d + e up to 8": neither polynomial has more than nine words
+-- S41: "serves d + e up to 8": neither polynomial has more than nine words
 pub record RowWords (f : List ℕ) : Type 0 where
   pub some : 1 ≤ length f
   pub few : length f ≤ 9

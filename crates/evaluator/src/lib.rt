@@ -1,4 +1,4 @@
-// The plain evaluator: a second way to the resultant, by elimination on Sylvester's matrix, for d + e up to 8. It serves to check the
+// The plain evaluator (S41): a second way to the resultant, by elimination on Sylvester's matrix, for d + e up to 8. It serves to check the
 // resultant run, and shares no code with it but the arithmetic of residues.
 //
 //   sent_degree                     the words of a polynomial less 1
@@ -17,7 +17,7 @@ ghost use Rattle.evaluator.specs.EvaluatorService.{bad-lengths, bad-word
 ghost use Rattle.evaluator.specs.Sylvester.{RowWords, ServedRows, HoldsSylvester, HoldsSylvesterRow};
 use refusals::Answer;
 
-// Zero top words count: "the top word may be zero".
+// Zero top words count (S7): "the top word may be zero".
 fn sent_degree(f: &[u32]) -> usize
     requires { ⌜ 1 ≤ length (now f) ⌝ }
     ensures { λ d. ⌜ d ≡ length (now (f .entry)) - 1 ⌝ }
@@ -25,7 +25,7 @@ fn sent_degree(f: &[u32]) -> usize
     f.len() - 1
 }
 
-// "highest coefficient first, each row one column further right": row i of f, at column j.
+// S7: "highest coefficient first, each row one column further right": row i of f, at column j.
 fn shifted(f: &[u32], i: usize, j: usize) -> u32
     requires { ⌜ RowWords (now f) × ((i < 8) × (j < 8)) ⌝ }
     ensures { λ x. ⌜ pos x ≡ entry (deg (now (f .entry))) (now (f .entry)) i j ⌝ }
@@ -40,7 +40,7 @@ fn shifted(f: &[u32], i: usize, j: usize) -> u32
     f[i + d - j]
 }
 
-// "first e rows hold f, … then d rows hold g likewise": row r, at column c.
+// S7: "first e rows hold f, … then d rows hold g likewise": row r, at column c.
 fn sylvester_word(f: &[u32], g: &[u32], r: usize, c: usize) -> u32
     requires { ⌜ ServedRows (now f) (now g) × ((r < 8) × (c < 8)) ⌝ }
     ensures { λ x. ⌜ pos x ≡ sylvester (now (f .entry)) (now (g .entry)) r c ⌝ }
@@ -92,7 +92,7 @@ fn bad_lengths(f: &[u32], g: &[u32]) -> bool
     8 < f.len() - 1 + (g.len() - 1)
 }
 
-// Refusal 3: whether a word of f or of g is n or more. A word is read only where the lengths are served.
+// Refusal 3: whether a word of f or of g is n or more. A word is read only where the lengths are served (S93).
 fn bad_words(n: u32, f: &[u32], g: &[u32]) -> bool
     requires { ⌜ ServedRows (now f) (now g) ⌝ }
     ensures { λ r. ⌜ r ≡ bad-words n (now (f .entry)) (now (g .entry)) ⌝ }
@@ -119,7 +119,7 @@ fn refusal(n: u32, f: &[u32], g: &[u32]) -> u32
     0
 }
 
-// The determinant of Sylvester's matrix of f and g modulo n. "With d = e = 0 the determinant is 1."
+// The determinant of Sylvester's matrix of f and g modulo n. S8: "With d = e = 0 the determinant is 1."
 pub fn evaluate(n: u32, f: &[u32], g: &[u32]) -> Answer
     ensures { λ r. ⌜ EvaluatorAnswer narrow n (now (f .entry)) (now (g .entry)) (r .value) (r .status) ⌝ }
 {

@@ -3,7 +3,7 @@
 //
 // For each n from 2 to 6 a line: n, and checksums of the answers to all pairs of sent degrees d and e from 0 to 2. For eight moduli a
 // line: n, and for each d + e from 0 to 8 a checksum of the answers to 180 drawn pairs, many with zero words and zero tops.
-// Then full lines: n, the words of f and of g, value and status, for the pairs of document 01 and for refusals.
+// Then full lines: n, the words of f and of g, value and status, for the pairs of S90 and for refusals.
 ghost use Prim.Native.Nat.{_≤_};
 
 // x joins the checksum h.
@@ -156,7 +156,7 @@ fn full_line(n: u32, f: &[u32], g: &[u32]) {
     end_line();
 }
 
-// "Pairs with their numbers", in the order of the table.
+// The pairs of S90, in the order of the table.
 fn first_pairs() {
     full_line(7, &[1, 1], &[2, 1]);
     full_line(7, &[2, 1], &[1, 1]);

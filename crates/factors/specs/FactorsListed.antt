@@ -13,8 +13,9 @@ use borrow.Author.Tests.{eqb-true}
 use Rattle.definitions.specs.Polynomials.{deg}
 use Rattle.refusals.specs.Refusals.{Width}
 use Rattle.refusals.specs.Conditions.{Fails, Listed, ServedModulus, conditions-two, modulus-fails, length-fails, words-fail, short-fails}
+use Rattle.factor_places.specs.Places.{place-of, sum, unheld, taken, full}
 use Rattle.factors.specs.declared.Factors.{Factors}
-use Rattle.factors.specs.FactorsService.{place-of, sum, held-h, unheld, taken, full}
+use Rattle.factors.specs.FactorsService.{held-h}
 use Rattle.factors.specs.FactorsService.{arrive-refusals, leave-refusals, reading-refusals}
 
 -- a number that is not 0 and that no place has

@@ -1,36 +1,20 @@
 -- What the four calls on a state answer, whatever words the state holds. s is the state sent, r the one handed back, W the width.
 --
---   place-of k l           the first place of l that has k, or the length of l
---   sum, multiplied        the sum of words, their product modulo n
 --   served-length, held-h  how many words of h a state holds, and which; none where their number is above 49
 --   started, arrived, left-by      the states that answered calls hand back, s or zeros after a refusal
---   unheld, taken, full    the tests of the refusals 14 and 13
 --   start-refusals, arrive-refusals, leave-refusals, reading-refusals     the refusals of each call in their order
---   arrival-tests, leaving-tests      the same of the words of a state
 --   StartAnswer, ArriveAnswer, LeaveAnswer, ReadingAnswer      all that is promised of a call
 use mathlib.Core.Path.{_≡_}
-use mathlib.Core.Bool.{Bool, true, cond, not}
+use mathlib.Core.Bool.{cond}
 use mathlib.Core.List.{List, [], _∷_, _++_}
-use Prim.Native.Nat.{ℕ, zero, suc, _+_, _*_, _-_, _%_}
-use lib.Dec.{ltb, eqb}
+use Prim.Native.Nat.{ℕ, zero, suc, _-_}
+use lib.Dec.{ltb}
 use lib.ListN.{length, take, set, replicate}
 use Rattle.definitions.specs.Polynomials.{deg}
 use Rattle.definitions.specs.Resultants.{resultant}
-use Rattle.refusals.specs.Refusals.{Width, Tested, bad-modulus, short, first-refusal, refusals-one, refusals-two, answered, left}
+use Rattle.refusals.specs.Refusals.{Width, Tested, bad-modulus, first-refusal, refusals-one, answered, left}
+use Rattle.factor_places.specs.Places.{place-of, multiplied, arrival-tests, leaving-tests}
 use Rattle.factors.specs.declared.Factors.{Factors}
-
-unfoldable pub place-of : ℕ → List ℕ → ℕ
-place-of k [] = 0
-place-of k (x ∷ l) = cond (eqb x k) 0 (suc (place-of k l))
-
-unfoldable pub sum : List ℕ → ℕ
-sum [] = 0
-sum (x ∷ l) = x + sum l
-
--- "With no factor held, the product is the constant 1 and the reading is 1."
-unfoldable pub multiplied : ℕ → List ℕ → ℕ
-multiplied n [] = 1
-multiplied n (x ∷ l) = (x * multiplied n l) % n
 
 -- a state of any words: a count above 49 is no length of h, and no word is read
 abbrev pub served-length : ℕ → ℕ
@@ -41,33 +25,12 @@ held-h s = take (served-length (s .len)) (s .h)
 
 -- ---- refusals
 
--- "a number 0 or … one not held on leaving"
-abbrev pub unheld : ℕ → List ℕ → Bool
-unheld k l = cond (eqb k 0) true (not (ltb (place-of k l) 16))
-
--- "a number 0 or one already held on arrival"
-abbrev pub taken : ℕ → List ℕ → Bool
-taken k l = cond (eqb k 0) true (ltb (place-of k l) 16)
-
--- "a seventeenth factor or a summed degree above 48": no place is free, or the degrees held and d add up to more
-abbrev pub full : ℕ → List ℕ → List ℕ → Bool
-full d number degree = cond (ltb (place-of 0 number) 16) (ltb 48 (sum degree + d)) true
-
 -- "The start, with n and h, refuses by 1, 2 and 3"
 abbrev pub start-refusals : Width → ℕ → List ℕ → List Tested
 start-refusals W n h = refusals-one W n h
 
--- "14 … then … 13 … both after 3"; "7 comes last wherever working words are lent". h is the polynomial held, l the number of working words.
-abbrev pub arrival-tests : Width → ℕ → List ℕ → List ℕ → ℕ → List ℕ → List ℕ → ℕ → List Tested
-arrival-tests W n number degree k f h l =
-    refusals-two W n f h ++ ((14, taken k number) ∷ (13, full (deg f) number degree) ∷ (7, short l (W .working)) ∷ [])
-
 abbrev pub arrive-refusals : Width → Factors → ℕ → List ℕ → ℕ → List Tested
 arrive-refusals W s k f l = arrival-tests W (s .n) (s .number) (s .degree) k f (held-h s) l
-
--- "every call on a state whose n is 0 or 1 refuses it with 1"
-abbrev pub leaving-tests : Width → ℕ → List ℕ → ℕ → List Tested
-leaving-tests W n number k = (1, bad-modulus W n) ∷ (14, unheld k number) ∷ []
 
 abbrev pub leave-refusals : Width → Factors → ℕ → List Tested
 leave-refusals W s k = leaving-tests W (s .n) (s .number) k

@@ -26,8 +26,9 @@ use Rattle.algebra.specs.Residues.{mul-mod-r}
 use Rattle.theory.specs.ResultantLaws.{law-of-products, resultant-const-first}
 use Rattle.refusals.specs.Refusals.{Width, bad-modulus, short, first-refusal, refusals-two, answered}
 use Rattle.refusals.specs.Conditions.{Accepted, accepted-one, ServedModulus, modulus-fails, status-zero}
+use Rattle.factor_places.specs.Places.{place-of, multiplied, unheld, taken, full}
 use Rattle.factors.specs.declared.Factors.{Factors}
-use Rattle.factors.specs.FactorsService.{place-of, multiplied, held-h, taken, full, unheld, replaced-at, arrived, left-by}
+use Rattle.factors.specs.FactorsService.{held-h, replaced-at, arrived, left-by}
 use Rattle.factors.specs.FactorsService.{arrive-refusals, leave-refusals, reading-refusals}
 use Rattle.factors.specs.FactorsService.{StartAnswer, ArriveAnswer, LeaveAnswer, ReadingAnswer}
 

@@ -1,13 +1,10 @@
 // A product whose factors come and go: one h, at most 16 factors, each under a number, and the resultant of their product with h.
 // Of a factor only its degree and its resultant with h are held: the resultant of a product is the product of the resultants, so a
-// factor leaves by giving up its place, also where its resultant is a zero divisor.
+// factor leaves by giving up its place, also where its resultant is a zero divisor. The places, and what refuses a call, are in
+// `factor_places`.
 //
 //   Factors, Held                start, arrive, leave and read take and hand back the state by value; a status beside it
-//   place_of                     the first place that has a number
-//   degree_sum, multiplied       the sum of the degrees and the product of the resultants
 //   padded, served_length        h with zeros above; how many of its words are read
-//   taken, unheld, full          what refuses an arrival with 14, a leaving with 14, an arrival with 13
-//   arrival_refusal, leaving_refusal      the refusals in their order
 //   replaced_at                  the state with another factor, or none, in a place
 //   arrive_beside                an arrival, with h
 //   start, arrive, leave, read   the services
@@ -15,9 +12,8 @@ ghost use mathlib.Core.Path.{_≡_};
 ghost use Prim.Native.Nat.{_-_, _<_, _≤_};
 ghost use mathlib.Core.List.{_++_};
 ghost use lib.ListN.{length, replicate};
-ghost use Rattle.refusals.specs.Refusals.{narrow, first-refusal};
-ghost use Rattle.factors.specs.FactorsService.{place-of, sum, multiplied, served-length, held-h, taken, unheld, full};
-ghost use Rattle.factors.specs.FactorsService.{arrival-tests, leaving-tests, replaced-at};
+ghost use Rattle.refusals.specs.Refusals.{narrow};
+ghost use Rattle.factors.specs.FactorsService.{served-length, held-h, replaced-at};
 ghost use Rattle.factors.specs.FactorsService.{StartAnswer, ArriveAnswer, LeaveAnswer, ReadingAnswer};
 use refusals::Answer;
 
@@ -36,51 +32,6 @@ pub struct Factors {
 pub struct Held {
     pub factors: Factors,
     pub status: u32,
-}
-
-// The first place that has the number k, or 16 where none has.
-fn place_of(number: [u16; 16], k: u16) -> usize
-    ensures { λ r. ⌜ r ≡ place-of k number ⌝ }
-{
-    let mut i: usize = 0;
-    while i < 16 {
-        if number[i] == k {
-            return i;
-        }
-        i += 1;
-    }
-    16
-}
-
-fn wide(x: u32) -> u64
-    ensures { λ r. ⌜ (r ≡ x) × (r ≤ 4294967295) ⌝ }
-{
-    x as u64
-}
-
-fn degree_sum(degree: [u32; 16]) -> u64
-    ensures { λ r. ⌜ (r ≡ sum degree) × (r ≤ 68719476720) ⌝ }
-{
-    let mut s: u64 = 0;
-    let mut i: usize = 16;
-    while 0 < i {
-        i -= 1;
-        s += wide(degree[i]);
-    }
-    s
-}
-
-fn multiplied(n: u32, resultant: [u32; 16]) -> u32
-    requires { ⌜ 2 ≤ n ⌝ }
-    ensures { λ r. ⌜ r ≡ multiplied n resultant ⌝ }
-{
-    let mut p: u32 = 1;
-    let mut i: usize = 16;
-    while 0 < i {
-        i -= 1;
-        p = arithmetic::mul_mod(n, resultant[i], p);
-    }
-    p
 }
 
 fn padded(h: &[u32]) -> [u32; 49]
@@ -134,79 +85,6 @@ pub fn start(n: u32, h: &[u32]) -> Held
     Held { factors, status: 0 }
 }
 
-// "a number 0 or one already held on arrival"
-fn taken(number: [u16; 16], k: u16) -> bool
-    ensures { λ r. ⌜ r ≡ taken k number ⌝ }
-{
-    let i = place_of(number, k);
-    if k != 0 {
-        return i < 16;
-    }
-    true
-}
-
-// "a number 0 or … one not held on leaving"
-fn unheld(number: [u16; 16], k: u16) -> bool
-    ensures { λ r. ⌜ r ≡ unheld k number ⌝ }
-{
-    let i = place_of(number, k);
-    if k != 0 {
-        return 16 <= i;
-    }
-    true
-}
-
-// "a seventeenth factor or a summed degree above 48"
-fn full(number: [u16; 16], degree: [u32; 16], d: usize) -> bool
-    requires { ⌜ d ≤ 48 ⌝ }
-    ensures { λ r. ⌜ r ≡ full d number degree ⌝ }
-{
-    if 16 <= place_of(number, 0) {
-        return true;
-    }
-    let sum = degree_sum(degree) + (d as u64);
-    48 < sum
-}
-
-// The refusals of an arrival beside h, where room is the number of working words; 0 where none applies.
-fn arrival_refusal(
-    n: u32,
-    number: [u16; 16],
-    degree: [u32; 16],
-    k: u16,
-    f: &[u32],
-    h: &[u32],
-    room: usize,
-) -> u32
-    ensures { λ r. ⌜ r ≡ first-refusal (arrival-tests narrow n number degree k (now (f .entry)) (now (h .entry)) room) ⌝ }
-{
-    let status = refusals::refusal_two(n, f, h);
-    if status != 0 {
-        return status;
-    }
-    let d = f.len() - 1;
-    if taken(number, k) {
-        return 14;
-    }
-    if full(number, degree, d) {
-        return 13;
-    }
-    if room < 8192 {
-        return 7;
-    }
-    0
-}
-
-// The refusals of a leaving; 0 where none applies.
-fn leaving_refusal(n: u32, number: [u16; 16], k: u16) -> u32
-    ensures { λ r. ⌜ r ≡ first-refusal (leaving-tests narrow n number k) ⌝ }
-{
-    if refusals::bad_modulus(n) {
-        return 1;
-    }
-    if unheld(number, k) { 14 } else { 0 }
-}
-
 // s with the number k, the degree d and the resultant x in place i.
 fn replaced_at(s: Factors, i: usize, k: u16, d: u32, x: u32) -> Factors
     requires { ⌜ i < 16 ⌝ }
@@ -236,11 +114,11 @@ fn arrive_beside(s: Factors, k: u16, f: &[u32], h: &[u32], work: &mut [u32]) -> 
 {
     let number = s.number;
     let degree = s.degree;
-    let status = arrival_refusal(s.n, number, degree, k, f, h, work.len());
+    let status = factor_places::arrival_refusal(s.n, number, degree, k, f, h, work.len());
     if status != 0 {
         return Held { factors: s, status };
     }
-    let i = place_of(number, 0);
+    let i = factor_places::place_of(number, 0);
     let d = (f.len() - 1) as u32;
     let a = resultant_service::resultant(s.n, f, h, work);
     let factors = replaced_at(s, i, k, d, a.value);
@@ -261,11 +139,11 @@ pub fn leave(s: Factors, k: u16) -> Held
     ensures { λ r. ⌜ LeaveAnswer narrow s k (r .factors) (r .status) ⌝ }
 {
     let number = s.number;
-    let status = leaving_refusal(s.n, number, k);
+    let status = factor_places::leaving_refusal(s.n, number, k);
     if status != 0 {
         return Held { factors: s, status };
     }
-    let i = place_of(number, k);
+    let i = factor_places::place_of(number, k);
     let factors = replaced_at(s, i, 0, 0, 1);
     Held { factors, status: 0 }
 }
@@ -281,6 +159,6 @@ pub fn read(s: Factors) -> Answer
         };
     }
     let resultant = s.resultant;
-    let value = multiplied(s.n, resultant);
+    let value = factor_places::multiplied(s.n, resultant);
     Answer { value, status: 0 }
 }

@@ -1,4 +1,4 @@
-// The lines of the frame program (document 01, "Job frames"): what a line's characters say, and an answer line's characters.
+// The lines of the frame program (S65 to S67): what a line's characters say, and an answer line's characters.
 //
 //   Head          what the head of a line says
 //   read_head     the head of a line

@@ -1,4 +1,4 @@
-// What an input's pieces are made of: what a read's count means, where a line ends, and how an unfinished line is held.
+// What an input's pieces are made of (S64): what a read's count means, where a line ends, and how an unfinished line is held.
 //
 //   Input, what_came      what the count of a read means
 //   find_newline          the end of a line

@@ -1,4 +1,4 @@
--- The refusals of a frame's job. n is its modulus, f and g its polynomials.
+-- The refusals of a frame's job (S68). n is its modulus, f and g its polynomials.
 --
 --   zero-top f                                  whether the top word of f is 0
 --   top-refusals f g, job-refusals n f g        refusal 10; the refusals of a job, in their order
@@ -13,11 +13,11 @@ use Rattle.refusals.specs.Refusals.{narrow, Tested, refusals-two}
 abbrev pub zero-top : List ℕ → Bool
 zero-top f = eqb (coef f (deg f)) 0
 
--- "It refuses with 10 a frame of kind 01 or 02 in which the top word of f or g is zero (the single word 0 included)" (document 02, W5)
+-- S69: "It refuses with 10 a frame of kind 01 or 02 in which the top word of f or g is zero (the single word 0 included)"
 abbrev pub top-refusals : List ℕ → List ℕ → List Tested
 top-refusals f g = (10, zero-top f) ∷ (10, zero-top g) ∷ []
 
--- The refusals 1, 2 and 3, as of the services, and 10, "tested after 3 and printed as 0a" (document 02, W5). A frame's line and the
+-- The refusals 1, 2 and 3, as of the services, and 10, "tested after 3 and printed as 0a" (S68, S69). A frame's line and the
 -- program's buffers leave none of the others.
 abbrev pub job-refusals : ℕ → List ℕ → List ℕ → List Tested
 job-refusals n f g = refusals-two narrow n f g ++ top-refusals f g

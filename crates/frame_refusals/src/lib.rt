@@ -1,4 +1,4 @@
-// Whether the job of a frame is refused: refusals 1, 2 and 3 as the services have them, and refusal 10 (document 02, W5).
+// Whether the job of a frame is refused: refusals 1, 2 and 3 as the services have them, and refusal 10 (S68, S69).
 ghost use mathlib.Core.Path.{_≡_};
 ghost use Rattle.refusals.specs.Refusals.{first-refusal};
 ghost use Rattle.frame_refusals.specs.FrameRefusals.{zero-top, top-refusals, job-refusals};

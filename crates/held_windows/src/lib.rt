@@ -1,4 +1,4 @@
-// The word loops of a division without inverses with held multipliers: the contracts of `window_combining` and `windows`, of the
+// The word loops of a division without inverses with held multipliers (S87): the contracts of `window_combining` and `windows`, of the
 // multipliers turned back. The words themselves may be held or not: what a loop makes of them, it makes of what they stand for.
 //
 //   combine_pair    the words at dst, times l, with c and m times the words at src

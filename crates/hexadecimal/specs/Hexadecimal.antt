@@ -10,7 +10,7 @@ use mathlib.Core.List.{List, [], _∷_, _++_}
 use Prim.Native.Nat.{ℕ, zero, suc, _+_, _-_, _*_, _/_, _%_}
 use lib.Dec.{ltb}
 
--- "lower-case hexadecimal": the codes of 0-9 are 48 to 57, those of a-f are 97 to 102
+-- S65: "lower-case hexadecimal": the codes of 0-9 are 48 to 57, those of a-f are 97 to 102
 abbrev pub digit-of : ℕ → ℕ
 digit-of c = cond (ltb c 48) 16 (cond (ltb c 58) (c - 48) (cond (ltb c 97) 16 (cond (ltb c 103) (c - 87) 16)))
 

@@ -1,4 +1,4 @@
-// A polynomial from its values at the points 0 to b modulo n, in place, by Newton's divided differences. Words 0 to b of w are the
+// A polynomial from its values at the points 0 to b modulo n, in place, by Newton's divided differences (S86). Words 0 to b of w are the
 // values, then the differences, then the polynomial, the constant first.
 //
 //   w, n, b       the words, the modulus, the last point

@@ -1,29 +1,18 @@
 -- What the function that tries the law of products answers, over any width W: f, g and h are the polynomials sent.
 --
---   law-sent, law-room, law-refusals    the refusals of the seven calls in their order
+--   law-refusals                        the refusals of the seven calls in their order
 --   ThreeResultants, ThreeReduced       what three calls of one service promise
 --   LawAnswer                           all that is promised: the seven numbers, and the law of products of them
 use mathlib.Core.Path.{_≡_}
-use mathlib.Core.Bool.{Bool, not}
-use mathlib.Core.List.{List, [], _∷_, _++_}
+use mathlib.Core.List.{List, _++_}
 use Prim.Native.Nat.{ℕ, zero, suc, _+_}
-use lib.Dec.{ltb}
 use lib.ListN.{length}
 use Rattle.definitions.specs.Polynomials.{deg, product, L}
 use Rattle.theory.specs.PointThree.{SevenAnswers, LawOfProducts}
-use Rattle.refusals.specs.Refusals.{Width, Tested, bad-modulus, bad-length, all-below, short, first-refusal, left, replaced}
+use Rattle.refusals.specs.Refusals.{Width, Tested, first-refusal, left, replaced}
+use Rattle.law_refusals.specs.LawRefusals.{law-sent, law-room}
 use Rattle.resultant_service.specs.ResultantService.{ResultantAnswer}
 use Rattle.reduced_service.specs.ReducedService.{HoldsReduced, ReducedAnswer}
-
--- 1, 2 and 3: of the product, and of h
-abbrev pub law-sent : Width → ℕ → List ℕ → List ℕ → List ℕ → List Tested
-law-sent W n f g h =
-    (1, bad-modulus W n) ∷ (2, bad-length f) ∷ (2, bad-length g) ∷ (2, ltb 48 (deg f + deg g)) ∷ (2, bad-length h)
-    ∷ (3, not (all-below n f)) ∷ (3, not (all-below n g)) ∷ (3, not (all-below n h)) ∷ []
-
--- 6 and 7: the buffers have lp, lu, lv and lw words; the product needs m, and a cofactor l
-abbrev pub law-room : Width → ℕ → ℕ → ℕ → ℕ → ℕ → ℕ → List Tested
-law-room W lp m lu lv l lw = (6, short lp m) ∷ (6, short lu l) ∷ (6, short lv l) ∷ (7, short lw (W .working)) ∷ []
 
 -- the cofactors of the product's D are the longest
 abbrev pub law-refusals : Width → ℕ → List ℕ → List ℕ → List ℕ → ℕ → ℕ → ℕ → ℕ → List Tested

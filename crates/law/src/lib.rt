@@ -4,13 +4,10 @@
 //
 //   how_far            the numbers of two calls
 //   law_of_products    the numbers of seven calls
-//   sent_refusal       the refusals 1, 2 and 3 of n, f, g and h
-//   room_refusal       the refusals 6 and 7 of the lent buffers
 //   resultants, divisors    three calls each
-ghost use mathlib.Core.Path.{_≡_};
-ghost use Rattle.refusals.specs.Refusals.{narrow, first-refusal};
+ghost use Rattle.refusals.specs.Refusals.{narrow};
 ghost use Rattle.law.specs.HowFar.{HowFarAnswer};
-ghost use Rattle.law.specs.LawService.{law-sent, law-room, ThreeResultants, ThreeReduced, LawAnswer};
+ghost use Rattle.law.specs.LawService.{ThreeResultants, ThreeReduced, LawAnswer};
 
 // The resultant, the reduced resultant D as `divisor`, and 0 or the number of the refusal.
 pub struct Differing {
@@ -57,55 +54,6 @@ pub struct Numbers {
     pub df: u32,
     pub dg: u32,
     pub status: u32,
-}
-
-fn sent_refusal(n: u32, f: &[u32], g: &[u32], h: &[u32]) -> u32
-    ensures { λ s. ⌜ s ≡ first-refusal (law-sent narrow n (now (f .entry)) (now (g .entry)) (now (h .entry))) ⌝ }
-{
-    if refusals::bad_modulus(n) {
-        return 1;
-    }
-    if refusals::bad_length(f) {
-        return 2;
-    }
-    if refusals::bad_length(g) {
-        return 2;
-    }
-    if 48 < (f.len() - 1) + (g.len() - 1) {
-        return 2;
-    }
-    if refusals::bad_length(h) {
-        return 2;
-    }
-    if !refusals::all_below(n, f) {
-        return 3;
-    }
-    if !refusals::all_below(n, g) {
-        return 3;
-    }
-    if !refusals::all_below(n, h) {
-        return 3;
-    }
-    0
-}
-
-// The buffers have lp, lu, lv and lw words; the product needs m, and a cofactor l.
-fn room_refusal(lp: usize, m: usize, lu: usize, lv: usize, l: usize, lw: usize) -> u32
-    ensures { λ s. ⌜ s ≡ first-refusal (law-room narrow lp m lu lv l lw) ⌝ }
-{
-    if lp < m {
-        return 6;
-    }
-    if lu < l {
-        return 6;
-    }
-    if lv < l {
-        return 6;
-    }
-    if lw < 8192 {
-        return 7;
-    }
-    0
 }
 
 // Three numbers: of the product, of f and of g, each with h.
@@ -169,7 +117,7 @@ pub fn law_of_products(
         (now (u .entry)) (now (u .exit)) (now (v .entry)) (now (v .exit)) (now (work .entry)) (now (work .exit))
         (a .r) (a .rf) (a .rg) (a .d) (a .df) (a .dg) (a .status) ⌝ }
 {
-    let sent = sent_refusal(n, f, g, h);
+    let sent = law_refusals::sent_refusal(n, f, g, h);
     if sent != 0 {
         return Numbers {
             r: 0,
@@ -183,7 +131,7 @@ pub fn law_of_products(
     }
     let m = (f.len() - 1) + (g.len() - 1) + 1;
     let l = reduced::cofactor_length(n, m, h.len());
-    let room = room_refusal(p.len(), m, u.len(), v.len(), l, work.len());
+    let room = law_refusals::room_refusal(p.len(), m, u.len(), v.len(), l, work.len());
     if room != 0 {
         return Numbers {
             r: 0,

@@ -1,4 +1,4 @@
--- The three kinds of a residue: exactly one is true of each, for n above 1. "Splitting: neither. Then n = n1 times n2, both above 1
+-- The three kinds of a residue: exactly one is true of each, for n above 1. S13: "Splitting: neither. Then n = n1 times n2, both above 1
 -- and coprime, the residue nilpotent modulo n1 and a unit modulo n2. Only one such pair exists."
 --
 --   Parts n a m h       n is p m, p above 1 divides a power of a, and h is the greatest common divisor of m and a:
@@ -163,7 +163,7 @@ pub record ExactlyOne (A B C : Type 0) : Type 0 where
   pub not-ac : A → C → ⊥
   pub not-bc : B → C → ⊥
 
--- "every residue is one of three"
+-- S13: "every residue is one of three"
 pub one-kind : (n a : ℕ) → 2 ≤ n → ExactlyOne (IsUnit n a) (IsNilpotent n a) (Splits n a)
 one-kind n a l = record {
   one = kind-exists n a l;

@@ -91,7 +91,7 @@ module _ {n a b h g t₁ s : ℕ} (pos : 1 ≤ n) (e : GcdCofactor n b h t₁) (
       second-alone x y p q =
           c-cancel (s * a) pos (c-trans (c-eq (add-comm (x * b) (s * a))) (c-trans p (c-trans (c-sym q) (c-eq (add-comm (s * a) (y * b))))))
 
--- "Both are fixed from then on"
+-- S14: "Both are fixed from then on"
 pub least-unique : {n a b g s t s' t' : ℕ} → LeastCofactors n a b g s t → LeastCofactors n a b g s' t' → (s ≡ s') × (t ≡ t')
 least-unique {n} {a} {b} {g} {s} {t} {s'} {t'} p q =
     let e : s ≡ s' = le-antisymm (p .first s' t' (q .sum)) (q .first s t (p .sum)) in (

@@ -1,5 +1,6 @@
--- The table of the seventeen primes up to 60, and what a test of it against n says: for every bound b up to 60, that no word of the table
--- up to b divides n is exactly that no prime up to b divides n, and that is exactly that the differences of the points 0, …, b are units.
+-- The table of the seventeen primes up to 60 (S86), and what a test of it against n says: for every bound b up to 60, that no word of the
+-- table up to b divides n is exactly that no prime up to b divides n, and that is exactly that the differences of the points 0, …, b are
+-- units.
 --
 --   NoSmallPrime n b      no prime up to b divides n
 --   small-units           then 1, …, b are units

@@ -1,7 +1,7 @@
 -- What the true degree and the leading part answer, over any width W. f is the polynomial sent.
 --
 --   degree-refusals, degree-status               the refusals in their order, and the number of the first that applies: of both services
---   degree-number, degree-some, degree-value     01's number and values of each case of the answer
+--   degree-number, degree-some, degree-value     the number and the values of each case of the answer (S79)
 --   told s t                                     the case for the status s and the true degree t
 --   words-told, leading-part                     how many words the leading part has, and the part
 --   TrueDegreeAnswer, DegreeWordsAnswer, LeadingAnswer     all that is promised of a call
@@ -16,7 +16,7 @@ use Rattle.refusals.specs.Conditions.{Listed, conditions-one, listed-one}
 use Rattle.polynomial_degree.specs.declared.Degree.{Degree}
 use Rattle.polynomial_degree.specs.declared.Degree.the-variants.{None, At, Refused}
 
--- "Both take n and refuse by 1, 2 and 3."
+-- S39, S40: "Both take n and refuse by 1, 2 and 3."
 abbrev pub degree-refusals : Width → ℕ → List ℕ → List Tested
 degree-refusals W n f = refusals-one W n f
 
@@ -46,7 +46,7 @@ told zero none = None
 told zero (place k) = At k
 told (suc s) t = Refused (suc s)
 
--- "One service answers the degree."
+-- S39: "One service answers the degree."
 pub record TrueDegreeAnswer (W : Width) (n : ℕ) (f : List ℕ) (r : Degree) : Type 0 where
   pub status-is : degree-number r ≡ degree-status W n f
   pub case-is : r ≡ told (degree-number r) (true-degree f)
@@ -63,14 +63,14 @@ words-told None = 0
 words-told (At k) = k + 1
 words-told (Refused s) = 0
 
--- "the words up to that place"; of a zero polynomial "the part handed back is empty" (02, W2); "Where the first refuses, the second
+-- S40: "the words up to that place"; of a zero polynomial "the part handed back is empty"; "Where the first refuses, the second
 -- hands back an empty part"
 abbrev pub leading-part : ℕ → TrueDegree → List ℕ → List ℕ
 leading-part zero none f = []
 leading-part zero (place k) f = take (k + 1) f
 leading-part (suc s) t f = []
 
--- "handed back as a leading part of the caller's own words"; "the first's number stands for both"
+-- S40: "handed back as a leading part of the caller's own words"; "the first's number stands for both"
 pub record LeadingAnswer (W : Width) (n : ℕ) (f part : List ℕ) : Type 0 where
   pub part-is : part ≡ leading-part (degree-status W n f) (true-degree f) f
 

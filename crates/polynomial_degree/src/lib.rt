@@ -1,4 +1,4 @@
-// The true degree of a polynomial, and its words up to there, as services: from any words an answer, or a numbered refusal. The
+// The true degree of a polynomial, and its words up to there, as services (S39, S40): from any words an answer, or a numbered refusal. The
 // polynomial is lent words, the constant first.
 //
 //   true_degree          the place of the highest nonzero word, or none
@@ -39,7 +39,7 @@ fn extent_of(f: &[u32]) -> usize
     0
 }
 
-// "True degree: the place of the highest nonzero coefficient"; of a zero polynomial it "is now "none"" (02, W2).
+// S18: "True degree: the place of the highest nonzero coefficient"; of a zero polynomial it "is now "none"".
 pub fn true_degree(n: u32, f: &[u32]) -> Degree
     ensures { λ r. ⌜ TrueDegreeAnswer narrow n (now (f .entry)) r ⌝ }
 {
@@ -88,7 +88,7 @@ pub fn words_up_to(d: Degree) -> usize
     }
 }
 
-// "Another serves the words up to that place: they are handed back as a leading part of the caller's own words, not copied."
+// S40, S84: "Another serves the words up to that place: they are handed back as a leading part of the caller's own words, not copied."
 pub fn leading<'a>(n: u32, f: &'a [u32]) -> &'a [u32]
     ensures { λ r. ⌜ LeadingAnswer narrow n (now (f .entry)) (now r) ⌝ }
 {

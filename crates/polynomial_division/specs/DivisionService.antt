@@ -17,7 +17,8 @@ use Rattle.refusals.specs.Refusals.{Width, Tested, short, first-refusal, refusa
 use Rattle.refusals.specs.Conditions.{Listed, conditions-two, modulus-fails, length-fails, words-fail, short-fails}
 use Rattle.polynomial_tests.specs.UnitTests.{is-unit, unit-fails}
 
--- 1, 2, 3, "4: division, the divisor's top word is not a unit", and 6 of q before 6 of r; lq and lr are the lengths of the buffers
+-- S29, S36: 1, 2, 3, "4: division, the divisor's top word is not a unit", and 6 of q before 6 of r; lq and lr are the lengths of the
+-- buffers
 abbrev pub division-refusals : Width → ℕ → List ℕ → List ℕ → ℕ → ℕ → List Tested
 division-refusals W n f g lq lr =
     refusals-two W n f g
@@ -26,13 +27,13 @@ division-refusals W n f g lq lr =
 abbrev pub division-status : Width → ℕ → List ℕ → List ℕ → ℕ → ℕ → ℕ
 division-status W n f g lq lr = first-refusal (division-refusals W n f g lq lr)
 
--- "f = qg + r, r of e words (none for e = 0), q of d - e + 1 words"; "Words beyond these lengths are unchanged."
+-- S15, S25: "f = qg + r, r of e words (none for e = 0), q of d - e + 1 words"; "Words beyond these lengths are unchanged."
 pub record HoldsDivision (n : ℕ) (f g q q' r r' : List ℕ) : Type 0 where
   pub division : Division n f g (take (quotient-length (deg f) (deg g)) q') (take (deg g) r')
   pub rest-q : drop (quotient-length (deg f) (deg g)) q' ≡ drop (quotient-length (deg f) (deg g)) q
   pub rest-r : drop (deg g) r' ≡ drop (deg g) r
 
--- an answer, or a refusal: "every lent buffer is left as found"
+-- S23: an answer, or a refusal: "every lent buffer is left as found"
 abbrev pub DivisionLeft : ℕ → ℕ → List ℕ → List ℕ → List ℕ → List ℕ → List ℕ → List ℕ → Type 0
 DivisionLeft zero n f g q q' r r' = HoldsDivision n f g q q' r r'
 DivisionLeft (suc s) n f g q q' r r' = (q' ≡ q) × (r' ≡ r)

@@ -1,4 +1,4 @@
-// Division with remainder as a service: from any words and lengths an answer, or a numbered refusal. Polynomials are lent words, the
+// Division with remainder as a service (S36): from any words and lengths an answer, or a numbered refusal. Polynomials are lent words, the
 // constant first.
 //
 //   division        quotient and remainder by a polynomial whose top word is a unit
@@ -105,7 +105,7 @@ fn refusal_quotient(u: u32, lq: usize, m: usize, lr: usize, e: usize) -> u32
     0
 }
 
-// "Division by a polynomial whose top word is a unit: f = qg + r, r of e words (none for e = 0), q of d - e + 1 words, or one zero
+// S15: "Division by a polynomial whose top word is a unit: f = qg + r, r of e words (none for e = 0), q of d - e + 1 words, or one zero
 // word if d < e."
 pub fn division(n: u32, f: &[u32], g: &[u32], q: &mut [u32], r: &mut [u32]) -> Answer
     ensures { λ a. ⌜ DivisionAnswer narrow n (now (f .entry)) (now (g .entry)) (now (q .entry)) (now (q .exit)) (now (r .entry))

@@ -1,3 +1,5 @@
 pub mod Answers
 pub mod Leads
 pub mod Parts
+pub mod Turns
+pub mod Ends

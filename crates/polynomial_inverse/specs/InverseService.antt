@@ -18,11 +18,11 @@ use Rattle.refusals.specs.Refusals.{Width, Tested, short, first-refusal, refusa
 use Rattle.refusals.specs.Conditions.{Listed, conditions-one, modulus-fails, length-fails, words-fail, short-fails}
 use Rattle.polynomial_tests.specs.UnitTests.{is-unit-polynomial, polynomial-fails}
 
--- "Inverse: K times d, plus 1."
+-- S38: "Inverse: K times d, plus 1."
 abbrev pub inverse-length : ℕ → List ℕ → ℕ
 inverse-length n f = suc (K n * deg f)
 
--- 1, 2, 3, "5: … inverse, not a unit polynomial", 6 and 7; lo and l are the lengths of the buffers
+-- S29, S38: 1, 2, 3, "5: … inverse, not a unit polynomial", 6 and 7; lo and l are the lengths of the buffers
 abbrev pub inverse-refusals : Width → ℕ → List ℕ → ℕ → ℕ → List Tested
 inverse-refusals W n f lo l =
     refusals-one W n f ++ ((5, not (is-unit-polynomial n f)) ∷ (6, short lo (inverse-length n f)) ∷ (7, short l (W .working)) ∷ [])
@@ -30,12 +30,12 @@ inverse-refusals W n f lo l =
 abbrev pub inverse-status : Width → ℕ → List ℕ → ℕ → ℕ → ℕ
 inverse-status W n f lo l = first-refusal (inverse-refusals W n f lo l)
 
--- "Its inverse fits in K times d, plus 1, words." "Words beyond these lengths are unchanged."
+-- S16, S25: "Its inverse fits in K times d, plus 1, words." "Words beyond these lengths are unchanged."
 pub record HoldsInverse (n : ℕ) (f out out' : List ℕ) : Type 0 where
   pub inverse : InverseOf n f (take (inverse-length n f) out')
   pub rest : drop (inverse-length n f) out' ≡ drop (inverse-length n f) out
 
--- an answer, or a refusal: "every lent buffer is left as found"
+-- S23: an answer, or a refusal: "every lent buffer is left as found"
 abbrev pub InverseLeft : ℕ → ℕ → List ℕ → List ℕ → List ℕ → Type 0
 InverseLeft zero n f out out' = HoldsInverse n f out out'
 InverseLeft (suc s) n f out out' = out' ≡ out

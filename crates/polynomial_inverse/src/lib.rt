@@ -1,4 +1,4 @@
-// The inverse of a unit polynomial as a service: from any words and lengths an answer, or a numbered refusal. Polynomials are lent
+// The inverse of a unit polynomial as a service (S38): from any words and lengths an answer, or a numbered refusal. Polynomials are lent
 // words, the constant first; after an answer the whole working buffer is zero.
 //
 //   inverse             the inverse of a unit polynomial
@@ -47,7 +47,7 @@ fn refusal_inverse(g: u32, t: usize, lo: usize, m: usize, l: usize) -> u32
     0
 }
 
-// "Unit polynomial: constant a unit, all other coefficients nilpotent. Its inverse fits in K times d, plus 1, words."
+// S16: "Unit polynomial: constant a unit, all other coefficients nilpotent. Its inverse fits in K times d, plus 1, words."
 pub fn inverse(n: u32, f: &[u32], out: &mut [u32], work: &mut [u32]) -> Answer
     ensures { λ a. ⌜ InverseAnswer narrow n (now (f .entry)) (now (out .entry)) (now (out .exit)) (now (work .entry)) (now (work .exit))
         (a .value) (a .status) ⌝ }

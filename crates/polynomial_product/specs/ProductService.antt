@@ -1,4 +1,4 @@
--- What the product answers, and what it leaves in every lent word, over any width W. f and g are the polynomials sent, of degrees d
+-- What the product answers (S34), and what it leaves in every lent word, over any width W. f and g are the polynomials sent, of degrees d
 -- and e.
 --
 --   product-sent, product-refusals, product-status     the refusals in their order, and the number of the first that applies
@@ -15,13 +15,13 @@ use Rattle.definitions.specs.Polynomials.{deg, product, Residues}
 use Rattle.refusals.specs.Refusals.{Width, Tested, bad-modulus, bad-length, all-below, short, first-refusal, replaced}
 use Rattle.refusals.specs.Conditions.{Listed, ServedModulus, ServedLength, modulus-fails, length-fails, words-fail, short-fails}
 
--- 1, 2 and 3, which the sender of a job can cause: "2: … for a product, d + e above 48" stands after 2 of f and of g
+-- S29: 1, 2 and 3, which the sender of a job can cause: "2: … for a product, d + e above 48" stands after 2 of f and of g
 abbrev pub product-sent : Width → ℕ → List ℕ → List ℕ → List Tested
 product-sent W n f g =
     (1, bad-modulus W n) ∷ (2, bad-length f) ∷ (2, bad-length g) ∷ (2, ltb 48 (deg f + deg g))
     ∷ (3, not (all-below n f)) ∷ (3, not (all-below n g)) ∷ []
 
--- and 6: "Product: d + e + 1 words"; l is the length of the result buffer
+-- S34: and 6: "Product: d + e + 1 words"; l is the length of the result buffer
 abbrev pub product-refusals : Width → ℕ → List ℕ → List ℕ → ℕ → List Tested
 product-refusals W n f g l = product-sent W n f g ++ ((6, short l (suc (deg f + deg g))) ∷ [])
 

@@ -1,5 +1,5 @@
-// The product of two polynomials as a service: from any words and lengths an answer, or a numbered refusal. Polynomials are lent words,
-// the constant first.
+// The product of two polynomials as a service (S34): from any words and lengths an answer, or a numbered refusal. Polynomials are lent
+// words, the constant first.
 //
 //   product             the product, coefficient by coefficient, the constant first
 //   refusal_product     the number of the first refusal of a product, which the service of one word has too
@@ -40,7 +40,7 @@ pub fn refusal_product(n: u32, f: &[u32], g: &[u32], l: usize) -> u32
     0
 }
 
-// The words of the product of f and g, into as many words of out as there are: each is finished before the next is begun.
+// The words of the product of f and g, into as many words of out as there are: each is finished before the next is begun (S85).
 fn product_words(n: u32, f: &[u32], g: &[u32], out: &mut [u32])
     requires { ⌜ 1 ≤ n ⌝ }
     ensures { λ _. ⌜ now (out .exit) ≡ tabulate (length (now (out .entry)))
@@ -54,7 +54,7 @@ fn product_words(n: u32, f: &[u32], g: &[u32], out: &mut [u32])
     }
 }
 
-// "Product of f and g, of sent degrees d and e: … Its sent degree is d + e, also when its top word comes out zero."
+// S9: "Product of f and g, of sent degrees d and e: … Its sent degree is d + e, also when its top word comes out zero."
 pub fn product(n: u32, f: &[u32], g: &[u32], out: &mut [u32]) -> Answer
     ensures { λ r. ⌜ ProductAnswer narrow n (now (f .entry)) (now (g .entry)) (now (out .entry)) (now (out .exit))
         (r .value) (r .status) ⌝ }

@@ -1,4 +1,4 @@
--- The tests of the refusals 4 and 5, as Booleans that compute, and that they are what document 01 says.
+-- The tests of the refusals 4 and 5, as Booleans that compute, and that they are what S29 says.
 --
 --   is-unit, is-nilpotent       some residue is the inverse; the K-th power is 0
 --   lead-place n f              the place of the highest coefficient that is not nilpotent, 0 where there is none
@@ -33,11 +33,11 @@ abbrev pub some-below : ℕ → (ℕ → Bool) → Bool
 some-below zero P = false
 some-below (suc m) P = cond (P m) true (some-below m P)
 
--- "unit with its inverse": some residue times a is 1
+-- S13: "unit with its inverse": some residue times a is 1
 abbrev pub is-unit : ℕ → ℕ → Bool
 is-unit n a = some-below n (λ i. eqb ((a * i) % n) (1 % n))
 
--- "Nilpotent: some power is 0", and then the K-th is
+-- S13: "Nilpotent: some power is 0", and then the K-th is
 abbrev pub is-nilpotent : ℕ → ℕ → Bool
 is-nilpotent n a = eqb ((a ^ K n) % n) 0
 
@@ -49,11 +49,11 @@ lead-count n f = last-count (is-nilpotent n) f
 abbrev pub lead-place : ℕ → List ℕ → ℕ
 lead-place n f = pred (lead-count n f)
 
--- "5: unit times monic, no coefficient t as described": false there
+-- S29: "5: unit times monic, no coefficient t as described": false there
 abbrev pub has-lead : ℕ → List ℕ → Bool
 has-lead n f = is-unit n (coef f (lead-place n f))
 
--- "5: … inverse, not a unit polynomial": false there
+-- S29: "5: … inverse, not a unit polynomial": false there
 abbrev pub is-unit-polynomial : ℕ → List ℕ → Bool
 is-unit-polynomial n f = cond (has-lead n f) (eqb (lead-place n f) 0) false
 
@@ -129,7 +129,7 @@ above-lead n f l k h = pick (decLt k (length f))
     pick (yes b) = test-nilpotent (count-above (is-nilpotent n) f k (counted (lead-count n f) h) b)
     pick (no b) = beyond n k f l (omega arith)
 
--- "some coefficient t is a unit and all above it are nilpotent"
+-- S17: "some coefficient t is a unit and all above it are nilpotent"
 pub test-lead : {n : ℕ} {f : List ℕ} → 1 ≤ n → has-lead n f ≡ true → UnitAt n (lead-place n f) f
 test-lead {n} {f} l h = record { unit = test-unit h; nilpotent = above-lead n f l }
 
@@ -149,7 +149,7 @@ lead-unique n t f l u = ap pred (sym (count-is (is-nilpotent n) f (suc t) inside
 pub lead-test : (n t : ℕ) (f : List ℕ) → 2 ≤ n → UnitAt n t f → has-lead n f ≡ true
 lead-test n t f l u = subst (λ (x : ℕ). is-unit n (coef f x) ≡ true) (sym (lead-unique n t f l u)) (unit-test (u .unit))
 
--- "Unit polynomial: constant a unit, all other coefficients nilpotent."
+-- S16: "Unit polynomial: constant a unit, all other coefficients nilpotent."
 pub test-polynomial : {n : ℕ} {f : List ℕ} → 1 ≤ n → is-unit-polynomial n f ≡ true → UnitPolynomial n f
 test-polynomial {n} {f} l h = pick (has-lead n f) refl h
   where
@@ -170,7 +170,7 @@ polynomial-test n f l u =
 
 -- ---- the refusals 4 and 5
 
--- "4: division, the divisor's top word is not a unit."
+-- S29: "4: division, the divisor's top word is not a unit."
 pub unit-fails : (n a : ℕ) → Fails (not (is-unit n a)) (IsUnit n a)
 unit-fails n a = fails (is-unit n a) test-unit unit-test
 
@@ -183,7 +183,7 @@ pub record UnitSomewhere (n : ℕ) (f : List ℕ) : Type 0 where
   pub place : ℕ
   pub here : UnitAt n place f
 
--- "5: unit times monic, no coefficient t as described"
+-- S29: "5: unit times monic, no coefficient t as described"
 pub lead-fails : (n : ℕ) (f : List ℕ) → Fails (not (has-lead n f)) (UnitSomewhere n f)
 lead-fails zero f = fails (has-lead 0 f) (λ e. absurd (subst T (sym e) tt)) (λ u. absurd (let z = u .here .unit .is .below in omega arith))
 lead-fails (suc zero) f =
@@ -193,7 +193,7 @@ lead-fails (suc (suc n)) f =
     fails (has-lead (suc (suc n)) f) (λ e. record { place = lead-place (suc (suc n)) f; here = test-lead (omega arith) e })
     (λ u. lead-test (suc (suc n)) (u .place) f (omega arith) (u .here))
 
--- "5: … inverse, not a unit polynomial"
+-- S29: "5: … inverse, not a unit polynomial"
 pub polynomial-fails : (n : ℕ) (f : List ℕ) → Fails (not (is-unit-polynomial n f)) (UnitPolynomial n f)
 polynomial-fails zero f =
     fails (is-unit-polynomial 0 f) (λ e. absurd (subst T (sym e) tt)) (λ u. absurd (let z = u .unit .is .below in omega arith))

@@ -1,7 +1,7 @@
 // A trial of the polynomial services. The expected output is made by tools/polynomial_figures.py, from the definitions and by other
 // methods.
 //
-// First the worked examples of document 01 and the ends of the range, in full: the answer, then the words. Then a line for each of
+// First the worked examples of S91 and the ends of the range, in full: the answer, then the words. Then a line for each of
 // seven moduli full of zero divisors: n, and for each service a checksum of its answers to 40 drawn pairs and of every lent word.
 // Results are lent one word too few, as many as needed, or more; some polynomials are too long or hold a word that is no residue;
 // some working buffers are one word too short. Last a line for each modulus in which the product of the same pairs is made word by word:

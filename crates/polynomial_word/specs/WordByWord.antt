@@ -1,4 +1,4 @@
--- "Called with k from 0 to d + e, it leaves the whole product": calls of `product_word` on one buffer leave what the product leaves,
+-- S35: "Called with k from 0 to d + e, it leaves the whole product": calls of `product_word` on one buffer leave what the product leaves,
 -- whatever the buffer held, in any order of the k, where each from 0 to d + e is asked for at least once.
 --
 --   WordCalls ks out out'     calls for the words ks, one after the other, made out' of out
@@ -160,7 +160,7 @@ among-tabulate zero F i l = absurd (omega arith)
 among-tabulate (suc m) F zero l = inl refl
 among-tabulate (suc m) F (suc i) l = inr (among-tabulate m (λ j. F (suc j)) i (omega arith))
 
--- "Called with k from 0 to d + e, it leaves the whole product."
+-- S35: "Called with k from 0 to d + e, it leaves the whole product."
 pub words-in-order : {W : Width} {n value status : ℕ} {f g out out' out'' : List ℕ}
     → WordCalls W n f g (tabulate (suc (deg f + deg g)) (λ k. k)) out out' → ProductAnswer W n f g out out'' value status → out' ≡ out''
 words-in-order {f = f} {g = g} calls p =

@@ -1,4 +1,4 @@
-// One word of the product of two polynomials as a service: from any words and lengths an answer, or a numbered refusal, those of the
+// One word of the product of two polynomials as a service (S35): from any words and lengths an answer, or a numbered refusal, those of the
 // product. Polynomials are lent words, the constant first. A host that calls it with k from 0 to d + e has the product written word by
 // word, and may read each word before the next is made.
 //
@@ -7,7 +7,7 @@ ghost use Rattle.refusals.specs.Refusals.{narrow};
 ghost use Rattle.polynomial_word.specs.ProductWord.{ProductWordAnswer};
 use refusals::Answer;
 
-// "writes word k of the product alone; every other word stays as found, and a k above d + e writes nothing"
+// S35: "writes word k of the product alone; every other word stays as found, and a k above d + e writes nothing"
 pub fn product_word(n: u32, f: &[u32], g: &[u32], out: &mut [u32], k: usize) -> Answer
     ensures { λ r. ⌜ ProductWordAnswer narrow n (now (f .entry)) (now (g .entry)) k (now (out .entry)) (now (out .exit))
         (r .value) (r .status) ⌝ }

@@ -24,7 +24,7 @@ use Rattle.reduced_cofactors.specs.Cofactors.{Certified, core-room}
 use Rattle.reduced_attempt.specs.declared.Trial.{Trial}
 use Rattle.reduced_attempt.specs.declared.Trial.the-variants.{Found, Divisors, Nilpotent}
 
--- "D runs from 1 to n and divides n": a factor of it that f and g have in common
+-- S11: "D runs from 1 to n and divides n": a factor of it that f and g have in common
 pub record CommonContent (n : ℕ) (f g : List ℕ) (c : ℕ) : Type 0 where
   pub divides-n : c ∣ n
   pub divides-f : (k : ℕ) → c ∣ coef f k % n

@@ -37,8 +37,8 @@ pub record CoreAsked (n d e t i : ℕ) (w x y : List ℕ) : Type 0 where
   pub first : Below n (e + 1) (d + 1) w
   pub lead : LeadingUnit n t i (piece w (e + 1) (d + 1))
 
--- "some polynomials u and v, of any degree, make uf + vg equal to c modulo n; it is reached exactly when D divides c": D, and u and v for
--- c = D, "zeros above"
+-- S10, S11: "some polynomials u and v, of any degree, make uf + vg equal to c modulo n; it is reached exactly when D divides c": D, and u
+-- and v for c = D, "zeros above"
 pub record Certified (n len : ℕ) (f g u v : List ℕ) (D : ℕ) : Type 0 where
   pub reduced : Reduced n f g D
   pub combination : Combination n f g u v D

@@ -1,4 +1,4 @@
-// "The reduced run passes between two stages, each calling the other: one divides by a monic polynomial, one clears content and unit
+// S81: "The reduced run passes between two stages, each calling the other: one divides by a monic polynomial, one clears content and unit
 // factors." Each calls the other on a falling number built of the degree and the modulus.
 //
 // A stage's window w (reduced_units/specs/States has the whole layout):

@@ -1,4 +1,5 @@
--- "A refusal comes under the listed condition and under no other": what the tests mean, in the words of the definitions, over any width.
+-- S22: "A refusal comes under the listed condition and under no other": what the tests mean, in the words of the definitions, over any
+-- width.
 --
 --   ServedModulus, ServedLength     what passes the refusals 1 and 2
 --   Fails b P                       the test b says that P does not hold
@@ -23,12 +24,12 @@ use Rattle.definitions.specs.Polynomials.{coef, Residues}
 use Rattle.refusals.specs.Refusals.{Width, narrow, bad-modulus, bad-length, all-below, short}
 use Rattle.refusals.specs.Refusals.{Tested, first-of, first-refusal, refusals-one, refusals-two}
 
--- "Modulus n: 2 to" the width's bound
+-- S3: "Modulus n: 2 to" the width's bound
 pub record ServedModulus (W : Width) (n : ℕ) : Type 0 where
   pub least : 2 ≤ n
   pub most : n < W .bound
 
--- "A polynomial of sent degree d is d + 1 words … with d from 0 to 48."
+-- S5: "A polynomial of sent degree d is d + 1 words … with d from 0 to 48."
 pub record ServedLength (f : List ℕ) : Type 0 where
   pub some : 1 ≤ length f
   pub few : length f ≤ 49
@@ -117,7 +118,7 @@ FirstFailing [] c s = ⊥
 FirstFailing (t ∷ r) [] s = ⊥
 FirstFailing (t ∷ r) (P ∷ c) s = ((P → ⊥) × (s ≡ t .0)) ⊎ (P × FirstFailing r c s)
 
--- "A refusal comes under the listed condition and under no other": 0 exactly where all conditions hold
+-- S22: "A refusal comes under the listed condition and under no other": 0 exactly where all conditions hold
 pub status-zero : (t : List Tested) (c : List (Type 0)) → Listed t c → (first-refusal t ≡ 0 → Passed c) × (Passed c → first-refusal t ≡ 0)
 status-zero [] [] h = (λ _. tt, λ _. refl)
 status-zero [] (P ∷ c) h = absurd h
@@ -194,7 +195,7 @@ accepted-two W n f g h =
       },
     )
 
--- a word of 32 bits is below the bound: refusal 1 is "n is 0 or 1" there
+-- S29: a word of 32 bits is below the bound: refusal 1 is "n is 0 or 1" there
 pub narrow-bound : (n : ℕ) → n < 2 ^ 32 → bad-modulus narrow n ≡ ltb n 2
 narrow-bound n l = go (ltb n 2)
   where

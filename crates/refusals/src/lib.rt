@@ -1,4 +1,4 @@
-// The refusals that every service shares, and the answer of a service.
+// The refusals that every service shares (S22, S29), and the answer of a service (S21).
 //
 //   bad_modulus, bad_length, all_below    the tests of the refusals 1, 2 and 3
 //   refusal_one, refusal_two              the first of them that applies to one polynomial, or to two
@@ -79,7 +79,7 @@ fn refusal_lengths(f: &[u32], g: &[u32]) -> u32
     0
 }
 
-// Refusal 3 of two polynomials; 0 where it does not apply. A word is read only where both lengths are served.
+// Refusal 3 of two polynomials; 0 where it does not apply. A word is read only where both lengths are served (S93).
 fn refusal_words(n: u32, f: &[u32], g: &[u32]) -> u32
     requires { ⌜ ServedLength (now f) × ServedLength (now g) ⌝ }
     ensures { λ r. ⌜ r ≡ first-refusal ((3, not (all-below n (now (f .entry)))) ∷ (3, not (all-below n (now (g .entry)))) ∷ []) ⌝ }

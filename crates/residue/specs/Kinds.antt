@@ -1,4 +1,4 @@
--- The kind of a residue as document 01 has it: "every residue is one of three: unit with its inverse, nilpotent, or splitting with
+-- The kind of a residue (S13): "every residue is one of three: unit with its inverse, nilpotent, or splitting with
 -- two factors."
 --
 --   KindOf n a r    the answer r is true of the residue a modulo n
@@ -37,7 +37,7 @@ pub record TheKind (n a : ℕ) : Type 0 where
   pub is : KindOf n a kind
   pub only : (r : Kind) → KindOf n a r → r ≡ kind
 
--- "every residue is one of three"
+-- S13: "every residue is one of three"
 pub kind-one : (n a : ℕ) → 2 ≤ n → TheKind n a
 kind-one n a l =
     ⊎-elim (λ (u : IsUnit n a). the (Unit' (u .inverse)) (u .is))

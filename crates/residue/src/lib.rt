@@ -13,7 +13,7 @@ ghost use Rattle.definitions.specs.Residues.{K, GcdWithCofactors, LeastCofactor
 ghost use Rattle.residue.specs.Kinds.{KindOf};
 ghost use Rattle.residue.specs.Moduli.{CoprimeModuli};
 
-// "unit with its inverse, nilpotent, or splitting with two factors"
+// S13, S79: "unit with its inverse, nilpotent, or splitting with two factors"
 pub enum Kind {
     Unit(u32),
     Nilpotent,
@@ -98,8 +98,8 @@ fn least(m: u32, g: u32, s: u32) -> u32
     s % p
 }
 
-// "g = gcd(a, b, n) from 1 to n, with residues s and t so that s times a plus t times b is g modulo n." (01) "s is the least number from
-// 0 upward for which some t fits, and t is then the least that fits." (02, W7) The divisor h of n and b is t1 b modulo n, and g, that of h
+// S14: "g = gcd(a, b, n) from 1 to n, with residues s and t so that s times a plus t times b is g modulo n." "s is the least number from
+// 0 upward for which some t fits, and t is then the least that fits." The divisor h of n and b is t1 b modulo n, and g, that of h
 // and a, is s a + (1 - c) h. What differs from s by a multiple of h / g serves as well, and what differs from t by one of n / h.
 pub fn gcd_with_cofactors(n: u32, a: u32, b: u32) -> Cofactors
     requires { ⌜ 1 ≤ n ⌝ }
@@ -123,7 +123,7 @@ pub struct Modulus {
     pub k: u32,
 }
 
-// "K is the largest whole number with 2^K <= n."
+// S4, S75: "K is the largest whole number with 2^K <= n."
 pub fn modulus_of(n: u32) -> Modulus
     ensures { λ r. ⌜ (r .n ≡ n) × (r .k ≡ K n) ⌝ }
 {

@@ -1,10 +1,10 @@
--- What the residue services answer, over any width W. Each refuses with 1, then 3, and the value is 0 then.
+-- What the residue services answer (S30 to S33), over any width W. Each refuses with 1, then 3, and the value is 0 then.
 --
 --   refusals-residue, refusals-residues    the refusals of one residue and of two, in their order
 --   ResidueAnswer t x                      all that is promised of a service with the refusals t and the value x
 --   SumAnswer, DifferenceAnswer, ResidueProductAnswer, PowerAnswer    the same of each service
 --   GcdPromised                            all that is promised of the gcd with cofactors
---   answer-number, answer-values           document 01's number and values for each case of the answer on a residue's kind
+--   answer-number, answer-values           the number and the values for each case of the answer on a residue's kind (S79)
 --   KindPromised                           all that is promised of the kind
 --   residue-listed, residues-listed        each refusal under its condition and no other
 --   values-one                             the values that are true of a residue are one list
@@ -24,14 +24,14 @@ use Rattle.residue.specs.Kinds.{KindOf, kind-unique}
 use Rattle.residue_services.specs.declared.KindAnswer.{KindAnswer}
 use Rattle.residue_services.specs.declared.KindAnswer.the-variants.{Known, Refused}
 
--- "3: … a single residue given, is n or more."
+-- S29: "3: … a single residue given, is n or more."
 abbrev pub refusals-residue : Width → ℕ → ℕ → List Tested
 refusals-residue W n a = (1, bad-modulus W n) ∷ (3, not (ltb a n)) ∷ []
 
 abbrev pub refusals-residues : Width → ℕ → ℕ → ℕ → List Tested
 refusals-residues W n a b = (1, bad-modulus W n) ∷ (3, not (ltb a n)) ∷ (3, not (ltb b n)) ∷ []
 
--- "Each returns its number and value 0"
+-- S23: "Each returns its number and value 0"
 pub record ResidueAnswer (t : List Tested) (x value status : ℕ) : Type 0 where
   pub status-is : status ≡ first-refusal t
   pub value-is : value ≡ answered status x
@@ -49,8 +49,8 @@ ResidueProductAnswer W n a b value status = ResidueAnswer (refusals-residues W n
 abbrev pub PowerAnswer : Width → (n a k value status : ℕ) → Type 0
 PowerAnswer W n a k value status = ResidueAnswer (refusals-residue W n a) ((a ^ k) % n) value status
 
--- "g = gcd(a, b, n) from 1 to n, with residues s and t so that s times a plus t times b is g modulo n." (01); "s is the least number from 0
--- upward for which some t fits, and t is then the least that fits." (02, W7); 0 for each after a refusal
+-- S14: "g = gcd(a, b, n) from 1 to n, with residues s and t so that s times a plus t times b is g modulo n."; "s is the least number from 0
+-- upward for which some t fits, and t is then the least that fits."; 0 for each after a refusal
 abbrev pub GcdValues : (status n a b g s t : ℕ) → Type 0
 GcdValues zero n a b g s t = GcdWithCofactors n a b g s t × LeastCofactors n a b g s t
 GcdValues (suc r) n a b g s t = (g ≡ 0) × ((s ≡ 0) × (t ≡ 0))

@@ -1,4 +1,4 @@
-// The residue services: single residues modulo n, from any words. Each refuses with 1 where n is 0 or 1, then with 3 where a
+// The residue services (S30 to S33): single residues modulo n, from any words. Each refuses with 1 where n is 0 or 1, then with 3 where a
 // residue is n or more, and answers 0 then.
 //
 //   sum, difference, product, power
@@ -108,8 +108,8 @@ pub fn power(n: u32, a: u32, k: usize) -> Answer
     }
 }
 
-// "g = gcd(a, b, n) from 1 to n, with residues s and t so that s times a plus t times b is g modulo n." (01) "s is the least number from
-// 0 upward for which some t fits, and t is then the least that fits." (02, W7)
+// S14: "g = gcd(a, b, n) from 1 to n, with residues s and t so that s times a plus t times b is g modulo n." "s is the least number from
+// 0 upward for which some t fits, and t is then the least that fits."
 pub fn gcd_with_cofactors(n: u32, a: u32, b: u32) -> GcdAnswer
     ensures { λ r. ⌜ GcdPromised narrow n a b (r .g) (r .s) (r .t) (r .status) ⌝ }
 {
@@ -131,7 +131,7 @@ pub fn gcd_with_cofactors(n: u32, a: u32, b: u32) -> GcdAnswer
     }
 }
 
-// "unit with its inverse, nilpotent, or splitting with two factors"
+// S13: "unit with its inverse, nilpotent, or splitting with two factors"
 pub fn classify(n: u32, a: u32) -> KindAnswer
     ensures { λ r. ⌜ KindPromised narrow n a r ⌝ }
 {

@@ -1,4 +1,4 @@
--- What the resultant answers, and what it leaves in every lent word, over any width W. f and g are the polynomials sent.
+-- What the resultant answers (S42), and what it leaves in every lent word, over any width W. f and g are the polynomials sent.
 --
 --   resultant-refusals, resultant-status    the refusals in their order, and the number of the first that applies
 --   ResultantAnswer                         all that is promised of a call

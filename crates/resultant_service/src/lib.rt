@@ -1,4 +1,4 @@
-// The resultant as a service: from any words and lengths an answer, or a numbered refusal.
+// The resultant as a service (S42): from any words and lengths an answer, or a numbered refusal.
 ghost use Rattle.refusals.specs.Refusals.{narrow};
 ghost use Rattle.resultant_service.specs.ResultantService.{ResultantAnswer};
 use refusals::Answer;

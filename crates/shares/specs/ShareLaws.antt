@@ -15,8 +15,8 @@ use Rattle.shares.specs.GivingOut.{Giving, given-out}
 use Rattle.shares.specs.SharesService.{share-refusals, ServedFrames, SharesAnswer, shares-listed}
 use Rattle.shares.specs.GivingLaws.{After, after, total-less}
 
--- "Each group gets at least its waiting count or a fourth of N rounded down, if that is less, however much others send." None gets more
--- than waits. All that waits goes in, or n frames. Of two groups that wait for more than they get, one gets at most one more.
+-- S60: "Each group gets at least its waiting count or a fourth of N rounded down, if that is less, however much others send." None gets
+-- more than waits. All that waits goes in, or n frames. Of two groups that wait for more than they get, one gets at most one more.
 pub record FairShares (n : ℕ) (w g : List ℕ) : Type 0 where
   pub least : (i : ℕ) → i < 4 → min (getD w i 0) (n / 4) ≤ getD g i 0
   pub most : (i : ℕ) → getD g i 0 ≤ getD w i 0

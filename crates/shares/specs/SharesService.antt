@@ -1,4 +1,4 @@
--- What the planner answers: n is the number of frames of the run, and w what waits of each group.
+-- What the planner answers (S59): n is the number of frames of the run, and w what waits of each group.
 --
 --   bad-frames, ServedFrames     the test of refusal 15, and what passes it
 --   share-refusals               the refusals
@@ -15,14 +15,14 @@ use Rattle.refusals.specs.Refusals.{Tested, first-refusal}
 use Rattle.refusals.specs.Conditions.{Listed, Fails, short-fails}
 use Rattle.shares.specs.GivingOut.{given-out}
 
--- "It refuses with 15 an N outside the range", "N from 1 to 1024"
+-- S59: "It refuses with 15 an N outside the range", "N from 1 to 1024"
 abbrev pub bad-frames : ℕ → Bool
 bad-frames n = cond (ltb n 1) true (ltb 1024 n)
 
 abbrev pub share-refusals : ℕ → List Tested
 share-refusals n = (15, bad-frames n) ∷ []
 
--- "and all four counts are then 0"
+-- S59: "and all four counts are then 0"
 abbrev pub shared : ℕ → ℕ → List ℕ → List ℕ
 shared zero n w = given-out n w
 shared (suc s) n w = 0 ∷ 0 ∷ 0 ∷ 0 ∷ []

@@ -1,4 +1,4 @@
-// The planner of a run: how many jobs of each of four groups go into a run of frames.
+// The planner of a run (S59): how many jobs of each of four groups go into a run of frames.
 //
 //   Plan             the four counts, and a status
 //   first_waiting    the group that gets the next frame

@@ -42,7 +42,8 @@ same-text [] (b ∷ t) = false
 same-text (a ∷ s) [] = false
 same-text (a ∷ s) (b ∷ t) = cond (eqb a b) (same-text s t) false
 
--- "Coefficients are decimal from 1 to n - 1"; "A text that is read is the text that would be written": s is the text of the words g
+-- S55, S58: "Coefficients are decimal from 1 to n - 1"; "A text that is read is the text that would be written": s is the text of the words
+-- g
 abbrev pub is-text-of : ℕ → List ℕ → List ℕ → Bool
 is-text-of n s g = all-below n g && same-text s (text g)
 

@@ -1,4 +1,4 @@
--- Polynomials as text (paper 02, W13). A text is a list of characters by their codes; 42 is the star, 43 the plus sign, 48 the
+-- Polynomials as text (S55). A text is a list of characters by their codes; 42 is the star, 43 the plus sign, 48 the
 -- digit 0, 94 the circumflex and 120 the x. A polynomial f is its words, constant first.
 --
 --   decimal x                 the digits of x
@@ -23,11 +23,11 @@ unfoldable pub digits-within : ℕ → ℕ → List ℕ
 digits-within zero x = []
 digits-within (suc k) x = elim (ltb x 10) [ true ↦ (48 + x) ∷ [] | false ↦ digits-within k (x / 10) ++ ((48 + x % 10) ∷ []) ]
 
--- "decimal …, no number has a leading zero"
+-- S55: "decimal …, no number has a leading zero"
 abbrev pub decimal : ℕ → List ℕ
 decimal x = digits-within (suc x) x
 
--- "for power 1 the two characters `*x`, for a higher power k the characters `*x^` and then k in decimal"
+-- S55: "for power 1 the two characters `*x`, for a higher power k the characters `*x^` and then k in decimal"
 abbrev pub power-text : ℕ → List ℕ
 power-text zero = []
 power-text (suc zero) = 42 ∷ 120 ∷ []
@@ -38,18 +38,18 @@ abbrev pub term : ℕ → ℕ → List ℕ
 term zero k = []
 term (suc c) k = decimal (suc c) ++ power-text k
 
--- "joined by a plus sign"
+-- S55: "joined by a plus sign"
 abbrev pub plus-joined : List ℕ → List ℕ → List ℕ
 plus-joined [] t = t
 plus-joined (a ∷ s) [] = a ∷ s
 plus-joined (a ∷ s) (b ∷ t) = (a ∷ s) ++ (43 ∷ b ∷ t)
 
--- "Terms run from high power to low"
+-- S55: "Terms run from high power to low"
 unfoldable pub terms : ℕ → List ℕ → List ℕ
 terms k [] = []
 terms k (c ∷ f) = plus-joined (terms (suc k) f) (term c k)
 
--- "the zero polynomial is 0"
+-- S55: "the zero polynomial is 0"
 abbrev pub or-zero : List ℕ → List ℕ
 or-zero [] = 48 ∷ []
 or-zero (a ∷ s) = a ∷ s
@@ -62,15 +62,15 @@ abbrev pub last-place : TrueDegree → ℕ
 last-place none = 0
 last-place (place k) = k
 
--- "with zero top words dropped; a zero polynomial comes back as the single word 0"
+-- S58: "with zero top words dropped; a zero polynomial comes back as the single word 0"
 abbrev pub dropped : List ℕ → List ℕ
 dropped f = take (suc (last-place (true-degree f))) f
 
--- "needs 49 words, zeros above", "needs 800 bytes, zeros above": x with zeros up to m words or bytes
+-- S56, S57: "needs 49 words, zeros above", "needs 800 bytes, zeros above": x with zeros up to m words or bytes
 abbrev pub padded : ℕ → List ℕ → List ℕ
 padded m x = x ++ replicate (m - length x) 0
 
--- "A text that is read is the text that would be written": f is what s is read as
+-- S58: "A text that is read is the text that would be written": f is what s is read as
 pub record TextOf (n : ℕ) (s f : List ℕ) : Type 0 where
   pub some : 1 ≤ length f
   pub few : length f ≤ 49

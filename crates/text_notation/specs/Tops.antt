@@ -112,6 +112,6 @@ padded-dropped f h =
 pub text-dropped : (f : List ℕ) → 1 ≤ length f → text (dropped f) ≡ text f
 text-dropped f h = sym (text-padded (length f) (dropped f)) ∙ ap text (padded-dropped f h)
 
--- "a zero polynomial comes back as the single word 0"
+-- S58: "a zero polynomial comes back as the single word 0"
 pub dropped-zeros : (m : ℕ) → dropped (replicate (suc m) 0) ≡ 0 ∷ []
 dropped-zeros m = ap (λ (e : ℕ). take (suc (kept e)) (replicate (suc m) 0)) (extent-zeros (suc m))

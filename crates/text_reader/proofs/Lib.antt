@@ -1,3 +1,2 @@
-pub mod Comparing
-pub mod Gathering
+pub mod Copying
 pub mod Returning

@@ -28,8 +28,9 @@ use Rattle.text_notation.specs.Lengths.{long-other}
 use Rattle.text_notation.specs.Tops.{dropped-within, dropped-length, padded-dropped}
 use Rattle.text_notation.specs.Candidates.{gathered, same-text, is-text-of, is-text}
 use Rattle.text_notation.specs.NotationLaws.{gathered-length, text-found, residues-below, test-same}
-use Rattle.text_reader.specs.TextReader.{in-word, HandedOver, WordsAnswer, ReadAnswer}
-use Rattle.text_reader.proofs.Gathering.{fits-in-word}
+use Rattle.text_gathering.specs.InWord.{in-word}
+use Rattle.text_gathering.proofs.Gathering.{fits-in-word}
+use Rattle.text_reader.specs.TextReader.{HandedOver, WordsAnswer, ReadAnswer}
 
 and-false : (a : Bool) → (a && false) ≡ false
 and-false true = refl

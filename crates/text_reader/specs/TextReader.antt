@@ -1,26 +1,20 @@
 -- What the reader answers, and what it leaves in every lent word, over any width W. s is the text, w the words lent.
 --
---   in-word y                      y as a word of 32 bits
 --   read-refusals, read-status     the refusals in their order, and the number of the first that applies
 --   ReadAnswer                     all that is promised of a call
 --   HandedOver, WordsAnswer        the parts of it: the words of a text handed over, and the answer to them
 --   read-listed                    each refusal under its condition and no other
 use mathlib.Core.Path.{_≡_}
-use mathlib.Core.Bool.{not, cond}
+use mathlib.Core.Bool.{not}
 use mathlib.Core.List.{List, [], _∷_}
 use Prim.Native.Nat.{ℕ, _≤_}
 use native.Mathlib.Omega.{arith}
-use lib.Dec.{ltb}
 use lib.ListN.{length}
 use Rattle.refusals.specs.Refusals.{Width, Tested, bad-modulus, all-below, short, first-refusal, answered, replaced}
 use Rattle.refusals.specs.Conditions.{Listed, ServedModulus, modulus-fails, short-fails}
 use Rattle.text_notation.specs.Notation.{dropped, padded, TextOf}
 use Rattle.text_notation.specs.Candidates.{is-text}
 use Rattle.text_notation.specs.NotationLaws.{text-fails}
-
--- a number that does not fit counts as the largest word
-abbrev pub in-word : ℕ → ℕ
-in-word y = cond (ltb y 4294967296) y 4294967295
 
 -- "It refuses with 17 any other text or a power above 48, tested after 1 and before 6"; l is the number of words lent: "needs 49 words"
 abbrev pub read-refusals : Width → ℕ → List ℕ → ℕ → List Tested

@@ -1,4 +1,4 @@
--- What the writer answers, and what it leaves in every lent byte, over any width W. f is the polynomial sent, t the bytes lent.
+-- What the writer answers (S56), and what it leaves in every lent byte, over any width W. f is the polynomial sent, t the bytes lent.
 --
 --   write-refusals, write-status     the refusals in their order, and the number of the first that applies
 --   WriteAnswer                      all that is promised of a call
@@ -19,7 +19,7 @@ write-refusals W n f l = refusals-one W n f ++ ((6, short l 800) ∷ [])
 abbrev pub write-status : Width → ℕ → List ℕ → ℕ → ℕ
 write-status W n f l = first-refusal (write-refusals W n f l)
 
--- "the writer answers the number of characters and needs 800 bytes, zeros above"; "What lies beyond those … 800 bytes is unchanged"
+-- S56: "the writer answers the number of characters and needs 800 bytes, zeros above"; "What lies beyond those … 800 bytes is unchanged"
 pub record WriteAnswer (W : Width) (n : ℕ) (f t t' : List ℕ) (value status : ℕ) : Type 0 where
   pub status-is : status ≡ write-status W n f (length t)
   pub value-is : value ≡ answered status (length (text f))

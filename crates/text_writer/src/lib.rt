@@ -1,4 +1,4 @@
-// A polynomial as text (paper 02, W13), as a service: from any words an answer, or a numbered refusal. What a text is stands in
+// A polynomial as text (S55), as a service (S56): from any words an answer, or a numbered refusal. What a text is stands in
 // text_notation/specs/Notation.antt. Characters are bytes by their codes: 42 is the star, 43 the plus sign, 48 the digit 0,
 // 94 the circumflex and 120 the x.
 //
@@ -28,7 +28,7 @@ fn put_number(out: &mut [u8], at: usize, x: u32) -> usize
     end + 1
 }
 
-// "for power 1 the two characters `*x`, for a higher power k the characters `*x^` and then k in decimal"
+// S55: "for power 1 the two characters `*x`, for a higher power k the characters `*x^` and then k in decimal"
 fn put_power(out: &mut [u8], at: usize, k: usize) -> usize
     requires { ⌜ (at + length (power-text k) ≤ length (now out)) × (k ≤ 48) ⌝ }
     ensures { λ r. ⌜ Put (power-text k) at r (now (out .entry)) (now (out .exit)) ⌝ }
@@ -45,7 +45,7 @@ fn put_power(out: &mut [u8], at: usize, k: usize) -> usize
     put_number(out, at + 3, k as u32)
 }
 
-// "joined by a plus sign": none before the first term
+// S55: "joined by a plus sign": none before the first term
 fn put_plus(out: &mut [u8], at: usize) -> usize
     requires { ⌜ at + 1 ≤ length (now out) ⌝ }
     ensures { λ r. ⌜ Put (plus at) at r (now (out .entry)) (now (out .exit)) ⌝ }
@@ -70,7 +70,7 @@ fn put_term(out: &mut [u8], at: usize, c: u32, k: usize) -> usize
     put_power(out, after, k)
 }
 
-// "Terms run from high power to low": the text of f, and its length.
+// S55: "Terms run from high power to low": the text of f, and its length.
 pub fn put_text(f: &[u32], out: &mut [u8]) -> usize
     requires { ⌜ Room (now f) (now out) ⌝ }
     ensures { λ r. ⌜ Put (text (now (f .entry))) 0 r (now (out .entry)) (now (out .exit)) ⌝ }
@@ -100,7 +100,7 @@ fn put_zeros(out: &mut [u8], at: usize, end: usize)
     }
 }
 
-// "the writer answers the number of characters and needs 800 bytes, zeros above"
+// S56: "the writer answers the number of characters and needs 800 bytes, zeros above"
 pub fn write_text(n: u32, f: &[u32], text: &mut [u8]) -> Answer
     ensures { λ r. ⌜ WriteAnswer narrow n (now (f .entry)) (now (text .entry)) (now (text .exit)) (r .value) (r .status) ⌝ }
 {

@@ -1,4 +1,4 @@
--- The worked examples of document 01, checked against the definitions, and values from outside: K and L, the kinds of residues, division,
+-- The worked examples of S91, checked against the definitions, and values from outside: K and L, the kinds of residues, division,
 -- unit times monic, inverse, true degree, the row that is not starred, and products and resultants that another program gave.
 --
 --   k-of-12, k-of-largest, length-of-cofactors, longest-cofactor    K and L
@@ -19,7 +19,7 @@ use Rattle.definitions.specs.Resultants.{resultant}
 use Rattle.theory.specs.Computed.{below-by, multiplied-by, divided-by, inverse-by}
 use Rattle.theory.specs.StarredRows.{Holds, sound}
 
--- "K is the largest whole number with 2^K <= n", at 12 and at the largest modulus
+-- S4: "K is the largest whole number with 2^K <= n", at 12 and at the largest modulus
 k-of-12 : K 12 ≡ 3
 unfolding K halvings
 k-of-12 = refl
@@ -28,7 +28,7 @@ k-of-largest : K 4294967295 ≡ 31
 unfolding K halvings
 k-of-largest = refl
 
--- "Cofactor length L = K times the larger sent degree, plus 1"
+-- S19: "Cofactor length L = K times the larger sent degree, plus 1"
 length-of-cofactors : L 12 1 2 ≡ 7
 unfolding K halvings
 length-of-cofactors = refl
@@ -37,7 +37,7 @@ longest-cofactor : L 4294967295 48 48 ≡ 1489
 unfolding K halvings
 longest-cofactor = refl
 
--- "Modulo 12: 5 unit, 6 nilpotent, 2 splits into 4 and 3."
+-- S91: "Modulo 12: 5 unit, 6 nilpotent, 2 splits into 4 and 3."
 unit-5 : Inverse 12 5 5
 unit-5 = record { below = omega arith; one = refl }
 
@@ -54,7 +54,7 @@ splits-2 = record {
   unit = record { inverse = 2; is = record { below = omega arith; one = refl } };
 }
 
--- "1,0,1 divided by 1,5 modulo 12: quotient 11,5, remainder 2."
+-- S91: "1,0,1 divided by 1,5 modulo 12: quotient 11,5, remainder 2."
 division-12 : Division 12 (1 ∷ 0 ∷ 1 ∷ []) (1 ∷ 5 ∷ []) (11 ∷ 5 ∷ []) (2 ∷ [])
 division-12 = record {
   length-q = refl;
@@ -65,7 +65,7 @@ division-12 = record {
   equation = divided-by 12 (1 ∷ 0 ∷ 1 ∷ []) (1 ∷ 5 ∷ []) (11 ∷ 5 ∷ []) (2 ∷ []) tt;
 }
 
--- "Modulo 4: 3,1,2 is 3,2 times 1,1", the parts filled up to three words
+-- S91: "Modulo 4: 3,1,2 is 3,2 times 1,1", the parts filled up to three words
 factors-4 : UnitTimesMonic 4 (3 ∷ 1 ∷ 2 ∷ []) 1 (3 ∷ 2 ∷ 0 ∷ []) (1 ∷ 1 ∷ 0 ∷ [])
 factors-4 = record {
   length-u = refl;
@@ -93,7 +93,7 @@ factors-4 = record {
   equation = multiplied-by 4 (3 ∷ 1 ∷ 2 ∷ []) (3 ∷ 2 ∷ 0 ∷ []) (1 ∷ 1 ∷ 0 ∷ []) tt;
 }
 
--- "Modulo 8 the inverse of 1,2 is 1,6,4", filled up to K d + 1 = 4 words
+-- S91: "Modulo 8 the inverse of 1,2 is 1,6,4", filled up to K d + 1 = 4 words
 inverse-8 : InverseOf 8 (1 ∷ 2 ∷ []) (1 ∷ 6 ∷ 4 ∷ 0 ∷ [])
 unfolding K halvings
 inverse-8 = record {
@@ -102,7 +102,7 @@ inverse-8 = record {
   equation = inverse-by 8 (1 ∷ 2 ∷ []) (1 ∷ 6 ∷ 4 ∷ 0 ∷ []) tt;
 }
 
--- "the place of the highest nonzero coefficient"
+-- S18: "the place of the highest nonzero coefficient"
 degree-below-zeros : true-degree (2 ∷ 1 ∷ 0 ∷ []) ≡ place 1
 unfolding extent
 degree-below-zeros = refl
@@ -116,7 +116,8 @@ largest-modulus : Holds (record { n = 4294967295; f = 4294967294 ∷ []; g = 0 �
 unfolding resultant expansion
 largest-modulus = sound _ (record { u = 4294967294 ∷ []; v = []; w = 0 ∷ 1 ∷ []; a = []; b = [] }) tt
 
--- "A content of f taken out as a factor of D though the top word of g is no unit: modulo 4, f = 2 and g = 1,2 would give 2, and D is 1."
+-- S92: "A content of f taken out as a factor of D though the top word of g is no unit: modulo 4, f = 2 and g = 1,2 would give 2, and D is
+-- 1."
 content-stays : Holds (record { n = 4; f = 2 ∷ []; g = 1 ∷ 2 ∷ []; value = 2; D = 1 })
 unfolding resultant expansion
 content-stays = sound _ (record { u = []; v = 1 ∷ 2 ∷ []; w = 0 ∷ 1 ∷ []; a = []; b = [] }) tt

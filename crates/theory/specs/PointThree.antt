@@ -1,6 +1,6 @@
--- Point 3, the law of products, as one claim about seven answers modulo one n: the product of f and g, then the resultant and the reduced
--- resultant of that product, of f and of g, each as first polynomial with h as second. It is about any seven answers that are what the
--- definitions say, so about whatever functions give them.
+-- Point 3, the law of products (S61), as one claim about seven answers modulo one n: the product of f and g, then the resultant and the
+-- reduced resultant of that product, of f and of g, each as first polynomial with h as second. It is about any seven answers that are what
+-- the definitions say, so about whatever functions give them.
 --
 --   SevenAnswers     what the product, the resultant and the reduced resultant promise of the seven answers
 --   LawOfProducts    what then holds between them
@@ -15,7 +15,7 @@ use Rattle.definitions.specs.Resultants.{resultant, Reduced}
 use Rattle.theory.specs.ReachedLaws.{reduced-product}
 use Rattle.theory.specs.ResultantLaws.{law-of-products}
 
--- "They are the product of f and g, then the resultant and the D of that product, of f and of g, each as first polynomial with h as
+-- S61: "They are the product of f and g, then the resultant and the D of that product, of f and of g, each as first polynomial with h as
 -- second."
 pub record SevenAnswers (n : ℕ) (f g h p : List ℕ) (r rf rg D Df Dg : ℕ) : Type 0 where
   pub product-of : p ≡ product n f g
@@ -26,7 +26,7 @@ pub record SevenAnswers (n : ℕ) (f g h p : List ℕ) (r rf rg D Df Dg : ℕ) :
   pub reduced-of-first : Reduced n f h Df
   pub reduced-of-second : Reduced n g h Dg
 
--- "The resultants are compared as residues from 0 to n - 1, the three D as whole numbers."
+-- S61: "The resultants are compared as residues from 0 to n - 1, the three D as whole numbers."
 pub record LawOfProducts (n r rf rg D Df Dg : ℕ) : Type 0 where
   pub resultants : r ≡ (rf * rg) % n
   pub multiple-of-first : Df ∣ D

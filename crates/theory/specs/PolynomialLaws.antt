@@ -1,5 +1,5 @@
 -- Polynomials modulo n as lists of words: division by a polynomial whose top word is a unit exists and is unique, a unit polynomial has an
--- inverse, and what document 01 calls fixed is fixed: quotient and remainder, unit and monic part, the inverse.
+-- inverse, and what S15 to S17 determine is unique: quotient and remainder, unit and monic part, the inverse.
 --
 --   equal-words               lists of residues with one length are equal where their series are
 --   Quotients                 a quotient and a remainder
@@ -74,8 +74,8 @@ pub record Quotients (n : ℕ) (f g : List ℕ) : Type 0 where
   pub r : List ℕ
   pub is : Division n f g q r
 
--- "Division by a polynomial whose top word is a unit: f = qg + r, r of e words (none for e = 0), q of d - e + 1 words, or one zero word if
--- d < e."
+-- S15: "Division by a polynomial whose top word is a unit: f = qg + r, r of e words (none for e = 0), q of d - e + 1 words, or one zero
+-- word if d < e."
 pub division-exists : (n : ℕ) → 1 ≤ n → (f g : List ℕ) → IsUnit n (coef g (deg g)) → Quotients n f g
 division-exists zero l f g U = absurd (omega arith)
 division-exists (suc m) l f g U = record { q = q; r = r; is = is }
@@ -153,7 +153,7 @@ unit-polynomial-inverse (suc m) l u U = record { w = w; is = record { at = λ k.
         ∙ ap (λ (x : ℕ → Res m). conv (Res-ring m) x (words m u) k) (fun-ext (words-spell m (I .finite .size) (I .w) (I .finite .short)))
         ∙ ap (λ (x : ℕ → Res m). x k) (I .eq) ∙ sym (constant-is m 1 k)
 
--- "Its inverse fits in K times d, plus 1, words": whatever fits is one list
+-- S16: "Its inverse fits in K times d, plus 1, words": whatever fits is one list
 pub inverse-of-unique : (n : ℕ) → 1 ≤ n → (u w w′ : List ℕ) → InverseOf n u w → InverseOf n u w′ → w ≡ w′
 inverse-of-unique zero l u w w′ i i′ = absurd (omega arith)
 inverse-of-unique (suc m) l u w w′ i i′ =
@@ -161,7 +161,7 @@ inverse-of-unique (suc m) l u w w′ i i′ =
     (λ k. ap (λ (x : ℕ → Res m). x k) (inverse-unique (series (Res-ring m)) (words m u) (words m w) (words m w′)
     (inverse-is m u w (record { at = i .equation })) (inverse-is m u w′ (record { at = i′ .equation }))))
 
--- "Both are fixed by this."
+-- S17: "Both are fixed by this."
 pub unit-times-monic-unique : (n : ℕ) → 2 ≤ n → (f : List ℕ) (t t′ : ℕ) (u u′ h h′ : List ℕ) → UnitTimesMonic n f t u h
     → UnitTimesMonic n f t′ u′ h′ → (t ≡ t′) × ((u ≡ u′) × (h ≡ h′))
 unit-times-monic-unique zero l f t t′ u u′ h h′ a b = absurd (omega arith)

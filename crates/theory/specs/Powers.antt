@@ -1,4 +1,4 @@
--- How far the resultant r and the reduced resultant D can differ (02, W11). "When the top word of f is a unit, D divides the resultant, and
+-- How far the resultant r and the reduced resultant D can differ (S62). "When the top word of f is a unit, D divides the resultant, and
 -- gcd(resultant, n) divides the d-th power of D, where the 0-th power is 1. The same holds with g and e."
 --
 --   Between n d r D      D divides r, and gcd(r, n) divides D ^ d
@@ -176,7 +176,7 @@ constant-reaches zero l f g D h p r = absurd (omega arith)
 constant-reaches (suc m) l f g D h p r =
     eq-one-of-dvd-one (only-any l r 1 (unit-constant m f g h (subst (λ (k : ℕ). IsUnit (suc m) (coef f k)) h p)))
 
--- "D divides the resultant": where d + e is 1 or more no unit is needed
+-- S62: "D divides the resultant": where d + e is 1 or more no unit is needed
 pub divides-first : (n : ℕ) → 1 ≤ n → (f g : List ℕ) (D : ℕ) → IsUnit n (coef f (deg f)) → Reduced n f g D → D ∣ resultant n f g
 divides-first n l f g D p r = go (decLe 1 (deg f +ℕ deg g))
   where
@@ -185,7 +185,7 @@ divides-first n l f g D p r = go (decLe 1 (deg f +ℕ deg g))
     go (no h) =
         subst (λ (z : ℕ). z ∣ resultant n f g) (sym (constant-reaches n l f g D (omega arith) p r)) (one-dvd (resultant n f g))
 
--- "gcd(resultant, n) divides the d-th power of D": every common divisor c does
+-- S62: "gcd(resultant, n) divides the d-th power of D": every common divisor c does
 pub power-first : (n : ℕ) → 1 ≤ n → (f g : List ℕ) (D : ℕ) → IsUnit n (coef f (deg f)) → Reduced n f g D
     → (c : ℕ) → c ∣ resultant n f g → c ∣ n → c ∣ D ^ deg f
 power-first zero l f g D p r c h k = absurd (omega arith)

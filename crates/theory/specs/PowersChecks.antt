@@ -1,4 +1,4 @@
--- How far the two numbers differ, at numbers (02, W11).
+-- How far the two numbers differ, at numbers (S62).
 --
 --   farthest, farthest-power     D and gcd(resultant, n) differ as far as the law allows: modulo 27, D = 3, the resultant 9 = 3^2, d = 2
 --   no-unit                      no top word is a unit: modulo 4, D is 1 and gcd(resultant, n) is 4, which divides no power of 1

@@ -207,7 +207,7 @@ reduced-product (suc m) l f g h P A B p a b = (
   only-any l p (A *ℕ B) (reach-both m f g h A B (all-any l a A (dvd-refl A)) (all-any l b B (dvd-refl B))),
 )
 
--- "D divides the resultant when d + e >= 1"
+-- S12: "D divides the resultant when d + e >= 1"
 pub reduced-divides : (n : ℕ) → 1 ≤ n → (f g : List ℕ) (D : ℕ) → 1 ≤ deg f +ℕ deg g → Reduced n f g D → D ∣ resultant n f g
 reduced-divides zero l f g D p r = absurd (omega arith)
 reduced-divides (suc m) l f g D p r = only-any l r (resultant (suc m) f g) (resultant-reached m f g p)

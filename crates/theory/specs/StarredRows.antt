@@ -1,4 +1,4 @@
--- The proved table: the eleven starred rows of document 01, resultant and D, as one list and one theorem. One test is computed over the
+-- The proved table: the eleven starred rows of S90, resultant and D, as one list and one theorem. One test is computed over the
 -- list with a certificate for each row, and one lemma turns the test into the two statements at each row.
 --
 --   Entry, Holds        a row, and what it says

@@ -4,28 +4,26 @@
 --   group-word           group i of f at z, as the part of the words that it is
 --   place-next           the next group's place
 --   evaluated-loaded     all groups
---   length-evaluated, sizes-kept, run-sizes, placed, placed-answer, turned-sign    what the attempt asks of the evaluated pair, and what it answers
+--   length-evaluated, sizes-kept    sizes of the evaluated pair, and after a run
+--   run-is, run-value    what the run returns for the pair at z, as it stands in two buffers
 --
 -- Letters: n is the modulus, z the point; f of degrees d in y and a in z, g of e and b; c are the words of a group; j, i are places.
-use mathlib.Core.Path.{_≡_, sym, _∙_, ap, ap₂, fun-ext, subst}
+use mathlib.Core.Path.{_≡_, refl, sym, _∙_, ap, ap₂, fun-ext, subst}
+use mathlib.Core.Logic.{⊎-elim}
 use mathlib.Core.List.{List}
-use Prim.Native.Nat.{ℕ, zero, suc, _+_, _-_, _*_, _^_, _%_, _<_, _≤_}
-use native.Mathlib.Nat.{mul-zero, mul-add, mul-one, mul-left-comm, pow-zero, pow-succ', zero-mod, mul-le-mul-right}
+use Prim.Native.Nat.{ℕ, zero, suc, pred, _+_, _-_, _*_, _^_, _%_, _<_, _≤_}
+use native.Mathlib.Nat.{mul-zero, mul-add, mul-one, mul-left-comm, pow-zero, pow-succ', zero-mod, mod-mod, mul-le-mul-right}
 use native.Mathlib.Omega.{arith}
 use lib.ListN.{length, getD, take, drop}
-use Rattle.definitions.specs.Polynomials.{coef, total}
+use Rattle.definitions.specs.Polynomials.{coef, deg, total}
 use Rattle.definitions.specs.Resultants.{resultant}
 use Rattle.numbers.specs.Congruence.{c-refl, c-add, c-mul, c-mod}
-use Rattle.theory.specs.ResultantLaws.{signed}
+use Rattle.theory.specs.ReachedSteps.{coef-beyond}
+use Rattle.theory.specs.ResultantLaws.{resultant-cong}
 use Rattle.theory.specs.TwoVariablesLaws.{group-value, evaluated}
 use Rattle.theory.specs.Words.{coef-tabulate, length-tabulate, total-cong}
 use Rattle.windows.specs.Window.{piece, Written, Loaded}
-use Rattle.windows.proofs.Leaf.{piece-at, piece-length, written-loaded}
-use Rattle.residue.specs.declared.Attempt.{Attempt}
-use Rattle.resultant_steps.specs.AttemptAnswers.{ValueOrSplit}
-use Rattle.resultant_attempt.specs.Stages.{Placed}
-use Rattle.resultant.specs.Sizes.{RunSizes}
-use Rattle.resultant.proofs.Loading.{placed-asked, loaded-answer, swapped-sign}
+use Rattle.windows.proofs.Leaf.{lt-or-le, piece-at, piece-length, written-loaded}
 use Rattle.two_variables.specs.PairSizes.{PairSizes, value-at}
 
 -- ---- one group
@@ -137,64 +135,48 @@ sizes-kept h s = record {
   working = omega (arith, h, s .working);
 }
 
-run-sizes : {f g w : List ℕ} {d a e b : ℕ} (z : ℕ) → PairSizes f d a g e b w → RunSizes (evaluated d a f z) (evaluated e b g z) w
-run-sizes {f} {g} {w} {d} {a} {e} {b} z s = record {
-  least-f = omega (arith, length-evaluated d a f z);
-  most-f = omega (arith, length-evaluated d a f z, s .most-d);
-  least-g = omega (arith, length-evaluated e b g z);
-  most-g = omega (arith, length-evaluated e b g z, s .most-e);
-  working = s .working;
-}
-
-module _ {n d a e b : ℕ} {f g w w₁ w₂ : List ℕ} (z : ℕ) (two : 2 ≤ n) (s : PairSizes f d a g e b w) (near : d ≤ e)
-    (lf : Loaded n 0 (evaluated d a f z) w w₁) (lg : Loaded n (d + 1) (evaluated e b g z) w₁ w₂) where
-  F : List ℕ
-  F = evaluated d a f z
-
-  G : List ℕ
-  G = evaluated e b g z
-
-  degree-F : length F - 1 ≡ d
-  unfolding F
-  degree-F = omega (arith, length-evaluated d a f z)
-
-  degree-G : length G - 1 ≡ e
-  unfolding G
-  degree-G = omega (arith, length-evaluated e b g z)
-
-  shorter : length F ≤ length G
-  unfolding F G
-  shorter = omega (arith, length-evaluated d a f z, length-evaluated e b g z)
-
-  second : Loaded n (length F) G w₁ w₂
-  unfolding F G
-  second = subst (λ (k : ℕ). Loaded n k (evaluated e b g z) w₁ w₂) (sym (length-evaluated d a f z)) lg
-
-  pub placed : Placed n 0 d (d + 1) e (d + 1 + (e + 1)) w₂
-  unfolding F G
-  placed =
-      subst (λ (k : ℕ). Placed n 0 k (d + 1) e (d + 1 + (e + 1)) w₂) degree-F
-      (subst (λ (k : ℕ). Placed n 0 (length F - 1) (d + 1) k (d + 1 + (e + 1)) w₂) degree-G
-      (subst (λ (k : ℕ). Placed n 0 (length F - 1) (d + 1) (length G - 1) (d + 1 + k) w₂) (length-evaluated e b g z)
-      (subst (λ (k : ℕ). Placed n 0 (length F - 1) k (length G - 1) (k + length G) w₂) (length-evaluated d a f z)
-      (placed-asked n F G w w₁ w₂ two (run-sizes z s) shorter lf second))))
-
-  pub placed-answer : (r : Attempt) → ValueOrSplit n (resultant n (piece w₂ 0 (d + 1)) (piece w₂ (d + 1) (e + 1))) r
-      → ValueOrSplit n (value-at n f d a g e b z) r
-  unfolding F G
-  placed-answer r h =
-      loaded-answer n F G w w₁ w₂ two (run-sizes z s) shorter lf second r
-      (subst (λ (k : ℕ). ValueOrSplit n (resultant n (piece w₂ 0 (length F - 1 + 1)) (piece w₂ k (length G - 1 + 1))) r)
-      (sym (length-evaluated d a f z))
-      (subst (λ (k : ℕ). ValueOrSplit n (resultant n (piece w₂ 0 (k + 1)) (piece w₂ (d + 1) (length G - 1 + 1))) r) (sym degree-F)
-      (subst (λ (k : ℕ). ValueOrSplit n (resultant n (piece w₂ 0 (d + 1)) (piece w₂ (d + 1) (k + 1))) r) (sym degree-G) h)))
-
--- f and g in the other order
-pub turned-sign : {n d a e b : ℕ} {f g w : List ℕ} (z : ℕ) → 2 ≤ n → PairSizes f d a g e b w
-    → signed n (d * e) (value-at n g e b f d a z) ≡ value-at n f d a g e b z
-turned-sign {n} {d} {a} {e} {b} {f} {g} {w} z two s =
-    ap₂ (λ (x y : ℕ). signed n (x * y) (value-at n g e b f d a z)) (degree d a f) (degree e b g)
-    ∙ swapped-sign n (evaluated d a f z) (evaluated e b g z) w two (run-sizes z s)
+-- the run's words are pieces from 0 on
+pub run-is : (n d e r : ℕ) (p q : List ℕ) → r ≡ resultant n (take (d + 1 - 0) (drop 0 p)) (take (e + 1 - 0) (drop 0 q))
+    → r ≡ resultant n (piece p 0 (d + 1)) (piece q 0 (e + 1))
+unfolding piece
+run-is n d e r p q h =
+    h ∙ ap₂ (λ (x y : ℕ). resultant n (take x (drop 0 p)) (take y (drop 0 q))) (none (d + 1)) (none (e + 1))
   where
-    degree : (d a : ℕ) (f : List ℕ) → d ≡ length (evaluated d a f z) - 1
-    degree d a f = omega (arith, length-evaluated d a f z)
+    none : (x : ℕ) → x - 0 ≡ x
+    none x = omega arith
+
+-- f at z, first in a buffer p of 49 words
+module _ (n d a z : ℕ) (f p p' : List ℕ) (most : d ≤ 48) (size : length p ≡ 49) (h : Loaded n 0 (evaluated d a f z) p p') where
+  pub at-length : length (piece p' 0 (d + 1)) ≡ d + 1
+  at-length = piece-length p' 0 (d + 1) (omega (arith, h .same))
+
+  at-degree : deg (piece p' 0 (d + 1)) ≡ deg (evaluated d a f z)
+  at-degree = ap pred (at-length ∙ sym (length-evaluated d a f z))
+
+  at-word : (k : ℕ) → coef (piece p' 0 (d + 1)) k % n ≡ coef (evaluated d a f z) k % n
+  at-word k = ⊎-elim inside beyond (lt-or-le k (d + 1))
+    where
+      inside : k < d + 1 → coef (piece p' 0 (d + 1)) k % n ≡ coef (evaluated d a f z) k % n
+      inside l =
+          ap (λ (x : ℕ). x % n) (piece-at p' 0 (d + 1) k l ∙ h .mid k (omega (arith, length-evaluated d a f z)))
+          ∙ mod-mod (coef (evaluated d a f z) k) n
+
+      beyond : d + 1 ≤ k → coef (piece p' 0 (d + 1)) k % n ≡ coef (evaluated d a f z) k % n
+      beyond l =
+          ap (λ (x : ℕ). x % n) (coef-beyond (piece p' 0 (d + 1)) k (omega (arith, at-length))
+          ∙ sym (coef-beyond (evaluated d a f z) k (omega (arith, length-evaluated d a f z))))
+
+module _ (n d a e b z : ℕ) (f g w p p' q q' : List ℕ) (two : 2 ≤ n) (s : PairSizes f d a g e b w) (size-p : length p ≡ 49)
+    (hp : Loaded n 0 (evaluated d a f z) p p') (size-q : length q ≡ 49) (hq : Loaded n 0 (evaluated e b g z) q q') where
+  same-value : (m : ℕ) → n ≡ m → resultant m (piece p' 0 (d + 1)) (piece q' 0 (e + 1)) ≡ value-at m f d a g e b z
+  same-value zero h = absurd (omega arith)
+  same-value (suc m) h =
+      resultant-cong m (piece p' 0 (d + 1)) (evaluated d a f z) (piece q' 0 (e + 1)) (evaluated e b g z)
+      (at-degree n d a z f p p' (s .most-d) size-p hp) (at-degree n e b z g q q' (s .most-e) size-q hq)
+      (λ k. subst (λ (x : ℕ). coef (piece p' 0 (d + 1)) k % x ≡ coef (evaluated d a f z) k % x) h
+      (at-word n d a z f p p' (s .most-d) size-p hp k))
+      (λ k. subst (λ (x : ℕ). coef (piece q' 0 (e + 1)) k % x ≡ coef (evaluated e b g z) k % x) h
+      (at-word n e b z g q q' (s .most-e) size-q hq k))
+
+  pub run-value : (r : ℕ) → r ≡ resultant n (piece p' 0 (d + 1)) (piece q' 0 (e + 1)) → r ≡ value-at n f d a g e b z
+  run-value r h = h ∙ same-value n refl

@@ -1,26 +1,26 @@
-// The resultant in y of two polynomials in y and z modulo n: the resultants of the pair at the points 0 to B, then the polynomial in z
-// with these values.
+// The resultant in y of two polynomials in y and z modulo n (S20, S86): the resultants of the pair at the points 0 to B, then the
+// polynomial in z with these values.
 //
 //   f, g       the sent words: d + 1 groups of a + 1 words, e + 1 groups of b + 1 words
 //   z, last    a point, and the last one, B
 //   out        the values, then the words of the resultant
-//   w          the working window: f at a point from 0 on, g after it, and the attempt's room
+//   w          the working window of the resultant's run
+//   p, q       the words of the pair at a point, which the run is given as sent words
 //
 //   group_value   one group at a point
 //   evaluate      a polynomial in y and z at a point, a polynomial in y
-//   ordered, swapped, once, run_at    the resultant of the pair at a point: as the run of the resultant, from the sent words
+//   first_words, in_buffers, at_point    the resultant of the pair at a point
 //   values        the resultants at the points 0 to B
 //   resultant_in_y    the words of the resultant
 ghost use mathlib.Core.Path.{_≡_};
 ghost use Prim.Native.Nat.{_+_, _*_, _^_, _%_, _<_, _≤_};
 ghost use lib.ListN.{length, getD};
 ghost use Rattle.definitions.specs.Polynomials.{total};
+ghost use Rattle.definitions.specs.Resultants.{resultant};
 ghost use Rattle.definitions.specs.TwoVariables.{resultant-two};
 ghost use Rattle.theory.specs.TwoVariablesLaws.{evaluated};
-ghost use Rattle.windows.specs.Window.{Written, Loaded, Scratch};
-ghost use Rattle.resultant_steps.specs.AttemptAnswers.{ValueOrSplit};
-ghost use Rattle.two_variables.specs.PairSizes.{PairSizes, Prepared, value-at};
-use residue::Attempt;
+ghost use Rattle.windows.specs.Window.{piece, Written, Loaded, Scratch};
+ghost use Rattle.two_variables.specs.PairSizes.{PairSizes, InWords, Prepared, value-at};
 
 // c 0 + c 1 z + c 2 z^2 + …, by Horner's rule.
 fn group_value(n: u32, c: &[u32], z: u32) -> u32
@@ -51,9 +51,20 @@ fn evaluate(w: &mut [u32], at: usize, n: u32, f: &[u32], d: usize, a: usize, z: 
     }
 }
 
-// f first.
-fn ordered(
+// The resultant of the first d + 1 words of p and the first e + 1 words of q.
+fn first_words(w: &mut [u32], n: u32, p: &[u32], d: usize, q: &[u32], e: usize) -> u32
+    requires { ⌜ (2 ≤ n) × InWords (now p) d (now q) e (now w) ⌝ }
+    ensures { λ r. ⌜ r ≡ resultant n (piece (now (p .entry)) 0 (d + 1)) (piece (now (q .entry)) 0 (e + 1)) ⌝ }
+    ensures { λ _. ⌜ Scratch (now (w .entry)) (now (w .exit)) ⌝ }
+{
+    resultant::run(w, n, &p[0..d + 1], &q[0..e + 1])
+}
+
+// The resultant of the pair at z: p and q, of 49 words each, hold the two polynomials in y.
+fn in_buffers(
     w: &mut [u32],
+    p: &mut [u32],
+    q: &mut [u32],
     n: u32,
     f: &[u32],
     d: usize,
@@ -62,59 +73,18 @@ fn ordered(
     e: usize,
     b: usize,
     z: u32,
-) -> Attempt
-    requires { ⌜ (2 ≤ n) × (PairSizes (now f) d a (now g) e b (now w) × (d ≤ e)) ⌝ }
-    ensures { λ r. ⌜ ValueOrSplit n (value-at n (now (f .entry)) d a (now (g .entry)) e b z) r ⌝ }
+) -> u32
+    requires { ⌜ (2 ≤ n) × (PairSizes (now f) d a (now g) e b (now w) × ((length (now p) ≡ 49) × (length (now q) ≡ 49))) ⌝ }
+    ensures { λ r. ⌜ r ≡ value-at n (now (f .entry)) d a (now (g .entry)) e b z ⌝ }
+    ensures { λ _. ⌜ Scratch (now (w .entry)) (now (w .exit)) ⌝ }
 {
-    let l = d + 1;
-    evaluate(w, 0, n, f, d, a, z);
-    evaluate(w, l, n, g, e, b, z);
-    resultant_attempt::euclid(w, n, 0, d, l, e, l + (e + 1))
+    evaluate(p, 0, n, f, d, a, z);
+    evaluate(q, 0, n, g, e, b, z);
+    first_words(w, n, p, d, q, e)
 }
 
-// A swap costs the sign (-1)^(d e).
-fn swapped(
-    w: &mut [u32],
-    n: u32,
-    f: &[u32],
-    d: usize,
-    a: usize,
-    g: &[u32],
-    e: usize,
-    b: usize,
-    z: u32,
-) -> Attempt
-    requires { ⌜ (2 ≤ n) × (PairSizes (now f) d a (now g) e b (now w) × (e ≤ d)) ⌝ }
-    ensures { λ r. ⌜ ValueOrSplit n (value-at n (now (f .entry)) d a (now (g .entry)) e b z) r ⌝ }
-{
-    let r = ordered(w, n, g, e, b, f, d, a, z);
-    resultant_steps::times_sign(n, d, e, r)
-}
-
-// The one of lower degree in y goes first.
-fn once(
-    w: &mut [u32],
-    n: u32,
-    f: &[u32],
-    d: usize,
-    a: usize,
-    g: &[u32],
-    e: usize,
-    b: usize,
-    z: u32,
-) -> Attempt
-    requires { ⌜ (2 ≤ n) × PairSizes (now f) d a (now g) e b (now w) ⌝ }
-    ensures { λ r. ⌜ ValueOrSplit n (value-at n (now (f .entry)) d a (now (g .entry)) e b z) r ⌝ }
-{
-    if d <= e {
-        return ordered(w, n, f, d, a, g, e, b, z);
-    }
-    swapped(w, n, f, d, a, g, e, b, z)
-}
-
-// The resultant of the pair at z. "At a splitting coefficient, each of the two factors is worked as a modulus of its own, and the
-// answers are joined by the Chinese remainder."
-fn run_at(
+// The resultant of the pair at z. The two polynomials are arguments of the run, so they stand beside its working window.
+fn at_point(
     w: &mut [u32],
     n: u32,
     f: &[u32],
@@ -129,17 +99,12 @@ fn run_at(
     ensures { λ r. ⌜ r ≡ value-at n (now (f .entry)) d a (now (g .entry)) e b z ⌝ }
     ensures { λ _. ⌜ Scratch (now (w .entry)) (now (w .exit)) ⌝ }
 {
-    match once(w, n, f, d, a, g, e, b, z) {
-        Attempt::Value(v) => v,
-        Attempt::Splits(p, q) => {
-            let x = run_at(w, p, f, d, a, g, e, b, z);
-            let y = run_at(w, q, f, d, a, g, e, b, z);
-            residue::join(p, q, x, y)
-        }
-    }
+    let mut p = [0u32; 49];
+    let mut q = [0u32; 49];
+    in_buffers(w, &mut p, &mut q, n, f, d, a, g, e, b, z)
 }
 
-// "evaluate at 0 to B": word z of out is the resultant of the pair at z.
+// S86: "evaluate at 0 to B": word z of out is the resultant of the pair at z.
 fn values(
     out: &mut [u32],
     w: &mut [u32],
@@ -158,12 +123,12 @@ fn values(
 {
     let mut z: usize = 0;
     while z < last + 1 {
-        out[z] = run_at(w, n, f, d, a, g, e, b, z as u32);
+        out[z] = at_point(w, n, f, d, a, g, e, b, z as u32);
         z += 1;
     }
 }
 
-// "then interpolate": the first last + 1 words of out are the resultant in y.
+// S86: "then interpolate": the first last + 1 words of out are the resultant in y.
 pub fn resultant_in_y(
     out: &mut [u32],
     w: &mut [u32],

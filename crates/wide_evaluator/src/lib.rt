@@ -1,6 +1,6 @@
-// The plain evaluator, words of 64 bits: a second way to the resultant, by elimination on Sylvester's matrix, for d + e up to 8. It serves
-// to check the resultant run, and shares no code with it but the arithmetic of residues. The promise is that of `evaluator`, at another
-// width.
+// The plain evaluator (S41, S71), words of 64 bits: a second way to the resultant, by elimination on Sylvester's matrix, for d + e up to 8.
+// It serves to check the resultant run, and shares no code with it but the arithmetic of residues. The promise is that of `evaluator`, at
+// another width.
 //
 //   sent_degree                     the words of a polynomial less 1
 //   shifted, sylvester_word, sylvester_row, sylvester_matrix
@@ -18,7 +18,7 @@ ghost use Rattle.evaluator.specs.EvaluatorService.{bad-lengths, bad-words, eval
 ghost use Rattle.evaluator.specs.Sylvester.{RowWords, ServedRows, HoldsSylvester, HoldsSylvesterRow};
 use wide_refusals::Answer;
 
-// Zero top words count: "the top word may be zero".
+// Zero top words count (S7): "the top word may be zero".
 fn sent_degree(f: &[u64]) -> usize
     requires { ⌜ 1 ≤ length (now f) ⌝ }
     ensures { λ d. ⌜ d ≡ length (now (f .entry)) - 1 ⌝ }
@@ -26,7 +26,7 @@ fn sent_degree(f: &[u64]) -> usize
     f.len() - 1
 }
 
-// "highest coefficient first, each row one column further right": row i of f, at column j.
+// S7: "highest coefficient first, each row one column further right": row i of f, at column j.
 fn shifted(f: &[u64], i: usize, j: usize) -> u64
     requires { ⌜ RowWords (now f) × ((i < 8) × (j < 8)) ⌝ }
     ensures { λ x. ⌜ pos x ≡ entry (deg (now (f .entry))) (now (f .entry)) i j ⌝ }
@@ -41,7 +41,7 @@ fn shifted(f: &[u64], i: usize, j: usize) -> u64
     f[i + d - j]
 }
 
-// "first e rows hold f, … then d rows hold g likewise": row r, at column c.
+// S7: "first e rows hold f, … then d rows hold g likewise": row r, at column c.
 fn sylvester_word(f: &[u64], g: &[u64], r: usize, c: usize) -> u64
     requires { ⌜ ServedRows (now f) (now g) × ((r < 8) × (c < 8)) ⌝ }
     ensures { λ x. ⌜ pos x ≡ sylvester (now (f .entry)) (now (g .entry)) r c ⌝ }
@@ -93,7 +93,7 @@ fn bad_lengths(f: &[u64], g: &[u64]) -> bool
     8 < f.len() - 1 + (g.len() - 1)
 }
 
-// Refusal 3: whether a word of f or of g is n or more. A word is read only where the lengths are served.
+// Refusal 3: whether a word of f or of g is n or more. A word is read only where the lengths are served (S93).
 fn bad_words(n: u64, f: &[u64], g: &[u64]) -> bool
     requires { ⌜ ServedRows (now f) (now g) ⌝ }
     ensures { λ r. ⌜ r ≡ bad-words n (now (f .entry)) (now (g .entry)) ⌝ }
@@ -120,7 +120,7 @@ fn refusal(n: u64, f: &[u64], g: &[u64]) -> u32
     0
 }
 
-// The determinant of Sylvester's matrix of f and g modulo n. "With d = e = 0 the determinant is 1."
+// The determinant of Sylvester's matrix of f and g modulo n. S8: "With d = e = 0 the determinant is 1."
 pub fn evaluate(n: u64, f: &[u64], g: &[u64]) -> Answer
     ensures { λ r. ⌜ EvaluatorAnswer wide n (now (f .entry)) (now (g .entry)) (r .value) (r .status) ⌝ }
 {

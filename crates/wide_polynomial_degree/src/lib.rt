@@ -2,12 +2,14 @@
 // What is answered is its `Degree`: a degree and the number of a refusal are small at every width.
 //
 //   true_degree          the place of the highest nonzero word, or none
+//   true_degree_words    the same in three words
 //   leading              the words up to that place, the caller's own
 ghost use mathlib.Core.Path.{_≡_};
 ghost use Rattle.definitions.specs.Polynomials.{extent};
 ghost use Rattle.wide_refusals.specs.Wide.{wide};
-ghost use Rattle.polynomial_degree.specs.DegreeService.{TrueDegreeAnswer, LeadingAnswer};
+ghost use Rattle.polynomial_degree.specs.DegreeService.{TrueDegreeAnswer, DegreeWordsAnswer, LeadingAnswer};
 use polynomial_degree::Degree;
+use polynomial_degree::DegreeAnswer;
 
 // The number of words up to the highest nonzero one.
 fn extent_of(f: &[u64]) -> usize
@@ -23,7 +25,7 @@ fn extent_of(f: &[u64]) -> usize
     0
 }
 
-// "True degree: the place of the highest nonzero coefficient"; of a zero polynomial it "is now "none"" (02, W2).
+// S18: "True degree: the place of the highest nonzero coefficient"; of a zero polynomial it "is now "none"".
 pub fn true_degree(n: u64, f: &[u64]) -> Degree
     ensures { λ r. ⌜ TrueDegreeAnswer wide n (now (f .entry)) r ⌝ }
 {
@@ -36,6 +38,29 @@ pub fn true_degree(n: u64, f: &[u64]) -> Degree
         return Degree::None;
     }
     Degree::At((k - 1) as u32)
+}
+
+// The true degree in words: an enum cannot be handed to a host.
+pub fn true_degree_words(n: u64, f: &[u64]) -> DegreeAnswer
+    ensures { λ r. ⌜ DegreeWordsAnswer wide n (now (f .entry)) (r .some) (r .degree) (r .status) ⌝ }
+{
+    match true_degree(n, f) {
+        Degree::None => DegreeAnswer {
+            some: 0,
+            degree: 0,
+            status: 0,
+        },
+        Degree::At(k) => DegreeAnswer {
+            some: 1,
+            degree: k,
+            status: 0,
+        },
+        Degree::Refused(s) => DegreeAnswer {
+            some: 0,
+            degree: 0,
+            status: s,
+        },
+    }
 }
 
 // "Another serves the words up to that place: they are handed back as a leading part of the caller's own words, not copied."

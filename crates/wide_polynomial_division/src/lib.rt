@@ -94,7 +94,7 @@ fn refusal_quotient(u: u64, lq: usize, m: usize, lr: usize, e: usize) -> u32
     0
 }
 
-// "Division by a polynomial whose top word is a unit: f = qg + r, r of e words (none for e = 0), q of d - e + 1 words, or one zero
+// S15: "Division by a polynomial whose top word is a unit: f = qg + r, r of e words (none for e = 0), q of d - e + 1 words, or one zero
 // word if d < e."
 pub fn division(n: u64, f: &[u64], g: &[u64], q: &mut [u64], r: &mut [u64]) -> Answer
     ensures { λ a. ⌜ DivisionAnswer wide n (now (f .entry)) (now (g .entry)) (now (q .entry)) (now (q .exit)) (now (r .entry))

@@ -47,7 +47,7 @@ fn refusal_inverse(g: u64, t: usize, lo: usize, m: usize, l: usize) -> u32
     0
 }
 
-// "Unit polynomial: constant a unit, all other coefficients nilpotent. Its inverse fits in K times d, plus 1, words."
+// S16: "Unit polynomial: constant a unit, all other coefficients nilpotent. Its inverse fits in K times d, plus 1, words."
 pub fn inverse(n: u64, f: &[u64], out: &mut [u64], work: &mut [u64]) -> Answer
     ensures { λ a. ⌜ InverseAnswer wide n (now (f .entry)) (now (out .entry)) (now (out .exit)) (now (work .entry)) (now (work .exit))
         (a .value) (a .status) ⌝ }

@@ -1,4 +1,4 @@
-// The product of two polynomials as a service, words of 64 bits: `polynomial_product` has the description.
+// The product of two polynomials as a service (S34, S71), words of 64 bits: `polynomial_product` has the description.
 //
 //   product             the product, coefficient by coefficient, the constant first
 //   refusal_product     the number of the first refusal of a product
@@ -39,7 +39,7 @@ fn refusal_product(n: u64, f: &[u64], g: &[u64], l: usize) -> u32
     0
 }
 
-// The words of the product of f and g, into as many words of out as there are: each is finished before the next is begun.
+// The words of the product of f and g, into as many words of out as there are: each is finished before the next is begun (S85).
 fn product_words(n: u64, f: &[u64], g: &[u64], out: &mut [u64])
     requires { ⌜ 1 ≤ n ⌝ }
     ensures { λ _. ⌜ now (out .exit) ≡ tabulate (length (now (out .entry)))
@@ -53,7 +53,7 @@ fn product_words(n: u64, f: &[u64], g: &[u64], out: &mut [u64])
     }
 }
 
-// "Product of f and g, of sent degrees d and e: … Its sent degree is d + e, also when its top word comes out zero."
+// S9: "Product of f and g, of sent degrees d and e: … Its sent degree is d + e, also when its top word comes out zero."
 pub fn product(n: u64, f: &[u64], g: &[u64], out: &mut [u64]) -> Answer
     ensures { λ r. ⌜ ProductAnswer wide n (now (f .entry)) (now (g .entry)) (now (out .entry)) (now (out .exit))
         (r .value) (r .status) ⌝ }

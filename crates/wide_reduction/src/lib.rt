@@ -112,15 +112,13 @@ pub fn multiplier(m: Reciprocal, c: u64) -> u64
     w + 1
 }
 
-// s modulo n, for s below 2 n.
+// s modulo n, for s below 2 n: by the sign of s - n, since a comparison would become a branch.
 fn fold(n: u64, s: u64) -> u64
-    requires { ⌜ s < n + n ⌝ }
+    requires { ⌜ (n < 2 ^ 63) × (s < n + n) ⌝ }
     ensures { λ r. ⌜ r ≡ s % n ⌝ }
 {
-    if s < n {
-        return s;
-    }
-    s - n
+    let y = std::num::wrapping_sub_u64(s, n);
+    std::num::wrapping_add_u64(y, y / 9223372036854775808 * n)
 }
 
 // c y, where w is c's fraction of n.

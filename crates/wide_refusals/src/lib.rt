@@ -1,5 +1,5 @@
-// The refusals that every service shares, and the answer of a service, words of 64 bits: the definitions are those of `refusals`, at
-// another width.
+// The refusals that every service shares, and the answer of a service, words of 64 bits (S71, S72): the definitions are those of
+// `refusals`, at another width.
 //
 //   bad_modulus, bad_length, all_below    the tests of the refusals 1, 2 and 3
 //   refusal_one, refusal_two              the first of them that applies to one polynomial, or to two
@@ -84,7 +84,7 @@ fn refusal_lengths(f: &[u64], g: &[u64]) -> u32
     0
 }
 
-// Refusal 3 of two polynomials; 0 where it does not apply. A word is read only where both lengths are served.
+// Refusal 3 of two polynomials; 0 where it does not apply. A word is read only where both lengths are served (S93).
 fn refusal_words(n: u64, f: &[u64], g: &[u64]) -> u32
     requires { ⌜ ServedLength (now f) × ServedLength (now g) ⌝ }
     ensures { λ r. ⌜ r ≡ first-refusal ((3, not (all-below n (now (f .entry)))) ∷ (3, not (all-below n (now (g .entry)))) ∷ []) ⌝ }

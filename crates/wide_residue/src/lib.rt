@@ -15,7 +15,7 @@ ghost use Rattle.residue.specs.Moduli.{CoprimeModuli};
 ghost use Rattle.wide_residue.specs.Kinds.{KindOf};
 use residue::Modulus;
 
-// "unit with its inverse, nilpotent, or splitting with two factors"
+// S13, S79: "unit with its inverse, nilpotent, or splitting with two factors"
 pub enum Kind {
     Unit(u64),
     Nilpotent,
@@ -90,8 +90,8 @@ fn least(m: u64, g: u64, s: u64) -> u64
     s % p
 }
 
-// "g = gcd(a, b, n) from 1 to n, with residues s and t so that s times a plus t times b is g modulo n." (01) "s is the least number from
-// 0 upward for which some t fits, and t is then the least that fits." (02, W7) The divisor h of n and b is t1 b modulo n, and g, that of h
+// S14: "g = gcd(a, b, n) from 1 to n, with residues s and t so that s times a plus t times b is g modulo n." "s is the least number from
+// 0 upward for which some t fits, and t is then the least that fits." The divisor h of n and b is t1 b modulo n, and g, that of h
 // and a, is s a modulo h: g - s a is a multiple of h, and so of b. What differs from s by a multiple of h / g serves as well, and what
 // differs from t by one of n / h. No product passes n.
 pub fn gcd_with_cofactors(n: u64, a: u64, b: u64) -> Cofactors
@@ -111,7 +111,7 @@ pub fn gcd_with_cofactors(n: u64, a: u64, b: u64) -> Cofactors
     }
 }
 
-// "K is the largest whole number with 2^K <= n."
+// S4, S75: "K is the largest whole number with 2^K <= n."
 pub fn modulus_of(n: u64) -> Modulus
     ensures { λ r. ⌜ (r .n ≡ n) × (r .k ≡ K n) ⌝ }
 {

@@ -1,5 +1,5 @@
-// The residue services in words of 64 bits: single residues modulo n, from any words. Each refuses with 1 where n is 0, 1, or 2^63 or
-// more, then with 3 where a residue is n or more, and answers 0 then. The 32-bit twin `residue_services` has the laws.
+// The residue services (S30 to S33, S71) in words of 64 bits: single residues modulo n, from any words. Each refuses with 1 where n is 0,
+// 1, or 2^63 or more, then with 3 where a residue is n or more, and answers 0 then. The 32-bit twin `residue_services` has the laws.
 //
 //   sum, difference, product, power
 //   gcd_with_cofactors    gcd(a, b, n) as s a + t b modulo n, with the least s and then the least t
@@ -109,8 +109,8 @@ pub fn power(n: u64, a: u64, k: usize) -> Answer
     }
 }
 
-// "g = gcd(a, b, n) from 1 to n, with residues s and t so that s times a plus t times b is g modulo n." (01) "s is the least number from
-// 0 upward for which some t fits, and t is then the least that fits." (02, W7)
+// S14: "g = gcd(a, b, n) from 1 to n, with residues s and t so that s times a plus t times b is g modulo n." "s is the least number from
+// 0 upward for which some t fits, and t is then the least that fits."
 pub fn gcd_with_cofactors(n: u64, a: u64, b: u64) -> GcdAnswer
     ensures { λ r. ⌜ GcdPromised wide n a b (r .g) (r .s) (r .t) (r .status) ⌝ }
 {
@@ -132,7 +132,7 @@ pub fn gcd_with_cofactors(n: u64, a: u64, b: u64) -> GcdAnswer
     }
 }
 
-// "unit with its inverse, nilpotent, or splitting with two factors"
+// S13: "unit with its inverse, nilpotent, or splitting with two factors"
 pub fn classify(n: u64, a: u64) -> KindAnswer
     ensures { λ r. ⌜ KindPromised wide n a r ⌝ }
 {

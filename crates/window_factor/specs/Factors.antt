@@ -25,7 +25,7 @@ pub record LeadingUnit (n t i : ℕ) (f : List ℕ) : Type 0 where
   pub inverse : Inverse n (coef f t) i
   pub nilpotent : (k : ℕ) → t < k → IsNilpotent n (coef f k)
 
--- "Then n = n1 times n2, both above 1 and coprime"
+-- S13: "Then n = n1 times n2, both above 1 and coprime"
 pub record SplitOf (n p q : ℕ) : Type 0 where
   pub product : p * q ≡ n
   pub above₁ : 1 < p

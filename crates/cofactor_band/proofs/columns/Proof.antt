@@ -3,7 +3,7 @@ use lib.ListN.{length}
 use borrow.Author.Needs.{needs}
 use native.Mathlib.Omega.{arith}
 use Prim.Native.Nat.{_<_, _≤_, _+_, _-_}
-use Rattle.cofactor_band.specs.Bands.{Moment}
+use Rattle.band_clearing.specs.Bands.{Moment}
 use Rattle.cofactor_band.proofs.Turns.{moment-start, moment-end}
 use Rattle.cofactor_band.proofs.columns.Statement.{statement}
 use Rattle.cofactor_band.proofs.columns.Tie as tie

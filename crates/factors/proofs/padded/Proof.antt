@@ -4,7 +4,7 @@ use mathlib.Core.List.{_++_}
 use Prim.Native.Nat.{_-_, _≤_}
 use native.Mathlib.Omega.{arith}
 use lib.ListN.{length, take, replicate}
-use Rattle.factors.proofs.Places.{word-stored, words-after}
+use Rattle.factors.proofs.Padding.{word-stored, words-after}
 use Rattle.factors.proofs.padded.Statement.{statement}
 use Rattle.factors.proofs.padded.Tie as tie
 

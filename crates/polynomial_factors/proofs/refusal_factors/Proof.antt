@@ -1,37 +1,10 @@
-use native.Mathlib.Omega.{arith}
-use mathlib.Core.Path.{refl}
-use borrow.Author.Tests.{eq-eqb, ne-eqb, lt-ltb, le-ltb}
+use Rattle.refusals.proofs.Cascade.{cascade}
 use Rattle.polynomial_factors.proofs.refusal_factors.Statement.{statement}
 use Rattle.polynomial_factors.proofs.refusal_factors.Tie as tie
 
-returns : tie.Need-returns
-returns c = simp (ne-eqb _ _ (c .if1 .taken)) refl
-
-returns-2 : tie.Need-returns-2
-returns-2 c = let s = c .before .before .args in
-    simp (eq-eqb _ _ (c .before .if1 .left), lt-ltb (s .lu) (s .len) (omega arith)) refl
-
-returns-3 : tie.Need-returns-3
-returns-3 c = let s = c .before .before .before .args in
-    simp (eq-eqb _ _ (c .before .before .if1 .left), le-ltb (s .lu) (s .len) (omega arith), lt-ltb (s .lh) (s .len) (omega arith)) refl
-
-returns-4 : tie.Need-returns-4
-returns-4 c = let s = c .before .before .before .before .args in
-    simp (
-      eq-eqb _ _ (c .before .before .before .if1 .left),
-      le-ltb (s .lu) (s .len) (omega arith),
-      le-ltb (s .lh) (s .len) (omega arith),
-      lt-ltb (s .l) 8192 (omega arith),
-    ) refl
-
-returns-5 : tie.Need-returns-5
-returns-5 c = let s = c .before .before .before .before .args in
-    simp (
-      eq-eqb _ _ (c .before .before .before .if1 .left),
-      le-ltb (s .lu) (s .len) (omega arith),
-      le-ltb (s .lh) (s .len) (omega arith),
-      le-ltb (s .l) 8192 (omega arith),
-    ) refl
-
 pub refusal-factors-spec : {M : Type 1} → statement M
-refusal-factors-spec = tie.close (tie.spec returns returns-2 returns-3 returns-4 returns-5)
+refusal-factors-spec =
+    tie.close
+    (tie.spec
+    (λ c. search cascade depth 9) (λ c. search cascade depth 9) (λ c. search cascade depth 9) (λ c. search cascade depth 9)
+    (λ c. search cascade depth 9))

@@ -8,7 +8,8 @@ use Rattle.resultant.proofs.ordered.Tie as tie
 
 returns : tie.Need-returns
 returns c = let s = c .before .before .before .before .before .before .before .before .before .before .args in
-    subst (λ (y : Tried). TriedAnswer (s .n) (resultant (s .n) (s .f .now) (s .g .now)) y) (c .before .v .given .1) (c .before .before .before .before .before .tried .ensures)
+    subst (λ (y : Tried). TriedAnswer (s .m .n) (resultant (s .m .n) (s .f .now) (s .g .now)) y) (c .before .v .given .1)
+    (c .before .before .before .before .before .tried .ensures)
 
 pub ordered-spec : {M : Type 1} → statement M
 ordered-spec =

@@ -6,7 +6,9 @@ use Rattle.resultant.proofs.settled.Statement.{statement}
 use Rattle.resultant.proofs.settled.Tie as tie
 
 returns : tie.Need-returns
-returns c = let s = c .before .before .before .before .before .before .before in split-of (subst (KindOf (s .args .n) (s .args .x)) (c .before .p .given .1) (c .before .before .before .kind-of .ensures))
+returns c =
+    let s = c .before .before .before .before .before .before .before in
+    split-of (subst (KindOf (s .args .m .n) (s .args .x)) (c .before .p .given .1) (c .before .before .before .kind-of .ensures))
 
 pub settled-spec : {M : Type 1} → statement M
 settled-spec =

@@ -1,20 +1,22 @@
-use mathlib.Core.Path.{subst}
-use Rattle.montgomery.specs.Held.{Fitting}
+use Rattle.resultant.proofs.Entering.{words-placed, entered-tried}
 use borrow.Author.Needs.{needs}
 use Rattle.resultant.proofs.tried.Statement.{statement}
 use Rattle.resultant.proofs.tried.Tie as tie
 
-tried-held-requires : tie.Need-tried-held-requires
-tried-held-requires c κs = let s = c .before .before .before .before .before .before in (subst (Fitting (s .args .n)) (c .before .if1 .taken) (c .before .before .fits-form .ensures), s .pre .1)
+attempt-requires : tie.Need-attempt-requires
+attempt-requires c κs = search (needs, words-placed)
+
+returns : tie.Need-returns
+returns c = search (needs, entered-tried)
 
 pub tried-spec : {M : Type 1} → statement M
 tried-spec =
     tie.close
     (tie.spec
     (λ c κs. search needs)
-    tried-held-requires
-    (λ c. search needs)
-    (λ c. search needs)
     (λ c κs. search needs)
     (λ c. search needs)
-    (λ c. search needs))
+    (λ c. search needs)
+    attempt-requires
+    (λ c. search needs)
+    returns)

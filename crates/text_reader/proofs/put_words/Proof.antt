@@ -4,7 +4,7 @@ use Prim.Native.Nat.{_-_, _≤_}
 use native.Mathlib.Omega.{arith}
 use lib.ListN.{length, take}
 use Rattle.text_writer.specs.Parts.{Put}
-use Rattle.text_reader.proofs.Gathering.{copied-none, copied-step, copied-all}
+use Rattle.text_reader.proofs.Copying.{copied-none, copied-step, copied-all}
 use Rattle.text_reader.proofs.put_words.Statement.{statement}
 use Rattle.text_reader.proofs.put_words.Tie as tie
 

@@ -23,11 +23,11 @@ loop-holds c = (omega arith, (refl, written-none _ _ _))
 add-loop : tie.Need-add-loop Inv-loop μ-loop
 add-loop c = let l : c .before .before .before .before .before .args .last < length (c .before .before .before .before .before .args .out .now) = c .before .before .before .before .before .pre .inside in search needs
 
-cast-run-at : tie.Need-cast-run-at Inv-loop μ-loop
-cast-run-at c = record { fits = point-fits (c .before .before .before .before .before .before .before .pre) (c .before .before .loop .z) _ (c .before .before .before .before .before .before .before .fits .n .fits) (omega arith) }
+cast-at-point : tie.Need-cast-at-point Inv-loop μ-loop
+cast-at-point c = record { fits = point-fits (c .before .before .before .before .before .before .before .pre) (c .before .before .loop .z) _ (c .before .before .before .before .before .before .before .fits .n .fits) (omega arith) }
 
-run-at-requires : tie.Need-run-at-requires Inv-loop μ-loop
-run-at-requires c κs = (c .before .before .before .before .before .before .before .pre .two, sizes-kept (c .before .before .loop .inv .1 .0) (c .before .before .before .before .before .before .before .pre .sizes))
+at-point-requires : tie.Need-at-point-requires Inv-loop μ-loop
+at-point-requires c κs = (c .before .before .before .before .before .before .before .pre .two, sizes-kept (c .before .before .loop .inv .1 .0) (c .before .before .before .before .before .before .before .pre .sizes))
 
 slice-write-out : tie.Need-slice-write-out Inv-loop μ-loop
 slice-write-out c = omega (arith, c .before .before .before .before .before .before .before .before .before .before .pre .inside, c .before .before .before .before .before .loop .inv .1 .1 .same)
@@ -36,8 +36,8 @@ loop-again : tie.Need-loop-again Inv-loop μ-loop
 loop-again c = (
   omega arith,
   (
-    c .before .before .run-at .ensures .1 .same ∙ c .before .before .before .before .before .loop .inv .1 .0,
-    values-next (c .before .before .before .before .before .loop .z) (c .before .before .before .before .before .loop .inv .1 .1) (omega (arith, c .before .before .before .before .before .before .before .before .before .before .pre .inside)) (c .before .before .run-at .ensures .0),
+    c .before .before .at-point .ensures .1 .same ∙ c .before .before .before .before .before .loop .inv .1 .0,
+    values-next (c .before .before .before .before .before .loop .z) (c .before .before .before .before .before .loop .inv .1 .1) (omega (arith, c .before .before .before .before .before .before .before .before .before .before .pre .inside)) (c .before .before .at-point .ensures .0),
   ),
 )
 
@@ -52,8 +52,8 @@ values-spec =
     μ-loop
     loop-holds
     add-loop
-    cast-run-at
-    run-at-requires
+    cast-at-point
+    at-point-requires
     (λ c. search needs)
     slice-write-out
     (λ c. search needs)

@@ -1,0 +1,117 @@
+-- A batch beside the single calls, for any number that a pair has.
+--
+--   words-of F         the numbers F of all pairs
+--   all-served         what is known of an answered batch
+--   pairs-words        the result words after an answer, as one equation
+--   single-served      where a batch is answered, none of the refusals 1, 2, 3 and 7 applies to one of its pairs
+use mathlib.Core.Path.{_≡_, sym, ap, subst, _∙_}
+use mathlib.Core.List.{List, [], _∷_, _++_}
+use Prim.Native.Nat.{ℕ, suc, _+_, _-_, _*_, _<_, _≤_}
+use native.Mathlib.Decide.{decLt}
+use native.Mathlib.Nat.{mul-le-mul-right}
+use native.Mathlib.Omega.{arith}
+use lib.ListN.{length, getD, drop, length-append, length-drop, List·getD-append}
+use lib.Seq.{ext-getD, getD-append-add, getD-take, getD-drop, length-take-le}
+use Rattle.definitions.specs.Polynomials.{tabulate, Residues}
+use Rattle.theory.specs.Words.{coef-tabulate, length-tabulate}
+use Rattle.refusals.specs.Refusals.{Width, short, first-refusal, refusals-two}
+use Rattle.refusals.specs.Conditions.{ServedLength, status-zero, conditions-two, modulus-fails, length-fails, words-fail, short-fails}
+use Rattle.batch_pairs.specs.Batches.{piece, ServedPieces, BatchAnswer, BatchServed, batch-served}
+
+abbrev pub words-of : (List ℕ → List ℕ → ℕ) → List ℕ → ℕ → List ℕ → (e count : ℕ) → List ℕ
+words-of F f d g e count = tabulate count (λ i. F (piece d i f) (piece e i g))
+
+pub all-served : {P : List ℕ → List ℕ → ℕ → Type 0} {W : Width} {n : ℕ} {f : List ℕ} {d : ℕ} {g : List ℕ} {e count : ℕ}
+    {out out' work work' : List ℕ} {value : ℕ} → BatchAnswer P W n f d g e count out out' work work' value 0
+    → BatchServed W n f d g e count (length out) (length work)
+all-served {P} {W} {n} {f} {d} {g} {e} {count} {out} {out'} {work} t =
+    batch-served W n f d g e count (length out) (length work) (sym (t .status-is))
+
+pub pairs-words : (F : List ℕ → List ℕ → ℕ) {W : Width} {n : ℕ} {f : List ℕ} {d : ℕ} {g : List ℕ} {e count : ℕ}
+    {out out' work work' : List ℕ} {value : ℕ} → BatchAnswer (λ x y r. r ≡ F x y) W n f d g e count out out' work work' value 0
+    → out' ≡ words-of F f d g e count ++ drop count out
+pairs-words F {W} {n} {f} {d} {g} {e} {count} {out} {out'} t =
+    ext-getD 0 out' (x ++ drop count out)
+    (t .out-is .same ∙ sym (length-append x (drop count out) ∙ whole (length x) (length (drop count out)) long (length-drop count out)
+    (all-served t .out)))
+    (λ i _. go i (decLt i count))
+  where
+    G : ℕ → ℕ
+    G i = F (piece d i f) (piece e i g)
+
+    x : List ℕ
+    x = words-of F f d g e count
+
+    long : length x ≡ count
+    long = length-tabulate count G
+
+    whole : (a b : ℕ) → a ≡ count → b ≡ length out - count → count ≤ length out → a + b ≡ length out
+    whole a b p q r = omega arith
+
+    back : (i : ℕ) → count ≤ i → count + (i - count) ≡ i
+    back i l = omega arith
+
+    go : (i : ℕ) → Dec (i < count) → getD out' i 0 ≡ getD (x ++ drop count out) i 0
+    go i (yes l) =
+        t .out-is .each i l ∙ sym (coef-tabulate count G i l)
+        ∙ sym (List·getD-append x (drop count out) 0 i (subst (λ (k : ℕ). i < k) (sym long) l))
+    go i (no l) =
+        let h : count ≤ i = omega arith in
+        t .out-is .beyond i h
+        ∙ sym (ap (λ (k : ℕ). getD (x ++ drop count out) k 0) (sym (back i h) ∙ ap (λ (k : ℕ). k + (i - count)) (sym long))
+        ∙ getD-append-add x (drop count out) (i - count) 0 ∙ getD-drop count out (i - count) 0 ∙ ap (λ (k : ℕ). getD out k 0) (back i h))
+
+-- the i-th piece has d + 1 words, and they are words of f
+module _ {d count i : ℕ} (f : List ℕ) (s : ServedPieces d count (length f)) (l : i < count) where
+  inside : suc i * suc d ≤ length f
+  inside = omega (arith, s .words, mul-le-mul-right (suc d) l)
+
+  piece-length : length (piece d i f) ≡ suc d
+  piece-length =
+      length-take-le (suc d) (drop (i * suc d) f)
+      (subst (λ (k : ℕ). suc d ≤ k) (sym (length-drop (i * suc d) f)) (room i d (length f) inside))
+    where
+      room : (i d k : ℕ) → suc i * suc d ≤ k → suc d ≤ k - i * suc d
+      room i d k h = omega arith
+
+  piece-served : ServedLength (piece d i f)
+  piece-served = record { some = omega (arith, piece-length); few = omega (arith, piece-length, s .most) }
+
+  piece-residues : {n : ℕ} → Residues n f → Residues n (piece d i f)
+  piece-residues {n} r = record {
+    at = λ k h.
+        subst (λ (x : ℕ). x < n)
+        (sym (getD-take (suc d) (drop (i * suc d) f) k 0 (omega (arith, piece-length)) ∙ getD-drop (i * suc d) f k 0))
+        (r .at (i * suc d + k) (omega (arith, piece-length, inside)));
+  }
+
+pub single-served : {P : List ℕ → List ℕ → ℕ → Type 0} {W : Width} {n : ℕ} {f : List ℕ} {d : ℕ} {g : List ℕ} {e count : ℕ}
+    {out out' work work' : List ℕ} {value : ℕ} → BatchAnswer P W n f d g e count out out' work work' value 0 → {i : ℕ} → i < count
+    → (m : ℕ) → W .working ≤ m → first-refusal (refusals-two W n (piece d i f) (piece e i g) ++ ((7, short m (W .working)) ∷ [])) ≡ 0
+single-served {P} {W} {n} {f} {d} {g} {e} {count} t {i} l m h =
+    let s = all-served t in
+    status-zero (refusals-two W n x y ++ ((7, short m (W .working)) ∷ [])) (conditions-two W n x y ++ ((W .working ≤ m) ∷ [])) (
+      (omega arith, modulus-fails W n),
+      (
+        (omega arith, length-fails x),
+        (
+          (omega arith, length-fails y),
+          ((omega arith, words-fail n x), ((omega arith, words-fail n y), ((omega arith, short-fails m (W .working)), tt))),
+        ),
+      ),
+    ) .1 (
+      s .modulus,
+      (
+        piece-served f (s .first) l,
+        (
+          piece-served g (s .second) l,
+          (piece-residues f (s .first) l (s .residues-f), (piece-residues g (s .second) l (s .residues-g), (h, tt))),
+        ),
+      ),
+    )
+  where
+    x : List ℕ
+    x = piece d i f
+
+    y : List ℕ
+    y = piece e i g

@@ -1,0 +1,146 @@
+-- What words stand for: the laws, for every modulus and both forms.
+--
+--   by-form                      a law of `value m` is a law of `plain n`, or of the words themselves
+--   value-same, value-add, value-scaled, value-none, value-below, value-zero, value-negative
+--                                equal words; a sum; a multiple; 0; a residue; a word that stands for 0; -p
+--   value-gcd                    a word and what it stands for have the same greatest common divisor with n
+--   product-held, product-plain, times-held, three-held, three-plain, entered-held, entered-plain
+--                                what each form's operation answers, of what the words stand for
+use mathlib.Core.Path.{_≡_, refl, sym, ap, ap₂, subst, _∙_}
+use Prim.Native.Nat.{ℕ, zero, suc, _+_, _-_, _*_, _%_, _^_, _≤_, _<_}
+use native.Mathlib.Omega.{arith}
+use native.Mathlib.Nat.{mod-lt, mod-eq-of-lt, mul-comm, add-mul-mod-self-right}
+use Rattle.numbers.specs.Congruence.{Cong, c-refl, c-sym, c-trans, c-eq, c-mod, c-add, c-mul}
+use Rattle.numbers.specs.Divisors.{IsGcd}
+use Rattle.montgomery.specs.Held.{held, plain}
+use Rattle.montgomery.specs.Turning.{plain-below, plain-none, plain-same, plain-add, plain-mul, plain-zero}
+use Rattle.montgomery.specs.Turning.{plain-negative, plain-product, plain-three, plain-gcd, leave-enter, held-below}
+use Rattle.modulus.specs.declared.Modulus.{Modulus}
+use Rattle.modulus.specs.Values.{Known, value, value-by}
+
+pub value-held : (m : Modulus) → (m .held ≡ 0 → ⊥) → value m ≡ plain (m .n)
+unfolding value
+value-held m f = go (m .held) refl
+  where
+    go : (h : ℕ) → m .held ≡ h → value m ≡ plain (m .n)
+    go zero e = absurd (f e)
+    go (suc h) e = ap {B = ℕ → ℕ} (λ (j : ℕ). λ (x : ℕ). value-by j (m .n) x) e
+
+pub value-plain : (m : Modulus) → m .held ≡ 0 → value m ≡ (λ (x : ℕ). x)
+unfolding value
+value-plain m e = ap {B = ℕ → ℕ} (λ (h : ℕ). λ (x : ℕ). value-by h (m .n) x) e
+
+pub by-form : (m : Modulus) (P : (ℕ → ℕ) → Type 0) → ((m .held ≡ 0 → ⊥) → P (plain (m .n))) → (m .held ≡ 0 → P (λ (x : ℕ). x)) → P (value m)
+by-form m P h p = go (m .held) refl
+  where
+    go : (j : ℕ) → m .held ≡ j → P (value m)
+    go zero e = subst P (sym (value-plain m e)) (p e)
+    go (suc j) e =
+        let f : m .held ≡ 0 → ⊥ = λ z. omega arith in
+        subst P (sym (value-held m f)) (h f)
+
+module _ (m : Modulus) (k : Known m) where
+  odd : (m .held ≡ 0 → ⊥) → m .n % 2 ≡ 1
+  odd e = k .formed e .fits .odd
+
+  pub value-same : {x y : ℕ} → Cong (m .n) x y → Cong (m .n) (value m x) (value m y)
+  value-same {x} {y} c = by-form m (λ (u : ℕ → ℕ). Cong (m .n) (u x) (u y)) (λ e. c-eq (plain-same (m .n) (odd e) c)) (λ e. c)
+
+  pub value-add : (x y : ℕ) → Cong (m .n) (value m (x + y)) (value m x + value m y)
+  value-add x y = by-form m (λ (u : ℕ → ℕ). Cong (m .n) (u (x + y)) (u x + u y)) (λ e. plain-add (m .n) (odd e) x y) (λ e. c-refl)
+
+  pub value-scaled : (a x : ℕ) → Cong (m .n) (value m (a * x)) (a * value m x)
+  value-scaled a x =
+      by-form m (λ (u : ℕ → ℕ). Cong (m .n) (u (a * x)) (a * u x))
+      (λ e. c-trans (c-eq (ap (plain (m .n)) (mul-comm a x)))
+      (c-trans (plain-mul (m .n) (odd e) x a) (c-eq (mul-comm (plain (m .n) x) a)))) (λ e. c-refl)
+
+  pub value-none : value m 0 ≡ 0
+  value-none = by-form m (λ (u : ℕ → ℕ). u 0 ≡ 0) (λ e. plain-none (m .n) (odd e)) (λ e. refl)
+
+  pub value-below : {x : ℕ} → x < m .n → value m x < m .n
+  value-below {x} l = by-form m (λ (u : ℕ → ℕ). u x < m .n) (λ e. plain-below (m .n) (odd e) x) (λ e. l)
+
+  pub value-zero : (x : ℕ) → x < m .n → value m x ≡ 0 → x ≡ 0
+  value-zero x l = by-form m (λ (u : ℕ → ℕ). u x ≡ 0 → x ≡ 0) (λ e. plain-zero (m .n) (odd e) x l) (λ e z. z)
+
+  pub value-negative : (p : ℕ) → p ≤ m .n → Cong (m .n) (value m (m .n - p)) (m .n - value m p)
+  value-negative p l = by-form m (λ (u : ℕ → ℕ). Cong (m .n) (u (m .n - p)) (m .n - u p)) (λ e. plain-negative (m .n) (odd e) p l)
+      (λ e. c-refl)
+
+  pub value-gcd : {x g : ℕ} → IsGcd (m .n) x g → IsGcd (m .n) (value m x) g
+  value-gcd {x} {g} h = by-form m (λ (u : ℕ → ℕ). IsGcd (m .n) (u x) g) (λ e. plain-gcd (m .n) (odd e) h) (λ e. h)
+
+  -- a residue that is equal to another number
+  is : {x y : ℕ} → x < m .n → Cong (m .n) x y → x ≡ y % m .n
+  is l c = sym (mod-eq-of-lt l) ∙ c .same
+
+  -- ---- what the operations answer
+
+  below : {r : ℕ} (y : ℕ) → r ≡ y % m .n → r < m .n
+  below y e = subst (λ (z : ℕ). z < m .n) (sym e) (mod-lt y (k .pos))
+
+  pub entered-held : (a r : ℕ) → (m .held ≡ 0 → ⊥) → r ≡ held (m .n) a → (r < m .n) × (value m r ≡ a % m .n)
+  entered-held a r e h = (
+    subst (λ (z : ℕ). z < m .n) (sym h) (held-below (m .n) (odd e) a),
+    subst (λ (u : ℕ → ℕ). u r ≡ a % m .n) (sym (value-held m e)) (ap (plain (m .n)) h ∙ leave-enter (m .n) (odd e) a),
+  )
+
+  pub entered-plain : (a r : ℕ) → m .held ≡ 0 → r ≡ a % m .n → (r < m .n) × (value m r ≡ a % m .n)
+  entered-plain a r e h = (below a h, subst (λ (u : ℕ → ℕ). u r ≡ a % m .n) (sym (value-plain m e)) h)
+
+  pub product-held : (x y r : ℕ) → (m .held ≡ 0 → ⊥) → r ≡ plain (m .n) (x * y) → (r < m .n) × (value m r ≡ (value m x * value m y) % m .n)
+  product-held x y r e h = (
+    subst (λ (z : ℕ). z < m .n) (sym h) (plain-below (m .n) (odd e) (x * y)),
+    subst (λ (u : ℕ → ℕ). u r ≡ (u x * u y) % m .n) (sym (value-held m e)) (ap (plain (m .n)) h ∙ plain-product (m .n) (odd e) x y),
+  )
+
+  pub product-plain : (x y r : ℕ) → m .held ≡ 0 → r ≡ (x * y) % m .n → (r < m .n) × (value m r ≡ (value m x * value m y) % m .n)
+  product-plain x y r e h = (below (x * y) h, subst (λ (u : ℕ → ℕ). u r ≡ (u x * u y) % m .n) (sym (value-plain m e)) h)
+
+  pub times-held : (x a r : ℕ) → (m .held ≡ 0 → ⊥) → r ≡ plain (m .n) (x * a) → (r < m .n) × (r ≡ (value m x * a) % m .n)
+  times-held x a r e h =
+      let l = subst (λ (z : ℕ). z < m .n) (sym h) (plain-below (m .n) (odd e) (x * a)) in
+      (l, subst (λ (u : ℕ → ℕ). r ≡ (u x * a) % m .n) (sym (value-held m e)) (is l (c-trans (c-eq h) (plain-mul (m .n) (odd e) x a))))
+
+  pub times-plain : (x a r : ℕ) → m .held ≡ 0 → r ≡ (x * a) % m .n → (r < m .n) × (r ≡ (value m x * a) % m .n)
+  times-plain x a r e h = (below (x * a) h, subst (λ (u : ℕ → ℕ). r ≡ (u x * a) % m .n) (sym (value-plain m e)) h)
+
+  -- a word that is the sum of words, or their difference, stands for that of what they stand for
+  pub sum-is : (x y r : ℕ) → r ≡ (x + y) % m .n → (r < m .n) × (value m r ≡ (value m x + value m y) % m .n)
+  sum-is x y r h =
+      let l = below (x + y) h in
+      (l, is (value-below l) (c-trans (value-same (c-trans (c-eq h) (c-mod (x + y)))) (value-add x y)))
+
+  pub difference-is : (x y r : ℕ) → y ≤ m .n → r ≡ (x + (m .n - y)) % m .n → (r < m .n)
+      × (value m r ≡ (value m x + (m .n - value m y)) % m .n)
+  difference-is x y r ly h =
+      let l = below (x + (m .n - y)) h in (
+        l,
+        is (value-below l) (c-trans (value-same (c-trans (c-eq h) (c-mod (x + (m .n - y)))))
+            (c-trans (value-add x (m .n - y)) (c-add c-refl (value-negative y ly)))),
+      )
+
+  -- l x + c y, where c is n - b, with multipliers that are held or not
+  nothing : (s t : ℕ) → s + t + 0 * 0 ≡ s + t
+  nothing s t = omega arith
+
+  pub three-held : (l x b y r : ℕ) → (m .held ≡ 0 → ⊥) → b ≤ m .n
+      → r ≡ (plain (m .n) l * x + plain (m .n) (m .n - b) * y + plain (m .n) 0 * 0) % m .n
+      → (r < m .n) × (value m r ≡ (value m l * value m x + (m .n - value m b) * value m y) % m .n)
+  three-held l x b y r e lb h = (
+    below _ h,
+    subst (λ (u : ℕ → ℕ). u r ≡ (u l * u x + (m .n - u b) * u y) % m .n) (sym (value-held m e))
+        (ap (plain (m .n)) h ∙ plain-three (m .n) (odd e) (plain (m .n) l) x (plain (m .n) (m .n - b)) y (plain (m .n) 0) 0
+        ∙ c-trans (c-add (c-add c-refl (c-mul (plain-negative (m .n) (odd e) b lb) c-refl))
+        (c-eq (ap₂ (λ (s t : ℕ). s * t) (plain-none (m .n) (odd e)) (plain-none (m .n) (odd e)))))
+        (c-eq (nothing _ _)) .same),
+  )
+
+  pub three-plain : (l x b y r : ℕ) → m .held ≡ 0 → r ≡ (l * x + (m .n - b) * y + 0 * 0) % m .n
+      → (r < m .n) × (value m r ≡ (value m l * value m x + (m .n - value m b) * value m y) % m .n)
+  three-plain l x b y r e h = (
+    below _ h,
+    subst (λ (u : ℕ → ℕ). u r ≡ (u l * u x + (m .n - u b) * u y) % m .n) (sym (value-plain m e))
+        (h ∙ ap (λ (z : ℕ). z % m .n) (nothing (l * x) ((m .n - b) * y))),
+  )

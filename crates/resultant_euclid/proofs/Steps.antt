@@ -1,0 +1,261 @@
+-- The steps of a run without inverses: each is the step of `resultant_pseudo` on what the words stand for.
+--
+--   pair-led, last-led, turn-led, drop-led   what each step makes, from what the word loop wrote
+--   asked, asked-here                        what the word loop asks
+--   standing-values                          what the words stand for stands in the same places
+--   leads-self, leads-trans, leads-same      no step; one after another; the buffer keeps its length
+--   one-is, began                            a run that begins, and where it leads
+--   value-is                                 the value at the end
+use mathlib.Core.Path.{_≡_, refl, sym, ap, ap₂, subst, _∙_}
+use mathlib.Core.List.{List}
+use mathlib.Core.Logic.{⊎-elim}
+use Prim.Native.Nat.{ℕ, _+_, _-_, _*_, _%_, _^_, _≤_, _<_}
+use native.Mathlib.Omega.{arith}
+use native.Mathlib.Nat.{mod-eq-of-lt, mod-self, zero-mod}
+use lib.ListN.{length, getD}
+use Rattle.numbers.specs.Congruence.{Cong, c-refl, c-sym, c-trans, c-eq, c-add, c-mul}
+use Rattle.theory.specs.ResultantLaws.{signed}
+use Rattle.windows.specs.Window.{Moved, mulBy, Written, Below, Around, Apart}
+use Rattle.windows.proofs.Leaf.{lt-or-le, apart-at}
+use Rattle.window_combining.specs.Combined.{combination}
+use Rattle.modulus.specs.declared.Modulus.{Modulus}
+use Rattle.modulus.specs.Values.{Known, value, values}
+use Rattle.modulus.proofs.Valuing.{value-none}
+use Rattle.modulus_windows.specs.Standing.{Wrote, Scaled}
+use Rattle.modulus_windows.proofs.Forms.{values-length, values-at, values-below}
+use Rattle.resultant_turns.specs.RunLaws.{Run}
+use Rattle.resultant_pseudo.specs.Standing.{Placed, PlacedState, Led, TriedAnswer, standing}
+use Rattle.resultant_pseudo.specs.declared.Tried.the-variants.{Value}
+use Rattle.resultant_pseudo.specs.declared.State.{State}
+use Rattle.resultant_pseudo.proofs.Stepping.{pair-stepped, last-stepped, turn-stepped, drop-stepped, next-placed}
+use Rattle.resultant_pseudo.proofs.Stepping.{turned-placed, asked as asked-below, led-self, led-trans, run-value}
+use Rattle.resultant_euclid.specs.Running.{Standing, Leads, Stepped, meant}
+
+pub around-more : {b l m : ℕ} {w w' : List ℕ} → l ≤ m → Around b l w w' → Around b m w w'
+around-more h ar = record { same = ar .same; low = ar .low; high = λ k g. ar .high k (omega arith) }
+
+-- of multipliers only their residues count
+written-cong : {n l c e : ℕ} (l' c' e' src : ℕ) {dst len : ℕ} (v : List ℕ) {w w' : List ℕ} → Cong n l l' → Cong n c c' → Cong n e e'
+    → Written (combination n l c e src dst v) dst len w w' → Written (combination n l' c' e' src dst v) dst len w w'
+unfolding combination
+written-cong l' c' e' src {dst} {len} v {w} {w'} hl hc he wr = record {
+  same = wr .same;
+  low = wr .low;
+  mid = λ i h. wr .mid i h ∙ c-add (c-add (c-mul hl c-refl) (c-mul hc c-refl)) (c-mul he c-refl) .same;
+  high = wr .high;
+}
+
+nothing : (s t : ℕ) → s + t ≡ s + t + 0 * 0
+nothing s t = omega arith
+
+module _ (m : Modulus) (known : Known m) where
+  -- what the words stand for stands in the same places
+  pub standing-values : (a d b e : ℕ) (w : List ℕ) → Placed (m .n) a d b e w → Placed (m .n) a d b e (values m w)
+  standing-values a d b e w pl = record {
+    pos = pl .pos;
+    near = pl .near;
+    first = omega (arith, pl .first, values-length m w);
+    second = omega (arith, pl .second, values-length m w);
+    pair = record {
+      first = values-below m known (pl .pair .first);
+      second = values-below m known (pl .pair .second);
+      apart =
+          pl .pair .apart;
+    };
+  }
+
+  module _ (x : State) (w w' : List ℕ) (st : Standing m x w) (one : 1 ≤ x .d) where
+    at : (i : ℕ) → value m (getD w i 0) ≡ getD (values m w) i 0
+    at i = sym (values-at m known w i)
+
+    in-places : Placed (m .n) (x .a) (x .d) (x .b) (x .e) (values m w)
+    in-places = standing-values (x .a) (x .d) (x .b) (x .e) w (st .placed)
+
+    -- the remainder and f
+    next : (len : ℕ) → len ≤ x .e + 1 → (k s : ℕ) → k < m .n → s < m .n → Around (x .b) len w w' → Below (m .n) (x .b) (x .d) w'
+        → Standing m (record { a = x .b; d = x .d - 1; b = x .a; e = x .d; s = s; p = k; t = x .t }) w'
+    next len l k s lk ls ar be = record {
+      placed = next-placed (m .n) (x .a) (x .d) (x .b) (x .e) w w' (st .placed) one (around-more l ar) be;
+      s-below = ls;
+      p-below = lk;
+      t-below = st .t-below;
+    }
+
+    pub pair-led : (y p q : ℕ) → x .e ≡ x .d + 1 → value m y ≡ (value m (getD w (x .a + x .d) 0) * value m (getD w (x .a + x .d) 0)) % m .n
+        → value m p ≡ (value m (getD w (x .a + x .d) 0) * value m (getD w (x .b + (x .d + 1)) 0)) % m .n
+        → value m q ≡ (value m (getD w (x .a + x .d) 0) * value m (getD w (x .b + x .d) 0)
+        + (m .n - value m (getD w (x .b + (x .d + 1)) 0)) * value m (getD w (x .a + (x .d - 1)) 0)) % m .n
+        → Wrote m (combination (m .n) (value m y) (m .n - value m p) (m .n - value m q) (x .a) (x .b) (values m w)) (x .b) (x .d) w w'
+        → (k s : ℕ) → (k < m .n) × (value m k ≡ (value m (x .p) * value m y) % m .n) → (s < m .n)
+        × (value m s ≡ (value m (x .s) * value m k) % m .n)
+        → Stepped m x w (record { a = x .b; d = x .d - 1; b = x .a; e = x .d; s = s; p = k; t = x .t }) w'
+    pair-led y p q h hy hp hq wr k s hk hs =
+        let z = pair-stepped (m .n) (x .a) (x .d) (x .b) (x .e) (values m w) (values m w') (value m y) (value m p)
+        (value m q) in-places one h
+        (hy ∙ ap₂ (λ (u v : ℕ). (u * v) % m .n) (at (x .a + x .d)) (at (x .a + x .d)))
+        (hp ∙ ap₂ (λ (u v : ℕ). (u * v) % m .n) (at (x .a + x .d)) (at (x .b + (x .d + 1))))
+        (hq ∙ ap (λ (u : ℕ). u % m .n) (nothing _ _
+        ∙ ap₂ (λ (u v : ℕ). u + v + 0 * 0) (ap₂ (λ (u v : ℕ). u * v) (at (x .a + x .d)) (at (x .b + x .d)))
+        (ap₂ (λ (u v : ℕ). (m .n - u) * v) (at (x .b + (x .d + 1))) (at (x .a + (x .d - 1))))))
+        (wr .stands) (value m (x .s)) (value m (x .p)) (value m (x .t)) (value m k) (value m s) (hk .1) (hs .1) in
+        (record { standing = next (x .d) (omega arith) k s (hk .0) (hs .0) (wr .around) (wr .below); led = z .0 }, z .1)
+
+    pub last-led : x .e ≡ x .d
+        → Wrote m (combination (m .n) (value m (getD w (x .a + x .d) 0)) 0 (m .n - value m (getD w (x .b + x .d) 0)) (x .a) (x .b)
+        (values m w)) (x .b) (x .d) w w'
+        → (k s : ℕ) → (k < m .n) × (value m k ≡ (value m (x .p) * value m (getD w (x .a + x .d) 0)) % m .n)
+        → (s < m .n) × (value m s ≡ (value m (x .s) * value m k) % m .n)
+        → Stepped m x w (record { a = x .b; d = x .d - 1; b = x .a; e = x .d; s = s; p = k; t = x .t }) w'
+    last-led h wr k s hk hs =
+        let z = last-stepped (m .n) (x .a) (x .d) (x .b) (x .e) (values m w) (values m w') in-places one h
+        (written-cong (getD (values m w) (x .a + x .d) 0) 0 (m .n - getD (values m w) (x .b + x .d) 0) (x .a) (values m w)
+        (c-eq (at (x .a + x .d))) c-refl
+        (c-eq (ap (λ (u : ℕ). m .n - u) (at (x .b + x .d)))) (wr .stands))
+        (value m (x .s)) (value m (x .p)) (value m (x .t)) (value m k) (value m s)
+        (hk .1 ∙ ap (λ (u : ℕ). (value m (x .p) * u) % m .n) (at (x .a + x .d))) (hs .1) in
+        (record { standing = next (x .d) (omega arith) k s (hk .0) (hs .0) (wr .around) (wr .below); led = z .0 }, z .1)
+
+    pub drop-led : getD w (x .a + x .d) 0 ≡ 0 → (y : ℕ) → value m y ≡ signed (m .n) (x .e) (value m (getD w (x .b + x .e) 0)) → (t s : ℕ)
+        → (t < m .n) × (value m t ≡ (value m (x .t) * value m y) % m .n) → (s < m .n)
+        × (value m s ≡ (value m (x .s) * value m (x .p)) % m .n)
+        → Stepped m x w (record { a = x .a; d = x .d - 1; b = x .b; e = x .e; s = s; p = x .p; t = t }) w
+    drop-led h y hy t s ht hs =
+        let pl = st .placed in
+        let z = drop-stepped (m .n) (x .a) (x .d) (x .b) (x .e) (values m w) in-places one
+        (sym (at (x .a + x .d)) ∙ ap (value m) h ∙ value-none m known) (value m y)
+        (hy ∙ ap (signed (m .n) (x .e)) (at (x .b + x .e))) (value m (x .s)) (value m (x .p)) (value m (x .t)) (value m t) (value m s)
+        (ht .1) (hs .1) in (
+          record {
+            standing = record {
+              placed = record {
+                pos = pl .pos;
+                near = omega (arith, pl .near);
+                first = omega (arith, pl .first);
+                second = pl .second;
+                pair = record {
+                  first = record { at = λ k l. pl .pair .first .at k (omega arith) };
+                  second = pl .pair .second;
+                  apart = record { ok = λ i j u v g. pl .pair .apart .ok i j (omega arith) v g };
+                };
+              };
+              s-below = hs .0;
+              p-below = st .p-below;
+              t-below = ht .0;
+            };
+            led = z .0;
+          },
+          z .1,
+        )
+
+    -- ---- a turn before the last, e = d + i
+
+    module _ (i : ℕ) (w₁ : List ℕ) (lt : x .d < x .e) (is : i ≡ x .e - x .d) (sc : Scaled m (getD w (x .a + x .d) 0) (x .b) (x .b) i w w₁)
+        (wr : Wrote m (combination (m .n) (value m (getD w (x .a + x .d) 0)) 0 (m .n - value m (getD w (x .b + x .e) 0)) (x .a) (x .b + i)
+        (values m w₁))
+        (x .b + i) (x .d) w₁ w') where
+      turn-around : Around (x .b) (x .e + 1) w w'
+      turn-around = record {
+        same = wr .around .same ∙ sc .around .same;
+        low = λ k h. wr .around .low k (omega arith) ∙ sc .around .low k h;
+        high = λ k h. wr .around .high k (omega arith) ∙ sc .around .high k (omega arith);
+      }
+
+      turn-below : Below (m .n) (x .b) (x .e) w'
+      turn-below = record {
+        at = λ k l. ⊎-elim
+            (λ h. subst (λ (y : ℕ). y < m .n) (sym (wr .around .low (x .b + k) (omega arith))) (sc .below .at k h))
+            (λ h. let z : x .b + k ≡ x .b + i + (k - i) = omega arith in
+            subst (λ (y : ℕ). getD w' y 0 < m .n) (sym z) (wr .below .at (k - i) (omega arith)))
+            (lt-or-le k i);
+      }
+
+      pub turn-led : (k : ℕ) → (k < m .n) × (value m k ≡ (value m (x .p) * value m (getD w (x .a + x .d) 0)) % m .n)
+          → Stepped m x w (record { a = x .a; d = x .d; b = x .b; e = x .e - 1; s = x .s; p = k; t = x .t }) w'
+      turn-led k hk =
+          let z = turn-stepped (m .n) (x .a) (x .d) (x .b) (x .e) i (values m w) (values m w₁) (values m w') in-places one lt is
+          (subst (λ (u : ℕ). Moved (mulBy (m .n) u) (x .b) (x .b) i (values m w) (values m w₁)) (at (x .a + x .d)) (sc .stands))
+          (written-cong (getD (values m w) (x .a + x .d) 0) 0 (m .n - getD (values m w) (x .b + x .e) 0) (x .a) (values m w₁)
+          (c-eq (at (x .a + x .d))) c-refl
+          (c-eq (ap (λ (u : ℕ). m .n - u) (at (x .b + x .e)))) (wr .stands))
+          (value m (x .s)) (value m (x .p)) (value m (x .t)) (value m k)
+          (hk .1 ∙ ap (λ (u : ℕ). (value m (x .p) * u) % m .n) (at (x .a + x .d))) in (
+            record {
+              standing = record {
+                placed = turned-placed (m .n) (x .a) (x .d) (x .b) (x .e) w w' (st .placed) one turn-around lt turn-below;
+                s-below = st .s-below;
+                p-below = hk .0;
+                t-below = st .t-below;
+              };
+              led = z .0;
+            },
+            z .1,
+          )
+
+  -- ---- the whole run
+
+  pub leads-self : {x : State} {w : List ℕ} → Standing m x w → Leads m x w x w
+  leads-self {x} {w} st = record { standing = st; led = led-self (standing-values (x .a) (x .d) (x .b) (x .e) w (st .placed)) }
+
+  -- the value at the end of a run, from what the code found
+  pub value-is : (y : State) (w : List ℕ) (R₀ i g s l c z u v : ℕ) → Standing m y w → y .d ≡ 0
+      → Run (m .n) (value m (y .s)) (value m (y .p)) (value m (y .t)) (y .d) R₀ (standing (m .n) (y .a) (y .d) (y .b) (y .e) (values m w))
+      → R₀ < m .n
+      → s ≡ value m (y .s) → (i * s) % m .n ≡ g % m .n → g ≡ 1 → l ≡ value m (getD w (y .a) 0) → c ≡ (l ^ y .e) % m .n
+      → value m z ≡ (value m (y .p) * value m (y .t)) % m .n → u ≡ (value m z * c) % m .n → v ≡ (i * u) % m .n → TriedAnswer (m .n) R₀
+      (Value v)
+  value-is y w R₀ i g s l c z u v st h run small hs hi hg hl hc hz hu hv =
+      run-value (m .n) (m .n) (y .a) (y .d) (y .b) (y .e) (value m (y .s)) (value m (y .p)) (value m (y .t)) R₀ i g c (value m z) u v
+      (values m w) refl
+      (standing-values (y .a) (y .d) (y .b) (y .e) w (st .placed)) h run small
+      (subst (λ (q : ℕ). (i * q) % m .n ≡ g % m .n) hs hi) hg
+      (hc ∙ ap (λ (q : ℕ). (q ^ y .e) % m .n) (hl ∙ sym (values-at m known w (y .a)))) hz hu hv
+
+pub leads-trans : {m : Modulus} {x y z : State} {w w' w'' : List ℕ} → Leads m x w y w' → Leads m y w' z w'' → Leads m x w z w''
+leads-trans p q = record { standing = q .standing; led = led-trans (p .led) (q .led) }
+
+pub leads-same : {m : Modulus} {x y : State} {w w' : List ℕ} → Leads m x w y w' → length w' ≡ length w
+leads-same {m} {w = w} {w' = w'} h = sym (values-length m w') ∙ h .led .same ∙ values-length m w
+
+-- ---- a run that begins
+
+abbrev pub beginning : ℕ → ℕ → ℕ → ℕ → ℕ → State
+beginning a d b e u = record { a = a; d = d; b = b; e = e; s = u; p = u; t = u }
+
+pub begun : {m : Modulus} {a d b e : ℕ} {w : List ℕ} (u : ℕ) → Placed (m .n) a d b e w → u < m .n → Standing m (beginning a d b e u) w
+begun u pl l = record { placed = pl; s-below = l; p-below = l; t-below = l }
+
+pub began : {m : Modulus} {a d b e : ℕ} {w w' : List ℕ} (u : ℕ) (y : State) → 2 ≤ m .n → value m u ≡ 1 % m .n → Leads m
+    (beginning a d b e u) w y w'
+    → Led (m .n) a d b e 1 1 1 (values m w) (y .a) (y .d) (y .b) (y .e) (value m (y .s)) (value m (y .p)) (value m (y .t)) (values m w')
+began {m} {a} {d} {b} {e} {w} {w'} u y two h l =
+    subst (λ (o : ℕ). Led (m .n) a d b e o o o (values m w) (y .a) (y .d) (y .b) (y .e) (value m (y .s)) (value m (y .p)) (value m (y .t))
+    (values m w'))
+    (h ∙ mod-eq-of-lt (omega arith)) (l .led)
+
+-- ---- what the code asks
+
+-- the word loop, from the place i of g on
+pub asked : (n a d b e c i l q : ℕ) (w w₁ : List ℕ) → Placed n a d b e w → c ≡ b + i → i + d ≤ e + 1 → length w₁ ≡ length w
+    → ((k : ℕ) → k < d + 1 → getD w₁ (a + k) 0 ≡ getD w (a + k) 0) → ((k : ℕ) → k < d → getD w₁ (c + k) 0 ≡ getD w (c + k) 0) → l < n
+    → q < n
+    → ((l < n) × ((q < n) × ((a + d ≤ length w₁) × (c + d ≤ length w₁)))) × ((Apart a d c d) × ((Below n a d w₁) × (Below n c d w₁)))
+asked n a d b e c i l q w w₁ pl h g same words others ll lq =
+    let z = asked-below n a d b e c i w w₁ pl h g same words in (
+      (ll, (lq, z .0)),
+      (
+        z .1 .0,
+        (
+          z .1 .1,
+          record {
+            at = λ k u. let j : c + k ≡ b + (i + k) = omega arith in
+                subst (λ (x : ℕ). x < n) (sym (others k u))
+                (subst (λ (x : ℕ). getD w x 0 < n) (sym j) (pl .pair .second .at (i + k) (omega arith)));
+          },
+        ),
+      ),
+    )
+
+pub asked-here : (n a d b e l q : ℕ) (w : List ℕ) → Placed n a d b e w → l < n → q < n
+    → ((l < n) × ((q < n) × ((a + d ≤ length w) × (b + d ≤ length w)))) × ((Apart a d b d) × ((Below n a d w) × (Below n b d w)))
+asked-here n a d b e l q w pl ll lq = asked n a d b e b 0 l q w w pl (omega arith) (omega (arith, pl .near)) refl (λ k h. refl)
+    (λ k h. refl) ll lq

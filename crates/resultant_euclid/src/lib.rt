@@ -1,0 +1,249 @@
+// The resultant modulo n by Euclid without inverses: pseudo-division, and one greatest common divisor at the end. Written once, over what
+// the words stand for: they are held multiplied by 2^32 modulo n where the modulus says so. The value leaves in the old form.
+//
+//   w, m         the buffer, and the modulus
+//   x, y         states: the places and degrees of f and g, and what is known of the resultant by them
+//   l, c         the leading words of f and g
+//
+//   attempt      the value, or nothing where some leading word is no unit
+//   descend      all steps, whatever the leading words are: the resultant's equation, and the constant that is reached
+//   finish       steps down to degree 0
+//   two_steps    two steps, or fewer where degree 0 is reached
+//   value_of     the value from the state at the end
+//   step         one step: a zero leading word dropped, or one or two turns of a division
+//   pair_step    two turns at once, where e = d + 1: the normal case
+//   last_step    the last turn, where e = d
+//   turn_step    a turn before the last
+ghost use mathlib.Core.Path.{_≡_};
+ghost use Prim.Native.Nat.{_+_, _<_, _≤_};
+ghost use Rattle.definitions.specs.Resultants.{resultant};
+ghost use Rattle.theory.specs.ResultantLaws.{signed};
+ghost use Rattle.windows.specs.Window.{piece, Scratch};
+ghost use Rattle.modulus.specs.Values.{Known, value, values};
+ghost use Rattle.resultant_pseudo.specs.Standing.{Placed, TriedAnswer};
+ghost use Rattle.resultant_euclid.specs.Running.{Standing, Leads, Stepped, Finished, Descends, Answering};
+use modulus::Modulus;
+use resultant_pseudo::State;
+use resultant_pseudo::Tried;
+
+// x with the sign (-1)^e.
+fn with_sign(m: Modulus, e: usize, x: u32) -> u32
+    requires { ⌜ (Known m) × (x < m .n) ⌝ }
+    ensures { λ r. ⌜ (r < m .n) × (value m r ≡ signed (m .n) e (value m x)) ⌝ }
+{
+    if e % 2 == 0 {
+        return x;
+    }
+    modulus::difference(m, 0, x)
+}
+
+fn pair_step(w: &mut [u32], m: Modulus, x: State) -> State
+    requires { ⌜ Known m ⌝ }
+    requires { ⌜ (Standing m x (now w)) × ((1 ≤ x .d) × (x .e ≡ x .d + 1)) ⌝ }
+    ensures { λ r. ⌜ Stepped m x (now (w .entry)) r (now (w .exit)) ⌝ }
+{
+    let a = x.a;
+    let d = x.d;
+    let b = x.b;
+    let l = w[a + d];
+    let c = w[b + (d + 1)];
+    let y = modulus::product(m, l, l);
+    let p = modulus::product(m, l, c);
+    let q = modulus::difference_of(m, l, w[b + d], c, w[a + (d - 1)]);
+    modulus_windows::combine_pair(w, m, y, p, q, a, b, d);
+    let k = modulus::product(m, x.p, y);
+    let s = modulus::product(m, x.s, k);
+    State {
+        a: b,
+        d: d - 1,
+        b: a,
+        e: d,
+        s,
+        p: k,
+        t: x.t,
+    }
+}
+
+fn last_step(w: &mut [u32], m: Modulus, x: State) -> State
+    requires { ⌜ Known m ⌝ }
+    requires { ⌜ (Standing m x (now w)) × ((1 ≤ x .d) × (x .e ≡ x .d)) ⌝ }
+    ensures { λ r. ⌜ Stepped m x (now (w .entry)) r (now (w .exit)) ⌝ }
+{
+    let a = x.a;
+    let d = x.d;
+    let b = x.b;
+    let l = w[a + d];
+    let c = w[b + d];
+    modulus_windows::combine(w, m, l, c, a, b, d);
+    let k = modulus::product(m, x.p, l);
+    let s = modulus::product(m, x.s, k);
+    State {
+        a: b,
+        d: d - 1,
+        b: a,
+        e: d,
+        s,
+        p: k,
+        t: x.t,
+    }
+}
+
+fn turn_step(w: &mut [u32], m: Modulus, x: State) -> State
+    requires { ⌜ Known m ⌝ }
+    requires { ⌜ (Standing m x (now w)) × ((1 ≤ x .d) × (x .d < x .e)) ⌝ }
+    ensures { λ r. ⌜ Stepped m x (now (w .entry)) r (now (w .exit)) ⌝ }
+{
+    let a = x.a;
+    let d = x.d;
+    let b = x.b;
+    let e = x.e;
+    let i = e - d;
+    let l = w[a + d];
+    let c = w[b + e];
+    modulus_windows::scale(w, m, l, b, b, i);
+    modulus_windows::combine(w, m, l, c, a, b + i, d);
+    let k = modulus::product(m, x.p, l);
+    State {
+        a,
+        d,
+        b,
+        e: e - 1,
+        s: x.s,
+        p: k,
+        t: x.t,
+    }
+}
+
+fn step(w: &mut [u32], m: Modulus, x: State) -> State
+    requires { ⌜ Known m ⌝ }
+    requires { ⌜ (Standing m x (now w)) × (1 ≤ x .d) ⌝ }
+    ensures { λ r. ⌜ Stepped m x (now (w .entry)) r (now (w .exit)) ⌝ }
+{
+    let a = x.a;
+    let d = x.d;
+    let b = x.b;
+    let e = x.e;
+    if w[a + d] == 0 {
+        let y = with_sign(m, e, w[b + e]);
+        let t = modulus::product(m, x.t, y);
+        let s = modulus::product(m, x.s, x.p);
+        return State {
+            a,
+            d: d - 1,
+            b,
+            e,
+            s,
+            p: x.p,
+            t,
+        };
+    }
+    if e == d + 1 {
+        return pair_step(w, m, x);
+    }
+    if e == d {
+        return last_step(w, m, x);
+    }
+    turn_step(w, m, x)
+}
+
+// Steps down to degree 0.
+fn finish(w: &mut [u32], m: Modulus, x: State) -> State
+    requires { ⌜ Known m ⌝ }
+    requires { ⌜ Standing m x (now w) ⌝ }
+    ensures { λ r. ⌜ Finished m x (now (w .entry)) r (now (w .exit)) ⌝ }
+{
+    let mut y = x;
+    while 0 < y.d {
+        y = step(w, m, y);
+    }
+    y
+}
+
+// Two steps, where there are so many.
+fn two_steps(w: &mut [u32], m: Modulus, x: State) -> State
+    requires { ⌜ Known m ⌝ }
+    requires { ⌜ Standing m x (now w) ⌝ }
+    ensures { λ r. ⌜ Leads m x (now (w .entry)) r (now (w .exit)) ⌝ }
+{
+    if x.d == 0 {
+        return x;
+    }
+    let y = step(w, m, x);
+    if y.d == 0 {
+        return y;
+    }
+    step(w, m, y)
+}
+
+// All steps from f of degree d at a and g of degree e at b; both are lost.
+pub fn descend(w: &mut [u32], m: Modulus, a: usize, d: usize, b: usize, e: usize) -> State
+    requires { ⌜ (Known m) × (2 ≤ m .n) ⌝ }
+    requires { ⌜ Placed (m .n) a d b e (now w) ⌝ }
+    ensures { λ r. ⌜ Descends m a d b e (now (w .entry)) r (now (w .exit)) ⌝ }
+{
+    let one = modulus::enter(m, 1);
+    finish(
+        w,
+        m,
+        State {
+            a,
+            d,
+            b,
+            e,
+            s: one,
+            p: one,
+            t: one,
+        },
+    )
+}
+
+// The value, from a state of degree 0: s times the resultant is p t times the power of the constant, and s is a unit.
+fn value_of(w: &[u32], m: Modulus, y: State) -> Tried
+    requires { ⌜ Known m ⌝ }
+    requires { ⌜ (Standing m y (now w)) × (y .d ≡ 0) ⌝ }
+    ensures { λ r. ⌜ Answering m y (now (w .entry)) r ⌝ }
+{
+    let n = m.n;
+    let s = modulus::leave(m, y.s);
+    let i = bezout::cofactor(n, s);
+    if i.g != 1 {
+        return Tried::NotUnit(s);
+    }
+    let k = y.a;
+    let c = arithmetic::power(n, modulus::leave(m, w[k]), y.e);
+    let z = modulus::product(m, y.p, y.t);
+    let u = modulus::times(m, z, c);
+    Tried::Value(modulus::multiply(m, i.s, u))
+}
+
+// The resultant of what the words stand for: f of degree d at a and g of degree e at b; both are lost. Where a test after the second
+// step already shows a zero divisor, nothing more is tried; where few steps are left the test costs more than they do.
+pub fn attempt(w: &mut [u32], m: Modulus, a: usize, d: usize, b: usize, e: usize) -> Tried
+    requires { ⌜ (Known m) × (2 ≤ m .n) ⌝ }
+    requires { ⌜ Placed (m .n) a d b e (now w) ⌝ }
+    ensures { λ r. ⌜ TriedAnswer (m .n) (resultant (m .n) (piece (values m (now (w .entry))) a (d + 1))
+        (piece (values m (now (w .entry))) b (e + 1))) r ⌝ }
+    ensures { λ _. ⌜ Scratch (now (w .entry)) (now (w .exit)) ⌝ }
+{
+    let one = modulus::enter(m, 1);
+    let x = two_steps(
+        w,
+        m,
+        State {
+            a,
+            d,
+            b,
+            e,
+            s: one,
+            p: one,
+            t: one,
+        },
+    );
+    if 16 <= x.d {
+        if bezout::gcd(m.n, x.s) != 1 {
+            return Tried::NotUnit(x.s);
+        }
+    }
+    let y = finish(w, m, x);
+    value_of(w, m, y)
+}

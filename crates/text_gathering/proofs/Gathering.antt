@@ -1,0 +1,57 @@
+-- The words that a text comes to, a character at a time.
+use mathlib.Core.Path.{_≡_, refl, sym, ap, ap₂, _∙_}
+use mathlib.Core.Bool.{cond}
+use mathlib.Core.List.{List}
+use Prim.Native.Nat.{ℕ, zero, suc, _+_, _≤_, _<_}
+use native.Mathlib.Numerals.{add-one}
+use native.Mathlib.Omega.{arith}
+use lib.Dec.{eqb}
+use lib.ListN.{length, getD, drop, set, drop-of-length-le}
+use lib.Seq.{drop-cons, set-out}
+use borrow.Author.Tests.{eq-eqb, ne-eqb, lt-ltb}
+use Rattle.text_notation.specs.Candidates.{number-after, coefficient-after, stored, gathered}
+use Rattle.text_gathering.specs.InWord.{in-word}
+
+pub fits-in-word : (y : ℕ) → y < 4294967296 → in-word y ≡ y
+fits-in-word y h = rw (lt-ltb y 4294967296 h)
+
+-- ---- one term
+
+pub stored-alone : (c x : ℕ) (w : List ℕ) → c ≡ 0 → set w 0 x ≡ stored c x w
+stored-alone zero x w e = refl
+stored-alone (suc c) x w e = absurd (omega arith)
+
+pub stored-power : (c x : ℕ) (w : List ℕ) → (c ≡ 0 → ⊥) → set w x c ≡ stored c x w
+stored-power zero x w n = absurd (n refl)
+stored-power (suc c) x w n = refl
+
+pub stored-beyond : (c x : ℕ) (w : List ℕ) → (c ≡ 0 → ⊥) → length w ≤ x → w ≡ stored c x w
+stored-beyond c x w n h = sym (set-out w x c h) ∙ stored-power c x w n
+
+-- ---- one character
+
+pub at-plus : (b c x : ℕ) (w v : List ℕ) → b ≡ 43 → v ≡ stored c x w → v ≡ cond (eqb b 43) (stored c x w) w
+at-plus b c x w v e h = rw (eq-eqb b 43 e) h
+
+pub at-other : (b c x : ℕ) (w v : List ℕ) → (b ≡ 43 → ⊥) → v ≡ w → v ≡ cond (eqb b 43) (stored c x w) w
+at-other b c x w v n h = rw (ne-eqb b 43 n) h
+
+module _ (s : List ℕ) (i c x : ℕ) (w₀ w : List ℕ) (so : gathered in-word s 0 0 w₀ ≡ gathered in-word (drop i s) c x w) where
+  pub one-more : (c' x' : ℕ) (v : List ℕ) → i < length s
+      → v ≡ cond (eqb (getD s i 0) 43) (stored c x w) w
+      → c' ≡ coefficient-after (getD s i 0) c x
+      → x' ≡ number-after in-word (getD s i 0) x
+      → gathered in-word s 0 0 w₀ ≡ gathered in-word (drop (i + 1) s) c' x' v
+  unfolding gathered
+  one-more c' x' v h e e₁ e₂ =
+      let b = getD s i 0 in
+      so
+      ∙ ap (λ (t : List ℕ). gathered in-word t c x w) (drop-cons s i 0 h)
+      ∙ ap (λ (k : ℕ). gathered in-word (drop k s) (coefficient-after b c x) (number-after in-word b x) (cond (eqb b 43) (stored c x w) w))
+      (sym (add-one i))
+      ∙ ap (λ (t : List ℕ). gathered in-word (drop (i + 1) s) (coefficient-after b c x) (number-after in-word b x) t) (sym e)
+      ∙ ap₂ (λ (k l : ℕ). gathered in-word (drop (i + 1) s) k l v) (sym e₁) (sym e₂)
+
+  pub all-gathered : (v : List ℕ) → length s ≤ i → v ≡ stored c x w → v ≡ gathered in-word s 0 0 w₀
+  unfolding gathered
+  all-gathered v h e = e ∙ sym (so ∙ ap (λ (t : List ℕ). gathered in-word t c x w) (drop-of-length-le s {i = i} h))

@@ -1,0 +1,70 @@
+-- What the resultant shows of D, and the sizes that a run asks for.
+--
+--   shown       what the resultant shows
+--   sizes-of    the sizes that the 32-bit twin asks for
+--   asked-of    what the run asks, for a factor of the modulus
+use mathlib.Core.Path.{_≡_, refl, subst}
+use mathlib.Core.Bool.{Bool, true, false}
+use mathlib.Core.List.{List}
+use Prim.Native.Nat.{ℕ, zero, suc, pred, _+_, _≤_, _<_}
+use native.Mathlib.Omega.{arith}
+use native.Mathlib.Nat.{one-dvd}
+use lib.Dec.{eqb}
+use lib.ListN.{length}
+use borrow.Author.Tests.{eqb-true}
+use Rattle.definitions.specs.Resultants.{resultant, Reached, Reduced}
+use Rattle.numbers.specs.Divisors.{IsGcd}
+use Rattle.numbers.specs.Units.{unit-of-coprime, coprime-of-gcd, inverse-times}
+use Rattle.theory.specs.ReachedLaws.{resultant-reached, reached-same, reached-multiple, reduced-from}
+use Rattle.windows.specs.Window.{Scratch}
+use Rattle.divisor.specs.Sizes.{DivisorSizes}
+use Rattle.wide_divisor.specs.Shown.{DivisorAsked, Shown}
+
+module _ {n : ℕ} {f g w : List ℕ} (a : DivisorAsked n f g w) where
+  -- a unit that is reached: D is 1
+  unit-reached : (c : ℕ) → IsGcd n c 1 → Reached n f g c → Reduced n f g 1
+  unit-reached c h r =
+      let positive : 1 ≤ n = omega (arith, a .two) in
+      let u = unit-of-coprime {a = c} positive (coprime-of-gcd h) in
+      reduced-from n 1 f g positive (one-dvd n) (omega arith) positive
+      (reached-same (inverse-times u .same) (reached-multiple n positive f g c (u .inverse) r)) (λ x y. one-dvd x)
+
+  reached : 3 ≤ length f + length g → Reached n f g (resultant n f g)
+  reached l = go n (a .two)
+    where
+      some : (x y : ℕ) → 3 ≤ x + y → 1 ≤ x → 1 ≤ y → 1 ≤ pred x + pred y
+      some x y h p q = omega arith
+
+      go : (n : ℕ) → 2 ≤ n → Reached n f g (resultant n f g)
+      go zero h = absurd (omega arith)
+      go (suc m) h = resultant-reached m f g (some (length f) (length g) l (a .least-f) (a .least-g))
+
+  pub shown : {r x : ℕ} (b : Bool) → r ≡ resultant n f g → IsGcd n r x → 3 ≤ length f + length g → b ≡ eqb x 1 → Shown n f g b
+  shown {r} {x} true e h l i =
+      unit-reached (resultant n f g) (subst (λ (c : ℕ). IsGcd n c 1) e (subst (IsGcd n r) (eqb-true x 1 (is i)) h)) (reached l)
+    where
+      is : true ≡ eqb x 1 → eqb x 1 ≡ true
+      is i = rw i refl
+  shown false e h l i = tt
+
+  -- for the laws of divisor, whose run asks for fewer working words
+  pub sizes-of : DivisorSizes f g w
+  sizes-of = record {
+    least-f = a .least-f;
+    most-f = a .most-f;
+    least-g = a .least-g;
+    most-g = a .most-g;
+    working = omega (arith, a .working);
+  }
+
+  -- a factor p of the modulus, after a run that loses the working words
+  pub asked-of : {w' : List ℕ} (p : ℕ) → Scratch w w' → 2 ≤ p → p < n → DivisorAsked p f g w'
+  asked-of p h two less = record {
+    two = two;
+    bounded = omega (arith, a .bounded);
+    least-f = a .least-f;
+    most-f = a .most-f;
+    least-g = a .least-g;
+    most-g = a .most-g;
+    working = omega (arith, h .same, a .working);
+  }

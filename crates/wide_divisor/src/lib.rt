@@ -1,0 +1,161 @@
+// The reduced resultant D of two polynomials modulo n, without cofactors, in words of 64 bits. Where the resultant is a unit D is 1, since
+// the resultant is reached; otherwise D comes by contents, leading units and divisions, in windows of the lent buffer. The 32-bit twin
+// `divisor` has the laws.
+//
+//   f, g   the sent words; c is the content of both together
+//   w      the working window: g over c from 0 on, f over c from m on, m words each, zeros above; room from 2 m on
+//
+//   shows_coprime    whether the resultant shows that D is 1
+//   longer           the larger of two numbers of words
+//   over             words over a content
+//   arrange          both polynomials over their common content
+//   half             the attempt where the first polynomial gets a leading unit
+//   general          both halves in turn
+//   attempt          D = 1 where the resultant shows it; else the general way
+//   joined           D modulo a product of two coprime factors
+//   run              D; a split of n is worked on each factor, and the answers are multiplied
+ghost use mathlib.Core.Path.{_≡_};
+ghost use Prim.Native.Nat.{max, _*_, _<_, _≤_};
+ghost use Rattle.definitions.specs.Resultants.{Reduced};
+ghost use lib.ListN.{length};
+ghost use Rattle.windows.specs.Window.{Moved, quotient-by, Scratch};
+ghost use Rattle.wide_divisor.specs.Shown.{DivisorAsked, Shown};
+ghost use Rattle.wide_divisor.specs.Attempts.{ArrangeAsked, Padded, HalfAsked, TrialAnswers, Attempted};
+use wide_reduced_attempt::Trial;
+use wide_residue::Attempt;
+
+// Whether it is shown that D of f and g modulo n is 1: two constants show nothing, their resultant is always 1.
+fn shows_coprime(w: &mut [u64], n: u64, f: &[u64], g: &[u64]) -> bool
+    requires { ⌜ DivisorAsked n (now f) (now g) (now w) ⌝ }
+    ensures { λ r. ⌜ Shown n (now (f .entry)) (now (g .entry)) r ⌝ }
+    ensures { λ _. ⌜ Scratch (now (w .entry)) (now (w .exit)) ⌝ }
+{
+    if f.len() + g.len() < 3 {
+        return false;
+    }
+    let r = wide_resultant::run(w, n, f, g);
+    wide_bezout::gcd(n, r) == 1
+}
+
+// The larger of a and b.
+fn longer(a: usize, b: usize) -> usize
+    ensures { λ r. ⌜ r ≡ max a b ⌝ }
+{
+    if a < b {
+        return b;
+    }
+    a
+}
+
+// The first len words over c. Over 1 there is nothing to do.
+fn over(w: &mut [u64], c: u64, len: usize)
+    requires { ⌜ (1 ≤ c) × (len ≤ length (now w)) ⌝ }
+    ensures { λ _. ⌜ Moved (quotient-by c) 0 0 len (now (w .entry)) (now (w .exit)) ⌝ }
+{
+    if c == 1 {
+        return;
+    }
+    wide_windows::divide_words(w, c, 0, len);
+}
+
+// The words of g over c, and then those of f, each followed by zeros up to as many as the longer one has. Answers how many.
+fn arrange(w: &mut [u64], n: u64, c: u64, f: &[u64], g: &[u64]) -> usize
+    requires { ⌜ ArrangeAsked n c (now f) (now g) (now w) ⌝ }
+    ensures { λ r. ⌜ Padded n c r (now (f .entry)) (now (g .entry)) (now (w .entry)) (now (w .exit)) ⌝ }
+{
+    let m = longer(f.len(), g.len());
+    wide_windows::clear(w, 0, 2 * m);
+    wide_windows::load(w, 0, g, n);
+    wide_windows::load(w, m, f, n);
+    over(w, c, 2 * m);
+    m
+}
+
+// D of f and g, c their common content, if f over c has a coefficient that is not nilpotent.
+fn half(w: &mut [u64], n: u64, c: u64, f: &[u64], g: &[u64]) -> Trial
+    requires { ⌜ HalfAsked n c (now f) (now g) (now w) ⌝ }
+    ensures { λ r. ⌜ TrialAnswers n c (now (f .entry)) (now (g .entry)) r ⌝ }
+    ensures { λ _. ⌜ Scratch (now (w .entry)) (now (w .exit)) ⌝ }
+{
+    let m = arrange(w, n, c, f, g);
+    match wide_divisor_stages::unit_lead(w, n / c, m, m, 2 * m) {
+        wide_window_factor::Highest::UnitAt(t, i) => match wide_divisor_stages::division_stage(
+            w,
+            n / c,
+            0,
+            m - 1,
+            m,
+            t,
+            i,
+            2 * m,
+        ) {
+            Attempt::Value(d) => Trial::Found(c * d),
+            Attempt::Splits(p, q) => Trial::Divisors(p, q),
+        },
+        wide_window_factor::Highest::Splits(p, q) => Trial::Divisors(p, q),
+        wide_window_factor::Highest::AllNilpotent => Trial::Nilpotent,
+    }
+}
+
+// D of f and g, or n as a product of two coprime factors, by contents, leading units and divisions.
+fn general(w: &mut [u64], n: u64, f: &[u64], g: &[u64]) -> Attempt
+    requires { ⌜ DivisorAsked n (now f) (now g) (now w) ⌝ }
+    ensures { λ r. ⌜ Attempted n (now (f .entry)) (now (g .entry)) r ⌝ }
+    ensures { λ _. ⌜ Scratch (now (w .entry)) (now (w .exit)) ⌝ }
+{
+    let c = wide_reduced_attempt::common_content(w, n, f, g);
+    if c == n {
+        return Attempt::Value(n);
+    }
+    match half(w, n, c, f, g) {
+        Trial::Found(d) => {
+            return Attempt::Value(d);
+        }
+        Trial::Divisors(p, q) => {
+            return wide_reduced_attempt::split(n, p, q);
+        }
+        Trial::Nilpotent => {}
+    }
+    match half(w, n, c, g, f) {
+        Trial::Found(d) => Attempt::Value(d),
+        Trial::Divisors(p, q) => wide_reduced_attempt::split(n, p, q),
+        Trial::Nilpotent => Attempt::Value(n),
+    }
+}
+
+// The same; where the resultant is a unit, D is 1 and nothing else is to know.
+fn attempt(w: &mut [u64], n: u64, f: &[u64], g: &[u64]) -> Attempt
+    requires { ⌜ DivisorAsked n (now f) (now g) (now w) ⌝ }
+    ensures { λ r. ⌜ Attempted n (now (f .entry)) (now (g .entry)) r ⌝ }
+    ensures { λ _. ⌜ Scratch (now (w .entry)) (now (w .exit)) ⌝ }
+{
+    if shows_coprime(w, n, f, g) {
+        return Attempt::Value(1);
+    }
+    general(w, n, f, g)
+}
+
+// D modulo a product of two coprime factors, from D modulo each of them.
+fn joined(a: u64, b: u64) -> u64
+    requires { ⌜ a * b < 18446744073709551616 ⌝ }
+    ensures { λ r. ⌜ r ≡ a * b ⌝ }
+{
+    a * b
+}
+
+// "each of the two factors is worked as a modulus of its own": D is the product of the two. The words of f and g may be any; they count
+// modulo n.
+pub fn run(w: &mut [u64], n: u64, f: &[u64], g: &[u64]) -> u64
+    requires { ⌜ DivisorAsked n (now f) (now g) (now w) ⌝ }
+    ensures { λ r. ⌜ Reduced n (now (f .entry)) (now (g .entry)) r ⌝ }
+    ensures { λ _. ⌜ Scratch (now (w .entry)) (now (w .exit)) ⌝ }
+{
+    match attempt(w, n, f, g) {
+        Attempt::Value(d) => d,
+        Attempt::Splits(p, q) => {
+            let a = run(w, p, f, g);
+            let b = run(w, q, f, g);
+            joined(a, b)
+        }
+    }
+}

@@ -1,0 +1,12 @@
+-- A polynomial with a leading unit in the place of one with the same constants, words of 64 bits: what divisor_stages/specs/Leads says.
+--
+--   LeadAnswer    what is promised of each kind of the highest coefficient that is no nilpotent
+use mathlib.Core.List.{List}
+use Prim.Native.Nat.{ℕ}
+pub use Rattle.divisor_stages.specs.Leads.{LeadAsked, FactorAsked, Leading}
+use Rattle.divisor_stages.specs.Leads.{LeadAnswer as NarrowLeadAnswer}
+use Rattle.wide_window_factor.specs.declared.Highest.{Highest}
+use Rattle.wide_window_factor.specs.Readings.{highest-of}
+
+abbrev pub LeadAnswer : ℕ → ℕ → ℕ → ℕ → List ℕ → List ℕ → Highest → Type 0
+LeadAnswer n b m s w w' r = NarrowLeadAnswer n b m s w w' (highest-of r)

@@ -1,0 +1,78 @@
+#!/usr/bin/env python3
+"""Shows where the function proofs of a crate and of its 64-bit twin differ.
+
+A pair is X and wide_X. The two proof files of each function are compared after the names of crates are made alike (wide_X to X, a crate's own
+name for its public one) and the `use` lines are sorted. What is left may differ in the constants of the width, in the invariant's lambda and
+in functions that exist at one width only.
+
+    tools/twins.py                 one line for each pair: lines of proof at both widths, and how many of them differ
+    tools/twins.py CRATE...        the lines that differ in these pairs
+    tools/twins.py --shared        fails if a pair of SHARED, whose proofs are by rules, differs in more lines than stand there
+"""
+import difflib
+import pathlib
+import re
+import sys
+
+ROOT = pathlib.Path(__file__).resolve().parent.parent
+# pairs whose function proofs are written by rules that both widths share: how many lines may differ
+SHARED = {
+    "batch_pairs": 0, "divisors_service": 2, "law_refusals": 2, "polynomial_factors": 18, "resultant_attempt": 4, "resultants_service": 2,
+    "windows": 13,
+}
+
+
+def plain(text, crate):
+    """The lines of a proof file with the names of crates made alike."""
+    text = re.sub(r"\bwide_", "", text)
+    text = re.sub(r"Rattle·%s·(proofs\.proofs|specs\.specs)" % re.escape(crate), lambda m: "Rattle.%s.%s" % (crate, m[1].split(".")[0]), text)
+    text = re.sub(r"\bnarrow\b|\bwide\b", "WIDTH", text)
+    lines = [line for line in text.splitlines() if line.strip()]
+    uses = sorted(line for line in lines if line.startswith("use "))
+    return uses + [line for line in lines if not line.startswith("use ")]
+
+
+def pairs():
+    for folder in sorted((ROOT / "crates").glob("wide_*")):
+        crate = folder.name[len("wide_"):]
+        if (ROOT / "crates" / crate / "proofs").is_dir() and (folder / "proofs").is_dir():
+            yield crate
+
+
+def compare(crate):
+    """(lines at 32 bits, lines at 64 bits, the lines that differ)"""
+    narrow, wide = (ROOT / "crates" / name / "proofs" for name in (crate, "wide_" + crate))
+    count = [0, 0]
+    found = []
+    names = sorted({path.relative_to(base).as_posix() for base in (narrow, wide) for path in base.glob("*/Proof.antt")})
+    for name in names:
+        files = [base / name for base in (narrow, wide)]
+        texts = [path.read_text() if path.exists() else "" for path in files]
+        for i in (0, 1):
+            count[i] += len(texts[i].splitlines())
+        if all(texts):
+            lines = [plain(text, crate) for text in texts]
+            found += ["%s: %s" % (name, line) for line in difflib.ndiff(*lines) if line[0] in "+-"]
+    return count[0], count[1], found
+
+
+def main(words):
+    if words == ["--shared"]:
+        wrong = 0
+        for crate, allowed in SHARED.items():
+            found = compare(crate)[2]
+            if len(found) > allowed:
+                wrong += 1
+                print("FAILED: the proofs of %s and wide_%s differ in %d lines, not %d:" % (crate, crate, len(found), allowed), *found, sep="\n    ")
+        print("twins: %d pairs by rules, %d wrong" % (len(SHARED), wrong))
+        return wrong != 0
+    for crate in words or pairs():
+        a, b, found = compare(crate)
+        print("%-24s %5d %5d lines, %4d differ" % (crate, a, b, len(found)))
+        if words:
+            print(*found, sep="\n")
+    return 0
+
+
+if __name__ == "__main__":
+    sys.exit(main(sys.argv[1:]))
