@@ -3,13 +3,13 @@
 # make install    header, libraries, files for pkg-config and CMake, jingcobu-desk, jingcobu-parts, manual pages, and what Python and GP
 #                 need, under PREFIX (and DESTDIR, for packages). make uninstall removes them.
 # make gp         build/libjingcobu-gp.so, for PARI/GP. Needs libpari-dev too.
-# make check      all tests of what C, Python, GP and shell users see. It says first what is missing (tests/missing), skips what needs it,
-#                 and counts both at the end. Where CI is set, what depends on the clock is left out.
+# make check      all tests of what C, Python, GP and shell users see. It first says what is missing (tests/missing), skips what needs it,
+#                 and counts both at the end. If CI is set, what depends on the clock is left out.
 # make figures    runs the scripts of tools/ that made stored files, and compares; those that take long with FIGURES=all.
 # make dist       build/jingcobu-VERSION.tar.gz, the sources as they are committed, with CHANGELOG.md, which says what has changed. Needs
 #                 git.
 #
-# The first number of VERSION is that of the shared library's interface: it moves when a program would have to be built anew.
+# The first number of VERSION is that of the shared library's interface: it changes when programs have to be rebuilt.
 SHELL = bash -o pipefail
 VERSION = 1.0.0
 MAJOR = $(firstword $(subst ., ,$(VERSION)))
@@ -21,7 +21,7 @@ LIBEXECDIR ?= $(PREFIX)/libexec
 DATADIR ?= $(PREFIX)/share
 MANDIR ?= $(DATADIR)/man
 
-# 1: every service of the header must be in the library, and every test is run. 0: tests of services that it has not are skipped.
+# 1: every service of the header must be in the library, and every test is run. 0: tests of services that it lacks are skipped.
 JINGCOBU_ALL ?= 1
 export JINGCOBU_ALL
 
@@ -63,7 +63,7 @@ build/jingcobu-parts: tools/jingcobu-parts
 frames: build/jingcobu-desk
 	@build/jingcobu-desk examples/frames
 
-# Places can have blanks: they reach the script in its environment.
+# Paths can have blanks: they reach the script in its environment.
 install uninstall: export VERSION := $(VERSION)
 install uninstall: export DESTDIR := $(DESTDIR)
 install uninstall: export PREFIX := $(PREFIX)
@@ -74,7 +74,7 @@ install uninstall: export LIBEXECDIR := $(LIBEXECDIR)
 install uninstall: export DATADIR := $(DATADIR)
 install uninstall: export MANDIR := $(MANDIR)
 
-# The GP functions too, where libpari-dev is installed.
+# The GP functions too, if libpari-dev is installed.
 GP_TOO := $(if $(filter libpari-dev,$(shell tests/missing)),,gp)
 install: all $(GP_TOO)
 	@tools/install put
@@ -82,7 +82,7 @@ install: all $(GP_TOO)
 uninstall:
 	@tools/install remove
 
-# The GP functions, with the engine inside. Where not every service has to be there, a missing one fails when it is called.
+# The GP functions, with the engine inside. If not every service has to be there, a missing one fails when it is called.
 gp: build/libjingcobu-gp.so
 build/libjingcobu-gp.so: gp/jingcobu.c include/jingcobu.h build/libjingcobu.a
 	gcc -O2 -Wall -Wextra -fPIC -shared -fvisibility=hidden -Iinclude -o $@ gp/jingcobu.c build/libjingcobu.a -Wl,--exclude-libs,ALL \
@@ -141,6 +141,12 @@ check-scaling: all
 check-readme: all $(GP_TOO)
 	tests/readme.py
 
+check-clauses:
+	tests/clauses.sh
+
+check-twins:
+	tests/twins.sh
+
 figures check-figures:
 	python3 tests/figures.py $(FIGURES)
 
@@ -158,5 +164,6 @@ clean:
 	$(MAKE) -C bench clean
 
 .PHONY: all frames install uninstall gp check check-gate check-host check-examples check-header check-guard check-threads check-stack \
-    check-desk check-parts check-install check-python check-gp check-sage check-scaling check-readme check-figures figures dist clean
+    check-desk check-parts check-install check-python check-gp check-sage check-scaling check-readme check-clauses check-twins check-figures \
+    figures dist clean
 include tools/build.mk

@@ -1,6 +1,7 @@
 /* Times of the resultant with its cofactors, in one run: beside our reduced resultant with cofactors on pairs modulo a prime, and on pairs
  * full of zero divisors beside FLINT's fmpz_poly_xgcd of the lifted polynomials, taken modulo n. Every answer is multiplied out, and its
- * value is held to jingcobu_resultant; the program exits with 1 where one is wrong. Build and run: make -C bench cofactors && bench/cofactors */
+ * value is compared with jingcobu_resultant; the program exits with 1 if one is wrong. Build and run: make -C bench cofactors &&
+ * bench/cofactors */
 #include <stdio.h>
 #include <stdlib.h>
 #include <string.h>

@@ -3,6 +3,7 @@
 #include <stdarg.h>
 #include <stdint.h>
 #include <stdio.h>
+#include <stdlib.h>
 #include <time.h>
 
 #ifndef CLOCK
@@ -44,4 +45,12 @@ static inline int by_size(const void *a, const void *b)
 {
     double x = *(const double *) a, y = *(const double *) b;
     return (x > y) - (x < y);
+}
+
+/* the least, the median and the greatest of some times, which are put in order */
+typedef struct { double least, median, most; } spread;
+static inline spread spread_of(double *t, int count)
+{
+    qsort(t, count, sizeof(double), by_size);
+    return (spread) { t[0], t[count / 2], t[count - 1] };
 }

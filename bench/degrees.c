@@ -1,6 +1,6 @@
 /* Time against degree, 6 to 48, of the engine, FLINT and PARI in one run: the resultant at a prime, and at a composite n with zero
  * divisors, where the other way is the resultant over the integers, reduced modulo n. Each figure is the best of several passes over a
- * pool of different pairs, in microseconds of the processor a call; each uses one thread. It exits with 1 where two values differ.
+ * pool of different pairs, in microseconds of processor time per call; each uses one thread. It exits with 1 if two values differ.
  * make -C bench plot runs it and draws docs/time-prime.svg and docs/time-composite.svg from what it writes. */
 #include <stdio.h>
 #include <stdlib.h>

@@ -1,6 +1,6 @@
 /* Times of D alone beside the engine's own resultant and reduced resultant, in one run, over pools of different pairs: the pools of
- * engine.c. At the prime each figure is the best of several passes over the pool, in microseconds a call; at composite moduli the pairs
- * are compared one by one. Where two services answer different numbers for D, or a call is refused, the program says which and exits
+ * engine.c. At the prime each figure is the best of several passes over the pool, in microseconds per call; at composite moduli the pairs
+ * are compared one by one. If two services return different numbers for D, or a call is refused, the program says which and exits
  * with 1. Build and run: make -C bench */
 #include <stdio.h>
 #include <stdlib.h>

@@ -1,6 +1,8 @@
-/* Times of the engine beside FLINT's and PARI's, in one run, over pools of different pairs, and where those two fail or answer
- * another number. Each figure is the best of several passes over the pool, in microseconds a call. Where a value of the engine is
- * not the one it is compared with, or a call is refused, the program says which and exits with 1. Build and run: make -C bench */
+/* Times of the engine beside FLINT's and PARI's, in one run, over pools of different pairs, and where those two fail or return
+ * another number. Each figure is the median of several passes over the pool, in microseconds of processor time per call, with the least
+ * and the greatest in parentheses; the passes of the engine and of FLINT take turns. Pairs full of zero divisors are timed pair by pair:
+ * the median of the pool, and the slowest pair. If a value of the engine is not the one it is compared with, or a call is refused, the
+ * program says which and exits with 1. Build and run: make -C bench */
 #include <stdio.h>
 #include <stdlib.h>
 #include <string.h>
@@ -14,6 +16,7 @@
 
 #define POOL 100
 #define PASSES 15
+#define CLOCK CLOCK_PROCESS_CPUTIME_ID
 #include "pool.h"
 
 static uint32_t u[JINGCOBU_COFACTOR], v[JINGCOBU_COFACTOR];
@@ -36,33 +39,46 @@ static void compare_reduced(uint32_t n, int d, int p, int common)
           "but the polynomials have %s", n, d, p, a.value, a.status, common ? "a common factor" : "no common factor");
 }
 
-static double engine_resultant(uint32_t n, int d)
+/* the passes of two calls in turn, the engine's and FLINT's, each over the pool */
+enum service { RESULTANT, REDUCED };
+static nmod_poly_t poly_f[POOL], poly_g[POOL], h, s, t;
+static void pass_engine(enum service service, uint32_t n, int d)
 {
-    double best = 1e30;
-    for (int pass = 0; pass < PASSES; pass++) {
-        double t = now();
-        for (int r = 0; r < 10; r++)
-            for (int p = 0; p < POOL; p++) sink = jingcobu_resultant(n, first[p], d + 1, second[p], d + 1, work, JINGCOBU_WORK).value;
-        t = (now() - t) / (10 * POOL);
-        if (t < best) best = t;
-    }
-    return best;
+    for (int r = 0; r < 10; r++)
+        for (int p = 0; p < POOL; p++) {
+            if (service == RESULTANT) sink = jingcobu_resultant(n, first[p], d + 1, second[p], d + 1, work, JINGCOBU_WORK).value;
+            else sink = jingcobu_reduced_resultant(n, first[p], d + 1, second[p], d + 1, u, JINGCOBU_COFACTOR, v, JINGCOBU_COFACTOR, work,
+                                                   JINGCOBU_WORK).value;
+        }
 }
 
-static double engine_reduced(uint32_t n, int d)
+static void pass_flint(enum service service)
 {
-    double best = 1e30;
-    for (int pass = 0; pass < PASSES; pass++) {
-        double t = now();
-        for (int r = 0; r < 10; r++)
-            for (int p = 0; p < POOL; p++) sink = jingcobu_reduced_resultant(n, first[p], d + 1, second[p], d + 1, u, JINGCOBU_COFACTOR, v, JINGCOBU_COFACTOR, work, JINGCOBU_WORK).value;
-        t = (now() - t) / (10 * POOL);
-        if (t < best) best = t;
-    }
-    return best;
+    for (int r = 0; r < 10; r++)
+        for (int p = 0; p < POOL; p++) {
+            if (service == RESULTANT) sink = (uint32_t) nmod_poly_resultant(poly_f[p], poly_g[p]);
+            else { nmod_poly_xgcd(h, s, t, poly_f[p], poly_g[p]); sink = (uint32_t) h->length; }
+        }
 }
 
-/* PARI, by its own clock, on the pool as it stands */
+static spread passes(enum service service, const char *ours, const char *theirs, uint32_t n, int d)
+{
+    double a[PASSES], b[PASSES];
+    for (int pass = 0; pass < PASSES; pass++) {
+        double c = now();
+        pass_engine(service, n, d);
+        a[pass] = (now() - c) / (10 * POOL);
+        c = now();
+        pass_flint(service);
+        b[pass] = (now() - c) / (10 * POOL);
+    }
+    spread x = spread_of(a, PASSES), y = spread_of(b, PASSES);
+    printf("n = %u, d = e = %2d: %s %7.2f us (%.2f to %.2f), FLINT %s %7.2f us (%.2f to %.2f), ratio %.2f\n", n, d, ours, x.median, x.least,
+           x.most, theirs, y.median, y.least, y.most, x.median / y.median);
+    return x;
+}
+
+/* PARI, by its own clock, on the pool as it stands: the median of five passes */
 static void pari(uint32_t n, int d, double ours)
 {
     char script[PATH_ROOM], command[PATH_ROOM + 100];
@@ -75,13 +91,13 @@ static void pari(uint32_t n, int d, double ours)
             for (int k = 0; k <= d; k++) fprintf(out, "%s%u", k ? "," : "", (side ? second : first)[p][k]);
             fprintf(out, "]);\n");
         }
-    fprintf(out, "b=10^9;for(s=1,5,t=getabstime();for(r=1,20,for(i=1,%d,polresultant(F[i],G[i])));b=min(b,getabstime()-t));print(b*1000./(20*%d));\n", POOL, POOL);
+    fprintf(out, "b=vector(5,s,gettime();for(r=1,20,for(i=1,%d,polresultant(F[i],G[i])));gettime());print(vecsort(b)[3]*1000./(20*%d));\n", POOL, POOL);
     fclose(out);
     snprintf(command, sizeof command, "gp -q -f '%s' < /dev/null 2> /dev/null", script);
     FILE *in = popen(command, "r");
     double theirs = 0;
     if (in && fscanf(in, "%lf", &theirs) == 1)
-        printf("n = %u, d = e = %2d: resultant %8.2f us, PARI polresultant            %8.2f us, ratio %.2f\n", n, d, ours, theirs, ours / theirs);
+        printf("n = %u, d = e = %2d: resultant %7.2f us, PARI polresultant %7.2f us, ratio %.2f\n", n, d, ours, theirs, ours / theirs);
     else
         printf("n = %u: PARI (gp) did not answer\n", n);
     if (in) pclose(in);
@@ -90,46 +106,27 @@ static void pari(uint32_t n, int d, double ours)
 
 static void prime_modulus(uint32_t n, int d)
 {
-    static nmod_poly_t f[POOL], g[POOL];
-    nmod_poly_t h, s, t;
     fill(n, d + 1);
     nmod_poly_init(h, n); nmod_poly_init(s, n); nmod_poly_init(t, n);
     for (int p = 0; p < POOL; p++) {
-        nmod_poly_init(f[p], n); nmod_poly_init(g[p], n);
+        nmod_poly_init(poly_f[p], n); nmod_poly_init(poly_g[p], n);
         for (int k = 0; k <= d; k++) {
-            nmod_poly_set_coeff_ui(f[p], k, first[p][k]);
-            nmod_poly_set_coeff_ui(g[p], k, second[p][k]);
+            nmod_poly_set_coeff_ui(poly_f[p], k, first[p][k]);
+            nmod_poly_set_coeff_ui(poly_g[p], k, second[p][k]);
         }
-        compare("FLINT nmod_poly_resultant", n, d, p, (uint32_t) nmod_poly_resultant(f[p], g[p]));
-        nmod_poly_gcd(h, f[p], g[p]);
+        compare("FLINT nmod_poly_resultant", n, d, p, (uint32_t) nmod_poly_resultant(poly_f[p], poly_g[p]));
+        nmod_poly_gcd(h, poly_f[p], poly_g[p]);
         compare_reduced(n, d, p, h->length > 1);
     }
-    double ours = engine_resultant(n, d), best = 1e30;
-    for (int pass = 0; pass < PASSES; pass++) {
-        double c = now();
-        for (int r = 0; r < 10; r++)
-            for (int p = 0; p < POOL; p++) sink = (uint32_t) nmod_poly_resultant(f[p], g[p]);
-        c = (now() - c) / (10 * POOL);
-        if (c < best) best = c;
-    }
-    printf("n = %u, d = e = %2d: resultant %8.2f us, FLINT nmod_poly_resultant %8.2f us, ratio %.2f\n", n, d, ours, best, ours / best);
-    pari(n, d, ours);
-    ours = engine_reduced(n, d); best = 1e30;
-    for (int pass = 0; pass < PASSES; pass++) {
-        double c = now();
-        for (int r = 0; r < 10; r++)
-            for (int p = 0; p < POOL; p++) { nmod_poly_xgcd(h, s, t, f[p], g[p]); sink = (uint32_t) h->length; }
-        c = (now() - c) / (10 * POOL);
-        if (c < best) best = c;
-    }
-    printf("n = %u, d = e = %2d: reduced   %8.2f us, FLINT nmod_poly_xgcd      %8.2f us, ratio %.2f\n", n, d, ours, best, ours / best);
-    for (int p = 0; p < POOL; p++) { nmod_poly_clear(f[p]); nmod_poly_clear(g[p]); }
+    pari(n, d, passes(RESULTANT, "resultant", "nmod_poly_resultant", n, d).median);
+    passes(REDUCED, "reduced  ", "nmod_poly_xgcd     ", n, d);
+    for (int p = 0; p < POOL; p++) { nmod_poly_clear(poly_f[p]); nmod_poly_clear(poly_g[p]); }
     nmod_poly_clear(h); nmod_poly_clear(s); nmod_poly_clear(t);
 }
 
 static void composite(uint32_t n, const char *name, const uint32_t *primes, int count, int d)
 {
-    double ratio[POOL];
+    double ratio[POOL], a_time[POOL], b_time[POOL];
     fmpz_poly_t f, g;
     fmpz_t r;
     fill_divisors(n, primes, count, d + 1, 0);
@@ -155,14 +152,16 @@ static void composite(uint32_t n, const char *name, const uint32_t *primes, int 
         }
         compare("FLINT fmpz_poly_resultant modulo n", n, d, p, other);
         ratio[p] = theirs / ours;
+        a_time[p] = ours;
+        b_time[p] = theirs;
     }
-    qsort(ratio, POOL, sizeof(double), by_size);
-    printf("n = %s, d = e = %d, zero divisors: FLINT fmpz_poly_resultant modulo n takes %.1f times our time in the median, %.1f at the least\n",
-           name, d, ratio[POOL / 2], ratio[0]);
+    spread times = spread_of(ratio, POOL), x = spread_of(a_time, POOL), y = spread_of(b_time, POOL);
+    printf("n = %s, d = e = %d, zero divisors: resultant %.1f us in the median, %.1f at the most; FLINT fmpz_poly_resultant modulo n %.0f us, "
+           "%.0f; %.1f times our time in the median, %.1f at the least\n", name, d, x.median, x.most, y.median, y.most, times.median, times.least);
     fmpz_poly_clear(f); fmpz_poly_clear(g); fmpz_clear(r);
 }
 
-/* FLINT's nmod_poly_resultant in a process of its own: the number, or -1 where it did not come back with one */
+/* FLINT's nmod_poly_resultant in a process of its own: the number, or -1 if it did not return one */
 static long flint_resultant(uint32_t n, const uint32_t *f, int fl, const uint32_t *g, int gl)
 {
     int ends[2];

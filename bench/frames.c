@@ -1,5 +1,5 @@
-/* Frames a second through the frame program, beside the time that the engine itself takes on the same pairs: of each kind 100,000 frames
- * of degree 8 and 10,000 of degree 48, modulo 4294967291. It exits with 1 where an answer of the frame program is not the engine's, or the
+/* Frames per second through the frame program, beside the time that the engine itself takes on the same pairs: of each kind 100,000 frames
+ * of degree 8 and 10,000 of degree 48, modulo 4294967291. It exits with 1 if an answer of the frame program is not the engine's, or the
  * frame program fails. The frame program is ../target/bin/desk, or the one that the first argument names. Build and run: make -C bench */
 #include <stdio.h>
 #include <stdlib.h>

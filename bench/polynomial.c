@@ -1,8 +1,8 @@
 /* Times of product and division beside the same loops in plain C, in one run. Each figure is the best of many short passes over a pool of
- * drawn pairs, in microseconds a call. Each loop in C has one % where the engine reduces by a reciprocal. "C" keeps the sum of a word
+ * drawn pairs, in microseconds per call. Each loop in C has one % where the engine reduces by a reciprocal. "C" keeps the sum of a word
  * below n 2^32 by a comparison a term; "C wide" has a sum of 128 bits, which is what the engine has. "one %" is the schoolbook loop,
  * one % a term, for comparison. The modulus is read from a volatile.
- * Where a product or a division is not that of the schoolbook loop, the program says which and exits with 1.
+ * If a product or a division is not that of the schoolbook loop, the program says which and exits with 1.
  * Build and run: make -C bench */
 #include <stdint.h>
 #include <stddef.h>

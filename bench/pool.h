@@ -1,4 +1,4 @@
-/* A pool of different pairs, for services with words of 32 bits. Before it stands POOL, the number of pairs. */
+/* A pool of different pairs, for services with words of 32 bits. POOL, the number of pairs, is defined before it. */
 #include "../include/jingcobu.h"
 #include "common.h"
 

@@ -1,5 +1,5 @@
 #!/usr/bin/env bash
-# Frames a second through the frame program: alone, and by GNU parallel with one and two workers, in one run. make -C bench scaling
+# Frames per second through the frame program: alone, and by GNU parallel with one and two workers, in one run. make -C bench scaling
 set -eu
 cd "$(dirname "$0")/.."
 desk=$PWD/target/bin/desk

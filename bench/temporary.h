@@ -5,7 +5,7 @@
 
 #define PATH_ROOM 400
 
-/* a new file, open for writing, with its path; NULL where none can be made */
+/* a new file, open for writing, with its path; NULL if none can be made */
 static FILE *temporary(char *path)
 {
     const char *folder = getenv("TMPDIR");

@@ -1,8 +1,8 @@
-/* Times of the resultant of two variables beside FLINT's and PARI's, in one run, over a pool of different pairs: d = e = 6 in y, a = b = 5 in
- * z, so B = 60, and smaller degrees. Each figure is the best of several passes over the pool by the processor's clock, PARI's by its own,
- * in microseconds a call. Where a word of the engine is not FLINT's, or a call is refused, the program says which and exits
- * with 1. At the end a pair modulo 67 * 71: PARI stops where a lead has no inverse, and FLINT's function asks for a prime modulus.
- * Build and run: make -C bench two && bench/two */
+/* Times of the resultant of two variables beside FLINT's and PARI's, in one run, over a pool of different pairs: d = e = 6 in y, a = b = 5
+ * in z, so B = 60, and smaller degrees. Each figure is the best of several passes over the pool by the processor's clock, PARI's by its
+ * own, in microseconds a call. If a word of the engine is not FLINT's, or a call is refused, the program says which and exits with 1. At
+ * the end a pair modulo 67 * 71: PARI stops if a leading coefficient has no inverse, and FLINT's function requires a prime modulus. Build
+ * and run: make -C bench two && bench/two */
 #include <stdint.h>
 #include <stdio.h>
 #include <stdlib.h>

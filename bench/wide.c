@@ -1,6 +1,6 @@
 /* Times of the services with words of 64 bits beside FLINT's, in one run, in the manner of engine.c: n = 9223372036854775783, a prime,
- * and composite n with pairs full of zero divisors. Each figure is the best of several passes over a pool of pairs, in microseconds of
- * processor time a call; the passes of the engine and of FLINT take turns. Where a value of the engine is not the one it is compared
+ * and composite n with pairs full of zero divisors. Each figure is the median of several passes over a pool of pairs, in microseconds
+ * of processor time per call, with the least and the greatest in parentheses; the passes of the engine and of FLINT take turns. If a value of the engine is not the one it is compared
  * with, or a call is refused, the program says which and exits with 1. Build and run: make -C bench */
 #include <stdio.h>
 #include <stdlib.h>
@@ -38,27 +38,28 @@ static void compare(const char *what, uint64_t n, int d, int p, jingcobu64_answe
           a.status, right);
 }
 
-/* the best of the passes, each over the pool, of two calls in turn: the engine's and FLINT's */
+/* the passes of two calls in turn, the engine's and FLINT's, each over the pool */
 enum service { RESULTANT, REDUCED };
 static nmod_poly_t f[POOL], g[POOL], h, s, t;
-static void best(enum service service, uint64_t n, int d, double *ours, double *theirs)
+static void passes(enum service service, const char *ours, const char *theirs, uint64_t n, int d)
 {
-    *ours = *theirs = 1e30;
+    double a[PASSES], b[PASSES];
     for (int pass = 0; pass < PASSES; pass++) {
         double c = now();
         for (int r = 0; r < ROUNDS; r++)
             for (int p = 0; p < POOL; p++) sink = (service == RESULTANT ? resultant(n, d, p) : reduced(n, d, p)).value;
-        c = (now() - c) / (ROUNDS * POOL);
-        if (c < *ours) *ours = c;
+        a[pass] = (now() - c) / (ROUNDS * POOL);
         c = now();
         for (int r = 0; r < ROUNDS; r++)
             for (int p = 0; p < POOL; p++) {
                 if (service == RESULTANT) sink = nmod_poly_resultant(f[p], g[p]);
                 else { nmod_poly_xgcd(h, s, t, f[p], g[p]); sink = (uint64_t) h->length; }
             }
-        c = (now() - c) / (ROUNDS * POOL);
-        if (c < *theirs) *theirs = c;
+        b[pass] = (now() - c) / (ROUNDS * POOL);
     }
+    spread x = spread_of(a, PASSES), y = spread_of(b, PASSES);
+    printf("n = %lu, d = e = %2d: %s %7.2f us (%.2f to %.2f), FLINT %s %7.2f us (%.2f to %.2f), ratio %.2f\n", n, d, ours, x.median, x.least,
+           x.most, theirs, y.median, y.least, y.most, x.median / y.median);
 }
 
 static void prime_modulus(uint64_t n, int d)
@@ -78,11 +79,8 @@ static void prime_modulus(uint64_t n, int d)
         nmod_poly_gcd(h, f[p], g[p]);
         compare("D", n, d, p, reduced(n, d, p), h->length > 1 ? n : 1);
     }
-    double ours, theirs;
-    best(RESULTANT, n, d, &ours, &theirs);
-    printf("n = %lu, d = e = %2d: resultant %8.2f us, FLINT nmod_poly_resultant %8.2f us, ratio %.2f\n", n, d, ours, theirs, ours / theirs);
-    best(REDUCED, n, d, &ours, &theirs);
-    printf("n = %lu, d = e = %2d: reduced   %8.2f us, FLINT nmod_poly_xgcd      %8.2f us, ratio %.2f\n", n, d, ours, theirs, ours / theirs);
+    passes(RESULTANT, "resultant", "nmod_poly_resultant", n, d);
+    passes(REDUCED, "reduced  ", "nmod_poly_xgcd     ", n, d);
     for (int p = 0; p < POOL; p++) { nmod_poly_clear(f[p]); nmod_poly_clear(g[p]); }
     nmod_poly_clear(h); nmod_poly_clear(s); nmod_poly_clear(t);
 }
@@ -97,7 +95,7 @@ static uint64_t zero_divisor(uint64_t n, const uint64_t *primes, int count)
 
 static void composite(uint64_t n, const char *name, const uint64_t *primes, int count, int d)
 {
-    double ratio[POOL];
+    double ratio[POOL], a_time[POOL], b_time[POOL];
     fmpz_poly_t a, b;
     fmpz_t r;
     fmpz_poly_init(a); fmpz_poly_init(b); fmpz_init(r);
@@ -125,10 +123,12 @@ static void composite(uint64_t n, const char *name, const uint64_t *primes, int 
         }
         compare("resultant", n, d, p, resultant(n, d, p), fmpz_fdiv_ui(r, n));
         ratio[p] = theirs / ours;
+        a_time[p] = ours;
+        b_time[p] = theirs;
     }
-    qsort(ratio, POOL, sizeof(double), by_size);
-    printf("n = %s, d = e = %d, zero divisors: FLINT fmpz_poly_resultant modulo n takes %.1f times our time in the median, %.1f at the least\n",
-           name, d, ratio[POOL / 2], ratio[0]);
+    spread times = spread_of(ratio, POOL), x = spread_of(a_time, POOL), y = spread_of(b_time, POOL);
+    printf("n = %s, d = e = %d, zero divisors: resultant %.1f us in the median, %.1f at the most; FLINT fmpz_poly_resultant modulo n %.0f us, "
+           "%.0f; %.1f times our time in the median, %.1f at the least\n", name, d, x.median, x.most, y.median, y.most, times.median, times.least);
     fmpz_poly_clear(a); fmpz_poly_clear(b); fmpz_clear(r);
 }
 

@@ -1,7 +1,7 @@
 /* The slowest calls that were found, beside the median of random ones. worst.txt keeps, for each service, the pairs that took longest in
  * a search over moduli with many divisors and polynomials full of zero divisors, zero tops and common factors. Each figure is the best of
  * several calls, in microseconds of processor time; a random pair has d = e = 48 and words and n drawn evenly (two variables: d = e = 48
- * in y, a = 0 and b = 1 in z, n the largest prime). Where a call is refused, or two services answer different numbers, the program says
+ * in y, a = 0 and b = 1 in z, n the largest prime). If a call is refused, or two services return different numbers, the program says
  * so and exits with 1.
  * Build and run: make -C bench slowest. A search: ./worst search SECONDS [SEED [SERVICE]] in the folder bench prints lines for worst.txt;
  * it begins with what worst.txt has. */

@@ -1,6 +1,6 @@
 /* Fills a small table through jingcobu.h: pairs of polynomials, their resultants, and their reduced resultants D. The cofactors u and v
  * that come with D are not printed, because more than one pair is right; they are multiplied out: u f + v g must be D.
- * Build and run: make -C examples, which also holds the output to the file `expected`. */
+ * Build and run: make -C examples, which also compares the output with the file `expected`. */
 #include <stdio.h>
 #include "../include/jingcobu.h"
 
@@ -15,7 +15,7 @@ static const struct row table[] = {
     { 5, 2, 2, { 2, 1 }, { 1, 1 } },              /* and 4 here */
     { 4294967295u, 1, 2, { 4294967294u }, { 0, 1 } },
     { 1, 1, 1, { 0 }, { 0 } },                    /* refused with 1 */
-    { 5, 2, 2, { 2, 7 }, { 1, 1 } },              /* refused with 3: 7 is no residue modulo 5 */
+    { 5, 2, 2, { 2, 7 }, { 1, 1 } },              /* refused with 3: 7 is not a residue modulo 5 */
 };
 
 /* the l words of a polynomial as they are sent, zero tops too */

@@ -11,7 +11,7 @@ def modulus(f, g):
     if g.parent() is not R:
         raise TypeError("f is of %s, and g is of %s" % (R, g.parent()))
     if not isinstance(R, PolynomialRing_general) or not isinstance(R.base_ring(), IntegerModRing_generic):
-        raise TypeError("%s is no ring of polynomials in one variable over Zmod(n)" % R)
+        raise TypeError("%s is not a ring of polynomials in one variable over Zmod(n)" % R)
     return ZZ(R.base_ring().order())
 
 def words(p):

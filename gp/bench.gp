@@ -1,6 +1,6 @@
 /* Times of GP's own functions beside Jingcobu's, in microseconds a call: (cat gp/jingcobu.gp gp/bench.gp) | gp -q -f, from the root of the
    sources after make gp. Part of no check. polresultant and bezout are for fields: over a modulus that is not prime they have no answer,
-   or fail where a leading coefficient is no unit, which is shown by a minus. */
+   or fail if a leading coefficient is not a unit, which is shown by a minus. */
 pairs(n, d) = vector(40, i, vector(2, k, Mod(1, n) * (x^d + random(x^(d - 1) * n))));
 each(c, all) =
 {

@@ -9,7 +9,7 @@
  * that iferr can catch, and so is a number that fits no word. Errors name the function and the argument; words are counted from 1, as
  * GP counts.
  *
- * Words are gathered in 64 bits. The services for words of 32 bits are called where n and all words fit them, otherwise those of 64
+ * Words are gathered in 64 bits. The services for words of 32 bits are called if n and all words fit them, otherwise those of 64
  * bits, which answer the same numbers; where there is none, n above 4294967295 is an error. */
 #include <pari/pari.h>
 #include "jingcobu.h"
@@ -21,7 +21,7 @@
 
 typedef struct { const char *name; ulong n, most; } call;  /* most: the largest modulus that the function has */
 
-/* row: the words of one row where it is a polynomial in two variables, otherwise 0; variable: -1 where there is none */
+/* row: the words of one row if it is a polynomial in two variables, otherwise 0; variable: -1 if there is none */
 typedef struct { const char *name; ulong *words; uint32_t *narrow; size_t count, limit, row; long variable; int fits; } sent;
 
 /* ---- errors */
@@ -35,7 +35,7 @@ static const char *text(const call *c, spot s)
     return stack_sprintf("%s: %s%s%s", c->name, s.name, row, k);
 }
 
-/* a refused length or word, with its argument; where none can be named, what the status says */
+/* a refused length or word, with its argument; if none can be named, what the status says */
 static void refuse(const call *c, uint32_t status, const sent *p, int count)
 {
     if (status == JINGCOBU_BAD_MODULUS) pari_err(e_MISC, "%s refuses with 1: n is %lu, not from 2 to %lu", c->name, c->n, c->most);
@@ -105,7 +105,8 @@ static ulong entry(const call *c, spot s, GEN x)
     return sent_word(c, s, typ(x) == t_VECSMALL ? stoi(x[s.k]) : gel(x, s.k));
 }
 
-/* The words of 32 bits, where n and all of them fit. A length above its limit is refused unread, so its words are not gathered. */
+/* The words of 32 bits, if n and all of them fit. A length above its limit is refused before a word is read, so its words are not
+ * gathered. */
 static void fit(const call *c, sent *p)
 {
     p->fits = c->n <= NARROW;
@@ -202,22 +203,36 @@ SEEN GEN gp_resultant(GEN N, GEN F, GEN G)
     return mkintmodu(a.value, c.n);
 }
 
-SEEN GEN gp_divisor(GEN N, GEN F, GEN G)
-{
-    pari_sp av = avma;
-    call c = asked("jingcobu_divisor", N, NARROW);
-    pair q = both(&c, F, G);
-    jingcobu_answer a = jingcobu_divisor((uint32_t) c.n, F32, G32, WORK32);
-    accept(&c, a.status, q.p, 2);
-    set_avma(av);
-    return utoi(a.value);
-}
-
-/* the words of a cofactor of D, K times the larger sent degree and one more; one where the call will be refused */
+/* the words of a cofactor of D, K times the larger sent degree and one more; one if the call will be refused */
 static size_t cofactor_words(ulong n, const pair *q)
 {
     size_t most = maxss(q->p[0].count, q->p[1].count);
     return n < 2 || n > WIDE || !most || most > MOST ? 1 : (size_t) expu(n) * (most - 1) + 1;
+}
+
+/* D, with the words of its cofactors in u and v */
+static jingcobu64_answer reduced(const call *c, const pair *p, words *u, words *v)
+{
+    const pair q = *p;
+    size_t count = cofactor_words(c->n, p);
+    if (!q.narrow) return jingcobu64_reduced_resultant(c->n, F64, G64, u->wide, count, v->wide, count, WORK64);
+    jingcobu_answer b = jingcobu_reduced_resultant((uint32_t) c->n, F32, G32, u->narrow, count, v->narrow, count, WORK32);
+    return (jingcobu64_answer) { b.value, b.status };
+}
+
+SEEN GEN gp_divisor(GEN N, GEN F, GEN G)
+{
+    pari_sp av = avma;
+    call c = asked("jingcobu_divisor", N, WIDE);
+    pair q = both(&c, F, G);
+    jingcobu64_answer a;
+    if (q.narrow) {
+        jingcobu_answer b = jingcobu_divisor((uint32_t) c.n, F32, G32, WORK32);
+        a.value = b.value, a.status = b.status;
+    } else a = jingcobu64_divisor(c.n, F64, G64, WORK64);
+    accept(&c, a.status, q.p, 2);
+    set_avma(av);
+    return utoi(a.value);
 }
 
 /* [D, u, v] with u f + v g = D */
@@ -228,11 +243,7 @@ SEEN GEN gp_reduced(GEN N, GEN F, GEN G)
     pair q = both(&c, F, G);
     size_t count = cofactor_words(c.n, &q);
     words u, v;
-    jingcobu64_answer a;
-    if (q.narrow) {
-        jingcobu_answer b = jingcobu_reduced_resultant((uint32_t) c.n, F32, G32, u.narrow, count, v.narrow, count, WORK32);
-        a.value = b.value, a.status = b.status;
-    } else a = jingcobu64_reduced_resultant(c.n, F64, G64, u.wide, count, v.wide, count, WORK64);
+    jingcobu64_answer a = reduced(&c, &q, &u, &v);
     accept(&c, a.status, q.p, 2);
     set_avma(av);
     GEN r = cgetg(4, t_VEC);
@@ -277,7 +288,7 @@ SEEN GEN gp_why(GEN N, GEN F, GEN G)
     return r;
 }
 
-/* 0 where D is the reduced resultant and u f + v g = D; otherwise 1, 2 or 3 */
+/* 0 if D is the reduced resultant and u f + v g = D; otherwise 1, 2 or 3 */
 SEEN GEN gp_check(GEN N, GEN F, GEN G, GEN D, GEN U, GEN V)
 {
     pari_sp av = avma;
@@ -310,13 +321,20 @@ SEEN GEN gp_product(GEN N, GEN F, GEN G)
     return out_words(&out, q.narrow, count);
 }
 
+static jingcobu64_cofactors gcd_of(ulong n, ulong a, ulong b)
+{
+    if (n > NARROW || a > NARROW || b > NARROW) return jingcobu64_gcd(n, a, b);
+    jingcobu_cofactors r = jingcobu_gcd((uint32_t) n, (uint32_t) a, (uint32_t) b);
+    return (jingcobu64_cofactors) { r.g, r.s, r.t, r.status };
+}
+
 /* [g, s, t], the greatest common divisor of a, b and n and its least cofactors */
 SEEN GEN gp_gcd(GEN N, GEN A, GEN B)
 {
     pari_sp av = avma;
-    call c = asked("jingcobu_gcd", N, NARROW);
+    call c = asked("jingcobu_gcd", N, WIDE);
     ulong a = sent_word(&c, (spot) { "a", 0, 0 }, A), b = sent_word(&c, (spot) { "b", 0, 0 }, B);
-    jingcobu_cofactors r = jingcobu_gcd((uint32_t) c.n, (uint32_t) a, (uint32_t) b);
+    jingcobu64_cofactors r = gcd_of(c.n, a, b);
     if (r.status == JINGCOBU_BAD_WORD)
         pari_err(e_MISC, "%s refuses with 3: %s is %lu, not from 0 to %lu", c.name, a >= c.n ? "a" : "b", a >= c.n ? a : b, c.n - 1);
     accept(&c, r.status, NULL, 0);
@@ -328,10 +346,113 @@ SEEN GEN gp_gcd(GEN N, GEN A, GEN B)
     return out;
 }
 
+/* ---- many pairs */
+
+#define CHUNK 1000UL         /* pairs that are gathered before they are answered */
+
+typedef struct { const call *c; int D; } many;   /* D alone, or the resultants */
+
+static jingcobu64_answer one_pair(const many *m, const pair *p)
+{
+    const pair q = *p;
+    if (!q.narrow) return (m->D ? jingcobu64_divisor : jingcobu64_resultant)(m->c->n, F64, G64, WORK64);
+    jingcobu_answer a = (m->D ? jingcobu_divisor : jingcobu_resultant)((uint32_t) m->c->n, F32, G32, WORK32);
+    return (jingcobu64_answer) { a.value, a.status };
+}
+
+/* pair by pair; a refusal names the polynomial, counted from `first` on */
+static void one_by_one(const many *m, const pair *q, size_t count, size_t first, ulong *out)
+{
+    for (size_t i = 0; i < count; i++) {
+        pari_sp av = avma;
+        jingcobu64_answer a = one_pair(m, q + i);
+        sent p[] = { q[i].p[0], q[i].p[1] };
+        p[0].name = stack_sprintf("f: row %lu", (ulong) (first + i));
+        p[1].name = stack_sprintf("g: row %lu", (ulong) (first + i));
+        accept(m->c, a.status, p, 2);
+        set_avma(av);
+        out[i] = a.value;
+    }
+}
+
+/* the words of f, or of g, of pairs that are alike, one after the other in their width */
+static void *gathered(const pair *q, size_t count, int g)
+{
+    size_t l = q->p[g].count, size = l * (q->narrow ? sizeof(uint32_t) : sizeof(ulong));
+    char *w = room(count, size);
+    for (size_t i = 0; i < count; i++) memcpy(w + i * size, q->narrow ? (void *) q[i].p[g].narrow : q[i].p[g].words, size);
+    return w;
+}
+
+/* pairs that are alike, in one call; whether it is answered */
+static int one_call(const many *m, const pair *q, size_t count, ulong *out)
+{
+    size_t fl = q->p[0].count, gl = q->p[1].count;
+    if (fl < 1 || fl > MOST || gl < 1 || gl > MOST) return 0;
+    void *f = gathered(q, count, 0), *g = gathered(q, count, 1);
+    if (!q->narrow)
+        return !(m->D ? jingcobu64_divisors : jingcobu64_resultants)(m->c->n, f, count * fl, fl - 1, g, count * gl, gl - 1, count,
+                                                                    (uint64_t *) out, count, WORK64).status;
+    uint32_t *found = room(count, sizeof *found);
+    jingcobu_answer a = (m->D ? jingcobu_divisors : jingcobu_resultants)((uint32_t) m->c->n, f, count * fl, fl - 1, g, count * gl, gl - 1,
+                                                                         count, found, count, WORK32);
+    for (size_t i = 0; !a.status && i < count; i++) out[i] = found[i];
+    return !a.status;
+}
+
+/* how many pairs from the first on have its lengths and its width */
+static size_t alike(const pair *q, size_t count)
+{
+    size_t i = 1;
+    while (i < count && q[i].narrow == q->narrow && q[i].p[0].count == q->p[0].count && q[i].p[1].count == q->p[1].count) i++;
+    return i;
+}
+
+/* the answers of the pairs from `first` on, counted from 1, in words */
+static void answer_chunk(const many *m, GEN F, GEN G, size_t first, size_t count, ulong *out)
+{
+    pari_sp av = avma;
+    pair *q = room(count, sizeof *q);
+    for (size_t i = 0; i < count; i++) {
+        GEN f = gel(F, first + i), g = gel(G, first + i);
+        pair p = { { polynomial(m->c, "f", f, MOST, first + i), polynomial(m->c, "g", g, MOST, first + i) }, 0, 0 };
+        p.x = variable(m->c, p.p[0], p.p[1]);
+        p.narrow = p.p[0].fits && p.p[1].fits;
+        q[i] = p;
+    }
+    pari_sp gathered_all = avma;
+    for (size_t i = 0, l; i < count; i += l) {
+        l = alike(q + i, count - i);
+        if (!one_call(m, q + i, l, out + i)) one_by_one(m, q + i, l, first + i, out + i);
+        set_avma(gathered_all);
+    }
+    set_avma(av);
+}
+
+static GEN many_pairs(const char *name, GEN N, GEN F, GEN G, int D)
+{
+    pari_sp av = avma;
+    call c = asked(name, N, WIDE);
+    many m = { &c, D };
+    if (typ(F) != t_VEC && typ(F) != t_COL) pari_err_TYPE(text(&c, (spot) { "f", 0, 0 }), F);
+    if (typ(G) != t_VEC && typ(G) != t_COL) pari_err_TYPE(text(&c, (spot) { "g", 0, 0 }), G);
+    if (lg(F) != lg(G)) pari_err(e_MISC, "%s: f has %ld polynomials, and g has %ld", name, lg(F) - 1, lg(G) - 1);
+    if (c.n < 2 || c.n > WIDE) refuse(&c, JINGCOBU_BAD_MODULUS, NULL, 0);
+    size_t count = lg(F) - 1;
+    ulong *out = room(count, sizeof *out);
+    for (size_t i = 0; i < count; i += CHUNK) answer_chunk(&m, F, G, i + 1, minuu(CHUNK, count - i), out + i);
+    GEN r = cgetg(count + 1, t_VEC);
+    for (size_t i = 0; i < count; i++) gel(r, i + 1) = D ? utoi(out[i]) : mkintmodu(out[i], c.n);
+    return gerepilecopy(av, r);
+}
+
+SEEN GEN gp_resultants(GEN N, GEN F, GEN G) { return many_pairs("jingcobu_resultants", N, F, G, 0); }
+SEEN GEN gp_divisors(GEN N, GEN F, GEN G) { return many_pairs("jingcobu_divisors", N, F, G, 1); }
+
 /* ---- two variables */
 
 /* row i is the polynomial in the second variable that stands at power i - 1 of the first; all rows get the longest one's length. Where
- * a degree is above 48 the call will be refused unread, and the words are not gathered. */
+ * a degree is above 48 the call is refused before a word is read, and the words are not gathered. */
 static sent rows(const call *c, const char *name, GEN list, int equal)
 {
     size_t count = lg(list) - 1, most = count > MOST;
@@ -371,7 +492,7 @@ static sent two(const call *c, const char *name, GEN x, long y)
     return rows(c, name, list, 0);
 }
 
-/* the sent degrees in the first and the second variable; 0 where there is no word, which no length fits */
+/* the sent degrees in the first and the second variable; 0 if there is no word, which no length fits */
 static size_t first(const sent *p) { return p->count ? p->count / p->row - 1 : 0; }
 static size_t second(const sent *p) { return p->count ? p->row - 1 : 0; }
 

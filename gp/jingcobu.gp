@@ -9,6 +9,8 @@
   install("gp_reduced", "GGG", "jingcobu_reduced_resultant", file);
   install("gp_reduced", "GGG", "jingcobu_reduced", file);
   install("gp_divisor", "GGG", "jingcobu_divisor", file);
+  install("gp_resultants", "GGG", "jingcobu_resultants", file);
+  install("gp_divisors", "GGG", "jingcobu_divisors", file);
   install("gp_cofactors", "GGG", "jingcobu_resultant_cofactors", file);
   install("gp_cofactors", "GGG", "jingcobu_cofactors", file);
   install("gp_why", "GGG", "jingcobu_why", file);
@@ -31,29 +33,35 @@
   addhelp(jingcobu_reduced_resultant, Str(
     "jingcobu_reduced_resultant(n, f, g): [D, u, v], the reduced resultant, that is the divisor D of n whose multiples are the ",
     "constants that u*f + v*g can be, and u, v with u*f + v*g = D modulo n; 2 <= n < 2^63. D does not depend on zero tops: with f ",
-    "zero, in whatever degree, D is gcd(g[1], n) for a constant g, and n where both are zero."));
+    "zero, in whatever degree, D is gcd(g[1], n) for a constant g, and n if both are zero."));
 }
-addhelp(jingcobu_divisor, "jingcobu_divisor(n, f, g): the reduced resultant D alone, in less time; n < 2^32. Two zero polynomials give n.");
+addhelp(jingcobu_divisor, "jingcobu_divisor(n, f, g): the reduced D alone, in less time; 2 <= n < 2^63. Two zero polynomials give n.");
+{
+  addhelp(jingcobu_resultants, Str(
+    "jingcobu_resultants(n, f, g): the resultants of f[1] and g[1], f[2] and g[2] and so on, for two vectors of polynomials, each as ",
+    "jingcobu_resultant takes it, zero ones too; 2 <= n < 2^63. Pairs of the same sent degrees that follow each other go as one call."));
+}
+addhelp(jingcobu_divisors, "jingcobu_divisors(n, f, g): D alone of many pairs, zero ones too, which are sent as to jingcobu_resultants.");
 {
   addhelp(jingcobu_resultant_cofactors, Str(
     "jingcobu_resultant_cofactors(n, f, g): [r, u, v], the resultant and u, v with u*f + v*g = r modulo n, u of degree below that of ",
     "g and v below that of f; n < 2^32. Two constants, and so two zero polynomials, are refused; [0,0] is zero in degree 1 and is ",
-    "taken."));
+    "accepted."));
 }
 {
   addhelp(jingcobu_why, Str(
-    "jingcobu_why(n, f, g): [0,0,0] where f and g are coprime, [1,m,0] where both are zero modulo m, [2,m,w] where w divides both ",
+    "jingcobu_why(n, f, g): [0,0,0] if f and g are coprime, [1,m,0] if both are zero modulo m, [2,m,w] if w divides both ",
     "modulo m; n < 2^32. Two zero polynomials are zero modulo n: [1,n,0]."));
 }
 {
   addhelp(jingcobu_check_claim, Str(
-    "jingcobu_check_claim(n, f, g, D, u, v): 0 where D is the reduced resultant and u*f + v*g = D; 1: D does not divide n; 2: u*f + ",
+    "jingcobu_check_claim(n, f, g, D, u, v): 0 if D is the reduced resultant and u*f + v*g = D; 1: D does not divide n; 2: u*f + ",
     "v*g is not D; 3: D is another number; n < 2^32. A zero u or v is the word 0."));
 }
 {
   addhelp(jingcobu_resultant_two, Str(
     "jingcobu_resultant_two(n, f, g): the resultant in their first variable of two polynomials in two variables modulo n; n < 2^32. ",
-    "Vectors of rows of words are taken too, a row for each power of the first variable, and answered by words. A zero polynomial has ",
+    "Vectors of rows of words are accepted too, a row for each power of the first variable; the answer is then a vector. A zero polynomial has ",
     "degree 0 in both variables: with g of degree 1 or more in the first it gives 0, otherwise 1."));
 }
 {
@@ -63,8 +71,8 @@ addhelp(jingcobu_divisor, "jingcobu_divisor(n, f, g): the reduced resultant D al
 }
 {
   addhelp(jingcobu_gcd, Str(
-    "jingcobu_gcd(n, a, b): [g, s, t], g = gcd(a, b, n) and the least s and t with s*a + t*b = g modulo n; n < 2^32. g is n where a ",
-    "and b are 0."));
+    "jingcobu_gcd(n, a, b): [g, s, t], g = gcd(a, b, n) and the least s and t with s*a + t*b = g modulo n; 2 <= n < 2^63. g is n ",
+    "where a and b are 0."));
 }
 addhelp(jingcobu_reduced, "jingcobu_reduced(n, f, g): an older name of jingcobu_reduced_resultant.");
 addhelp(jingcobu_cofactors, "jingcobu_cofactors(n, f, g): an older name of jingcobu_resultant_cofactors.");

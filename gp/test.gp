@@ -1,5 +1,5 @@
 /* The rows of the table of pairs, beside what GP's polresultant answers for the same polynomials, then the kinds of arguments, both
-   widths, zero polynomials, the older names, the errors and drawn pairs. gp/test holds the output to gp/expected. */
+   widths, zero polynomials, the older names, the errors and drawn pairs. gp/test compares the output with gp/expected. */
 pari(n, f, g) = iferr(Str(lift(polresultant(Mod(1, n) * Polrev(f), Mod(1, n) * Polrev(g)))), E, "fails");
 row(n, f, g) =
 {
@@ -45,6 +45,7 @@ row(n, f, g) =
   print(jingcobu_resultant(2^62, 2^40*x + 1, x + 3), "  ", jingcobu_resultant(2^62, Vecsmall([1,2^40]), Mod(1,2^62)*(x + 3)));
   print(jingcobu_resultant(2^63 - 1, -1, x), "  ", jingcobu_product(2^63 - 1, [2^63 - 2, 1], [2^63 - 2, 1]));
   print(jingcobu_reduced_resultant(3^39, 3^25, 3^30 + x));
+  print(jingcobu_divisor(3^39, 3^25, 3^30 + x), "  ", jingcobu_divisor(2^63 - 1, 0, [0,0]), "  ", jingcobu_gcd(2^40, 2^33, 3));
 }
 
 /* zero polynomials in their sent degrees, as the help says it */
@@ -52,6 +53,12 @@ row(n, f, g) =
   print([jingcobu_resultant(7, 0, 3), jingcobu_resultant(7, 0, x), jingcobu_resultant(7, [0,0], 3), jingcobu_resultant(7, [0,0], x)]);
   print([jingcobu_reduced_resultant(12, [0,0,0], 8)[1], jingcobu_reduced_resultant(12, 0, [0,0])[1], jingcobu_product(6, 0, [1,2])]);
   print([polresultant(Mod(0,7)*x, Mod(3,7)), polresultant(Mod(0,7)*x, Mod(1,7)*x)]);
+}
+
+/* many pairs */
+{
+  print(jingcobu_resultants(12, [2*x + 3, [5]], [4*x + 1, x]), "  ", jingcobu_divisors(6, [x^2 + 5, 2]~, [x + 3, [4]]~), "  ", jingcobu_resultants(12, [], []));
+  print(jingcobu_resultants(2^62, [2^40*x + 1, Vecsmall([3,2])], [x + 3, [1,4]]), "  ", jingcobu_divisors(3^39, [3^25], [3^30 + x]));
 }
 
 /* the older names */
@@ -64,7 +71,7 @@ same(a, b) = if (a != b, error("an older name answers something else"));
   same(jingcobu_two(61, x - y, x - 2*y), jingcobu_resultant_two(61, x - y, x - 2*y));
 }
 
-/* what is refused, and what is no argument */
+/* what is refused, and what is not an argument */
 said(c) = print(iferr(c(); "ANSWERED", E, my(s = Str(E)); strsplit(s, "\n")[1]));
 {
   said(() -> jingcobu_resultant(1, [1], [1]));
@@ -99,7 +106,7 @@ said(c) = print(iferr(c(); "ANSWERED", E, my(s = Str(E)); strsplit(s, "\n")[1]))
   said(() -> jingcobu_reduced_resultant(7, x, [7]));
   said(() -> jingcobu_product(2^40, [], [1]));
   said(() -> jingcobu_product(2^40, [1], [2^40]));
-  said(() -> jingcobu_divisor(2^32, x, x));
+  said(() -> jingcobu_divisor(2^63, x, x));
   said(() -> jingcobu_divisor(5, [1,5], x));
   said(() -> jingcobu_divisor(5, [1,2^32], x));
   said(() -> jingcobu_resultant_cofactors(2^32, x, x));
@@ -111,7 +118,17 @@ said(c) = print(iferr(c(); "ANSWERED", E, my(s = Str(E)); strsplit(s, "\n")[1]))
   said(() -> jingcobu_check_claim(5, x, x, 1, [], 1));
   said(() -> jingcobu_check_claim(5, x, x, 1, [1], vector(4097)));
   said(() -> jingcobu_check_claim(5, x, x, 1, [1], [0,5]));
-  said(() -> jingcobu_gcd(2^32, 1, 1));
+  said(() -> jingcobu_gcd(2^63, 1, 1));
+  said(() -> jingcobu_gcd(2^40, 1, 2^40));
+  said(() -> jingcobu_resultants(12, [x, x], [x]));
+  said(() -> jingcobu_resultants(12, x, [x]));
+  said(() -> jingcobu_resultants(1, [], []));
+  said(() -> jingcobu_resultants(12, [x, x, x], [x, [1,12], x]));
+  said(() -> jingcobu_resultants(12, [x, x, [1,-1]], [x, x, x]));
+  said(() -> jingcobu_resultants(12, [x, y], [x, x]));
+  said(() -> jingcobu_divisors(12, [x, x^49], [x, x]));
+  said(() -> jingcobu_divisors(2^40, [x, x], [x, [2^40]]));
+  said(() -> jingcobu_divisors(2^63, [x], [x]));
   said(() -> jingcobu_resultant_two(2^32, x, x));
   said(() -> jingcobu_resultant_two(61, [[1,2],[3]], [[1]]));
   said(() -> jingcobu_resultant_two(61, [[1,2],[3,61]], [[1]]));
@@ -136,6 +153,7 @@ said(c) = print(iferr(c(); "ANSWERED", E, my(s = Str(E)); strsplit(s, "\n")[1]))
     g = x^(1 + random(8)) * (1 + random(n - 1)); g += random(x^poldegree(g) * n);
     if (lift(jingcobu_resultant(n, f, g)) != polresultant(f, g) % n, wrong++);
     b = jingcobu_reduced_resultant(n, f, g);
+    if (jingcobu_divisor(n, f, g) != b[1], wrong++);
     if (n % b[1] || b[2] * f + b[3] * g != Mod(b[1], n), wrong++));
   print("drawn pairs: ", wrong, " wrong of 1000");
 }
@@ -151,6 +169,23 @@ said(c) = print(iferr(c(); "ANSWERED", E, my(s = Str(E)); strsplit(s, "\n")[1]))
     if (lift(jingcobu_resultant(n, f, g)) != polresultant(f, g) % n, wrong++);
     if (jingcobu_product(n, f, g) != Vecrev(f * g) % n, wrong++);
     b = jingcobu_reduced_resultant(n, f, g);
-    if (n % b[1] || b[2] * f + b[3] * g != Mod(b[1], n), wrong++));
+    if (jingcobu_divisor(n, f, g) != b[1], wrong++);
+    if (n % b[1] || b[2] * f + b[3] * g != Mod(b[1], n), wrong++);
+    my(a = polcoef(f, 0), c = polcoef(g, 0), r = jingcobu_gcd(n, a, c));
+    if (r[1] != gcd(gcd(a, c), n) || (r[2] * a + r[3] * c - r[1]) % n || r[2] >= gcd(c, n) / r[1] || r[3] >= n / gcd(c, n), wrong++));
   print("drawn pairs with words of 64 bits: ", wrong, " wrong of 500");
+}
+
+/* many pairs, of one pair of degrees and of several, against the single calls */
+{
+  my(wrong = 0);
+  setrand(381);
+  foreach([4, 12, 2^31, 4294967291, 2^32, 6^24, 2^63 - 25], n,
+    for (i = 1, 12,
+      my(all = random(2500 * (i == 1) + 40), f, g);
+      f = vector(all, k, random(x^if (i % 2, 5, random(5)) * n));
+      g = vector(all, k, random(x^if (i % 2, 3, random(5)) * n));
+      if (jingcobu_resultants(n, f, g) != vector(all, k, jingcobu_resultant(n, f[k], g[k])), wrong++);
+      if (jingcobu_divisors(n, f, g) != vector(all, k, jingcobu_divisor(n, f[k], g[k])), wrong++)));
+  print("many pairs: ", wrong, " wrong of 168 calls");
 }

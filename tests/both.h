@@ -1,10 +1,10 @@
 /* What both hosts try in the same way: the calls of product, resultant and reduced resultant, the stored pairs, every set of reasons to
- * refuse, and the law of products. Before it stand, beside what lent.h needs: `answer`, the type of an answer; SERVICE(name), the function
- * with words of that size; WORK_LEN and COFACTOR_LEN, the words that are always enough; MORE_WORK and MORE_COFACTOR, some more than these;
- * F_SCALE and G_SCALE, powers of 2 that make small words large ones. */
+ * refuse, and the law of products. Defined before it, beside what lent.h needs: `answer`, the type of an answer; SERVICE(name), the
+ * function with words of that size; WORK_LEN and COFACTOR_LEN, the words that are always enough; MORE_WORK and MORE_COFACTOR, some more
+ * than these; F_SCALE and G_SCALE, powers of 2 that make small words large ones. */
 #include "lent.h"
 
-/* Buffers, with words before and behind what is lent. */
+/* Buffers, with words before and after what is lent. */
 #define WORK_ROOM (MARGIN + MORE_WORK + MARGIN)
 #define COFACTOR_ROOM (MARGIN + MORE_COFACTOR + MARGIN)
 #define PRODUCT_ROOM (MARGIN + 100 + MARGIN)
@@ -59,7 +59,7 @@ static void product(word n, const word *f, size_t fl, const word *g, size_t gl, 
     expect(a.value == 0, "product: the value is 0", where);
     expect(same(f, fl, g, gl), "product: f and g are only read", where);
     if (status != JINGCOBU_OK) {
-        expect(kept_but(out, PRODUCT_ROOM, 0), "product refused: the buffer is as found", where);
+        expect(kept_but(out, PRODUCT_ROOM, 0), "product refused: the buffer is unchanged", where);
         return;
     }
     expect(kept_but(out, PRODUCT_ROOM, fl + gl - 1), "product: words beyond d + e + 1 are unchanged", where);
@@ -77,7 +77,7 @@ static word resultant(word n, const word *f, size_t fl, const word *g, size_t gl
     expect(same(f, fl, g, gl), "resultant: f and g are only read", where);
     if (status != JINGCOBU_OK) {
         expect(a.value == 0, "resultant refused: the value is 0", where);
-        expect(kept_but(work, WORK_ROOM, 0), "resultant refused: the working words are as found", where);
+        expect(kept_but(work, WORK_ROOM, 0), "resultant refused: the working words are unchanged", where);
         return 0;
     }
     expect(a.value < n, "resultant: below n", where);
@@ -96,9 +96,9 @@ static word reduced(word n, const word *f, size_t fl, const word *g, size_t gl, 
     expect(same(f, fl, g, gl), "reduced: f and g are only read", where);
     if (status != JINGCOBU_OK) {
         expect(a.value == 0, "reduced refused: the value is 0", where);
-        expect(kept_but(work, WORK_ROOM, 0), "reduced refused: the working words are as found", where);
-        expect(kept_but(u, COFACTOR_ROOM, 0), "reduced refused: u is as found", where);
-        expect(kept_but(v, COFACTOR_ROOM, 0), "reduced refused: v is as found", where);
+        expect(kept_but(work, WORK_ROOM, 0), "reduced refused: the working words are unchanged", where);
+        expect(kept_but(u, COFACTOR_ROOM, 0), "reduced refused: u is unchanged", where);
+        expect(kept_but(v, COFACTOR_ROOM, 0), "reduced refused: v is unchanged", where);
         return 1;
     }
     size_t l = cofactor_length(n, fl, gl);
@@ -119,7 +119,7 @@ static word reduced(word n, const word *f, size_t fl, const word *g, size_t gl, 
 
 #define DIGITS (2 * sizeof(word))
 
-/* the number that `count` lower-case hexadecimal digits spell; `*ok` becomes 0 where they are not digits */
+/* the number that `count` lower-case hexadecimal digits spell; `*ok` becomes 0 if they are not digits */
 static word number(const char *s, size_t count, int *ok)
 {
     static const char digits[] = "0123456789abcdef";

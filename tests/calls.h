@@ -7,11 +7,13 @@
 #include "../include/jingcobu.h"
 
 enum function { PRODUCT, PRODUCT_WORD, TRUE_DEGREE, RESULTANT, REDUCED, DIVISOR, COFACTORS, WHY, CLAIM, TWO, GCD, START, ARRIVE, LEAVE,
-    READ, READ_TEXT, WRITE_TEXT, SHARES, PRODUCT64, RESULTANT64, REDUCED64, FUNCTIONS };
+    READ, READ_TEXT, WRITE_TEXT, SHARES, RESULTANTS, DIVISORS, PRODUCT64, RESULTANT64, REDUCED64, DIVISOR64,
+    RESULTANTS64, DIVISORS64, TRUE_DEGREE64, GCD64, FUNCTIONS };
 
 static const char *const names[FUNCTIONS] = { "product", "product_word", "true_degree", "resultant", "reduced_resultant", "divisor",
     "resultant_cofactors", "why", "check_claim", "resultant_two", "gcd", "factors_start", "factors_arrive", "factors_leave", "factors_read",
-    "read_text", "write_text", "shares", "64 product", "64 resultant", "64 reduced_resultant" };
+    "read_text", "write_text", "shares", "resultants", "divisors", "64 product", "64 resultant", "64 reduced_resultant",
+    "64 divisor", "64 resultants", "64 divisors", "64 true_degree", "64 gcd" };
 
 #define LIMIT64 ((uint64_t) 1 << 63)
 #define TWO_ROOM 2500
@@ -33,7 +35,7 @@ typedef struct {
     source from;
     enum function function;
     uint64_t n, f[TWO_ROOM], g[TWO_ROOM], u[MULTIPLIER_ROOM], v[MULTIPLIER_ROOM], claimed;
-    size_t d, a, e, b, k;                           /* the degrees in two variables; the place of one word */
+    size_t d, a, e, b, k, pairs;                    /* the degrees in two variables, and of many pairs; the place of one word */
     char text[TEXT_ROOM];
     uint32_t frames, waiting[4];
     uint16_t number;
@@ -66,8 +68,8 @@ static trial *new_trial(void)
     t->out_v = new_buffer(4, 1600, 0);
     t->out_text = new_buffer(1, 900, 0);
     t->work = new_buffer(4, 8300, 0);
-    t->f64 = new_buffer(8, 60, 1);
-    t->g64 = new_buffer(8, 60, 1);
+    t->f64 = new_buffer(8, 300, 1);
+    t->g64 = new_buffer(8, 300, 1);
     t->out64 = new_buffer(8, 100, 0);
     t->u64 = new_buffer(8, 3100, 0);
     t->v64 = new_buffer(8, 3100, 0);
@@ -251,10 +253,11 @@ static void sent_one(trial *t, int with_modulus)
 {
     source *s = &t->from;
     size_t fl = bad(s) ? bad_length(s) : t->function == ARRIVE && !once_in(s, 4) ? 1 + below(s, 3) : drawn_length(s);
-    if (with_modulus) t->n = drawn_modulus(s, 0);
+    int wider = is_wide(t->function);
+    if (with_modulus) t->n = drawn_modulus(s, wider);
     if (fl) drawn_words(s, t->n, t->f, fl);
-    if (with_modulus && bad(s)) t->n = bad_modulus(s, 0);
-    send(t, &t->in_f, t->f, fl, MOST);
+    if (with_modulus && bad(s)) t->n = bad_modulus(s, wider);
+    send(t, wider ? &t->f64 : &t->in_f, t->f, fl, MOST);
 }
 
 static void sent_reduced(trial *t)
@@ -355,16 +358,56 @@ static void sent_two(trial *t)
     if (bad_g && !once_in(s, 3)) lend_nothing(&t->in_g, gl);
 }
 
+/* a count and a length that do not belong together, at times because their product is beyond size_t; or a degree above 48 */
+static size_t bad_batch(source *s, size_t *d, size_t *count, size_t length)
+{
+    switch (below(s, 4)) {
+    case 0: *d = once_in(s, 2) ? 49 : SIZE_MAX; return once_in(s, 2) ? length : *count * (*d + 1);
+    case 1: *count |= (size_t) 1 << 63; return length;
+    case 2: return length + 1;
+    default: return length ? length - 1 : SIZE_MAX;
+    }
+}
+
+/* Many pairs of one pair of degrees; where they are long, few. Of these the words stand in t->f and t->g one after the other. */
+static void sent_batch(trial *t)
+{
+    source *s = &t->from;
+    int wider = is_wide(t->function), bad_f = bad(s), bad_g = bad(s), bad_n = bad(s);
+    size_t fl = drawn_length(s), gl = once_in(s, 4) ? fl : drawn_length(s), most = larger(fl, gl);
+    uint64_t f[MOST], g[MOST];
+    t->n = drawn_modulus(s, wider);
+    t->d = fl - 1;
+    t->e = gl - 1;
+    t->pairs = below(s, most > 20 ? 3 : most > 9 ? 4 : 9);
+    for (size_t i = t->pairs; i-- > 0;) {
+        drawn_pair(t, fl, gl);
+        memcpy(f, t->f, fl * sizeof *f);
+        memcpy(g, t->g, gl * sizeof *g);
+        memcpy(t->f + i * fl, f, fl * sizeof *f);
+        memcpy(t->g + i * gl, g, gl * sizeof *g);
+    }
+    size_t all_f = t->pairs * fl, all_g = t->pairs * gl;
+    lend_marked(t, wider ? &t->out64 : &t->out, t->pairs);
+    if (bad_f) all_f = bad_batch(s, &t->d, &t->pairs, all_f);
+    if (bad_g) all_g = bad_batch(s, &t->e, &t->pairs, all_g);
+    if (bad_n) t->n = bad_modulus(s, wider);
+    buffer *to_f = wider ? &t->f64 : &t->in_f, *to_g = wider ? &t->g64 : &t->in_g;
+    if (bad_f) lend_nothing(to_f, all_f); else send(t, to_f, t->f, all_f, SIZE_MAX);
+    if (bad_g) lend_nothing(to_g, all_g); else send(t, to_g, t->g, all_g, SIZE_MAX);
+}
+
 static void sent_gcd(trial *t)
 {
     source *s = &t->from;
-    t->n = drawn_modulus(s, 0);
+    int wider = is_wide(t->function);
+    t->n = drawn_modulus(s, wider);
     drawn_words(s, t->n, t->f, 2);
-    if (bad(s)) t->f[below(s, 2)] = large_word(s, t->n, 0);
-    if (bad(s)) t->n = bad_modulus(s, 0);
+    if (bad(s)) t->f[below(s, 2)] = large_word(s, t->n, wider);
+    if (bad(s)) t->n = bad_modulus(s, wider);
 }
 
-/* something put before the text or behind it that makes it none, but looks much like one */
+/* something put before or after the text that makes it no longer a text, but looks much like one */
 static size_t put_before(source *s, char *text, size_t length)
 {
     static const char *const heads[] = { "0", "+", "-", "x+", "1*x^49+", "429496729", "0*x^48+", "1*x^48+", " " };
@@ -480,15 +523,16 @@ static void draw_call(trial *t, enum function function)
     t->replace = t->held.n < 2 || once_in(&t->from, 64);
     switch (function) {
     case PRODUCT: case PRODUCT_WORD: case PRODUCT64: sent_product(t); break;
-    case TRUE_DEGREE: case START: sent_one(t, 1); break;
+    case TRUE_DEGREE: case TRUE_DEGREE64: case START: sent_one(t, 1); break;
     case WRITE_TEXT: sent_one(t, 1); lend_marked(t, &t->out_text, JINGCOBU_TEXT); break;
-    case RESULTANT: case DIVISOR: case RESULTANT64: sent_pair(t); break;
+    case RESULTANT: case DIVISOR: case RESULTANT64: case DIVISOR64: sent_pair(t); break;
     case REDUCED: case COFACTORS: case REDUCED64: sent_reduced(t); break;
     case WHY: sent_pair(t); lend_marked(t, &t->out, JINGCOBU_COMMON); break;
     case CLAIM: sent_claim(t); break;
     case TWO: sent_two(t); break;
-    case GCD: sent_gcd(t); break;
+    case GCD: case GCD64: sent_gcd(t); break;
     case ARRIVE: case LEAVE: case READ: sent_state(t); break;
+    case RESULTANTS: case DIVISORS: case RESULTANTS64: case DIVISORS64: sent_batch(t); break;
     case READ_TEXT: sent_text(t); break;
     default: sent_shares(t);
     }
@@ -504,6 +548,7 @@ static answer of_state(jingcobu_held a) { return (answer) { .status = a.status, 
 static answer of_degree(jingcobu_degree a) { return (answer) { .value = { a.some, a.degree }, .status = a.status }; }
 static answer of_reason(jingcobu_reason a) { return (answer) { .value = { a.ground, a.m, a.degree }, .status = a.status }; }
 static answer of_gcd(jingcobu_cofactors a) { return (answer) { .value = { a.g, a.s, a.t }, .status = a.status }; }
+static answer of_gcd64(jingcobu64_cofactors a) { return (answer) { .value = { a.g, a.s, a.t }, .status = a.status }; }
 static answer of_plan(jingcobu_plan a)
 {
     return (answer) { .value = { a.share[0], a.share[1], a.share[2], a.share[3] }, .status = a.status };
@@ -512,6 +557,8 @@ static answer of_plan(jingcobu_plan a)
 #define LENT(b) (t->b.pointer), (t->b.length)
 #define PAIR n, LENT(in_f), LENT(in_g)
 #define PAIR64 t->n, LENT(f64), LENT(g64)
+#define MANY n, LENT(in_f), t->d, LENT(in_g), t->e, t->pairs, LENT(out), LENT(work)
+#define MANY64 t->n, LENT(f64), t->d, LENT(g64), t->e, t->pairs, LENT(out64), LENT(work64)
 
 static answer call_of_state(const trial *t)
 {
@@ -542,9 +589,16 @@ static answer make_call(const trial *t)
     case READ_TEXT: return plain(jingcobu_read_text(n, LENT(in_text), LENT(out)));
     case WRITE_TEXT: return plain(jingcobu_write_text(n, LENT(in_f), LENT(out_text)));
     case SHARES: return of_plan(jingcobu_shares(t->frames, w[0], w[1], w[2], w[3]));
+    case RESULTANTS: return plain(jingcobu_resultants(MANY));
+    case DIVISORS: return plain(jingcobu_divisors(MANY));
     case PRODUCT64: return plain64(jingcobu64_product(PAIR64, LENT(out64)));
     case RESULTANT64: return plain64(jingcobu64_resultant(PAIR64, LENT(work64)));
     case REDUCED64: return plain64(jingcobu64_reduced_resultant(PAIR64, LENT(u64), LENT(v64), LENT(work64)));
+    case DIVISOR64: return plain64(jingcobu64_divisor(PAIR64, LENT(work64)));
+    case RESULTANTS64: return plain64(jingcobu64_resultants(MANY64));
+    case DIVISORS64: return plain64(jingcobu64_divisors(MANY64));
+    case TRUE_DEGREE64: return of_degree(jingcobu64_true_degree(t->n, LENT(f64)));
+    case GCD64: return of_gcd64(jingcobu64_gcd(t->n, t->f[0], t->f[1]));
     default: return call_of_state(t);
     }
 }

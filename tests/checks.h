@@ -1,4 +1,4 @@
-/* What the header promises of a call, held against what it answered and left in its buffers. */
+/* What the header promises of a call, compared with what it returned and left in its buffers. */
 
 /* ---- the status that a call should have: the first that applies */
 
@@ -72,12 +72,24 @@ static uint32_t refused_two(const trial *t)
     return t->out.length < B + 1 ? JINGCOBU_SHORT_RESULT : short_work(t) ? JINGCOBU_SHORT_WORK : 0;
 }
 
+/* whether a length is not that of so many polynomials of that degree */
+static int unfit(size_t length, size_t d, size_t count) { return d > 48 || (wide) count * (d + 1) != length; }
+
+static uint32_t refused_batch(const trial *t)
+{
+    size_t fl = buffer_f(t)->length, gl = buffer_g(t)->length;
+    if (bad_n(t)) return JINGCOBU_BAD_MODULUS;
+    if (unfit(fl, t->d, t->pairs) || unfit(gl, t->e, t->pairs)) return JINGCOBU_BAD_LENGTH;
+    if (too_large(t, t->f, fl) || too_large(t, t->g, gl)) return JINGCOBU_BAD_WORD;
+    return buffer_out(t)->length < t->pairs ? JINGCOBU_SHORT_RESULT : short_work(t) ? JINGCOBU_SHORT_WORK : 0;
+}
+
 /* 1, 2 and 3 for one polynomial */
 static uint32_t refused_one(const trial *t)
 {
     if (bad_n(t)) return JINGCOBU_BAD_MODULUS;
-    if (long_or_empty(&t->in_f, MOST)) return JINGCOBU_BAD_LENGTH;
-    return too_large(t, t->f, t->in_f.length) ? JINGCOBU_BAD_WORD : 0;
+    if (long_or_empty(buffer_f(t), MOST)) return JINGCOBU_BAD_LENGTH;
+    return too_large(t, t->f, buffer_f(t)->length) ? JINGCOBU_BAD_WORD : 0;
 }
 
 static size_t place_of(const holding *x, uint16_t number)
@@ -120,8 +132,9 @@ static uint32_t refusal(const trial *t)
     case REDUCED: case COFACTORS: case REDUCED64: return refused_cofactors(t);
     case CLAIM: return refused_claim(t);
     case TWO: return refused_two(t);
-    case GCD: return bad_n(t) ? JINGCOBU_BAD_MODULUS : too_large(t, t->f, 2) ? JINGCOBU_BAD_WORD : 0;
-    case TRUE_DEGREE: case START: return refused_one(t);
+    case RESULTANTS: case DIVISORS: case RESULTANTS64: case DIVISORS64: return refused_batch(t);
+    case GCD: case GCD64: return bad_n(t) ? JINGCOBU_BAD_MODULUS : too_large(t, t->f, 2) ? JINGCOBU_BAD_WORD : 0;
+    case TRUE_DEGREE: case TRUE_DEGREE64: case START: return refused_one(t);
     case ARRIVE: return refused_arrival(t);
     case LEAVE: return refused_leaving(t);
     case READ: return bad_n(t) ? JINGCOBU_BAD_MODULUS : 0;
@@ -141,7 +154,10 @@ static uint32_t refusal(const trial *t)
 static int results(const trial *t, const buffer **list)
 {
     switch (t->function) {
-    case PRODUCT: case PRODUCT_WORD: case PRODUCT64: case WHY: case TWO: case READ_TEXT: list[0] = buffer_out(t); return 1;
+    case PRODUCT: case PRODUCT_WORD: case PRODUCT64: case WHY: case TWO: case READ_TEXT:
+    case RESULTANTS: case DIVISORS: case RESULTANTS64: case DIVISORS64:
+        list[0] = buffer_out(t);
+        return 1;
     case REDUCED: case COFACTORS: case REDUCED64: list[0] = buffer_u(t); list[1] = buffer_v(t); return 2;
     case WRITE_TEXT: list[0] = &t->out_text; return 1;
     default: return 0;
@@ -151,7 +167,7 @@ static int results(const trial *t, const buffer **list)
 static int works(enum function x)
 {
     return x == RESULTANT || x == REDUCED || x == DIVISOR || x == COFACTORS || x == WHY || x == CLAIM || x == TWO || x == ARRIVE
-        || x == RESULTANT64 || x == REDUCED64;
+        || x == RESULTANT64 || x == REDUCED64 || x == RESULTANTS || x == DIVISORS || x == DIVISOR64 || x == RESULTANTS64 || x == DIVISORS64;
 }
 
 static int same_state(const jingcobu_factors *s, const jingcobu_factors *r)
@@ -168,12 +184,12 @@ static const char *wrong_refusal(const trial *t)
     for (int i = 0; i < 4; i++) if (t->got.value[i]) return "a value is not 0 after a refusal";
     for (int i = 0; i < count; i++) if (!kept_from(list[i], 0)) return "a result buffer is changed after a refusal";
     if (!kept_from(buffer_work(t), 0)) return "work is changed after a refusal";
-    if (t->function == START && !same_state(&t->got.state, &zeros)) return "a refused start hands back more than zeros";
+    if (t->function == START && !same_state(&t->got.state, &zeros)) return "a refused start returns more than zeros";
     if ((t->function == ARRIVE || t->function == LEAVE) && !same_state(&t->got.state, &t->state)) return "another state after a refusal";
     return NULL;
 }
 
-/* whether the words of a result buffer from `from` up to `to` are zero and all behind are as found */
+/* whether the words of a result buffer from `from` up to `to` are zero and all after them are unchanged */
 static int zeros_to(const buffer *b, size_t from, size_t to)
 {
     return all_bytes(b, b->at + from * b->size, b->at + to * b->size, 0) && kept_from(b, to);
@@ -184,13 +200,14 @@ static void words_in(const buffer *b, uint64_t *w, size_t l) { for (size_t i = 0
 /* ---- D */
 
 /* D found naively where it costs little, and now and then where it costs more; 0 otherwise */
-static uint64_t known_divisor(trial *t)
+static uint64_t divisor_of(trial *t, const uint64_t *f, size_t fl, const uint64_t *g, size_t gl)
 {
-    size_t fl = buffer_f(t)->length, gl = buffer_g(t)->length, width = larger(fl, gl), l = cofactor_length(t->n, fl, gl) + width + 1;
+    size_t width = larger(fl, gl), l = cofactor_length(t->n, fl, gl) + width + 1;
     double cost = 2.0 * (double) (l * l) * (double) width;
     if (cost > 1e7 || (cost > 100000 && running_number % 40)) return 0;
-    return naive_divisor(t->n, t->f, fl, t->g, gl, l, &t->rows);
+    return naive_divisor(t->n, f, fl, g, gl, l, &t->rows);
 }
+static uint64_t known_divisor(trial *t) { return divisor_of(t, t->f, buffer_f(t)->length, t->g, buffer_g(t)->length); }
 
 /* D as the other services answer it */
 static uint64_t other_divisor(const trial *t)
@@ -220,7 +237,7 @@ static const char *wrong_product(const trial *t)
 
 static const char *wrong_degree(const trial *t)
 {
-    size_t k = t->in_f.length;
+    size_t k = buffer_f(t)->length;
     while (k && !t->f[k - 1]) k--;
     return t->got.value[0] == (k > 0) && t->got.value[1] == (k ? k - 1 : 0) ? NULL : "the true degree";
 }
@@ -243,7 +260,7 @@ static const char *wrong_cofactors(const trial *t)
     return combine(t->n, t->f, d + 1, u, e, t->g, e + 1, v, d, t->got.value[0]) ? NULL : "the cofactors do not combine to the resultant";
 }
 
-/* D divides n and, where d + e is not 0, the resultant */
+/* D divides n and, if d + e is not 0, the resultant */
 static const char *wrong_divisor(trial *t)
 {
     uint64_t D = t->got.value[0], right = known_divisor(t);
@@ -324,6 +341,27 @@ static const char *wrong_two(const trial *t)
         at_point(t->n, t->g, t->e, t->b, z % t->n, y);
         at_point(t->n, words, 0, B, z % t->n, &value);
         if (value != naive_resultant(t->n, x, t->d + 1, y, t->e + 1)) return "the value at a point";
+    }
+    return NULL;
+}
+
+/* each pair of many: its resultant; or its D, which divides n and, where d + e is not 0, the resultant */
+static const char *wrong_batch(trial *t)
+{
+    const buffer *out = buffer_out(t);
+    size_t fl = t->d + 1, gl = t->e + 1;
+    int divisors = t->function == DIVISORS || t->function == DIVISORS64;
+    if (t->got.value[0]) return "the value is not 0";
+    if (!kept_from(out, t->pairs)) return "words beyond count";
+    for (size_t i = 0; i < t->pairs; i++) {
+        const uint64_t *f = t->f + i * fl, *g = t->g + i * gl;
+        uint64_t r = fl + gl < 20 || !divisors ? naive_resultant(t->n, f, fl, g, gl) : 0, D = get(out, i);
+        if (!divisors) {
+            if (D != r) return "the resultant of a pair";
+            continue;
+        }
+        uint64_t right = divisor_of(t, f, fl, g, gl);
+        if (D < 1 || t->n % D || (right && D != right) || (fl + gl > 2 && r % D)) return "D of a pair";
     }
     return NULL;
 }
@@ -410,20 +448,21 @@ static const char *wrong_any_state(const trial *t)
     return t->function == ARRIVE && !zeroed(&t->work) ? "work is not zero" : NULL;
 }
 
-/* NULL where all is as it should be, otherwise what is not */
+/* NULL if everything is right, otherwise what is wrong */
 static const char *wrong_answer(trial *t)
 {
     switch (t->function) {
     case PRODUCT: case PRODUCT_WORD: case PRODUCT64: return wrong_product(t);
-    case TRUE_DEGREE: return wrong_degree(t);
+    case TRUE_DEGREE: case TRUE_DEGREE64: return wrong_degree(t);
     case RESULTANT: case RESULTANT64: return wrong_resultant(t);
     case REDUCED: case REDUCED64: return wrong_reduced(t);
-    case DIVISOR: return wrong_divisor(t);
+    case DIVISOR: case DIVISOR64: return wrong_divisor(t);
     case COFACTORS: return wrong_cofactors(t);
     case WHY: return wrong_why(t);
     case CLAIM: return wrong_claim(t);
     case TWO: return wrong_two(t);
-    case GCD: return wrong_gcd(t);
+    case RESULTANTS: case DIVISORS: case RESULTANTS64: case DIVISORS64: return wrong_batch(t);
+    case GCD: case GCD64: return wrong_gcd(t);
     case START: case ARRIVE: case LEAVE: return wrong_state(t);
     case READ: return t->got.value[0] == held_product(&t->held) ? NULL : "the reading";
     case READ_TEXT: return wrong_text_read(t);

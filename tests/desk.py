@@ -31,7 +31,7 @@ passed = 0
 
 
 def held(name, got, wanted):
-    """got is what was wanted, or the run ends here."""
+    """Ends the run if got is not what was wanted."""
     global passed
     if got != wanted:
         sys.exit("FAILED: %s: %.200r, where %.200r was wanted" % (name, got, wanted))

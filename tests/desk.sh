@@ -11,7 +11,7 @@ trap 'rm -rf "$folder"' EXIT
 fail() { echo "FAILED: $1"; exit 1; }
 tried=0
 
-# Runs a command with its output in out and its words in err, and holds its exit status to the one that is expected.
+# Runs a command with its output in out and its messages in err, and compares its exit status with the one that is expected.
 expect() { # STATUS WHAT COMMAND...
     local want=$1 what=$2 status=0
     shift 2
@@ -63,7 +63,7 @@ expect 0 "--version" "$desk" --version
 for option in -x --answer -help; do
     expect 2 "$option" "$desk" "$option" < "$frames" && nothing "$option" && said "^jingcobu-desk: unknown option $option" "$option"
 done
-expect 2 "an unknown option behind a file" "$desk" "$folder/one" --no && nothing "an unknown option behind a file"
+expect 2 "an unknown option after a file" "$desk" "$folder/one" --no && nothing "an unknown option after a file"
 cd "$folder" || exit 1
 cp one -- --help
 expect 0 "a file with the name of an option" "$desk" -- --help && answers "answer one" "a file with the name of an option"
@@ -76,10 +76,10 @@ mkdir bin && cp "$desk" "$desk.proved" bin && chmod 755 "$folder" bin bin/* && c
 other=
 [ "$(id -u)" != 0 ] || other='setpriv --reuid 65534 --regid 65534 --clear-groups'
 if $other true 2> /dev/null; then
-    expect 1 "a file that may not be read" $other bin/jingcobu-desk one two && answers "answer one" "a file that may not be read"
-    said '^jingcobu-desk: two: may not be read' "a file that may not be read"
+    expect 1 "a file that cannot be read" $other bin/jingcobu-desk one two && answers "answer one" "a file that cannot be read"
+    said '^jingcobu-desk: two: cannot be read' "a file that cannot be read"
 else
-    echo "SKIPPED: a file that may not be read: setpriv is not there, or root may not become another user"
+    echo "SKIPPED: a file that cannot be read: setpriv is not installed, or root cannot become another user"
 fi
 mkdir alone && cp "$desk" alone
 expect 1 "without the proved program" alone/jingcobu-desk < one && nothing "alone" && said '^jingcobu-desk: the proved program' "alone"
@@ -120,7 +120,7 @@ prefix "a limit of the file's size"
 ignored() { (trap '' XFSZ; ulimit -f 4; exec "$desk" "$frames" "$frames" "$frames" > short); }
 expect 1 "a limit of the file's size, signal ignored" ignored && said 'desk: standard output' "a limit" && prefix "a limit, signal ignored"
 
-# A reader and a writer of single bytes, with more output than a pipe holds, and a line of 64 MB between two frames.
+# A reader and a writer of single bytes, with more output than a pipe holds, and a line of 1 GB between two frames.
 head -n 200 "$frames" > few
 "$desk" few > few.right
 expect 0 "one byte at a time" bash -o pipefail -c 'dd bs=1 status=none < few | "$0"' "$desk" && silent "one byte at a time"
@@ -128,9 +128,9 @@ answers few.right "one byte at a time"
 yes "$(cat one)" | head -n 6000 > many
 expect 0 "a reader of one byte at a time" bash -o pipefail -c '"$0" many | dd bs=1 status=none' "$desk"
 yes "$(cat "answer one")" | head -n 6000 | cmp -s - out || fail "a reader of one byte at a time: other answers"
-long() { (cat one; head -c 67108864 /dev/zero | tr '\0' 0; echo; cat one) | "$desk"; }
-expect 0 "a line of 64 MB" long && silent "a line of 64 MB"
-printf '010000000002\nff0800000000\n010000000002\n' | cmp -s - out || fail "a line of 64 MB: other answers"
+long() { (cat one; head -c 1073741824 /dev/zero | tr '\0' 0; echo; cat one) | "$desk"; }
+expect 0 "a line of 1 GB" long && silent "a line of 1 GB"
+printf '010000000002\nff0800000000\n010000000002\n' | cmp -s - out || fail "a line of 1 GB: other answers"
 
 # A terminal: each line is answered before the next is sent, and the end is a ^D.
 cat > terminal.py << 'END'

@@ -1,12 +1,12 @@
 #!/usr/bin/env python3
-"""Runs every script of tools/ that made a stored file, in a copy, and holds what it makes to what is stored.
+"""Runs every script of tools/ that made a stored file, in a copy, and compares what it writes with what is stored.
 
     tests/figures.py            every script but those of SLOW, which are named (make figures, make check)
     tests/figures.py all        every script (make figures FIGURES=all)
     tests/figures.py NAME ..    these alone, such as desk_figures.py
 
-A script says at its head which files it makes: each crates/NAME/stdin or crates/NAME/stdout there is one. It writes them by itself, or
-its output is the one file that is named behind a >. Scripts that call gp are skipped where it is not installed."""
+A script names at its head the files that it makes: each crates/NAME/stdin, crates/NAME/stdout or docs/NAME.svg there is one. It writes
+them by itself, or its output is the one file that is named after a >. Scripts that call gp are skipped if it is not installed."""
 import ast
 import os
 import re
@@ -19,8 +19,8 @@ from pathlib import Path
 
 ROOT = Path(__file__).resolve().parent.parent
 SLOW = set()             # names of scripts that take more than a minute on one core
-HELPERS = {"reference.py", "ideal_constants.py", "draw_frames.py", "draw_run.py"}   # what others stand on; what is not stored; a picture of docs/
-MADE = re.compile(r"(?:> )?crates/\w+/(?:stdin|stdout)")
+HELPERS = {"reference.py", "ideal_constants.py", "draw_frames.py", "clauses.py"}   # modules, and scripts whose output is not stored
+MADE = re.compile(r"(?:> )?(?:crates/\w+/(?:stdin|stdout)|docs/\w+\.svg)")
 
 
 def made_by(script):
@@ -31,8 +31,9 @@ def made_by(script):
 
 
 def copied(folder):
-    """tools/, and what is stored in crates/, so that a script can read one file and write another."""
+    """tools/, and what is stored in crates/, so that a script can read one file and write another; docs/ is empty."""
     shutil.copytree(ROOT / "tools", folder / "tools")
+    (folder / "docs").mkdir()
     for stored in list(ROOT.glob("crates/*/stdin")) + list(ROOT.glob("crates/*/stdout")):
         to = folder / stored.relative_to(ROOT)
         to.parent.mkdir(parents=True, exist_ok=True)
@@ -55,7 +56,7 @@ def wrong(script):
         if output:
             (folder / output).write_bytes(run.stdout)
         elif run.stdout:
-            return "it prints, and its head names no file behind a >"
+            return "it prints, and its head names no file after a >"
         for file in files:
             if not (folder / file).exists():
                 return "it does not make %s" % file
@@ -73,7 +74,7 @@ def main():
     left = [s for s in chosen if s.name in SLOW and not sys.argv[1:]]
     needing = [s for s in chosen if "gp(" in s.read_text() or '"gp"' in s.read_text()] if not shutil.which("gp") else []
     if left:
-        print("left out, because they take more than a minute each (make figures FIGURES=all): " + ", ".join(s.name for s in left))
+        print("left out because they take more than a minute each (make figures FIGURES=all): " + ", ".join(s.name for s in left))
     if needing:
         print("SKIPPED: gp is not installed, for the figures of " + ", ".join(s.name for s in needing))
     tried = [s for s in chosen if s not in left and s not in needing]

@@ -1,8 +1,8 @@
 /* A coverage-guided fuzzer (clang's libFuzzer): the given bytes are the drawn numbers of calls.h, so each input is a row of calls of any
- * functions, and each call is held to the header and to the naive numbers as in guard.c. Not in the gate.
+ * functions, and each call is compared with the header and with the naive numbers as in guard.c. Not in the gate.
  *
- * The library is compiled without clang's counters. So the first byte of each of its blocks, whose addresses stand in the file
- * fuzz_blocks (fuzz_blocks.sh writes it), is exchanged for a breakpoint: the first call that comes there puts the byte back and tells
+ * The library is compiled without clang's counters. So the first byte of each of its blocks, whose addresses are in the file
+ * fuzz_blocks (fuzz_blocks.sh writes it), is replaced by a breakpoint: the first call that gets there puts the byte back and tells
  * libFuzzer that its input reached something new. At the end it says how many blocks were reached.
  * Build and run: make -C tests fuzz (FUZZ_SECONDS=60) */
 #include "calls.h"

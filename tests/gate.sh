@@ -21,11 +21,11 @@ expect() { # STATUS LINES RT LAST MAKE
 expect 0 'rt ci\n12 passed, 0 failed\nmake check in CI\n12 passed, 0 failed' 0 '12 passed, 0 failed' 0
 expect 1 'rt ci\n11 passed, 1 failed' 1 '11 passed, 1 failed' 0
 expect 3 'rt ci\nthe prover could not tell' 3 'the prover could not tell' 0
-expect 1 'rt ci\n12 passed, 0 failed\nmake check in CI\nthe gate FAILED: make check has failed' 0 '12 passed, 0 failed' 2
-expect 1 'rt ci\n\nthe gate FAILED: rt ci has not ended with what it counted' 0 '' 0
-expect 1 'rt ci\n11 passed, 1 failed\nthe gate FAILED: rt ci has not ended with what it counted' 0 '11 passed, 1 failed' 0
+expect 1 'rt ci\n12 passed, 0 failed\nmake check in CI\nthe gate FAILED: make check failed' 0 '12 passed, 0 failed' 2
+expect 1 'rt ci\n\nthe gate FAILED: rt ci did not end with its counts' 0 '' 0
+expect 1 'rt ci\n11 passed, 1 failed\nthe gate FAILED: rt ci did not end with its counts' 0 '11 passed, 1 failed' 0
 
-# Where CI is set and something is missing, it is installed; that installing fails changes nothing.
+# If CI is set and something is missing, it is installed; if installing fails, nothing changes.
 mkdir "$folder/ci"
 for name in bash sh dirname cat env grep id awk mktemp rm tee tail; do ln -s "$(command -v $name)" "$folder/ci/$name"; done
 cp "$folder/rt" "$folder/make" "$folder/ci"

@@ -1,8 +1,8 @@
 /* Every function of the header, at both widths, with buffers of exact lengths between pages that cannot be touched and polynomials that
- * cannot be written (guarded.h), on drawn and on nasty calls (calls.h), held to what the header promises (checks.h) and to numbers worked
- * in the plainest way (naive.h). A length that is refused is lent where nothing can be read.
- * It says what failed and exits with 1, or says how many calls were tried. The calls are the same in every run; the first word of the
- * command says how many of each function, 20000 if there is none, the second another seed.
+ * cannot be written (guarded.h), on drawn and on nasty calls (calls.h), compared with the header (checks.h) and with numbers computed
+ * in the plainest way (naive.h). A length that is refused is lent at a place where nothing can be read.
+ * It prints what failed and exits with 1, or prints how many calls were tried. The calls are the same in every run; the first argument
+ * says how many of each function, 20000 by default, the second another seed.
  * Build and run: make -C tests guard */
 #include "calls.h"
 #include "checks.h"

@@ -1,5 +1,5 @@
-/* Drawn numbers, and buffers between two pages that nobody may touch. A buffer is lent at its exact length, so that its last element
- * ends where one of these pages begins, or its first stands where the other ends: one step outside and the program is stopped. What a
+/* Drawn numbers, and buffers between two pages that cannot be touched. A buffer is lent at its exact length, so that its last element
+ * ends where one of these pages begins, or its first stands where the other ends: one step outside stops the program. What a
  * call may only read is lent through a view of the memory that cannot be written; the test fills it through a view of its own. */
 #include <signal.h>
 #include <stdint.h>
@@ -129,7 +129,7 @@ static void touched(int signal, siginfo_t *info, void *context)
     _exit(1);
 }
 
-/* the handler has a stack of its own, so that a call that runs out of stack is told too */
+/* the handler has a stack of its own, so that a call that runs out of stack is reported too */
 static inline void tell_faults(void)
 {
     static uint8_t room[65536];

@@ -52,6 +52,16 @@ static int overlapping(uint32_t n, const uint32_t *run, size_t i, size_t j, size
     if (memcmp(&a, &b, sizeof a) || a.status || memcmp(w, w2, sizeof w)) return fail("why");
     jingcobu_answer c = jingcobu_check_claim(n, p, count, q, count, 1, p, count, q, count, work, JINGCOBU_WORK);
     if (!same(c, jingcobu_check_claim(n, f, count, g, count, 1, f, count, g, count, work, JINGCOBU_WORK))) return fail("a claim");
+    /* as one pair, and as many pairs of constants */
+    for (size_t d = 0; d < count; d += count - 1) {
+        size_t pairs = count / (d + 1);
+        if (!same(jingcobu_resultants(n, p, count, d, q, count, d, pairs, out, 97, work, JINGCOBU_WORK),
+                  jingcobu_resultants(n, f, count, d, g, count, d, pairs, out2, 97, work, JINGCOBU_WORK))
+            || memcmp(out, out2, pairs * sizeof *out)) return fail("the resultants of many pairs");
+        if (!same(jingcobu_divisors(n, p, count, d, q, count, d, pairs, out, 97, work, JINGCOBU_WORK),
+                  jingcobu_divisors(n, f, count, d, g, count, d, pairs, out2, 97, work, JINGCOBU_WORK))
+            || memcmp(out, out2, pairs * sizeof *out)) return fail("D of many pairs");
+    }
     if (memcmp(f, p, count * sizeof *f) || memcmp(g, q, count * sizeof *g)) return fail("a const buffer was written");
     return 0;
 }

@@ -1,6 +1,6 @@
 #!/usr/bin/env bash
-# The header under C99, C11 and, where g++ is, C++, in a program of two files without a warning; its version is that of the Makefile and
-# of the Python package. Usage: tests/header.sh VERSION (make check-header)
+# The header under C99, C11 and, if g++ is installed, C++, in a program of two files without a warning; its version is that of the Makefile
+# and of the Python package. Usage: tests/header.sh VERSION (make check-header)
 set -eu
 cd "$(dirname "$0")/.."
 version=$1

@@ -1,11 +1,11 @@
 /* A C host that tries the services through the header: the stored pairs with their numbers, D alone, cofactors of both numbers, why
  * two are not coprime, claims true and false, resultants in two variables, products word by word, true degrees, least cofactors of
- * two residues, factors that come and go, texts written, read and damaged, shares of runs, what becomes of every word and byte of
- * every buffer, each refusal and their order, the ends of the ranges, the law of products on drawn triples, every pair of degrees
+ * two residues, factors that come and go, texts written, read and damaged, shares of runs, every word and byte of every
+ * buffer after a call, each refusal and their order, the ends of the ranges, the law of products on drawn triples, all pairs of degrees
  * up to 2 modulo some small n, and lengths that are refused before a word is read.
- * It reads stdin and stdout in the folder that its first word names (crates/vectors), and says "FAILED" and exits with 1 where
- * something is not as it should be; the second word, 100 if there is none, says after how many of these it stops.
- * Build and run: make -C tests (under a stack of 256 KiB; the output is held to the file `expected`). */
+ * It reads stdin and stdout in the folder that its first argument names (crates/vectors), and prints "FAILED" and exits with 1 if
+ * something is wrong; the second argument, 100 by default, says after how many failures it stops.
+ * Build and run: make -C tests (under a stack of 256 KiB; the output is compared with the file `expected`). */
 #include <stdio.h>
 #include <stdlib.h>
 #include <string.h>
@@ -28,6 +28,7 @@ typedef jingcobu_answer answer;
 #define F_SCALE 0
 #define G_SCALE 0
 #include "both.h"
+#include "batch.h"
 
 #define MULTIPLIER_ROOM 4200
 #define TEXT_ROOM (MARGIN + 900 + MARGIN)
@@ -55,7 +56,7 @@ static size_t text_of(const uint32_t *f, size_t fl, char *text)
     return (size_t) (end - text);
 }
 
-/* the number from 1 to `most` that stands at place *i of a text, and *i behind it; 0 where none stands there */
+/* the number from 1 to `most` at place *i of a text, and *i after it; 0 if there is none */
 static uint32_t number_in(const uint8_t *text, size_t length, size_t *i, uint32_t most)
 {
     uint64_t x = 0;
@@ -64,7 +65,7 @@ static uint32_t number_in(const uint8_t *text, size_t length, size_t *i, uint32_
     return *i > from && text[from] != '0' && x <= most ? (uint32_t) x : 0;
 }
 
-/* the words that a text spells, in `w` with zeros above; answers their number, and 0 where it is no text */
+/* the words that a text spells, in `w` with zeros above; returns their number, and 0 if it is not a text */
 static size_t words_of(uint32_t n, const uint8_t *text, size_t length, uint32_t *w)
 {
     size_t i = 0, count = 0, before = MOST;
@@ -103,14 +104,14 @@ static void one_word(uint32_t n, const uint32_t *f, size_t fl, const uint32_t *g
     expect(a.value == 0, "one word: the value is 0", where);
     expect(same(f, fl, g, gl), "one word: f and g are only read", where);
     if (status != JINGCOBU_OK) {
-        expect(kept_but(out, PRODUCT_ROOM, 0), "one word refused: the buffer is as found", where);
+        expect(kept_but(out, PRODUCT_ROOM, 0), "one word refused: the buffer is unchanged", where);
         return;
     }
     if (k <= fl + gl - 2) {
         expect(out[MARGIN + k] == product_word(n, f, fl, g, gl, k), "one word: word k of the product", where);
         out[MARGIN + k] = MARK;
     }
-    expect(kept_but(out, PRODUCT_ROOM, 0), "one word: every other word is as found", where);
+    expect(kept_but(out, PRODUCT_ROOM, 0), "one word: every other word is unchanged", where);
 }
 
 static void degree(uint32_t n, const uint32_t *f, size_t fl, uint32_t status, const char *where)
@@ -139,7 +140,7 @@ static uint32_t write_text(uint32_t n, const uint32_t *f, size_t fl, size_t tl, 
     expect(same(f, fl, NULL, 0), "writer: f is only read", where);
     if (status != JINGCOBU_OK) {
         expect(a.value == 0, "writer refused: the value is 0", where);
-        expect(bytes_kept_but(written, TEXT_ROOM, 0), "writer refused: the bytes are as found", where);
+        expect(bytes_kept_but(written, TEXT_ROOM, 0), "writer refused: the bytes are unchanged", where);
         return 0;
     }
     memset(text, 0, sizeof text);
@@ -160,7 +161,7 @@ static uint32_t read_text(uint32_t n, const uint8_t *text, size_t length, size_t
     expect(!length || !memcmp(text_copy, text, length), "reader: the text is only read", where);
     if (status != JINGCOBU_OK) {
         expect(a.value == 0, "reader refused: the value is 0", where);
-        expect(kept_but(out, PRODUCT_ROOM, 0), "reader refused: the words are as found", where);
+        expect(kept_but(out, PRODUCT_ROOM, 0), "reader refused: the words are unchanged", where);
         return 0;
     }
     expect(a.value == words_of(n, text, length, w), "reader: the number of words", where);
@@ -197,7 +198,7 @@ static uint32_t divisor(uint32_t n, const uint32_t *f, size_t fl, const uint32_t
     expect(same(f, fl, g, gl), "divisor: f and g are only read", where);
     if (status != JINGCOBU_OK) {
         expect(a.value == 0, "divisor refused: the value is 0", where);
-        expect(kept_but(work, WORK_ROOM, 0), "divisor refused: the working words are as found", where);
+        expect(kept_but(work, WORK_ROOM, 0), "divisor refused: the working words are unchanged", where);
         return 0;
     }
     expect(a.value >= 1 && n % (a.value ? a.value : 1) == 0, "divisor: D is at least 1 and divides n", where);
@@ -216,9 +217,9 @@ static uint32_t with_cofactors(uint32_t n, const uint32_t *f, size_t fl, const u
     expect(same(f, fl, g, gl), "cofactors: f and g are only read", where);
     if (status != JINGCOBU_OK) {
         expect(a.value == 0, "cofactors refused: the value is 0", where);
-        expect(kept_but(work, WORK_ROOM, 0), "cofactors refused: the working words are as found", where);
-        expect(kept_but(u, COFACTOR_ROOM, 0), "cofactors refused: u is as found", where);
-        expect(kept_but(v, COFACTOR_ROOM, 0), "cofactors refused: v is as found", where);
+        expect(kept_but(work, WORK_ROOM, 0), "cofactors refused: the working words are unchanged", where);
+        expect(kept_but(u, COFACTOR_ROOM, 0), "cofactors refused: u is unchanged", where);
+        expect(kept_but(v, COFACTOR_ROOM, 0), "cofactors refused: v is unchanged", where);
         return 0;
     }
     expect(all(work, 0, wl, 0), "cofactors: all working words are zero", where);
@@ -241,7 +242,7 @@ static int multiple_of(uint32_t m, const uint32_t *b, size_t l, const uint32_t *
     return 1;
 }
 
-/* The ground; D is what it must agree with, or 0 where it is not known. The buffer for w is out. */
+/* The ground; D is what it must agree with, or 0 if it is not known. The buffer for w is out. */
 static uint32_t why(uint32_t n, const uint32_t *f, size_t fl, const uint32_t *g, size_t gl, size_t ol, size_t wl, uint32_t D, uint32_t status,
                     const char *where)
 {
@@ -253,15 +254,15 @@ static uint32_t why(uint32_t n, const uint32_t *f, size_t fl, const uint32_t *g,
     expect(same(f, fl, g, gl), "why: f and g are only read", where);
     if (status != JINGCOBU_OK) {
         expect(a.ground == 0 && a.m == 0 && a.degree == 0, "why refused: the values are 0", where);
-        expect(kept_but(work, WORK_ROOM, 0), "why refused: the working words are as found", where);
-        expect(kept_but(out, PRODUCT_ROOM, 0), "why refused: w is as found", where);
+        expect(kept_but(work, WORK_ROOM, 0), "why refused: the working words are unchanged", where);
+        expect(kept_but(out, PRODUCT_ROOM, 0), "why refused: w is unchanged", where);
         return 0;
     }
     expect(all(work, 0, wl, 0), "why: all working words are zero", where);
     expect(kept_but(work, WORK_ROOM, wl), "why: words that are not lent", where);
     expect(kept_but(out, PRODUCT_ROOM, 49), "why: words of w beyond 49 are unchanged", where);
     expect(a.ground <= 2, "why: the ground is 0, 1 or 2", where);
-    if (D) expect((a.ground == 0) == (D == 1), "why: coprime where D is 1, and nowhere else", where);
+    if (D) expect((a.ground == 0) == (D == 1), "why: coprime exactly if D is 1", where);
     if (a.ground == 0) {
         expect(a.m == 0 && a.degree == 0 && all(out, 0, 49, 0), "why: coprime, the values and w are 0", where);
         return 0;
@@ -301,7 +302,7 @@ static uint32_t claim(uint32_t n, const uint32_t *f, size_t fl, const uint32_t *
            "claim: the multipliers are only read", where);
     if (status != JINGCOBU_OK) {
         expect(a.value == 0, "claim refused: the value is 0", where);
-        expect(kept_but(work, WORK_ROOM, 0), "claim refused: the working words are as found", where);
+        expect(kept_but(work, WORK_ROOM, 0), "claim refused: the working words are unchanged", where);
         return 0;
     }
     expect(a.value <= 3, "claim: the value is 0 to 3", where);
@@ -310,7 +311,7 @@ static uint32_t claim(uint32_t n, const uint32_t *f, size_t fl, const uint32_t *
     return a.value;
 }
 
-/* The resultant in y; f has (d + 1)(a + 1) words, where the lengths are right. The answer's buffer is out. */
+/* The resultant in y; f has (d + 1)(a + 1) words, if the lengths are right. The answer's buffer is out. */
 static void two(uint32_t n, const uint32_t *f, size_t fl, size_t d, size_t a, const uint32_t *g, size_t gl, size_t e, size_t b, size_t ol,
                 size_t wl, uint32_t status, const char *where)
 {
@@ -324,8 +325,8 @@ static void two(uint32_t n, const uint32_t *f, size_t fl, size_t d, size_t a, co
            "two variables: f and g are only read", where);
     expect(r.value == 0, "two variables: the value is 0", where);
     if (status != JINGCOBU_OK) {
-        expect(kept_but(work, WORK_ROOM, 0), "two variables refused: the working words are as found", where);
-        expect(kept_but(out, PRODUCT_ROOM, 0), "two variables refused: the answer's words are as found", where);
+        expect(kept_but(work, WORK_ROOM, 0), "two variables refused: the working words are unchanged", where);
+        expect(kept_but(out, PRODUCT_ROOM, 0), "two variables refused: the answer's words are unchanged", where);
         return;
     }
     expect(all(work, 0, wl, 0), "two variables: all working words are zero", where);
@@ -365,7 +366,7 @@ static jingcobu_factors start(uint32_t n, const uint32_t *h, size_t hl, uint32_t
     expect(same(h, hl, NULL, 0), "start: h is only read", where);
     jingcobu_answer b = jingcobu_factors_read(a.factors);
     if (status != JINGCOBU_OK) {
-        expect(same_state(&a.factors, &zeros), "start refused: zeros are handed back", where);
+        expect(same_state(&a.factors, &zeros), "start refused: zeros are returned", where);
         expect(b.value == 0 && b.status == JINGCOBU_BAD_MODULUS, "start refused: a reading is refused with 1", where);
     } else {
         expect(b.value == 1 && b.status == JINGCOBU_OK, "start: with no factor held the reading is 1", where);
@@ -384,8 +385,8 @@ static jingcobu_factors arrive(jingcobu_factors s, uint16_t number, const uint32
     expect(same(f, fl, NULL, 0), "arrival: f is only read", where);
     expect(same_state(&s, &sent), "arrival: the host's own copy is as it was", where);
     if (status != JINGCOBU_OK) {
-        expect(same_state(&a.factors, &sent), "arrival refused: the state sent is handed back", where);
-        expect(kept_but(work, WORK_ROOM, 0), "arrival refused: the working words are as found", where);
+        expect(same_state(&a.factors, &sent), "arrival refused: the state sent is returned", where);
+        expect(kept_but(work, WORK_ROOM, 0), "arrival refused: the working words are unchanged", where);
         return sent;
     }
     expect(all(work, 0, wl, 0), "arrival: all working words are zero", where);
@@ -400,7 +401,7 @@ static jingcobu_factors leave(jingcobu_factors s, uint16_t number, uint32_t stat
     expect(a.status == status, "leaving: the status", where);
     expect(same_state(&s, &sent), "leaving: the host's own copy is as it was", where);
     if (status == JINGCOBU_OK) return a.factors;
-    expect(same_state(&a.factors, &sent), "leaving refused: the state sent is handed back", where);
+    expect(same_state(&a.factors, &sent), "leaving refused: the state sent is returned", where);
     return sent;
 }
 
@@ -417,8 +418,8 @@ static uint32_t reading(jingcobu_factors s, uint32_t status, const char *where)
 
 /* ---- the stored pairs */
 
-/* The product word by word against the product in one call, where d + e is at most 48: after word k the first k + 1 words are made and
- * the others are as found, and a k above d + e writes nothing. */
+/* The product word by word against the product in one call, if d + e is at most 48: after word k the first k + 1 words are made and
+ * the others are unchanged, and a k above d + e writes nothing. */
 static int word_by_word(uint32_t n, const uint32_t *f, size_t fl, const uint32_t *g, size_t gl, const char *where)
 {
     uint32_t whole[2 * MOST];
@@ -440,7 +441,7 @@ static int word_by_word(uint32_t n, const uint32_t *f, size_t fl, const uint32_t
     }
     expect(answered, "word by word: status and value are 0", where);
     expect(made, "word by word: after word k the words up to k are the product's", where);
-    expect(others, "word by word: the other words are as found", where);
+    expect(others, "word by word: the other words are unchanged", where);
     return 1;
 }
 
@@ -773,7 +774,7 @@ static void there_and_back(uint32_t n, const uint32_t *f, size_t fl, const char 
     expect(!memcmp(text, written + MARGIN, length), "texts: what was read is written", where);
 }
 
-/* Texts with the words they spell, and strings that are no texts: `length` 0 stands for that of the C string. */
+/* Texts with the words they spell, and strings that are not texts: `length` 0 stands for that of the C string. */
 static const struct { uint32_t n; const char *text; size_t count; uint32_t words[4]; } spelled[] = {
     { 2, "0", 1, { 0 } }, { 2, "1", 1, { 1 } }, { 2, "1*x", 2, { 0, 1 } }, { 2, "1*x+1", 2, { 1, 1 } }, { 12, "0", 1, { 0 } },
     { 12, "5", 1, { 5 } }, { 12, "11*x^3+10*x", 4, { 0, 10, 0, 11 } }, { 12, "3*x^3+1*x+5", 4, { 5, 1, 0, 3 } },
@@ -845,7 +846,7 @@ static void texts(void)
                 if (any_text(n, other, l, where)) read++; else none++;
             }
         }
-    /* every byte in every place, and before and behind */
+    /* every byte in every place, and before and after */
     static const char *const whole[] = { "0", "7", "1*x", "3*x^3+1*x+5", "11*x^48+2*x^12+10" };
     for (size_t i = 0; i < sizeof whole / sizeof *whole; i++)
         for (size_t at = 0; at < strlen(whole[i]); at++)
@@ -978,7 +979,7 @@ static void gcds(void)
 typedef struct { uint16_t number; size_t length; uint32_t f[MOST]; } factor;
 typedef struct { uint32_t n; size_t h_len, count, degrees; uint32_t h[MOST]; factor held[16]; jingcobu_factors state; } holding;
 
-/* the place of a number in what is held, or the count where it is not held */
+/* the place of a number among the factors, or the count if it is not there */
 static size_t place(const holding *x, uint16_t number)
 {
     size_t i = 0;
@@ -1190,7 +1191,7 @@ static void histories(void)
             calls++;
         }
     }
-    printf("%ld calls in %d histories: %ld factors came, %ld left, %ld of them with a resultant that is no unit; %ld readings are not 0\n",
+    printf("%ld calls in %d histories: %ld factors came, %ld left, %ld of them with a resultant that is not a unit; %ld readings are not 0\n",
            calls, HISTORIES, answered[0], answered[1], divisors, nonzero);
     printf("refused in them: %ld with 2, %ld with 3, %ld with 14, %ld with 13, %ld with 7\n",
            refused[2], refused[3], refused[14], refused[13], refused[7]);
@@ -1515,7 +1516,7 @@ static void unread(void)
     }
     nothing_lent();
     expect(kept_but(out, PRODUCT_ROOM, 0) && kept_but(u, COFACTOR_ROOM, 0) && kept_but(v, COFACTOR_ROOM, 0) && kept_but(work, WORK_ROOM, 0),
-           "unread: every buffer is as found", "all lengths");
+           "unread: every buffer is unchanged", "all lengths");
     printf("%ld calls with lengths that are refused unread\n", unread_calls);
 }
 
@@ -1524,6 +1525,7 @@ int main(int argc, char **argv)
     static const uint32_t moduli[] = { 2, 4, 6, 8, 12, 30, 36, 210, 2147483648u, 3486784401u, 223092870u, 2176782336u, 4294967291u, 4294967295u };
     if (argc > 2) most_failed = atol(argv[2]);
     pairs(argc > 1 ? argv[1] : "../crates/vectors");
+    batches(moduli, sizeof moduli / sizeof *moduli, (const word[]) { 0, 1, 0, 1 }, 7);
     orders((const word[]) { 0, 1, 0, 1 }, 7, more_of_reasons);
     orders_of_claims();
     orders_of_two();

@@ -1,9 +1,10 @@
-/* A C host that tries the services with words of 64 bits through the header: the stored pairs with their numbers, what becomes of every
- * word of every buffer, each refusal and their order, the ends of the ranges, the law of products on drawn triples, that both sets of
- * services answer the same numbers where n and the words fit 32 bits, and lengths that are refused before a word is read.
- * It reads stdin and stdout in the folder that its first word names (crates/wide_vectors), and says "FAILED" and exits with 1 where
- * something is not as it should be; the second word, 100 if there is none, says after how many of these it stops.
- * Build and run: make -C tests (under a stack of 256 KiB; the output is held to the file `expected64`). */
+/* A C host that tries the services with words of 64 bits through the header: the stored pairs with their numbers, every word
+ * of every buffer after a call, each refusal and their order, the ends of the ranges, the law of products on drawn triples, that both sets
+ * of services return the same numbers if n and the words fit 32 bits, least cofactors, true degrees,
+ * and lengths that are refused before a word is read.
+ * It reads stdin and stdout in the folder that its first argument names (crates/wide_vectors), and prints "FAILED" and exits with 1 if
+ * something is wrong; the second argument, 100 by default, says after how many failures it stops.
+ * Build and run: make -C tests (under a stack of 256 KiB; the output is compared with the file `expected64`). */
 #include <stdio.h>
 #include <stdlib.h>
 #include <string.h>
@@ -26,6 +27,31 @@ typedef jingcobu64_answer answer;
 #define F_SCALE 50
 #define G_SCALE 58
 #include "both.h"
+#include "batch.h"
+
+static word divisor(word n, const word *f, size_t fl, const word *g, size_t gl, size_t wl, uint32_t status, const char *where)
+{
+    mark(work, WORK_ROOM);
+    copy(f, fl, g, gl);
+    answer a = jingcobu64_divisor(n, f, fl, g, gl, lent(work, wl), wl);
+    expect(a.status == status, "divisor: the status", where);
+    expect(same(f, fl, g, gl), "divisor: f and g are only read", where);
+    if (status != JINGCOBU_OK) {
+        expect(a.value == 0, "divisor refused: the value is 0", where);
+        expect(kept_but(work, WORK_ROOM, 0), "divisor refused: the working words are as found", where);
+        return 1;
+    }
+    expect(a.value >= 1 && n % (a.value ? a.value : 1) == 0, "divisor: D is at least 1 and divides n", where);
+    expect(all(work, 0, wl, 0), "divisor: all working words are zero", where);
+    expect(kept_but(work, WORK_ROOM, wl), "divisor: words that are not lent", where);
+    return a.value;
+}
+
+static void more_of_reasons(const reasons *x)
+{
+    uint32_t status = or_short(x->first, x->set & W, JINGCOBU_SHORT_WORK);
+    divisor(x->n, at_or_null(x->f, x->fl), x->fl, at_or_null(x->g, x->gl), x->gl, x->wl, status, x->where);
+}
 
 /* ---- the stored pairs */
 
@@ -34,6 +60,7 @@ static long full, between, wider;
 static void more_of_pair(const stored *x, const char *where)
 {
     product(x->n, x->w, x->fl, x->w + x->fl, x->gl, 100, x->fl + x->gl <= 50 ? JINGCOBU_OK : JINGCOBU_BAD_LENGTH, where);
+    expect(divisor(x->n, x->w, x->fl, x->w + x->fl, x->gl, MORE_WORK, JINGCOBU_OK, where) == x->D, "D alone is the other program's", where);
     if (x->fl == MOST && x->gl == MOST) full++;
     if (x->D > 1 && x->D < x->n) between++;
     if (x->n >> 32) wider++;
@@ -64,6 +91,7 @@ static void words(void)
                 resultant(n, f, fl, g, gl, WORK_LEN, status, where);
                 reduced(n, f, fl, g, gl, COFACTOR_LEN, COFACTOR_LEN, WORK_LEN, status, where);
                 product(n, f, fl, g, gl, 49, status, where);
+                divisor(n, f, fl, g, gl, WORK_LEN, status, where);
             }
 }
 
@@ -78,10 +106,12 @@ static void ends(void)
         resultant(bad[i], f, 1, g, 1, WORK_LEN, JINGCOBU_BAD_MODULUS, "n below 2 or too large");
         reduced(bad[i], f, 1, g, 1, COFACTOR_LEN, COFACTOR_LEN, WORK_LEN, JINGCOBU_BAD_MODULUS, "n below 2 or too large");
         product(bad[i], f, 1, g, 1, 1, JINGCOBU_BAD_MODULUS, "n below 2 or too large");
+        divisor(bad[i], f, 1, g, 1, WORK_LEN, JINGCOBU_BAD_MODULUS, "n below 2 or too large");
         f[1] = g[1] = good[i] - 1;
         resultant(good[i], f, 2, g, 2, WORK_LEN, JINGCOBU_OK, "the ends of n");
         expect(reduced(good[i], f, 2, g, 2, COFACTOR_LEN, COFACTOR_LEN, WORK_LEN, JINGCOBU_OK, "the ends of n") == good[i], "D of - x and - x is n", "the ends of n");
         product(good[i], f, 2, g, 2, 3, JINGCOBU_OK, "the ends of n");
+        expect(divisor(good[i], f, 2, g, 2, WORK_LEN, JINGCOBU_OK, "the ends of n") == good[i], "D alone of - x and - x is n", "the ends of n");
         f[1] = g[1] = 0;
     }
     for (size_t fl = 0; fl <= 60; fl++)
@@ -90,6 +120,7 @@ static void ends(void)
             snprintf(where, sizeof where, "%zu and %zu words", fl, gl);
             resultant(2, fl ? f : NULL, fl, gl ? g : NULL, gl, WORK_LEN, right ? JINGCOBU_OK : JINGCOBU_BAD_LENGTH, where);
             product(2, fl ? f : NULL, fl, gl ? g : NULL, gl, 100, fits ? JINGCOBU_OK : JINGCOBU_BAD_LENGTH, where);
+            divisor(2, fl ? f : NULL, fl, gl ? g : NULL, gl, WORK_LEN, right ? JINGCOBU_OK : JINGCOBU_BAD_LENGTH, where);
             if (fits) product(2, f, fl, g, gl, fl + gl - 2, JINGCOBU_SHORT_RESULT, where);
             if (fits) product(2, f, fl, g, gl, fl + gl - 1, JINGCOBU_OK, where);
         }
@@ -102,7 +133,10 @@ static void ends(void)
                     for (size_t i = 0; i <= d; i++) f[i] = (7 * i + 3) % n;
                     for (size_t i = 0; i <= e; i++) g[i] = (5 * i + n - 1) % n;
                     snprintf(where, sizeof where, "n = %llu, d = %zu, e = %zu", (unsigned long long) n, d, e);
-                    reduced(n, f, d + 1, g, e + 1, l, l, WORK_LEN, JINGCOBU_OK, where);
+                    word D = reduced(n, f, d + 1, g, e + 1, l, l, WORK_LEN, JINGCOBU_OK, where);
+                    expect(divisor(n, f, d + 1, g, e + 1, WORK_LEN, JINGCOBU_OK, where) == D, "D alone is D", where);
+                    divisor(n, f, d + 1, g, e + 1, WORK_LEN - 1, JINGCOBU_SHORT_WORK, where);
+                    divisor(n, f, d + 1, g, e + 1, 8192, JINGCOBU_SHORT_WORK, where);
                     reduced(n, f, d + 1, g, e + 1, l - 1, l, WORK_LEN, JINGCOBU_SHORT_RESULT, where);
                     reduced(n, f, d + 1, g, e + 1, l, l - 1, WORK_LEN, JINGCOBU_SHORT_RESULT, where);
                     reduced(n, f, d + 1, g, e + 1, l, l, WORK_LEN - 1, JINGCOBU_SHORT_WORK, where);
@@ -117,11 +151,11 @@ static void ends(void)
     expect(out[MARGIN] == 5 && out[MARGIN + 1] == (uint64_t) 6 << 31 && out[MARGIN + 2] == 0, "the product is 5, 6 * 2^31, 0", "a zero top");
 }
 
-/* ---- both sets of services, where n and the words fit 32 bits */
+/* ---- both sets of services, if n and the words fit 32 bits */
 
 static uint32_t narrow_work[JINGCOBU_WORK], narrow_u[JINGCOBU_COFACTOR], narrow_v[JINGCOBU_COFACTOR], narrow_out[2 * MOST];
 
-/* whether both answer the same resultant, D and, where d + e is at most 48, product */
+/* whether both return the same resultant, D and, if d + e is at most 48, product */
 static int alike(uint32_t n, const uint64_t *f, size_t fl, const uint64_t *g, size_t gl)
 {
     uint32_t a[MOST], b[MOST];
@@ -129,10 +163,12 @@ static int alike(uint32_t n, const uint64_t *f, size_t fl, const uint64_t *g, si
     for (size_t i = 0; i < gl; i++) b[i] = (uint32_t) g[i];
     jingcobu64_answer r = jingcobu64_resultant(n, f, fl, g, gl, work, WORK_LEN);
     jingcobu64_answer D = jingcobu64_reduced_resultant(n, f, fl, g, gl, u, COFACTOR_LEN, v, COFACTOR_LEN, work, WORK_LEN);
+    jingcobu64_answer alone = jingcobu64_divisor(n, f, fl, g, gl, work, WORK_LEN);
     jingcobu64_answer p = jingcobu64_product(n, f, fl, g, gl, out, MOST);
     jingcobu_answer r0 = jingcobu_resultant(n, a, fl, b, gl, narrow_work, JINGCOBU_WORK);
     jingcobu_answer D0 = jingcobu_reduced_resultant(n, a, fl, b, gl, narrow_u, JINGCOBU_COFACTOR, narrow_v, JINGCOBU_COFACTOR, narrow_work, JINGCOBU_WORK);
     jingcobu_answer p0 = jingcobu_product(n, a, fl, b, gl, narrow_out, MOST);
+    if (alone.status || alone.value != D.value) return 0;
     if (r.status || r0.status || D.status || D0.status || p.status != p0.status || r.value != r0.value || D.value != D0.value) return 0;
     for (size_t k = 0; p.status == 0 && k < fl + gl - 1; k++) if (out[k] != narrow_out[k]) return 0;
     return p.status == (fl + gl <= 50 ? JINGCOBU_OK : JINGCOBU_BAD_LENGTH);
@@ -180,6 +216,7 @@ static void unread_pair(uint64_t n, const uint64_t *f, size_t fl, const uint64_t
     size_t ol = results ? 100 : SIZE_MAX, cl = results ? MORE_COFACTOR : SIZE_MAX, wl = results ? MORE_WORK : SIZE_MAX;
     REFUSED(jingcobu64_product(n, f, fl, g, gl, o, ol), status, "unread: product", where);
     REFUSED(jingcobu64_resultant(n, f, fl, g, gl, w, wl), status, "unread: resultant", where);
+    REFUSED(jingcobu64_divisor(n, f, fl, g, gl, w, wl), status, "unread: divisor", where);
     REFUSED(jingcobu64_reduced_resultant(n, f, fl, g, gl, c, cl, results ? v + MARGIN : c, cl, w, wl), status, "unread: reduced", where);
 }
 
@@ -203,11 +240,85 @@ static void unread(void)
     }
     REFUSED(jingcobu64_product(7, NULL, 0, NULL, 0, NULL, 0), JINGCOBU_BAD_LENGTH, "product", "nothing is lent");
     REFUSED(jingcobu64_resultant(7, NULL, 0, NULL, 0, NULL, 0), JINGCOBU_BAD_LENGTH, "resultant", "nothing is lent");
+    REFUSED(jingcobu64_divisor(7, NULL, 0, NULL, 0, NULL, 0), JINGCOBU_BAD_LENGTH, "divisor", "nothing is lent");
     REFUSED(jingcobu64_reduced_resultant(7, NULL, 0, NULL, 0, NULL, 0, NULL, 0, NULL, 0), JINGCOBU_BAD_LENGTH, "reduced",
             "nothing is lent");
     expect(kept_but(out, PRODUCT_ROOM, 0) && kept_but(u, COFACTOR_ROOM, 0) && kept_but(v, COFACTOR_ROOM, 0) && kept_but(work, WORK_ROOM, 0),
-           "unread: every buffer is as found", "all lengths");
+           "unread: every buffer is unchanged", "all lengths");
     printf("%ld calls with lengths that are refused unread\n", unread_calls);
+}
+
+/* ---- the gcd of two residues with its least cofactors, and the true degree */
+
+static void gcd(word n, word a, word b, const char *where)
+{
+    jingcobu64_cofactors c = jingcobu64_gcd(n, a, b);
+    uint32_t status = n < 2 || n >= LIMIT ? JINGCOBU_BAD_MODULUS : a >= n || b >= n ? JINGCOBU_BAD_WORD : JINGCOBU_OK;
+    expect(c.status == status, "gcd: the status", where);
+    if (status) {
+        expect(!c.g && !c.s && !c.t, "gcd refused: the values are 0", where);
+        return;
+    }
+    word g = common_divisor(common_divisor(a, b), n);
+    expect(c.g == g, "gcd: the greatest common divisor of a, b and n", where);
+    expect(c.g && least(n, a, b, g, c.s, c.t), "gcd: the least cofactors", where);
+    expect(reduced(n, &a, 1, &b, 1, 1, 1, WORK_LEN, JINGCOBU_OK, where) == g, "reduced: D of two constants is their gcd", where);
+    expect(u[MARGIN] == c.s && v[MARGIN] == c.t, "reduced: the cofactors of two constants are those of the gcd", where);
+}
+
+static void gcds(const word *moduli, size_t count)
+{
+    static const word refused[] = { 0, 1, LIMIT, LIMIT + 1, UINT64_MAX };
+    char where[90];
+    for (size_t m = 0; m < count + 5; m++) {
+        word n = m < count ? moduli[m] : refused[m - count], ends[] = { 0, 1, 2, n / 2, n / 3, n - 2, n - 1, n, n + 1, UINT64_MAX };
+        for (size_t i = 0; i < 300; i++) {
+            word by = 1 + draw() % 60, bound = n < 2 ? 2 : n, a = i < 100 ? ends[i % 10] : times(bound, draw() % bound, by);
+            word b = i < 100 ? ends[i / 10] : i % 4 ? draw() % bound : times(bound, a, by);
+            snprintf(where, sizeof where, "%llu and %llu modulo %llu", (unsigned long long) a, (unsigned long long) b, (unsigned long long) n);
+            gcd(n, a, b, where);
+        }
+    }
+    printf("%zu pairs of residues\n", 300 * (count + 5));
+}
+
+static void degree(word n, const word *f, size_t fl, const char *where)
+{
+    size_t k = fl;
+    uint32_t status = n < 2 || n >= LIMIT ? JINGCOBU_BAD_MODULUS : fl < 1 || fl > MOST ? JINGCOBU_BAD_LENGTH : JINGCOBU_OK;
+    for (size_t i = 0; !status && i < fl; i++) if (f[i] >= n) status = JINGCOBU_BAD_WORD;
+    copy(f, fl, NULL, 0);
+    jingcobu_degree a = jingcobu64_true_degree(n, at_or_null(f, fl), fl);
+    expect(a.status == status, "degree: the status", where);
+    expect(same(f, fl, NULL, 0), "degree: f is only read", where);
+    while (!status && k && !f[k - 1]) k--;
+    expect(status ? !a.some && !a.degree : a.some == (k > 0) && a.degree == (k ? k - 1 : 0), "degree: the highest word that is not zero", where);
+}
+
+static void unread_degree(size_t length)
+{
+    watch();
+    REFUSED(jingcobu64_true_degree(7, NOWHERE, length), JINGCOBU_BAD_LENGTH, "unread: true_degree", "modulo 7");
+    REFUSED(jingcobu64_true_degree(LIMIT, NOWHERE, length), JINGCOBU_BAD_MODULUS, "unread: true_degree", "modulo 2^63");
+}
+
+/* every length with every top word, one that is not zero or one that is too large; lengths that are refused unread */
+static void degrees(void)
+{
+    static const word moduli[] = { 2, 4294967296u, (word) 7 << 58, LIMIT - 1, 0, 1, LIMIT, UINT64_MAX };
+    long count = 0;
+    char where[80];
+    for (int m = 0; m < 8; m++)
+        for (size_t fl = 0; fl <= 60; fl++)
+            for (size_t top = 0; top <= fl; top++, count++) {
+                word f[60] = { 0 }, n = moduli[m];
+                if (top) f[top - 1] = top % 5 ? n - 1 : n;
+                if (top > 1) f[top / 2] = n > 2 ? n / 2 : 1;
+                snprintf(where, sizeof where, "%zu words, top word %zu, modulo %llu", fl, top, (unsigned long long) n);
+                degree(n, f, fl, where);
+            }
+    for (size_t i = 0; i < 3; i++) unread_degree(refused_lengths[i]);
+    printf("%ld true degrees\n", count);
 }
 
 int main(int argc, char **argv)
@@ -216,12 +327,15 @@ int main(int argc, char **argv)
         4738381338321616896u, 614889782588491410u, 9223371994482243049u, 9223372036854775783u, 9223372036854775807u };
     if (argc > 2) most_failed = atol(argv[2]);
     pairs(argc > 1 ? argv[1] : "../crates/wide_vectors");
-    orders((const word[]) { 0, 1, LIMIT, UINT64_MAX }, (uint64_t) 7 << 58, NULL);
+    batches(moduli, sizeof moduli / sizeof *moduli, (const word[]) { 0, 1, LIMIT, UINT64_MAX }, (uint64_t) 7 << 58);
+    orders((const word[]) { 0, 1, LIMIT, UINT64_MAX }, (uint64_t) 7 << 58, more_of_reasons);
     words();
     ends();
     products(moduli, sizeof moduli / sizeof *moduli, TRIPLES);
     both();
     unread();
+    gcds(moduli, sizeof moduli / sizeof *moduli);
+    degrees();
     printf("%ld passed, %ld failed\n", tried - failed, failed);
     return failed != 0;
 }

@@ -1,6 +1,6 @@
 #!/usr/bin/env bash
 # What make install puts in place, tried in a scratch prefix whose name has a blank, with a umask of 077: what is there and who can read it,
-# the names that the shared library shows, C programs that are built with pkg-config alone and with CMake's find_package, the tree moved
+# the names that the shared library exports, C programs that are built with pkg-config alone and with CMake's find_package, the tree moved
 # elsewhere, DESTDIR, the frame program and its parts, Python, GP, the manual pages, and that nothing is left.
 # Usage: tests/install.sh VERSION (make check-install)
 set -eu
@@ -37,8 +37,8 @@ missing=$(comm -23 "$scratch/header" "$scratch/shown" | tr '\n' ' ')
 more=$(comm -13 "$scratch/header" "$scratch/shown" | tr '\n' ' ')
 [ -z "$more" ] || fail "the shared library shows more than the header: $more"
 if [ -n "$missing" ]; then
-    [ "${JINGCOBU_ALL:-1}" = 0 ] || fail "the shared library has not: $missing"
-    echo "SKIPPED: the library has not: $missing"
+    [ "${JINGCOBU_ALL:-1}" = 0 ] || fail "the shared library lacks: $missing"
+    echo "SKIPPED: the library lacks: $missing"
 fi
 readelf -d "$folder/lib/libjingcobu.so" | grep -q "soname: \[libjingcobu.so.${version%%.*}\]" || fail "the soname"
 readelf -d "$folder/lib/libjingcobu.so" | grep -q TEXTREL && fail "the shared library has text relocations"
@@ -226,5 +226,5 @@ grep -q "^installed='/opt/jingcobu/libexec/jingcobu/desk'" "$scratch/dest dir/op
     fail "the path of the proved program"
 make -s uninstall DESTDIR="$scratch/dest dir" PREFIX=/opt/jingcobu
 [ -z "$(ls -A "$scratch/dest dir")" ] || fail "uninstall leaves something under DESTDIR"
-if make -s install PREFIX=relative > /dev/null 2>&1 || [ -e relative ]; then fail "a PREFIX that is no whole path is not refused"; fi
+if make -s install PREFIX=relative > /dev/null 2>&1 || [ -e relative ]; then fail "a PREFIX that is not an absolute path is not refused"; fi
 echo "installation: header, libraries, pkg-config, CMake, jingcobu-desk, jingcobu-parts, Python, GP and manual pages are in place and work"

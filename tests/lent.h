@@ -1,5 +1,5 @@
-/* What both hosts share: counting what was tried, lent buffers with words before and behind what is lent, polynomials that must only
- * be read, and calls that must refuse a length without a look at what stands there. Before it stand `word`, the type of a word; MARK,
+/* What both hosts share: counting what was tried, lent buffers with words before and after what is lent, polynomials that must only
+ * be read, and calls that must refuse a length without a look at what is there. Defined before it: `word`, the type of a word; MARK,
  * what a word holds before a call; MOST, the words of a polynomial at the most. */
 #include <setjmp.h>
 #include <signal.h>
@@ -85,7 +85,7 @@ static void watch(void)
     sigaction(SIGBUS, &action, NULL);
 }
 
-/* the call answers this status and comes back */
+/* the call returns, with this status */
 #define REFUSED(call, should, what, where) do { \
         volatile uint32_t answered_ = 99; \
         unread_calls++; \

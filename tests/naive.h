@@ -1,4 +1,4 @@
-/* The services as the header defines them, worked in the plainest way that is known, for any n below 2^63: the Sylvester matrix by
+/* The services as the header defines them, computed in the plainest way that is known, for any n below 2^63: the Sylvester matrix by
  * elimination of rows, D by the constants that the multiples of f and g reach, texts, shares. */
 #include <stdint.h>
 #include <stdio.h>
@@ -140,7 +140,7 @@ static void next_power(uint64_t n, rows *x)
     x->count = kept;
 }
 
-/* D, from the multiples x^i f and x^i g for i below `length`; L suffices, more may be asked for */
+/* D, from the multiples x^i f and x^i g for i below `length`; L suffices, more may be requested */
 static uint64_t naive_divisor(uint64_t n, const uint64_t *f, size_t fl, const uint64_t *g, size_t gl, size_t length, rows *x)
 {
     x->count = 0;
@@ -191,7 +191,7 @@ static size_t text_of(const uint64_t *f, size_t fl, char *text)
     return (size_t) (end - text);
 }
 
-/* the number that stands at *i, cut off at eleven digits, and *i behind it */
+/* the number that stands at *i, cut off at eleven digits, and *i after it */
 static uint64_t number_in(const char *text, size_t length, size_t *i)
 {
     uint64_t x = 0;
@@ -200,7 +200,7 @@ static uint64_t number_in(const char *text, size_t length, size_t *i)
     return x;
 }
 
-/* The words of a text, with zeros above; answers their number, and 0 where it is no text. Terms are read as they come, without a look at
+/* The words of a text, with zeros above; returns their number, and 0 if it is not a text. Terms are read as they come, without a look at
  * order, zeros or size; a text is what is written for the words so found. */
 static size_t words_of(uint64_t n, const char *text, size_t length, uint64_t *w)
 {

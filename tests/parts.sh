@@ -1,6 +1,6 @@
 #!/usr/bin/env bash
-# Frames in parts, build/jingcobu-parts: what it refuses, and that parts that are missing, cut, damaged or of another input are found out
-# and worked again. Usage: tests/parts.sh (make check-parts)
+# Frames in parts, build/jingcobu-parts: what it refuses, and that parts that are missing, cut, damaged or of another input are detected
+# and answered again. Usage: tests/parts.sh (make check-parts)
 set -u
 cd "$(dirname "$0")/.." || exit 1
 root=$PWD
@@ -11,7 +11,7 @@ fail() { echo "FAILED: $1"; exit 1; }
 tried=0
 unset JINGCOBU_DESK
 
-# Runs jingcobu-parts with its output in out and its words in err, and holds its exit status to the one that is expected.
+# Runs jingcobu-parts with its output in out and its messages in err, and compares its exit status with the one that is expected.
 expect() { # STATUS WHAT WORDS...
     local want=$1 what=$2 status=0
     shift 2
@@ -72,7 +72,7 @@ for case in "three 9" "three 1" "/dev/null 2"; do
     "$root/build/jingcobu-desk" < "$1" | cmp -s - out || fail "$case: other answers"
 done
 
-# cut refuses a folder that is not empty, and what is no number of parts or no input; a cut that fails leaves nothing behind
+# cut refuses a folder that is not empty, and what is not a number of parts or not an input; a cut that fails leaves nothing behind
 expect 1 "cut into parts of another input" cut frames.other parts 7 && said 'parts is not empty' "cut into parts of another input"
 mkdir full && touch full/.hidden
 expect 1 "cut into a folder with a hidden file" cut frames full 7
@@ -81,10 +81,10 @@ expect 1 "cut of nothing" cut none new 3
 expect 1 "cut of a folder" cut parts new 3
 expect 1 "cut into a file" cut frames three 3
 [ ! -e new ] || [ -z "$(ls -A new)" ] || fail "a cut that was refused leaves files"
-(ulimit -f 8 && trap '' XFSZ && "$parts" cut frames short 2 2> err) && fail "a cut that cannot be written is no failure"
+(ulimit -f 8 && trap '' XFSZ && "$parts" cut frames short 2 2> err) && fail "a cut that cannot be written does not fail"
 [ ! -e short ] || [ -z "$(ls -A short)" ] || fail "a cut that failed leaves files"
 
-# answers that were cut, changed, or are of another input are found out, and the part is worked again
+# answers that were cut, changed, or are of another input are detected, and the part is answered again
 cut_short() { head -c -20 "$1" > cut.tmp && cat cut.tmp > "$1"; }
 unfinished() { head -c -1 "$1" > cut.tmp && cat cut.tmp > "$1"; }
 changed() { sed -i '2s/^0100/0101/; 2s/^0200/0201/; 2s/^ff08/ff09/' "$1"; }
@@ -144,7 +144,7 @@ for ending in frames sum answers "done"; do cp parts/000005.$ending parts/000004
 expect 1 "join with a part twice" join parts && nothing "join with a part twice"
 said 'parts/000004.sum is damaged' "join with a part twice"
 again
-# a part that is whole in itself and tells of this input, with another line in it
+# a part that is consistent and names this input, with another line in it
 sed -i '5s/.*/zz/' parts/000004.frames
 sum() { sha256sum < "$1" | cut -c 1-64; }
 sed -i "s/frames .*/frames $(sum parts/000004.frames)/" parts/000004.sum

@@ -1,6 +1,6 @@
 #!/usr/bin/env python3
-"""Runs the examples of README that begin with a dollar sign, from the root of the sources, and holds what they print to what README
-says; those that need gp or parallel are skipped where it is not installed. The first two commands of README are the two for a newcomer,
+"""Runs the examples of README that begin with a dollar sign, from the root of the sources, and compares what they print with what README
+says; those that need gp or parallel are skipped if it is not installed. The first two commands of README are the two for a newcomer,
 and the first is run too. Usage: tests/readme.py (make check-readme)"""
 import re
 import shutil
@@ -13,7 +13,7 @@ FIRST = ["make frames", "bash .ci/run"]
 
 
 def examples(text):
-    """Commands and what they print: lines of a block that is set in by four blanks."""
+    """Commands and what they print: lines of a block that is indented by four blanks."""
     command, said = None, []
     for line in text.split("\n") + [""]:
         block = line[4:] if line.startswith("    ") else None
@@ -28,7 +28,7 @@ def examples(text):
 
 
 def lacking(command):
-    """What a command needs and is not there."""
+    """What a command needs and is not installed."""
     if re.search(r"\bgp -q", command) and not (shutil.which("gp") and (ROOT / "build" / "libjingcobu-gp.so").exists()):
         return "gp or libpari-dev"
     if command.startswith("parallel ") and not shutil.which("parallel"):

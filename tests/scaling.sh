@@ -1,6 +1,6 @@
 #!/usr/bin/env bash
 # Many jobs (docs/SCALING.md): 200,000 frames whole, cut by GNU parallel on the way, and cut into parts, one worker of which is killed;
-# the answers must be the same, line for line. Nothing here waits for the clock: who is killed kills itself, at a line that is fixed.
+# the answers must be the same, line for line. Nothing here depends on the clock: the worker that is killed kills itself, at a fixed line.
 # Usage: tests/scaling.sh (make check-scaling)
 set -eu
 cd "$(dirname "$0")/.."
@@ -12,7 +12,7 @@ fail() { echo "FAILED: $1"; exit 1; }
 
 python3 tools/draw_frames.py 200000 > "$folder/frames"
 "$DESK" < "$folder/frames" > "$folder/whole"
-[ "$(wc -l < "$folder/whole")" = 200000 ] || fail "200000 frames have not 200000 answers"
+[ "$(wc -l < "$folder/whole")" = 200000 ] || fail "200000 frames do not have 200000 answers"
 
 # cut on the way; the order is kept
 parallel --will-cite --pipe --keep-order --block 1M "$DESK" < "$folder/frames" > "$folder/piped"
@@ -50,7 +50,7 @@ fi
 [ "$(find "$folder/parts" -name '000017.new.*' -size +25k | wc -l)" = 1 ] || fail "the worker was not killed in the middle of its part"
 [ ! -e "$folder/parts/000017.answers" ] || fail "the answers of the part that was killed are in place"
 [ "$("$PARTS" status "$folder/parts")" = "17 of 40 parts are done" ] || fail "status: $("$PARTS" status "$folder/parts")"
-if "$PARTS" join "$folder/parts" > /dev/null 2> "$folder/said"; then fail "a part that is not done is not found out"; fi
+if "$PARTS" join "$folder/parts" > /dev/null 2> "$folder/said"; then fail "a part that is not done is not detected"; fi
 [ "$(grep -c 'is not done' "$folder/said")" = 23 ] || fail "join does not name the 23 parts that are not done"
 parallel --will-cite --bar --joblog "$folder/log" --resume-failed killed_once ::: "$folder"/parts/*.frames 2> /dev/null
 [ "$("$PARTS" status "$folder/parts")" = "40 of 40 parts are done" ] || fail "status: $("$PARTS" status "$folder/parts")"

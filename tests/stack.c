@@ -1,8 +1,8 @@
 /* How much stack a call takes. Every function of the header is called on a stack of 64 KiB, which the header promises to be enough,
  * with a page below it that cannot be touched, on drawn calls and on calls of the longest polynomials (calls.h). Before each call the
- * stack is painted; how much of the paint is gone tells what the call took, with the frame that makes it (some hundreds of bytes).
- * It prints the most of each function and exits with 1 where a call is wrong or does not come back.
- * The first word of the command says how many calls of each function, 2000 if there is none. Build and run: make -C tests stack */
+ * stack is painted; how much of the paint is gone is what the call took, with the frame that makes it (some hundreds of bytes).
+ * It prints the most of each function and exits with 1 if a call is wrong or does not return.
+ * The first argument says how many calls of each function, 2000 by default. Build and run: make -C tests stack */
 #include "calls.h"
 #include "checks.h"
 #include <ucontext.h>
@@ -31,7 +31,7 @@ static size_t taken(void)
     return STACK - untouched;
 }
 
-/* one drawn call; its answer is held to the header */
+/* one drawn call; its answer is compared with the header */
 static size_t one_call(enum function function, long number)
 {
     running = names[function];

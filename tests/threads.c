@@ -1,7 +1,7 @@
 /* Eight threads against a serial run. Eight rows of drawn calls (calls.h) are made one after the other, and of each call a sum is kept of
  * all that it answered and left in its buffers. Then eight threads make all rows at the same time, each with buffers of its own and from
- * another row on: every sum must be the same. It says which is not and exits with 1, or says how many calls were compared.
- * The first word of the command says how many rounds of all functions a row has, 250 if there is none.
+ * another row on: every sum must be the same. It prints which is not and exits with 1, or prints how many calls were compared.
+ * The first argument says how many rounds of all functions a row has, 250 by default.
  * Build and run: make -C tests threads */
 #include "calls.h"
 #include "checks.h"
@@ -18,7 +18,7 @@ static uint64_t add(uint64_t sum, const void *bytes, size_t count)
     return sum;
 }
 
-/* the answer and the words of the buffers; of `work`, which is zero or as found, whether it is as found */
+/* the answer and the words of the buffers; of `work`, which is zero or unchanged, whether it is unchanged */
 static uint64_t sum_of(const trial *t)
 {
     const answer *a = &t->got;

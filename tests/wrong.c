@@ -1,4 +1,4 @@
-/* Wrong versions of the services, each of which tests/host.c must find out. They stand between the host and the library (the
+/* Wrong versions of the services, each of which tests/host.c must detect. They stand between the host and the library (the
  * linker's --wrap); the number of the version is the first word of the environment's WRONG, and version 0 is the library itself.
  * Build and run: make -C tests wrong */
 #include <stdlib.h>
@@ -92,6 +92,7 @@ enum {
     TWO_11_BEFORE_12, TWO_12_BEFORE_3, TWO_WITHOUT_53, TWO_PRIMES_BELOW_B, TWO_PRIMES_UP_TO_59, TWO_TAKES_LONGER_F, TWO_TAKES_DEGREE_49,
     TWO_WORK_BEFORE_RESULT, TWO_TAKES_8191_WORDS, TWO_LEAVES_THE_LAST_WORKING_WORD, TWO_REFUSED_WIPES_OUT, TWO_REFUSED_WIPES_WORK,
     TWO_HAS_A_VALUE, TWO_WRITES_F,
+    MANY_FIRST, MANY_LAST = MANY_FIRST + 45,
     RESULTANT_LOOKS_AT_F, CLAIM_LOOKS_AT_U, READ_LOOKS_AT_THE_TEXT, TWO_LOOKS_AT_G, START_LOOKS_AT_H,
     VERSIONS
 };
@@ -814,3 +815,9 @@ jingcobu_answer __wrap_jingcobu_resultant_two(uint32_t n, const uint32_t *f, siz
     if (w == TWO_WRITES_F) ((uint32_t *) f)[0] = 0;
     return r;
 }
+
+typedef jingcobu_answer answer;
+#define SERVICE(name) __wrap_jingcobu_##name
+#define REAL(name) __real_jingcobu_##name
+#define WORK_LEN JINGCOBU_WORK
+#include "wrong_batch.h"

@@ -1,5 +1,5 @@
-/* What the wrong versions of both hosts share. Before it stand `word`, the type of a word, and the numbers of the versions: RIGHT,
- * RESULTANT_LOOKS_AT_F, the first of those that are the library itself but for a look, and VERSIONS, their count. */
+/* What the wrong versions of both hosts share. Defined before it: `word`, the type of a word, and the numbers of the versions: RIGHT,
+ * RESULTANT_LOOKS_AT_F, the first of those that are the library itself except for a read, and VERSIONS, their count. */
 static int version(void)
 {
     static int found = -1;

@@ -1,5 +1,5 @@
 #!/usr/bin/env bash
-# What the hosts must find out: each wrong version of tests/wrong.c and tests/wrong64.c, and files of pairs that are not whole.
+# What the hosts must detect: each wrong version of tests/wrong.c and tests/wrong64.c, and files of pairs that are not whole.
 # make -C tests wrong
 set -u
 cd "$(dirname "$0")"
@@ -31,7 +31,7 @@ all_versions() {
     for first in $(seq "$step"); do versions $1 $2 "$first" "$step" & done
     wait
     while read -r missed; do say "$missed"; done < "$folder/missed"
-    echo "$1: $(cat "$folder/found" "$folder/missed" | wc -l) wrong versions tried, $(wc -l < "$folder/found") found out"
+    echo "$1: $(cat "$folder/found" "$folder/missed" | wc -l) wrong versions tried, $(wc -l < "$folder/found") detected"
 }
 
 # try NAME: the pairs in $folder/stdin and $folder/stdout

@@ -1,4 +1,4 @@
-/* Wrong versions of the services with words of 64 bits, each of which tests/host64.c must find out; tests/wrong.c has those of 32 bits,
+/* Wrong versions of the services with words of 64 bits, each of which tests/host64.c must detect; tests/wrong.c has those of 32 bits,
  * and says how they stand between the host and the library. Build and run: make -C tests wrong */
 #include <stdlib.h>
 #include <string.h>
@@ -11,6 +11,9 @@ jingcobu64_answer __real_jingcobu64_product(uint64_t, const uint64_t *, size_t, 
 jingcobu64_answer __real_jingcobu64_resultant(uint64_t, const uint64_t *, size_t, const uint64_t *, size_t, uint64_t *, size_t);
 jingcobu64_answer __real_jingcobu64_reduced_resultant(uint64_t, const uint64_t *, size_t, const uint64_t *, size_t, uint64_t *, size_t,
                                                       uint64_t *, size_t, uint64_t *, size_t);
+jingcobu64_cofactors __real_jingcobu64_gcd(uint64_t, uint64_t, uint64_t);
+jingcobu_degree __real_jingcobu64_true_degree(uint64_t, const uint64_t *, size_t);
+jingcobu64_answer __real_jingcobu64_divisor(uint64_t, const uint64_t *, size_t, const uint64_t *, size_t, uint64_t *, size_t);
 
 enum {
     RIGHT,
@@ -28,7 +31,13 @@ enum {
     PRODUCT_ONE_TOO_HIGH, PRODUCT_LOSES_THE_HIGH_HALF, PRODUCT_OF_LOW_HALVES, PRODUCT_LEAVES_A_ZERO_TOP, PRODUCT_CHANGES_A_WORD_BEYOND,
     PRODUCT_HAS_A_VALUE, PRODUCT_TAKES_DEGREE_49, PRODUCT_WORDS_BEFORE_LENGTHS, PRODUCT_ANSWERS_2_TO_63, PRODUCT_REFUSES_ENOUGH_WORDS,
     PRODUCT_REFUSED_WIPES, PRODUCT_WRITES_F,
-    RESULTANT_LOOKS_AT_F, REDUCED_LOOKS_AT_G,
+    DIVISOR_LOSES_THE_HIGH_HALF, DIVISOR_OF_N_ALWAYS, DIVISOR_0_FOR_N, DIVISOR_IS_GCD_WITH_RESULTANT, DIVISOR_TAKES_8192_WORDS,
+    DIVISOR_ANSWERS_2_TO_63, DIVISOR_WORK_BEFORE_WORDS, DIVISOR_LEAVES_THE_LAST_WORKING_WORD, DIVISOR_REFUSED_WIPES_WORK,
+    DIVISOR_REFUSED_HAS_A_VALUE, DIVISOR_WRITES_G,
+    MANY_FIRST, MANY_LAST = MANY_FIRST + 45,
+    GCD_EXCHANGED, GCD_GREATER_T, GCD_WITHOUT_N, GCD_TAKES_B_ABOVE_N, GCD_LOSES_THE_HIGH_HALF, GCD_ANSWERS_2_TO_63, GCD_REFUSED_HAS_VALUES,
+    DEGREE_IS_SENT, DEGREE_0_FOR_ZERO, DEGREE_OF_LOW_HALVES, DEGREE_TAKES_LARGE_WORDS, DEGREE_ANSWERS_2_TO_63, DEGREE_REFUSED_HAS_SOME,
+    RESULTANT_LOOKS_AT_F, REDUCED_LOOKS_AT_G, DEGREE_LOOKS_AT_F,
     VERSIONS
 };
 
@@ -157,3 +166,60 @@ jingcobu64_answer __wrap_jingcobu64_product(uint64_t n, const uint64_t *f, size_
     if (w == PRODUCT_WRITES_F) ((uint64_t *) f)[0] = 0;
     return a;
 }
+
+jingcobu64_answer __wrap_jingcobu64_divisor(uint64_t n, const uint64_t *f, size_t fl, const uint64_t *g, size_t gl, uint64_t *work, size_t wl)
+{
+    int w = version();
+    if (straight(w)) return __real_jingcobu64_divisor(n, f, fl, g, gl, work, wl);
+    jingcobu64_answer a = __real_jingcobu64_divisor(n, f, fl, g, gl, work, wl);
+    becomes(DIVISOR_WORK_BEFORE_WORDS, wl < 16384, &a, 3, 7);
+    if ((w == DIVISOR_TAKES_8192_WORDS && a.status == 7 && wl == 8192)
+        || (w == DIVISOR_ANSWERS_2_TO_63 && a.status == 1 && n == LIMIT && wl >= 16384)) {
+        wipe(work, wl);
+        return (jingcobu64_answer) { n, 0 };
+    }
+    if (w == DIVISOR_REFUSED_WIPES_WORK && a.status) wipe(work, wl);
+    if (w == DIVISOR_REFUSED_HAS_A_VALUE && a.status) a.value = n;
+    if (a.status) return a;
+    if (w == DIVISOR_LOSES_THE_HIGH_HALF) a.value = NARROW(a.value);
+    if (w == DIVISOR_OF_N_ALWAYS) a.value = n;
+    if (w == DIVISOR_0_FOR_N) a.value %= n;
+    if (w == DIVISOR_IS_GCD_WITH_RESULTANT) a.value = divisor(n, __real_jingcobu64_resultant(n, f, fl, g, gl, work, wl).value);
+    if (w == DIVISOR_LEAVES_THE_LAST_WORKING_WORD) work[wl - 1] = 1;
+    if (w == DIVISOR_WRITES_G) ((uint64_t *) g)[gl - 1] = g[gl - 1] ? 0 : 1;
+    return a;
+}
+
+jingcobu64_cofactors __wrap_jingcobu64_gcd(uint64_t n, uint64_t a, uint64_t b)
+{
+    int w = version();
+    jingcobu64_cofactors c = __real_jingcobu64_gcd(n, w == GCD_EXCHANGED ? b : a, w == GCD_EXCHANGED ? a : b);
+    if (w == GCD_TAKES_B_ABOVE_N && c.status == 3 && a < n) c = __real_jingcobu64_gcd(n, a, b % n);
+    if (w == GCD_ANSWERS_2_TO_63 && c.status == 1 && n == LIMIT) c = (jingcobu64_cofactors) { 1, 0, 0, 0 };
+    if (w == GCD_REFUSED_HAS_VALUES && c.status) c.g = 1;
+    if (c.status) return c;
+    if (w == GCD_GREATER_T && n - c.t > n / divisor(b, n)) c.t += n / divisor(b, n);
+    if (w == GCD_WITHOUT_N) c.g = divisor(a, b);
+    if (w == GCD_LOSES_THE_HIGH_HALF) c.t = NARROW(c.t);
+    return c;
+}
+
+jingcobu_degree __wrap_jingcobu64_true_degree(uint64_t n, const uint64_t *f, size_t fl)
+{
+    int w = version();
+    if (w == DEGREE_LOOKS_AT_F && fl) seen = f[0];
+    jingcobu_degree a = __real_jingcobu64_true_degree(n, f, fl);
+    if ((w == DEGREE_TAKES_LARGE_WORDS && a.status == 3) || (w == DEGREE_ANSWERS_2_TO_63 && a.status == 1 && n == LIMIT)) a.status = 0;
+    if (w == DEGREE_REFUSED_HAS_SOME && a.status) a.some = 1;
+    if (a.status) return a;
+    if (w == DEGREE_IS_SENT) a.degree = (uint32_t) fl - 1;
+    if (w == DEGREE_0_FOR_ZERO) a.some = 1;
+    while (w == DEGREE_OF_LOW_HALVES && a.some && a.degree && !NARROW(f[a.degree])) a.degree--;
+    return a;
+}
+
+typedef jingcobu64_answer answer;
+#define SERVICE(name) __wrap_jingcobu64_##name
+#define REAL(name) __real_jingcobu64_##name
+#define WORK_LEN JINGCOBU64_WORK
+#include "wrong_batch.h"

@@ -1,4 +1,4 @@
-# What rt builds for the Makefiles of the root, tests, examples and bench. An archive or a program is built anew when any crate has
+# What rt builds for the Makefiles of the root, tests, examples and bench. An archive or a program is built again when any crate has
 # changed: every file, and every folder, whose time changes when a file comes or goes. ROOT is the way to the root.
 ROOT ?= ..
 PARTS = src specs proofs proofs/*

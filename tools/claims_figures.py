@@ -1,8 +1,8 @@
 #!/usr/bin/env python3
 """The figures of crates/claims_trial: python3 tools/claims_figures.py > crates/claims_trial/stdout
 
-D is that of tools/ideal_constants.py. The cofactors that the engine finds are not fixed, and they are not needed: they combine f and g
-to D, so a word more in u at some place adds x times f to that, and multipliers scaled by c combine to c D. A claim with multipliers that are
+D is that of tools/ideal_constants.py. Which cofactors the engine finds is not determined, and they are not needed: they combine f and g to
+D, so a word more in u at some place adds x times f to that, and multipliers scaled by c combine to c D. A claim with multipliers that are
 known is multiplied out. How often each of the four answers comes is written to standard error."""
 import sys
 from reference import drawn, product, reduced_resultant

@@ -1,9 +1,9 @@
 """The figures of crates/cofactor_trial: python3 tools/cofactor_figures.py > crates/cofactor_trial/stdout
 
-The resultants of all pairs of degrees up to 2 by the formulas of their determinants, which are held to determinants of Sylvester's matrix
-by permutations; so are the two determinants of tools/reference.py. Blocks of more than 300,000 pairs are cut to those whose g has the
-constant 0 or 1. Of each block: n, d, e, how many pairs there are, 0 for that none went wrong, and a number made of all resultants in turn.
-With "blocks" as its argument it writes the calls that the trial makes."""
+The resultants of all pairs of degrees up to 2 by the formulas of their determinants, which are compared with determinants of Sylvester's
+matrix by permutations; so are the two determinants of tools/reference.py. Blocks of more than 300,000 pairs are cut to those whose g has
+the constant 0 or 1. Of each block: n, d, e, how many pairs there are, 0 for that none went wrong, and a number made of all resultants in
+turn. With "blocks" as its argument it writes the calls that the trial makes."""
 import itertools
 import sys
 from reference import determinant, determinant_modulo, sylvester

@@ -1,9 +1,9 @@
 #!/usr/bin/env python3
 """The trial of the frame program: writes crates/desk/stdin and crates/desk/stdout.
 
-The answers are worked out here from document 01 and, for refusal 10, document 02, W5: a resultant is that of tools/reference.py, an
+The answers are computed here from the specification (S64 to S69): a resultant is that of tools/reference.py, an
 integer determinant by Bareiss's elimination, reduced modulo n; D is the generator of the constants in the span of the shifts of f and g
-over Z/n, by elimination with row operations (small degrees), or 1 where the resultant is a unit: another way than that of
+over Z/n, by elimination with row operations (small degrees), or 1 if the resultant is a unit: another way than that of
 tools/ideal_constants.py.
 """
 import os
@@ -121,7 +121,7 @@ def lines():
         (4294967294, [4294967294, 1], [4294967295]),
     ):
         out += both(n, f, g)
-    # 798 characters: d = e = 48. One less and one more are no frames.
+    # 798 characters: d = e = 48. One less and one more are not frames.
     for n in (4294967291, 4294967295, 4294836225, 2147483648, 2):
         f, g = [[draw.randrange(n) for _ in range(49)] for _ in range(2)]
         if n == 4294836225:

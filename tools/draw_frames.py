@@ -1,7 +1,7 @@
 #!/usr/bin/env python3
 """Draws frames for the tests of many jobs: tools/draw_frames.py COUNT [DEGREE]. Without DEGREE they are of both kinds, degrees 0 to 8 and
-many moduli, every fiftieth line is no frame or is refused, and the last line has no newline; with it they are of kind 01, of that degree,
-modulo 4294967291."""
+many moduli, every fiftieth line is not a frame or is refused, and the last line has no newline; with it they are of kind 01, of that
+degree, modulo 4294967291."""
 import random
 import sys
 

@@ -1,7 +1,7 @@
 #!/usr/bin/env python3
 """Draws the pairs of the test program `vectors` and of tests/host.c, and computes their numbers independently of the engine.
 
-Writes crates/vectors/stdin (one frame of kind 01 a line) and crates/vectors/stdout (resultant and D, in hexadecimal). The
+Writes crates/vectors/stdin (one frame of kind 01 per line) and crates/vectors/stdout (resultant and D, in hexadecimal). The
 resultant is PARI's integer determinant of the Sylvester matrix in the sent degrees, modulo n. D is that of tools/ideal_constants.py,
 which says how it is found and proves it of each pair. Needs gp (PARI). It is not needed to run the gate."""
 import os, random
@@ -67,7 +67,7 @@ def pair():
 
 
 def asked_of_gp(m, n):
-    """What gp is asked for: the determinant, modulo n."""
+    """What gp is asked to print: the determinant, modulo n."""
     if len(m) < 2:
         return str(m[0][0] % n if m else 1)
     return 'matdet([%s])%%%d' % (';'.join(','.join(map(str, r)) for r in m), n)

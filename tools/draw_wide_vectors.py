@@ -2,8 +2,8 @@
 """Draws the pairs of the test program `wide_vectors` and of tests/host64.c, words of 64 bits, and computes their numbers
 independently of the engine.
 
-Writes crates/wide_vectors/stdin (a pair a line in lower-case hexadecimal: n in 16 digits, d and e in 2, then the words of f and g in
-16 each) and crates/wide_vectors/stdout (resultant and D): the table of document 01, pairs of degree 48 with a common factor modulo a
+Writes crates/wide_vectors/stdin (a pair per line in lower-case hexadecimal: n in 16 digits, d and e in 2, then the words of f and g in
+16 each) and crates/wide_vectors/stdout (resultant and D): the table of S90, pairs of degree 48 with a common factor modulo a
 part of n, and drawn pairs. The resultant is PARI's integer determinant of the Sylvester matrix in the sent degrees, modulo n. D is
 that of tools/ideal_constants.py, over the prime powers of n, which PARI finds. Needs gp (PARI). It is not needed to run the gate."""
 import math, os, random

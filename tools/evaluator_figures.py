@@ -2,7 +2,7 @@
 """The output that crates/evaluator_trial must write, made outside the engine:
 python3 tools/evaluator_figures.py > crates/evaluator_trial/stdout
 
-Each value is the determinant of Sylvester's matrix over the integers, by Bareiss's elimination, reduced modulo n at the very end."""
+Each value is the determinant of Sylvester's matrix over the integers, by Bareiss's elimination, reduced modulo n at the end."""
 from itertools import product
 from reference import STARRED, UNSTARRED, mix, resultant
 

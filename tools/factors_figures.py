@@ -1,7 +1,7 @@
 """The figures of crates/factors_trial: python3 tools/factors_figures.py > crates/factors_trial/stdout
 
-The factors held are kept as polynomials. For each reading they are multiplied, and the determinant of the Sylvester matrix of their
-product with h is worked by row steps of Euclid's algorithm modulo n. Nothing is taken over from reading to reading."""
+The factors are kept as polynomials. For each reading they are multiplied, and the determinant of the Sylvester matrix of their
+product with h is computed by row steps of Euclid's algorithm modulo n. Nothing is kept from reading to reading."""
 from reference import determinant_modulo, drawn, product, sylvester
 
 

@@ -1,12 +1,12 @@
 #!/usr/bin/env python3
 """The reduced resultant D of two polynomials, by a way that shares nothing with the engine's: the scripts of tools/ take their D here.
 
-    python3 tools/ideal_constants.py          holds the numbers of this file to brute force, to PARI and to the stored pairs
+    python3 tools/ideal_constants.py          compares the numbers of this file with brute force, PARI and the stored pairs
 
-The engine divides by monic polynomials, takes unit factors and contents out and splits n where it meets a zero divisor; it never
+The engine divides by monic polynomials, takes unit factors and contents out and splits n if it meets a zero divisor; it never
 factors n. Here n is factored, and for each prime power q = p^a in it an echelon basis of the ideal I = (f, g) over R = Z/q is
 completed, term by term, as Buchberger's algorithm does over a ring with one chain of ideals. D is the product over the q of the
-p^c that generates the constants of I (q itself where only 0 is one).
+p^c that generates the constants of I (q itself if only 0 is one).
 
 A basis is some polynomials b_1, b_2, .. of falling degrees m_1 > m_2 > .. whose leading coefficients are divisible by p just
 c_1 < c_2 < .. times (c_i < a). For m >= the last m_i let t(m) = x^(m - m_i) b_i with the first i such that m_i <= m: one
@@ -18,12 +18,12 @@ there is one. Once the basis is complete, `certified` tests four things:
   3. for each i >= 2, x^(m_(i-1) - m_i) b_i less the multiple of b_(i-1) with the same leading term reduces to zero;
   4. p^(a - c_i) b_i, whose leading term is gone, reduces to zero.
 
-Then the constants of I are the multiples of b_i where the last m_i is 0, and 0 alone otherwise. For let T be the R-span of the
+Then the constants of I are the multiples of b_i if the last m_i is 0, and 0 alone otherwise. For let T be the R-span of the
 t(m). By 3, x t(m) is a multiple of t(m + 1) and a combination of t(k) with k <= m; so T is an ideal, by 1 and 2 it is I, and by 4
 p^(a - c_i) t(m) is a combination of t(k) with k < m. An element of I is therefore a sum of r(m) t(m) in which no r(m) but 0
 kills the leading coefficient of t(m): its degree is the greatest m with r(m) not 0, so that a constant is r(0) t(0).
 
-The four tests do not ask how the basis was found. No bound on the degrees of u and v is needed.
+The four tests do not depend on how the basis was found. No bound on the degrees of u and v is needed.
 
 Three comparisons, when the file is run by itself:
   - brute force: all pairs of polynomials of degree at most 2 modulo 4, 6, 8, 9 and 12 (`by_search`);

@@ -1,9 +1,9 @@
 """What the scripts of tools/ calculate with, each thing once, outside the engine: residues, polynomials modulo n, determinants, the ideal
-of two polynomials, the rows of the table of document 01, and the numbers that the trial programs draw and sum up.
+of two polynomials, the rows of the table of S90, and the numbers that the trial programs draw and sum up.
 
-A polynomial is the list of its words, the constant first. Nothing here is taken from the engine. tools/cofactor_figures.py holds both
-determinants to their definition, tools/residue_figures.py and tools/wide_figures.py hold the least combinations to search, and
-tools/ideal_constants.py proves the D of each pair and holds it to brute force and to PARI."""
+A polynomial is the list of its words, the constant first. Nothing here is taken from the engine. tools/cofactor_figures.py compares both
+determinants with their definition, tools/residue_figures.py and tools/wide_figures.py the least combinations with a search, and
+tools/ideal_constants.py proves the D of each pair and compares it with brute force and with PARI."""
 import functools, math
 from ideal_constants import Ideal, cached_constant, gp, prime_powers, reduced_resultant
 

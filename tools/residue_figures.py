@@ -1,10 +1,10 @@
 #!/usr/bin/env python3
 """The output that crates/residue_trial must write, made outside the engine: python3 tools/residue_figures.py > crates/residue_trial/stdout
 
-Every figure is had from the definitions of document 01 and by another method than the engine's: inverses and cofactors by search or
+Every figure comes from the definitions (S4, S13, S14) and by another method than the engine's: inverses and cofactors by search or
 by Python's pow, kinds by the prime factors of n, greatest common divisors by math.gcd, K by the length of n in bits, joined residues
 by search. Of s and t up to n = 64: s is tried from 0 upward until some t fits, and t is then the least of all that fit; at the ends of the
-range they are had by Python's pow."""
+range they come from Python's pow."""
 import reference
 from math import gcd
 from reference import least_by_inverses, least_by_search, mix, prime_powers

@@ -1,8 +1,8 @@
 #!/usr/bin/env python3
 """The output that crates/text_trial must write, made outside the engine: python3 tools/text_figures.py > crates/text_trial/stdout
 
-The writer joins Python's own decimals. The reader is a grammar of its own, a regular expression with the rules of W13 that no
-regular expression has tested one by one; it knows nothing of the writer."""
+The writer joins Python's own decimals. The reader is a grammar of its own, a regular expression with those rules of S55 that no
+regular expression can express tested one by one; it knows nothing of the writer."""
 import re
 from reference import drawn, mixed
 
@@ -19,7 +19,7 @@ def write(f):
 
 
 def read(n, s):
-    """The words of s, or None where it is no text of the notation."""
+    """The words of s, or None if it is not a text of the notation."""
     if s == b'0':
         return [0]
     words, last = {}, 49

@@ -1,8 +1,8 @@
 #!/usr/bin/env python3
 """The output that crates/two_trial must write, made outside the engine: python3 tools/two_figures.py > crates/two_trial/stdout
 
-It needs PARI/gp. The pairs are drawn here; gp works the determinant of the Sylvester matrix in the sent degrees, with polynomials in z
-over the integers, and where both top coefficients in y are there its polresultant, which must be the same. The integers are reduced
+It needs PARI/gp. The pairs are drawn here; gp computes the determinant of the Sylvester matrix in the sent degrees, with polynomials in z
+over the integers, and, if both top coefficients in y are there, its polresultant, which must be the same. The integers are reduced
 modulo n here."""
 import subprocess
 from reference import drawn

@@ -1,9 +1,9 @@
 """The figures of crates/why_trial: python3 tools/why_figures.py > crates/why_trial/stdout
 
-Which modulus, ground and divisor are named is not fixed by the papers. This file finds them by the way that docs/changes/W4.md tells,
-over lists of Python's integers, and holds each to what is fixed: D is that of tools/ideal_constants.py, which shares nothing with the
-engine; "coprime" is answered exactly where it is 1, the modulus is above 1 and divides n and D, and the divisor is monic of degree 1 or
-more and leaves no remainder. The frames that the trial reads are the first of crates/vectors, with the D stored there."""
+Which modulus, ground and divisor are named is not determined (S46). This file finds them by the way that docs/changes/W4.md describes, over
+lists of Python's integers, and compares each with what is determined: D is that of tools/ideal_constants.py, which shares nothing with the
+engine; "coprime" is answered exactly if it is 1, the modulus is above 1 and divides n and D, and the divisor is monic of degree 1 or more
+and leaves no remainder. The frames that the trial reads are the first of crates/vectors, with the D stored there."""
 import os
 from math import gcd, prod
 from reference import cached_constant, divided, drawn, mixed, prime_powers
@@ -25,7 +25,7 @@ def remainder(m, f, h):
 
 
 def stripped(m, f):
-    """the modulus and the words left: a leading word that is no unit vanishes modulo what it has in common with m"""
+    """the modulus and the words left: a leading word that is not a unit vanishes modulo what it has in common with m"""
     f = list(f)
     while f:
         c = gcd(f[-1], m)

@@ -2,15 +2,15 @@
 """Draws the calls of the test program `wide_trial`, words of 64 bits, and what it must write, made outside the engine: the standard
 library, tools/reference.py and tools/ideal_constants.py are all it needs. It is not needed to run the gate.
 
-Writes crates/wide_trial/stdin, a call a line, hexadecimal with a blank between: the service in 2 digits (1 sum, 2 difference, 3 times,
+Writes crates/wide_trial/stdin, a call per line, hexadecimal with a blank between: the service in 2 digits (1 sum, 2 difference, 3 times,
 4 power, 5 gcd, 6 kind, 7 product, 8 division, 9 degree, 10 leading, 11 unit times monic, 12 inverse, 13 evaluator, 14 resultant,
 15 reduced resultant, 16 how far the two can differ, 17 law of products), n in 16, the lengths of f, g and h in 2 each, those of the
-lent buffers p, u and v and of the working words in 4 each, and the words of f, g and h; and crates/wide_trial/stdout, its answer a line.
+lent buffers p, u and v and of the working words in 4 each, and the words of f, g and h; and crates/wide_trial/stdout, an answer per line.
 
-Every figure is had by another method than the engine's. Refusals: all conditions of document 01 are written down in their order, and
-the first that holds counts; each is tried alone, and with all that come after it. Kinds: by the primes of n. s and t: by Python's pow,
-held to search for small n. Quotients: by long division from the top. Unit times monic: drawn as a product of such, which fixes both.
-Inverses: word by word, held to the product. Resultants: determinants of whole numbers, without fractions (Bareiss). D: by an echelon
+Every figure comes from another method than the engine's. Refusals: all conditions of S29 are written down in their order, and the first
+that holds counts; each is tried alone, and with all that come after it. Kinds: by the primes of n. s and t: by Python's pow, compared with
+a search for small n. Quotients: by long division from the top. Unit times monic: drawn as a product of such, which determines both.
+Inverses: word by word, compared with the product. Resultants: determinants of whole numbers, without fractions (Bareiss). D: by an echelon
 basis of the ideal modulo each prime power."""
 import math, os, random
 import reference
@@ -169,7 +169,7 @@ NAMES = {SUM: 'sum', DIFFERENCE: 'difference', TIMES: 'times', POWER: 'power', G
 
 
 def buffer(length, words):
-    """A result buffer after the call: the words at its front, the rest as found."""
+    """A result buffer after the call: the words at its front, the rest unchanged."""
     assert len(words) <= length
     return ' [%s ]' % ''.join(' %d' % x for x in words + [MARK] * (length - len(words)))
 
@@ -179,7 +179,7 @@ def numbers(s, count):
 
 
 def cofactors(c, found, f=None, g=None):
-    """How many words are as found, and the constant to which u and v combine f and g: D, or 0 where they are as found."""
+    """How many words are unchanged, and the constant to which u and v combine f and g: D, or 0 if they are unchanged."""
     if found is None:
         return ' %d %d' % (c.u, c.v) + (' 0 0' if c.n >= 2 else '')
     length = cofactor_length(c.n, f, g)

@@ -13,9 +13,9 @@ word may be zero and counts: the resultant is the Sylvester determinant in the s
 
 What the engine refuses raises `Refused`, with the refusal's number and sentence; an integer that fits no word raises ValueError, and
 what is no integer TypeError; both name the function, the polynomial and the place. The functions may be called from several threads.
-`resultant`, `reduced_resultant` and `product` use words of 32 bits where n and all words fit them, and words of 64 bits otherwise: both
-sets of the engine answer the same numbers. `product64`, `resultant64` and `reduced_resultant64` always use words of 64 bits. The other
-functions have words of 32 bits only.
+`resultant`, `reduced_resultant`, `divisor`, `resultants`, `divisors`, `product`, `gcd` and `true_degree` use words of 32 bits where n and
+all words fit them, and words of 64 bits otherwise: both sets of the engine answer the same numbers. `product64`, `resultant64` and `reduced_resultant64` always
+use words of 64 bits. The other functions have words of 32 bits only.
 
 >>> jingcobu.resultant(5, [2, 7], [1, 1])
 Traceback (most recent call last):
@@ -26,20 +26,21 @@ from __future__ import annotations
 import threading
 from array import array
 from enum import IntEnum
-from typing import Any, Dict, Iterable, List, NamedTuple, Optional, Sequence, Tuple
+from typing import Any, Dict, List, NamedTuple, Optional, Sequence, Tuple
 
-from . import _library
+from . import _batch, _library
 from ._frames import Answer, answers, frame
 from ._library import LibraryMissing
 from ._notation import parse, spell, unspell
 from ._refusals import MEANING, Refused
 from ._polynomials import Words
-from ._polynomials import modulus as _modulus, number as _number, pair as _pair, room as _room, trimmed as _trimmed, words as _words
+from ._polynomials import modulus as _modulus, number as _number, one as _one, pair as _pair, residues as _residues, room as _room
+from ._polynomials import trimmed as _trimmed, words as _words
 
 __version__ = "1.0.0"
 __all__ = [
     "Answer", "Claim", "Cofactors", "Factors", "Gcd", "Ground", "LibraryMissing", "MEANING", "Reason", "Reduced", "Refused", "answers",
-    "check_claim", "divisor", "frame", "gcd", "parse", "product", "product64", "product_word", "read_text", "reduced_resultant",
+    "check_claim", "divisor", "divisors", "frame", "gcd", "parse", "product", "product64", "product_word", "read_text", "reduced_resultant",
     "reduced_resultant64", "resultant", "resultant64", "resultant_cofactors", "resultant_two", "resultants", "shares", "spell",
     "true_degree", "unspell", "why", "write_text",
 ]
@@ -77,7 +78,7 @@ class Ground(IntEnum):
 
 
 class Reason(NamedTuple):
-    """The ground, the divisor m of n (0 where the polynomials are coprime) and the words of w (none but for Ground.DIVISOR)."""
+    """The ground, the divisor m of n (0 if the polynomials are coprime) and the words of w (none except for Ground.DIVISOR)."""
 
     ground: Ground
     m: int
@@ -85,7 +86,7 @@ class Reason(NamedTuple):
 
 
 class Claim(IntEnum):
-    """What becomes of a claim: it is true, or the first test that fails."""
+    """The verdict on a claim: it is true, or the first test that fails."""
 
     TRUE = 0
     NO_DIVISOR = 1       # the claimed D does not divide n
@@ -109,11 +110,13 @@ def _work(width: int = 32) -> "array[int]":
 
 
 def _call(service: str, *given: Any) -> Any:
-    """The engine's answer; an array is lent as its place and its length, and `given` keeps it alive."""
+    """The engine's answer; an array is passed as its address and its length, and `given` keeps it alive."""
     lent: List[Any] = []
     for x in given:
         if isinstance(x, array):
             lent.extend(x.buffer_info())
+        elif isinstance(x, _batch.Lent):
+            lent.extend((x.place, x.size))
         else:
             lent.append(x)
     return _library.service(service)(*lent)
@@ -134,7 +137,7 @@ def _named(service: str, width: int) -> str:
 
 
 def _length(n: int, f: "array[int]", g: "array[int]") -> int:
-    """The words of a cofactor of D: K times the larger sent degree, plus 1. One where the call will be refused for n or a length."""
+    """The words of a cofactor of D: K times the larger sent degree, plus 1. One if the call is refused for n or a length."""
     longest = max(len(f), len(g))
     return (n.bit_length() - 1) * (longest - 1) + 1 if n >= 2 and 1 <= longest <= 49 else 1
 
@@ -153,24 +156,71 @@ def resultant(n: int, f: Words, g: Words) -> int:
     return _value(_call(_named("resultant", width), n, x, y, _work(width)))
 
 
-def resultants(n: int, pairs: Iterable[Tuple[Words, Words]]) -> List[int]:
-    """The resultants of many pairs. Where a pair is refused, `Refused.place` says which.
+def resultants(n: int, F: Any, G: Any = None) -> List[int]:
+    """The resultants of many pairs: of F[0] and G[0], F[1] and G[1] and so on. Pairs of one pair of lengths go as one call of the engine.
+    Two-dimensional buffers of unsigned words, as numpy, array and memoryview have them, are lent without a copy; they must not be changed
+    during the call. Without G, F holds the pairs. n is at most 2^63 - 1. Where a pair is refused, none is answered, and `Refused.place`
+    says which it is. Refusals: 1, 2, 3.
 
+    >>> resultants(12, [[3, 2], [5]], [[1, 4], [0, 1]])
+    [2, 5]
     >>> resultants(12, [([3, 2], [1, 4]), ([5], [0, 1])])
     [2, 5]
+    >>> rows = memoryview(array("I", [3, 2, 1, 4])).cast("B").cast("I", [2, 2])
+    >>> resultants(12, rows, rows)
+    [0, 0]
     """
-    found = []
-    for place, (f, g) in enumerate(pairs):
+    return _many(n, F, G, "resultants")
+
+
+def divisors(n: int, F: Any, G: Any = None) -> List[int]:
+    """D alone of many pairs, which are sent as to `resultants`. Refusals: 1, 2, 3.
+
+    >>> divisors(6, [[5, 0, 1], [2]], [[3, 1], [4]])
+    [2, 2]
+    """
+    return _many(n, F, G, "divisors")
+
+
+def _many(n: int, F: Any, G: Any, service: str) -> List[int]:
+    n = _modulus(n, service, _MOST64)
+    if G is None:
+        F, G = _batch.pairs(F, service)
+    rows = _batch.buffers(n, F, G)
+    if rows is not None and rows[0].number == rows[1].number:
         try:
-            found.append(resultant(n, f, g))
+            return _one_call(n, service, *rows)
         except Refused as refused:
-            raise Refused(refused.number, place) from None
+            raise _placed(refused, n, _batch.listed(F), _batch.listed(G)) from None
+    x, y = _batch.polynomials(F, "F", service, n), _batch.polynomials(G, "G", service, n)
+    if len(x) != len(y):
+        raise ValueError("%s: F has %d polynomials, and G has %d" % (service, len(x), len(y)))
+    found = [0] * len(x)
+    try:
+        for f, g, places in _batch.groups(n, x, y, service):
+            for place, value in zip(places, _one_call(n, service, f, g)):
+                found[place] = value
+    except Refused as refused:
+        raise _placed(refused, n, x, y) from None
     return found
+
+
+def _one_call(n: int, service: str, f: _batch.Rows, g: _batch.Rows) -> List[int]:
+    """The numbers of all pairs of one pair of lengths. A length of 0 is sent as the largest degree, which is refused."""
+    out, d, e = _room(f.number, f.width), (f.length - 1) % 2 ** 64, (g.length - 1) % 2 ** 64
+    _accept(_call(_named(service, f.width), n, f.words, d, g.words, e, f.number, out, _work(f.width)))
+    return out.tolist()
+
+
+def _placed(refused: Refused, n: int, F: Sequence[Words], G: Sequence[Words]) -> Refused:
+    """A refusal with the first pair that a single call refuses; that of n belongs to no pair."""
+    number, place = _batch.refused_at(n, F, G) if refused.number != 1 else (1, None)
+    return Refused(number or refused.number, place)
 
 
 def reduced_resultant(n: int, f: Words, g: Words) -> Reduced:
     """The reduced resultant D of f and g with cofactors: the divisor of n whose multiples are exactly the constants that u f + v g
-    can be. D = n says that only 0 is reached. Which cofactors come back is fixed for two constants alone. n is at most 2^63 - 1.
+    can be. D = n means that only 0 is reached. The cofactors are determined for two constants only. n is at most 2^63 - 1.
     Refusals: 1, 2, 3.
 
     >>> reduced_resultant(6, [5, 0, 1], [3, 1]).D
@@ -180,21 +230,27 @@ def reduced_resultant(n: int, f: Words, g: Words) -> Reduced:
     >>> reduced_resultant(3 ** 39, [3 ** 25], [3 ** 30, 1]).D == 3 ** 25
     True
     """
-    n, width, x, y = _pair(n, f, g, "reduced_resultant")
+    D, u, v = _reduced(*_pair(n, f, g, "reduced_resultant"))
+    return Reduced(D, _trimmed(u), _trimmed(v))
+
+
+def _reduced(n: int, width: int, x: "array[int]", y: "array[int]") -> Tuple[int, "array[int]", "array[int]"]:
+    """D and the buffers of its cofactors, L words each."""
     count = _length(n, x, y)
     u, v = _room(count, width), _room(count, width)
-    answer = _accept(_call(_named("reduced_resultant", width), n, x, y, u, v, _work(width)))
-    return Reduced(answer.value, _trimmed(u), _trimmed(v))
+    return _value(_call(_named("reduced_resultant", width), n, x, y, u, v, _work(width))), u, v
 
 
 def divisor(n: int, f: Words, g: Words) -> int:
-    """D alone, in less time, with words of 32 bits. Refusals: 1, 2, 3.
+    """D alone, in less time, for n up to 2^63 - 1. Refusals: 1, 2, 3.
 
     >>> divisor(6, [5, 0, 1], [3, 1])
     2
+    >>> divisor(3 ** 39, [3 ** 25], [3 ** 30, 1]) == 3 ** 25
+    True
     """
-    n, x, y = _pair32(n, f, g, "divisor")
-    return _value(_call("divisor", n, x, y, _work()))
+    n, width, x, y = _pair(n, f, g, "divisor")
+    return _value(_call(_named("divisor", width), n, x, y, _work(width)))
 
 
 def _pair32(n: int, f: Words, g: Words, service: str) -> Tuple[int, "array[int]", "array[int]"]:
@@ -204,8 +260,8 @@ def _pair32(n: int, f: Words, g: Words, service: str) -> Tuple[int, "array[int]"
 
 
 def resultant_cofactors(n: int, f: Words, g: Words) -> Cofactors:
-    """The resultant with cofactors u of e words and v of d words, where d and e are the sent degrees. Which cofactors come back is
-    not fixed where there are several. Refusals: 1, 2, 3, 9 (d = e = 0).
+    """The resultant with cofactors u of e words and v of d words, where d and e are the sent degrees. Which cofactors are returned is
+    not determined if there are several. Refusals: 1, 2, 3, 9 (d = e = 0).
 
     >>> resultant_cofactors(7, [1, 1], [2, 1])
     Cofactors(resultant=1, u=[6], v=[1])
@@ -217,7 +273,7 @@ def resultant_cofactors(n: int, f: Words, g: Words) -> Cofactors:
 
 
 def why(n: int, f: Words, g: Words) -> Reason:
-    """Why f and g are not coprime, that is, why D is above 1. Which m and w come back is not fixed where there are several.
+    """Why f and g are not coprime, that is, why D is above 1. Which m and w are returned is not determined.
     Refusals: 1, 2, 3.
 
     >>> why(7, [6, 0, 1], [1, 1])
@@ -270,7 +326,7 @@ def resultant_two(n: int, f: Sequence[Words], g: Sequence[Words]) -> List[int]:
 # ---- polynomials and residues
 
 def product(n: int, f: Words, g: Words) -> List[int]:
-    """The product of f and g, of sent degree d + e, also when its top word comes out zero, for n up to 2^63 - 1. Refusals: 1, 2 (also
+    """The product of f and g, of sent degree d + e, even if its top word is zero, for n up to 2^63 - 1. Refusals: 1, 2 (also
     d + e above 48), 3.
 
     >>> product(6, [1, 2], [1, 3])
@@ -297,24 +353,28 @@ def product_word(n: int, f: Words, g: Words, k: int) -> Optional[int]:
 
 
 def true_degree(n: int, f: Words) -> Optional[int]:
-    """The place of the highest word of f that is not zero; None where there is none. Refusals: 1, 2, 3.
+    """The place of the highest word of f that is not zero, for n up to 2^63 - 1; None where there is none. Refusals: 1, 2, 3.
 
     >>> true_degree(5, [2, 1, 0]), true_degree(5, [3]), true_degree(5, [0, 0])
     (1, 0, None)
+    >>> true_degree(2 ** 40, [0, 2 ** 33, 0])
+    1
     """
-    n = _modulus(n, "true_degree", _MOST32)
-    answer = _accept(_call("true_degree", n, _words(f, "f", "true_degree", n)))
+    n, width, x = _one(n, f, "true_degree")
+    answer = _accept(_call(_named("true_degree", width), n, x))
     return answer.degree if answer.some else None
 
 
 def gcd(n: int, a: int, b: int) -> Gcd:
-    """The greatest common divisor of two residues and n, with its least cofactors. Refusals: 1, 3.
+    """The greatest common divisor of two residues and n, with its least cofactors, for n up to 2^63 - 1. Refusals: 1, 3.
 
     >>> gcd(12, 8, 6)
     Gcd(g=2, s=1, t=1)
+    >>> gcd(2 ** 40, 2 ** 33, 3)
+    Gcd(g=1, s=0, t=733007751851)
     """
-    n = _modulus(n, "gcd", _MOST32)
-    answer = _accept(_call("gcd", n, _number(a, "a", "gcd", _MOST32), _number(b, "b", "gcd", _MOST32)))
+    n, width, (a, b) = _residues(n, (a, b), ("a", "b"), "gcd")
+    answer = _accept(_call(_named("gcd", width), n, a, b))
     return Gcd(answer.g, answer.s, answer.t)
 
 
@@ -354,10 +414,8 @@ def reduced_resultant64(n: int, f: Words, g: Words) -> Reduced:
     True
     """
     n, x, y = _pair64(n, f, g, "reduced_resultant64")
-    count = _length(n, x, y)
-    u, v = _room(count, 64), _room(count, 64)
-    answer = _accept(_call("reduced_resultant64", n, x, y, u, v, _work(64)))
-    return Reduced(answer.value, _trimmed(u), _trimmed(v))
+    D, u, v = _reduced(n, 64, x, y)
+    return Reduced(D, _trimmed(u), _trimmed(v))
 
 
 # ---- texts, shares and factors
@@ -416,7 +474,7 @@ class Factors:
     >>> held.resultant()
     5
 
-    A refused call leaves the factors as they were. Two are equal where n, h and, under each number, the sent degree and the resultant
+    A refused call leaves the factors as they were. Two are equal if n, h and, under each number, the sent degree and the resultant
     with h agree.
     """
 
@@ -427,20 +485,20 @@ class Factors:
         self._state = _accept(_call("factors_start", n, _words(h, "h", "Factors", n))).factors
 
     def arrive(self, number: int, f: Words) -> None:
-        """Takes f under a number that is free. Refusals: 2, 3, 14 (the number), 13 (16 factors, or degrees above 48 in sum)."""
+        """Adds f under a number that is free. Refusals: 2, 3, 14 (the number), 13 (16 factors, or degrees above 48 in sum)."""
         under = _number(number, "number", "Factors.arrive", 65535)
         with self._lock:
             x = _words(f, "f", "Factors.arrive", self._state.n)
             self._state = _accept(_call("factors_arrive", self._state, under, x, _work())).factors
 
     def leave(self, number: int) -> None:
-        """Gives up the factor under that number. Refusals: 14."""
+        """Removes the factor under that number. Refusals: 14."""
         under = _number(number, "number", "Factors.leave", 65535)
         with self._lock:
             self._state = _accept(_call("factors_leave", self._state, under)).factors
 
     def resultant(self) -> int:
-        """The resultant of the product of the factors held with h; 1 where none is held."""
+        """The resultant with h of the product of the factors; 1 if there are none."""
         with self._lock:
             return _value(_call("factors_read", self._state))
 

@@ -1,8 +1,8 @@
 """The command line: python3 -m jingcobu COMMAND ... (installed: jingcobu COMMAND ...)
 
 Polynomials are written as people write them, 3*x^2 - x + 1: blanks, minus signs, ** for ^, terms in any order, coefficients of any size,
-which are taken modulo N. Words with commas between them, constant first, are taken too; so a zero on top can be sent: 2,1,0. A text that
-begins with a minus sign stands after --. A refusal or a mistake goes to standard error, and the exit status is 1; so it is where a claim
+which are reduced modulo N. Words with commas between them, constant first, are accepted too; so a zero top can be sent: 2,1,0. A text that
+begins with a minus sign must follow --. A refusal or an error is reported on standard error, and the exit status is 1; so it is if a claim
 is false.
 """
 from __future__ import annotations
@@ -77,6 +77,43 @@ def divisor(n: int, f: str, g: str) -> Said:
     """D alone, in less time"""
     found = jingcobu.divisor(*_pair(n, f, g))
     return Said(str(found), {"D": found})
+
+
+def _file_lines(file: Optional[str]) -> List[str]:
+    if file is None:
+        return sys.stdin.readlines()
+    with open(file, encoding="utf-8") as lines:
+        return lines.readlines()
+
+
+def _file_pairs(n: int, file: Optional[str]) -> Tuple[List[List[int]], List[List[int]]]:
+    """The pairs of a file, or of standard input: a line for each, F and G with ; between them. Empty lines are passed over."""
+    first, second = [], []
+    for place, line in enumerate(_file_lines(file), 1):
+        if not line.strip():
+            continue
+        texts = line.strip().split(";")
+        if len(texts) != 2:
+            raise ValueError("line %d: F ; G is expected, two polynomials, not %d" % (place, len(texts)))
+        try:
+            _, f, g = _pair(n, texts[0].strip(), texts[1].strip())
+        except ValueError as error:
+            raise ValueError("line %d: %s" % (place, error)) from None
+        first.append(f)
+        second.append(g)
+    return first, second
+
+
+def resultants(n: int, file: Optional[str]) -> Said:
+    """the resultants of the pairs of FILE (standard input without it), a line for each: F ; G"""
+    found = jingcobu.resultants(n, *_file_pairs(n, file))
+    return Said("\n".join(map(str, found)), {"resultants": found})
+
+
+def divisors(n: int, file: Optional[str]) -> Said:
+    """D alone of the pairs of FILE (standard input without it), a line for each: F ; G"""
+    found = jingcobu.divisors(n, *_file_pairs(n, file))
+    return Said("\n".join(map(str, found)), {"divisors": found})
 
 
 def cofactors(n: int, f: str, g: str) -> Said:
@@ -204,6 +241,7 @@ class Command(NamedTuple):
 _N: Tuple[str, Dict[str, Any]] = ("n", {"type": int, "metavar": "N", "help": "the modulus, 2 or more"})
 _F: Tuple[str, Dict[str, Any]] = ("f", {"metavar": "F", "help": "a polynomial, as 3*x^2 - x + 1 or 1,11,3"})
 _G: Tuple[str, Dict[str, Any]] = ("g", {"metavar": "G", "help": "a polynomial"})
+_PAIRS: Tuple[str, Dict[str, Any]] = ("file", {"nargs": "?", "metavar": "FILE", "help": "lines of two polynomials, 2*x + 3 ; 4*x + 1"})
 
 
 def _integer(name: str, said: str) -> Tuple[str, Dict[str, Any]]:
@@ -218,6 +256,8 @@ COMMANDS = {
     "resultant": Command(resultant, (_N, _F, _G), "12 '2*x + 3' '4*x + 1'"),
     "reduced": Command(reduced, (_N, _F, _G), "6 2 4"),
     "divisor": Command(divisor, (_N, _F, _G), "6 'x^2 - 1' 'x + 3'"),
+    "resultants": Command(resultants, (_N, _PAIRS), "12 pairs.txt"),
+    "divisors": Command(divisors, (_N, _PAIRS), "12 pairs.txt"),
     "cofactors": Command(cofactors, (_N, _F, _G), "12 '2*x + 3' '4*x + 1'"),
     "why": Command(why, (_N, _F, _G), "7 'x^2 - 1' 'x + 1'"),
     "check": Command(check, (_N, _F, _G, _integer("d", "the claimed D"), _text("u", "a multiplier"), _text("v", "a multiplier")), "6 2 4 2 0 2"),

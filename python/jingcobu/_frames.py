@@ -13,7 +13,7 @@ _LINE = re.compile(r"([0-9a-f]{2})([0-9a-f]{2})([0-9a-f]{8})")
 
 
 class Answer(NamedTuple):
-    """An answer line. kind is 1 (resultant), 2 (reduced resultant) or 255 (the line was no frame); status is 0 or the refusal."""
+    """An answer line. kind is 1 (resultant), 2 (reduced resultant) or 255 (the line was not a frame); status is 0 or the refusal."""
 
     kind: int
     status: int
@@ -61,6 +61,6 @@ def answers(lines: Union[str, Iterable[str]]) -> List[Answer]:
     for number, line in enumerate(lines.splitlines() if isinstance(lines, str) else lines, 1):
         match = _LINE.fullmatch(line.rstrip("\n"))
         if not match:
-            raise ValueError("line %d is no answer line: %r" % (number, line))
+            raise ValueError("line %d is not an answer line: %r" % (number, line))
         found.append(Answer(*(int(part, 16) for part in match.groups())))
     return found

@@ -1,4 +1,4 @@
-"""Finds and loads the shared library, and knows what its functions take and answer (include/jingcobu.h)."""
+"""Finds and loads the shared library, and knows what its functions take and return (include/jingcobu.h)."""
 from __future__ import annotations
 
 import ctypes
@@ -25,7 +25,7 @@ _size = ctypes.c_size_t
 
 
 class LibraryMissing(ImportError):
-    """There is no shared library, or it has not the service that was called."""
+    """There is no shared library, or it lacks the service that was called."""
 
 
 class Answer(ctypes.Structure):
@@ -48,6 +48,10 @@ class Cofactors(ctypes.Structure):
     _fields_ = [("g", _word), ("s", _word), ("t", _word), ("status", _word)]
 
 
+class Cofactors64(ctypes.Structure):
+    _fields_ = [("g", ctypes.c_uint64), ("s", ctypes.c_uint64), ("t", ctypes.c_uint64), ("status", _word)]
+
+
 class State(ctypes.Structure):
     _fields_ = [("n", _word), ("h_len", _word), ("h", _word * 49), ("number", ctypes.c_uint16 * 16), ("degree", _word * 16),
                 ("resultant", _word * 16)]
@@ -65,6 +69,8 @@ _lent = [_place, _size]      # a buffer and its length
 _pair = [_word] + _lent * 2  # n, f and g
 _pair64 = [ctypes.c_uint64] + _lent * 2
 
+_rows = (_lent + [_size]) * 2 + [_size] + _lent * 2  # f with d, g with e, the count, out and work
+
 SIGNATURES = {
     "product": (Answer, _pair + _lent),
     "product_word": (Answer, _pair + _lent + [_size]),
@@ -72,6 +78,8 @@ SIGNATURES = {
     "resultant": (Answer, _pair + _lent),
     "reduced_resultant": (Answer, _pair + _lent * 3),
     "divisor": (Answer, _pair + _lent),
+    "resultants": (Answer, [_word] + _rows),
+    "divisors": (Answer, [_word] + _rows),
     "resultant_cofactors": (Answer, _pair + _lent * 3),
     "why": (Reason, _pair + _lent * 2),
     "check_claim": (Answer, _pair + [_word] + _lent * 3),
@@ -87,18 +95,23 @@ SIGNATURES = {
     "product64": (Answer64, _pair64 + _lent),
     "resultant64": (Answer64, _pair64 + _lent),
     "reduced_resultant64": (Answer64, _pair64 + _lent * 3),
+    "divisor64": (Answer64, _pair64 + _lent),
+    "resultants64": (Answer64, [ctypes.c_uint64] + _rows),
+    "divisors64": (Answer64, [ctypes.c_uint64] + _rows),
+    "true_degree64": (Degree, [ctypes.c_uint64] + _lent),
+    "gcd64": (Cofactors64, [ctypes.c_uint64] * 3),
 }
 
 
 def source_tree(package: Path) -> Optional[Path]:
-    """The root of the sources that hold this very package, or None where it is installed or was copied elsewhere."""
+    """The root of the sources that hold this very package, or None if it is installed or was copied elsewhere."""
     root = package.parent.parent
     own = root / "python" / "jingcobu" == package and (root / "python" / "pyproject.toml").is_file()
     return root if own and (root / "include" / "jingcobu.h").is_file() and (root / "crates.txt").is_file() else None
 
 
 def candidates() -> Iterator[str]:
-    """The files that are tried, in order. JINGCOBU_LIBRARY, where it is set, is the only one. No folder is looked into that is not the
+    """The files that are tried, in order. JINGCOBU_LIBRARY, if it is set, is the only one. No folder is looked into that is not the
     package's own, its sources', or one that the system keeps libraries in."""
     named = os.environ.get("JINGCOBU_LIBRARY")
     if named:
@@ -147,7 +160,7 @@ def library() -> ctypes.CDLL:
 
 
 def symbol(name: str) -> str:
-    """The library's name of a service: jingcobu_NAME, and jingcobu64_NAME where 64 stands behind the name.
+    """The library's name of a service: jingcobu_NAME, and jingcobu64_NAME if 64 follows the name.
 
     >>> symbol("product"), symbol("product64")
     ('jingcobu_product', 'jingcobu64_product')

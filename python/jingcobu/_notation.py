@@ -31,20 +31,20 @@ def unspell(text: str, most: int) -> List[int]:
     [5, 1, 0, 3]
     >>> unspell("x", 49)
     Traceback (most recent call last):
-    ValueError: no text of a polynomial: 'x'
+    ValueError: not a text of a polynomial: 'x'
     """
     words = [0]
     for term in text.split("+") if text != "0" else []:
         match = _TERM.fullmatch(term)
         if not match:
-            raise ValueError("no text of a polynomial: %r" % text)
+            raise ValueError("not a text of a polynomial: %r" % text)
         power = int(match[2]) if match[2] else 1 if "*" in term else 0
         if power >= most:
             raise ValueError("a power of %d is above %d" % (power, most - 1))
         words.extend([0] * (power + 1 - len(words)))
         words[power] = int(match[1])
     if spell(words) != text:
-        raise ValueError("no text of a polynomial: %r" % text)
+        raise ValueError("not a text of a polynomial: %r" % text)
     return words
 
 
@@ -85,7 +85,7 @@ class _Reading:
 
 
 def _coefficient(reading: _Reading, n: int) -> Optional[int]:
-    """A number, or a residue as PARI prints it; None where neither stands here."""
+    """A number, or a residue as PARI prints it; None if neither is here."""
     if reading.kind == "number":
         found = int(reading.part("number"))
     elif reading.kind == "mod":
@@ -99,7 +99,7 @@ def _coefficient(reading: _Reading, n: int) -> Optional[int]:
 
 
 def _power(reading: _Reading, most: int) -> int:
-    """The power of an x that was passed: 1 where none is written."""
+    """The power of an x that was passed: 1 if none is written."""
     if not reading.take("power"):
         return 1
     if reading.kind != "number":
@@ -124,7 +124,7 @@ def _term(reading: _Reading, n: int, most: int) -> Tuple[int, int]:
 def parse(text: str, n: int, degree: Optional[int] = None, most: int = 48) -> List[int]:
     """The words of a polynomial in x modulo n as people and PARI, Sage and sympy write it: blanks, minus signs, `x` alone, `**` for `^`,
     terms in any order, powers that stand twice, coefficients of any size and residues `Mod(3, 12)`. Coefficients are taken modulo n.
-    There is no zero on top but where a sent degree is asked for. A text that is none is a ValueError that says at which character.
+    There is no zero on top unless a sent degree is given. A text that cannot be read is a ValueError that says at which character.
 
     >>> parse("3*x^2 - x + 1", 12)
     [1, 11, 3]
@@ -137,7 +137,7 @@ def parse(text: str, n: int, degree: Optional[int] = None, most: int = 48) -> Li
     if not isinstance(text, str):
         raise TypeError("parse: a polynomial is a str, not %s" % type(text).__name__)
     if n < 1:
-        raise ValueError("parse: n = %d is not from 2 on" % n)
+        raise ValueError("parse: n = %d is below 2" % n)
     reading, words = _Reading(text), [0] * (most + 1)
     while True:
         sign, signs = 1, 0

@@ -7,8 +7,8 @@ from typing import Any, List, Sequence, Tuple
 
 Words = Sequence[int]
 
-_CODES = {32: "I", 64: "Q"}  # the types of `array` whose items have 4 and 8 bytes
-_REFUSED_KINDS = (str, bytes, bytearray, set, frozenset, dict)
+CODES = {32: "I", 64: "Q"}  # the types of `array` whose items have 4 and 8 bytes
+REFUSED_KINDS = (str, bytes, bytearray, set, frozenset, dict)
 
 
 def room(count: int, width: int = 32) -> "array[int]":
@@ -17,7 +17,7 @@ def room(count: int, width: int = 32) -> "array[int]":
     >>> room(3).tolist()
     [0, 0, 0]
     """
-    return array(_CODES[width], bytes(count * width // 8))
+    return array(CODES[width], bytes(count * width // 8))
 
 
 def number(x: Any, name: str, service: str, most: int) -> int:
@@ -32,25 +32,25 @@ def number(x: Any, name: str, service: str, most: int) -> int:
     try:
         value = operator.index(x)
     except TypeError:
-        raise TypeError("%s: %s is %s, not an integer" % (service, name, _shown(x))) from None
+        raise TypeError("%s: %s is %s, not an integer" % (service, name, shown(x))) from None
     if not 0 <= value <= most:
         raise ValueError("%s: %s = %d is not from 0 to %d" % (service, name, value, most))
     return value
 
 
 def modulus(n: Any, service: str, most: int) -> int:
-    """n as an integer that fits a word; whether it is served is the engine's to say."""
+    """n as an integer that fits a word; whether it is served is for the engine to say."""
     try:
         value = operator.index(n)
     except TypeError:
-        raise TypeError("%s: n is %s, not an integer" % (service, _shown(n))) from None
+        raise TypeError("%s: n is %s, not an integer" % (service, shown(n))) from None
     if value < 0 or value > most:
         only = "; this service has words of 32 bits only" if most < 2 ** 32 and value < 2 ** 64 else ""
         raise ValueError("%s: n = %d is not from 2 to %d%s" % (service, value, min(most, 2 ** 63 - 1), only))
     return value
 
 
-def _shown(x: Any) -> str:
+def shown(x: Any) -> str:
     shown = repr(x)
     return "%s of type %s" % (shown if len(shown) <= 40 else shown[:37] + "...", type(x).__name__)
 
@@ -69,16 +69,16 @@ def words(f: Any, name: str, service: str, n: int, width: int = 32) -> "array[in
     """
     if type(f) in (list, tuple):
         try:
-            return array(_CODES[width], f)
+            return array(CODES[width], f)
         except (OverflowError, TypeError):
             pass  # told below, with its place
-    if isinstance(f, _REFUSED_KINDS) or (isinstance(f, memoryview) and f.format in ("B", "b", "c")):
-        raise TypeError("%s: %s is %s, not a sequence of integers" % (service, name, _shown(f)))
+    if isinstance(f, REFUSED_KINDS) or (isinstance(f, memoryview) and f.format in ("B", "b", "c")):
+        raise TypeError("%s: %s is %s, not a sequence of integers" % (service, name, shown(f)))
     try:
         items = list(f)
     except TypeError:
-        raise TypeError("%s: %s is %s, not a sequence of integers" % (service, name, _shown(f))) from None
-    return array(_CODES[width], [_item(x, i, name, service, n, width) for i, x in enumerate(items)])
+        raise TypeError("%s: %s is %s, not a sequence of integers" % (service, name, shown(f))) from None
+    return array(CODES[width], [_item(x, i, name, service, n, width) for i, x in enumerate(items)])
 
 
 def _item(x: Any, i: int, name: str, service: str, n: int, width: int) -> int:
@@ -86,14 +86,14 @@ def _item(x: Any, i: int, name: str, service: str, n: int, width: int) -> int:
     try:
         value = operator.index(x)
     except TypeError:
-        raise TypeError("%s: %s[%d] is %s, not an integer" % (service, name, i, _shown(x))) from None
+        raise TypeError("%s: %s[%d] is %s, not an integer" % (service, name, i, shown(x))) from None
     if not 0 <= value < 2 ** width:
         raise ValueError("%s: %s[%d] = %d is not from 0 to %d" % (service, name, i, value, max(n - 1, 0)))
     return value
 
 
 def _fits(f: Any, bound: int) -> bool:
-    """Whether every integer of f is below the bound; what is no list of integers is told where its words are made."""
+    """Whether every integer of f is below the bound; what is not a list of integers is reported when its words are made."""
     try:
         return all(x < bound for x in f) if type(f) in (list, tuple) and f else True
     except TypeError:
@@ -112,17 +112,45 @@ def pair(n: Any, f: Any, g: Any, service: str, names: Tuple[str, str] = ("f", "g
     return value, width, words(f, names[0], service, value, width), words(g, names[1], service, value, width)
 
 
+def one(n: Any, f: Any, service: str) -> Tuple[int, int, "array[int]"]:
+    """The same for one polynomial.
+
+    >>> one(12, [3, 2], "true_degree")[1:]
+    (32, array('I', [3, 2]))
+    """
+    value = modulus(n, service, 2 ** 64 - 1)
+    f = f if isinstance(f, Sequence) else _listed(f)
+    width = 32 if value < 2 ** 32 and _fits(f, 2 ** 32) else 64
+    return value, width, words(f, "f", service, value, width)
+
+
+def residues(n: Any, given: Sequence[Any], names: Sequence[str], service: str) -> Tuple[int, int, List[int]]:
+    """n, the width that serves n and all residues, and the residues.
+
+    >>> residues(12, [8, 6], ["a", "b"], "gcd"), residues(2 ** 40, [8, 6], ["a", "b"], "gcd")[1]
+    ((12, 32, [8, 6]), 64)
+    """
+    value, found = modulus(n, service, 2 ** 64 - 1), []
+    for x, name in zip(given, names):
+        try:
+            found.append(operator.index(x))
+        except TypeError:
+            raise TypeError("%s: %s is %s, not an integer" % (service, name, shown(x))) from None
+        if not 0 <= found[-1] < 2 ** 64:
+            raise ValueError("%s: %s = %d is not from 0 to %d" % (service, name, found[-1], max(value - 1, 0)))
+    return value, 32 if max(value, *found) < 2 ** 32 else 64, found
+
+
 def _listed(f: Any) -> Any:
     """An iterator's items, which can be read once only; anything else as it is."""
     return list(f) if hasattr(f, "__next__") else f
 
 
 def trimmed(found: "array[int]") -> List[int]:
-    """The words up to the highest that is not zero; one word where there is none.
+    """The words up to the highest that is not zero; one word if there is none.
 
     >>> trimmed(array("I", [5, 0, 7, 0, 0])), trimmed(array("I", [0, 0]))
     ([5, 0, 7], [0])
     """
-    size = found.itemsize
-    count = max((len(found.tobytes().rstrip(b"\0")) + size - 1) // size, 1)
-    return found[:count].tolist()
+    bits = int.from_bytes(found.tobytes(), "little").bit_length()  # much quicker than a walk over the words or the bytes
+    return found[:max(-(-bits // (8 * found.itemsize)), 1)].tolist()

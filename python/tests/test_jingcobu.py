@@ -1,5 +1,5 @@
 """Tests of the package: examples in docstrings, the stored vectors, every refusal, the law of products, drawn pairs against PARI, the
-command line. Where JINGCOBU_ALL is 0, tests of services that the library has not are skipped; otherwise they fail."""
+command line. If JINGCOBU_ALL is 0, tests of services that the library lacks are skipped; otherwise they fail."""
 import ast
 import ctypes
 import doctest
@@ -22,7 +22,7 @@ from contextlib import redirect_stderr, redirect_stdout
 from pathlib import Path
 
 import jingcobu
-from jingcobu import Claim, Factors, Ground, Refused, __main__, _frames, _library, _notation, _polynomials, _refusals
+from jingcobu import Claim, Factors, Ground, Refused, __main__, _batch, _frames, _library, _notation, _polynomials, _refusals
 
 HERE = Path(__file__).resolve().parent
 ROOT = HERE.parent.parent
@@ -30,10 +30,10 @@ MODULI = [2, 4, 6, 8, 9, 12, 30, 36, 210, 2147483648, 3486784401, 223092870, 217
 
 
 def needs(*names):
-    """Skips a test where the library has not these services, unless every one is asked for."""
+    """Skips a test if the library lacks these services, unless every one is required."""
     missing = [name for name in names if not _library.has(name)]
     skip = missing and os.environ.get("JINGCOBU_ALL", "1") == "0"
-    return unittest.skipIf(skip, "the library has not " + ", ".join(missing))
+    return unittest.skipIf(skip, "the library lacks " + ", ".join(missing))
 
 
 def times(n, f, g):
@@ -66,12 +66,12 @@ def drawn(generator, n, d, sparse=4):
 
 class Examples(unittest.TestCase):
     def test_docstrings(self):
-        for module in (jingcobu, _frames, _library, _notation, _polynomials, _refusals, __main__):
+        for module in (jingcobu, _batch, _frames, _library, _notation, _polynomials, _refusals, __main__):
             for test in doctest.DocTestFinder().find(module):
                 with self.subTest(test.name):
                     name = test.name.rpartition(".")[2]
                     if name in _library.SIGNATURES and not _library.has(name) and os.environ.get("JINGCOBU_ALL", "1") == "0":
-                        self.skipTest("the library has not " + name)
+                        self.skipTest("the library lacks " + name)
                     self.assertEqual(doctest.DocTestRunner(verbose=False).run(test).failed, 0)
 
     def test_readme(self):
@@ -82,7 +82,8 @@ class Examples(unittest.TestCase):
         services = set(re.findall(r"^\w+ (jingcobu(?:64)?_\w+)\(", header, re.M))
         self.assertEqual(services, {_library.symbol(name) for name in _library.SIGNATURES})
         for name in _library.SIGNATURES:
-            self.assertTrue(hasattr(jingcobu, name) or name.startswith("factors_"), name)
+            chosen = name[:-2] if name.endswith("64") else name  # by n and the words
+            self.assertTrue(hasattr(jingcobu, chosen) or name.startswith("factors_"), name)
 
     def test_statuses(self):
         header = (ROOT / "include" / "jingcobu.h").read_text()
@@ -101,7 +102,7 @@ class Examples(unittest.TestCase):
     def test_everything_is_there(self):
         missing = [name for name in _library.SIGNATURES if not _library.has(name)]
         if missing and os.environ.get("JINGCOBU_ALL", "1") == "0":
-            self.skipTest("the library has not " + ", ".join(missing))
+            self.skipTest("the library lacks " + ", ".join(missing))
         self.assertEqual(missing, [])
 
 
@@ -209,6 +210,142 @@ class Wide(unittest.TestCase):
             self.assertEqual(jingcobu.product64(n, f, g), jingcobu.product(n, f, g))
             self.assertEqual(jingcobu.resultant64(n, f, g), jingcobu.resultant(n, f, g))
             self.assertEqual(jingcobu.reduced_resultant64(n, f, g).D, jingcobu.reduced_resultant(n, f, g).D)
+
+
+@needs("resultants", "divisors", "resultants64", "divisors64")
+class Many(unittest.TestCase):
+    """Many pairs in one call, against the single calls: sequences, buffers of rows, mixed lengths, both widths, refusals, mistakes."""
+
+    MODULI = MODULI + [2 ** 32, 6 ** 24, 2 ** 63 - 1]
+
+    @staticmethod
+    def rows(F, code):
+        """A two-dimensional buffer of the words."""
+        return memoryview(array(code, [x for f in F for x in f])).cast("B").cast(code, [len(F), len(F[0])])
+
+    def right(self, n, F, G, said=jingcobu.resultants):
+        single = jingcobu.resultant if said is jingcobu.resultants else jingcobu.divisor
+        return [single(n, f, g) for f, g in zip(F, G)]
+
+    def test_drawn(self):
+        generator = random.Random(381)
+        for _ in range(120):
+            n, d, e, count = generator.choice(self.MODULI), generator.randrange(9), generator.randrange(9), generator.randrange(1, 30)
+            F, G = [drawn(generator, n, d) for _ in range(count)], [drawn(generator, n, e) for _ in range(count)]
+            for many in (jingcobu.resultants, jingcobu.divisors):
+                right = self.right(n, F, G, many)
+                self.assertEqual(many(n, F, G), right)
+                self.assertEqual(many(n, tuple(map(tuple, F)), (array("Q", g) for g in G)), right)
+                self.assertEqual(many(n, zip(F, G)), right)
+                for first, second in (("I", "I"), ("Q", "Q"), ("I", "Q"), ("L", "I")):
+                    if n < 2 ** 32 or (first, second) == ("Q", "Q"):
+                        self.assertEqual(many(n, self.rows(F, first), self.rows(G, second)), right)
+                self.assertEqual(many(n, self.rows(F, "Q"), G), right)
+                self.assertEqual(many(n, self.rows(F, "Q").toreadonly(), self.rows(G, "Q").toreadonly()), right)
+
+    def test_small_words_of_a_large_modulus(self):
+        F, G = [[3, 2], [5, 7]], [[1, 4], [0, 1]]
+        self.assertEqual(jingcobu.resultants(2 ** 40, self.rows(F, "I"), self.rows(G, "I")), self.right(2 ** 40, F, G))
+
+    def test_mixed_lengths(self):
+        generator = random.Random(382)
+        for n in (12, 2 ** 31, 3 ** 39):
+            F = [drawn(generator, n, generator.randrange(4)) for _ in range(200)]
+            G = [drawn(generator, n, generator.randrange(4)) for _ in range(200)]
+            for many in (jingcobu.resultants, jingcobu.divisors):
+                self.assertEqual(many(n, F, G), self.right(n, F, G, many))
+
+    def test_lent_without_a_copy(self):
+        words = array("I", [3, 2, 1, 4])
+        view = memoryview(words).cast("B").cast("I", [2, 2])
+        self.assertEqual(_batch.rows_of(view, 32).words.place, words.buffer_info()[0])
+        self.assertNotEqual(_batch.rows_of(view.toreadonly(), 32).words.place, words.buffer_info()[0])
+        words[0] = 7
+        self.assertEqual(jingcobu.resultants(12, view, view), [0, 0])
+        self.assertEqual(words.tolist(), [7, 2, 1, 4])
+
+    def test_no_pairs(self):
+        empty = self.rows([[1, 2]], "I")[:0]
+        for many in (jingcobu.resultants, jingcobu.divisors):
+            for F, G in (([], []), (empty, empty), ([], None), (iter([]), iter([]))):
+                self.assertEqual(many(12, F, G), [])
+                self.assertEqual(many(2 ** 40, F, G), [])
+                for n in (0, 1, 2 ** 63):
+                    with self.assertRaises(Refused) as caught:
+                        many(n, F, G)
+                    self.assertEqual((caught.exception.number, caught.exception.place), (1, None))
+
+    def test_refusals(self):
+        """The first pair that a single call refuses, and nothing of the others."""
+        for n in (5, 2 ** 40):
+            large = [n, 1]
+            for many in (jingcobu.resultants, jingcobu.divisors):
+                for F, G, number, place in (([[1, 1]] * 3, [[1, 1], [1, 1], large], 3, 2), ([[1, 1], large, [1]], [[1], [1], []], 3, 1),
+                                            ([[1], [], large], [[1], [1], [1]], 2, 1), ([[1] * 50] * 2, [[1]] * 2, 2, 0), ([[1], [1]], [[1], [1] * 50], 2, 1)):
+                    with self.assertRaises(Refused) as caught:
+                        many(n, F, G)
+                    self.assertEqual((caught.exception.number, caught.exception.place), (number, place))
+                    if len({*map(len, F)}) == len({*map(len, G)}) == 1:
+                        with self.assertRaises(Refused) as caught:
+                            many(n, self.rows(F, "Q"), self.rows(G, "Q"))
+                        self.assertEqual((caught.exception.number, caught.exception.place), (number, place))
+
+    def test_mistakes(self):
+        many = jingcobu.resultants
+        for bad in (b"12", "12", {1: 2}, {1}, 7, None, memoryview(b"1234").cast("B", [2, 2])):
+            for pair in ((bad, [[1]]), ([[1]], bad)):
+                if pair[1] is None:
+                    continue
+                with self.assertRaisesRegex(TypeError, "^resultants: [FG] is .* not a sequence of polynomials$"):
+                    many(12, *pair)
+        for F, told in (([[1], 7], r"F\[1\] is 7 of type int, not a sequence of integers"), ([[1], b"12"], r"F\[1\] is b'12' of type bytes, not a sequence"),
+                        ([[1], [2.5]], r"F\[1\]\[0\] is 2.5 of type float, not an integer"), ([[1], {2}], r"F\[1\] is \{2\} of type set, not a sequence")):
+            with self.assertRaisesRegex(TypeError, "^resultants: " + told):
+                many(12, F, [[1], [1]])
+        for F, told in (([[1], [2, -3]], r"F\[1\]\[1\] = -3 is not from 0 to 11"), ([[1], [2 ** 64]], r"F\[1\]\[0\] = 18446744073709551616 is not from 0 to 11"),
+                        ([[1]], "F has 1 polynomials, and G has 2")):
+            with self.assertRaisesRegex(ValueError, "^resultants: " + told):
+                many(12, F, [[1], [1]])
+        with self.assertRaisesRegex(ValueError, "^resultants: F has 2 polynomials, and G has 1$"):
+            many(12, self.rows([[1], [2]], "I"), self.rows([[1]], "I"))
+        with self.assertRaisesRegex(ValueError, r"^resultants: G\[0\]\[1\] = -1 is not from 0 to 11$"):
+            many(12, [[1]], memoryview(array("q", [1, -1])).cast("B").cast("q", [1, 2]))
+        self.assertEqual(many(12, [[3, 2]], memoryview(array("q", [1, 4])).cast("B").cast("q", [1, 2])), [2])
+        with self.assertRaisesRegex(TypeError, r"^divisors: pair 1 is \[1\] of type list, not two polynomials$"):
+            jingcobu.divisors(12, [([1], [1]), [1]])
+        with self.assertRaisesRegex(TypeError, "^divisors: n is '12' of type str, not an integer$"):
+            jingcobu.divisors("12", [[1]], [[1]])
+
+    def test_threads(self):
+        generator, n = random.Random(383), 2 ** 31 - 1
+        F, G = ([drawn(generator, n, 8) for _ in range(500)] for _ in range(2))
+        right, found, first, second = self.right(n, F, G), [], self.rows(F, "I"), self.rows(G, "I")
+        threads = [threading.Thread(target=lambda: found.append(jingcobu.resultants(n, first, second))) for _ in range(8)]
+        for thread in threads:
+            thread.start()
+        for thread in threads:
+            thread.join()
+        self.assertEqual(found, [right] * 8)
+
+    @unittest.skipUnless(importlib.util.find_spec("numpy"), "numpy is not installed")
+    def test_numpy(self):
+        import numpy
+        generator = numpy.random.default_rng(38)
+        for n, kind in ((12, "u4"), (2 ** 31, "u4"), (4294967291, "u8"), (2 ** 40, "u8"), (2 ** 63 - 1, "u8"), (97, "i8"), (97, ">u4"), (97, "u2")):
+            F, G = (generator.integers(0, min(n, 2 ** 63 - 1), (50, d), dtype="i8").astype(kind) for d in (9, 7))
+            for many in (jingcobu.resultants, jingcobu.divisors):
+                right = self.right(n, F.tolist(), G.tolist(), many)
+                self.assertEqual(many(n, F, G), right)
+                self.assertEqual(many(n, F[::2], G[::2]), right[::2])
+                self.assertEqual(many(n, numpy.asfortranarray(F), G), right)
+                F.flags.writeable = False
+                self.assertEqual(many(n, F, G), right)
+                self.assertEqual(many(n, list(F), list(G)), right)
+        with self.assertRaises(Refused) as caught:
+            jingcobu.resultants(5, numpy.array([[1, 2], [1, 7]], "u4"), numpy.array([[1], [1]], "u4"))
+        self.assertEqual((caught.exception.number, caught.exception.place), (3, 1))
+        with self.assertRaises(TypeError):
+            jingcobu.resultants(5, numpy.ones((2, 2)), numpy.ones((2, 2)))
 
 
 class Refusals(unittest.TestCase):
@@ -336,7 +473,7 @@ class Refusals(unittest.TestCase):
                 jingcobu.resultant(bad, [1], [1])
 
     def test_mistakes_are_told(self):
-        """What is no polynomial is a TypeError, and what fits no word a ValueError; both say of which function, where and what."""
+        """What is not a polynomial is a TypeError, and what does not fit a word a ValueError; both say of which function, where and what."""
         for bad in (b"\3\2", bytearray(b"\3\2"), {3, 2}, frozenset([3]), {3: 2}, "32", memoryview(b"\3\2"), 7, None, 1.5):
             for name in ("resultant", "reduced_resultant", "divisor", "product", "why", "resultant64", "product64"):
                 for pair in ((bad, [1]), ([1], bad)):
@@ -348,12 +485,13 @@ class Refusals(unittest.TestCase):
                 Factors(12, bad)
         for call, told in (
                 (lambda: jingcobu.resultant(12, [1, 2], [3, -4]), r"resultant: g\[1\] = -4 is not from 0 to 11"),
-                (lambda: jingcobu.divisor(12, [1, 2 ** 32], [3]), r"divisor: f\[1\] = 4294967296 is not from 0 to 11"),
+                (lambda: jingcobu.why(12, [1, 2 ** 32], [3]), r"why: f\[1\] = 4294967296 is not from 0 to 11"),
+                (lambda: jingcobu.divisor(12, [1, 2 ** 64], [3]), r"divisor: f\[1\] = 18446744073709551616 is not from 0 to 11"),
                 (lambda: jingcobu.resultant_two(12, [[1], [-1]], [[1]]), r"resultant_two: f\[1\]\[0\] = -1 is not from 0 to 11"),
                 (lambda: jingcobu.check_claim(12, [1], [1], 1, [-1], [1]), r"check_claim: u\[0\] = -1 is not from 0 to 11"),
                 (lambda: jingcobu.resultant(-7, [1], [1]), "resultant: n = -7 is not from 2 to 9223372036854775807"),
                 (lambda: jingcobu.why(2 ** 40, [1], [1]), "why: n = 1099511627776 is not from 2 to 4294967295; this service has words of 32 bits only"),
-                (lambda: jingcobu.gcd(12, -1, 0), "gcd: a = -1 is not from 0 to 4294967295")):
+                (lambda: jingcobu.gcd(12, -1, 0), "gcd: a = -1 is not from 0 to 11")):
             with self.assertRaisesRegex(ValueError, "^" + told + "$"):
                 call()
         for call, told in (
@@ -372,8 +510,34 @@ class Refusals(unittest.TestCase):
         self.assertEqual(jingcobu.reduced_resultant(n, [3], [5]), jingcobu.reduced_resultant64(n, [3], [5]))
         self.assertEqual(jingcobu.resultant(2 ** 63 - 1, iter([1, 1]), range(2)), jingcobu.resultant64(2 ** 63 - 1, [1, 1], [0, 1]))
         for n, f, number in ((2 ** 63, [1], 1), (12, [2 ** 40], 3), (12, [1] * 50, 2), (2 ** 32, [1] * 50, 2)):
-            for function in (jingcobu.resultant, jingcobu.reduced_resultant, jingcobu.product):
+            for function in (jingcobu.resultant, jingcobu.reduced_resultant, jingcobu.divisor, jingcobu.product):
                 self.refused(number, function, n, f, [1])
+            self.refused(number, jingcobu.true_degree, n, f)
+        self.refused(2, jingcobu.true_degree, n, [])
+        for n, a, b, number in ((2 ** 63, 1, 1, 1), (2 ** 64 - 1, 1, 1, 1), (12, 2 ** 40, 1, 3), (2 ** 40, 1, 2 ** 40, 3), (1, 2 ** 40, 2 ** 40, 1)):
+            self.refused(number, jingcobu.gcd, n, a, b)
+
+    @needs("divisor64", "gcd64", "true_degree64")
+    def test_wide_divisors_gcds_and_degrees(self):
+        """D alone, the gcd and the true degree with words of 64 bits, against the reduced resultant and numbers worked here."""
+        generator = random.Random(38)
+        for _ in range(300):
+            n = generator.choice([2 ** 32, 6 ** 24, 3 ** 39, 2 ** 61 - 1, 3037000493 ** 2, 2 ** 63 - 1])
+            f, g = (drawn(generator, n, generator.randrange(9)) for _ in range(2))
+            self.assertEqual(jingcobu.divisor(n, f, g), jingcobu.reduced_resultant64(n, f, g).D)
+            degrees = [i for i, x in enumerate(f) if x]
+            self.assertEqual(jingcobu.true_degree(n, f), degrees[-1] if degrees else None)
+            a, b = f[0], g[0]
+            found = jingcobu.gcd(n, a, b)
+            common = math.gcd(b, n)
+            self.assertEqual(found.g, math.gcd(a, common))
+            self.assertEqual((found.s * a + found.t * b - found.g) % n, 0)
+            self.assertTrue(found.s < common // found.g and found.t < n // common)  # the least: two that fit differ by these
+        for n in MODULI:
+            f, g = (drawn(generator, n, generator.randrange(9)) for _ in range(2))
+            self.assertEqual(jingcobu.divisor(n, f, g), jingcobu.reduced_resultant64(n, f, g).D)
+            a, b = generator.randrange(n), generator.randrange(n)
+            self.assertEqual(jingcobu.gcd(n, a, b), tuple(x if isinstance(x, int) else x[0] for x in jingcobu.reduced_resultant64(n, [a], [b])))
 
     def test_place(self):
         with self.assertRaises(Refused) as caught:
@@ -632,13 +796,14 @@ class CommandLine(unittest.TestCase):
     def test_every_command(self):
         """Every service has a command; its example runs, and --json is the same answer."""
         covered = {"resultant": "resultant", "reduced_resultant": "reduced", "divisor": "divisor", "resultant_cofactors": "cofactors", "why": "why",
+                   "resultants": "resultants", "divisors": "divisors",
                    "check_claim": "check", "product": "product", "product_word": "word", "true_degree": "degree", "gcd": "gcd", "resultant_two": "two",
                    "shares": "shares", "write_text": "text", "read_text": "text"}
         left = {name for name in _library.SIGNATURES if not name.endswith("64") and not name.startswith("factors_")} - set(covered)
         self.assertEqual(left, set())
         self.assertEqual(set(covered.values()) | {"frame", "frames", "answers"}, set(__main__.COMMANDS))
         for name, command in __main__.COMMANDS.items():
-            if name not in ("answers", "frames"):
+            if name not in ("answers", "frames", "resultants", "divisors"):
                 words = shlex.split(command.example)
                 self.assertTrue(self.run_main(name, *words).strip(), name)
                 self.assertIsInstance(json.loads(self.run_main(name, "--json", *words)), dict)
@@ -648,6 +813,26 @@ class CommandLine(unittest.TestCase):
                             (("shares", "--json", "10", "1", "100", "2", "100"), {"shares": [1, 4, 2, 3]})):
             self.assertEqual(json.loads(self.run_main(*words)), data)
         self.assertEqual(self.run_main("two", "61", "0,x", "1", status=1), "jingcobu two: F, row 0: word 1 is 'x', not an integer\n")
+
+    def test_pairs_of_a_file(self):
+        with tempfile.TemporaryDirectory() as folder:
+            file = Path(folder) / "pairs.txt"
+            file.write_text("2*x + 3 ; 4*x + 1\n\n5;x\n1,2,0 ; x - 1\n")
+            right = [2, 5, jingcobu.resultant(12, [1, 2, 0], [11, 1])]
+            self.assertEqual(self.run_main("resultants", "12", str(file)).split(), [str(x) for x in right])
+            self.assertEqual(json.loads(self.run_main("resultants", "--json", "12", str(file))), {"resultants": right})
+            right = [jingcobu.divisor(12, f, g) for f, g in (([3, 2], [1, 4]), ([5], [0, 1]), ([1, 2, 0], [11, 1]))]
+            self.assertEqual(json.loads(self.run_main("divisors", "--json", "12", str(file))), {"divisors": right})
+            said = subprocess.run([sys.executable, "-m", "jingcobu", "resultants", str(2 ** 62)], input=file.read_text(), capture_output=True, text=True)
+            self.assertEqual(said.stdout.split(), [str(x) for x in jingcobu.resultants(2 ** 62, [[3, 2], [5], [1, 2, 0]], [[1, 4], [0, 1], [2 ** 62 - 1, 1]])])
+            for text, told in (("x ; 1\nx\n", "line 2: F ; G is expected, two polynomials, not 1"), ("x ; 1 ; 2\n", "line 1: F ; G is expected, two polynomials, not 3"),
+                               ("1 ; y\n", "line 1: G: character 1 of 'y': a term is expected: a number, x, or both with * between them"),
+                               ("1;1\n1 ; 1,12\n", "pair 1 refused with 3: " + jingcobu.MEANING[3])):
+                file.write_text(text)
+                self.assertEqual(self.run_main("resultants", "12", str(file), status=1), "jingcobu resultants: %s\n" % told)
+            file.write_text("")
+            self.assertEqual(self.run_main("divisors", "12", str(file)), "")
+            self.assertIn("No such file", self.run_main("divisors", "12", str(file) + "s", status=1))
 
     def test_reduced(self):
         self.assertEqual(self.run_main("reduced", "6", "2", "4"), "D = 2\nu = 0\nv = 2\nu f + v g = 2 modulo 6\n")
@@ -676,7 +861,7 @@ class CommandLine(unittest.TestCase):
             self.assertEqual(self.run_main("answers", str(file)), "resultant 2\nreduced resultant 1\nrefused with 8: the line is not a frame\n"
                              "refused with 10: the top word of f or g is zero\n")
             file.write_text("01000000000\n")
-            self.assertIn("line 1 is no answer line", self.run_main("answers", str(file), status=1))
+            self.assertIn("line 1 is not an answer line", self.run_main("answers", str(file), status=1))
             self.assertIn("No such file", self.run_main("answers", str(file) + "s", status=1))
         for bad in (("other", 5, [1], [1]), ("resultant", 5, [], [1]), ("resultant", 5, [1] * 50, [1]), ("resultant", 2 ** 32, [1], [1])):
             with self.assertRaises(ValueError):
@@ -697,7 +882,7 @@ class CommandLine(unittest.TestCase):
 
     @unittest.skipUnless((ROOT / "build" / "jingcobu-desk").exists(), "build/jingcobu-desk is not there")
     def test_frames_of_a_file(self):
-        """The answers of the frame program; the lines done are told to a terminal and to nothing else."""
+        """The answers of the frame program; the lines done are reported to a terminal and to nothing else."""
         file = str(ROOT / "examples" / "frames")
         right = ["010000000002", "020000000001", "ff0800000000", "ff0800000000"]
         self.assertEqual(self.run_main("frames", file).split(), right)
