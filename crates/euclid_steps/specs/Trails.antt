@@ -47,6 +47,6 @@ pub record Passed (m : Modulus) (h at : ℕ) (w : List ℕ) (T : (ℕ → ℕ) �
   pub falls : Falls (x .d) (x .e) d e (x .c) (x .swap)
   pub moves : Moves (m .n) (x .e - x .d) F′ G′ F G (value m (x .y)) (m .n - value m (x .c)) (m .n - value m (x .k)) (x .swap)
 
-pub Trail : Modulus → ℕ → List ℕ → (ℕ → ℕ) → (ℕ → ℕ) → ℕ → ℕ → ℕ → (ℕ → ℕ) → (ℕ → ℕ) → ℕ → ℕ → Type 0
+unfoldable pub Trail : Modulus → ℕ → List ℕ → (ℕ → ℕ) → (ℕ → ℕ) → ℕ → ℕ → ℕ → (ℕ → ℕ) → (ℕ → ℕ) → ℕ → ℕ → Type 0
 Trail m h w F₀ G₀ d₀ e₀ zero F G d e = (F ≡ F₀) × ((G ≡ G₀) × ((d ≡ d₀) × (e ≡ e₀)))
 Trail m h w F₀ G₀ d₀ e₀ (suc j) F G d e = Passed m h (h + h + 5 * j) w (Trail m h w F₀ G₀ d₀ e₀ j) F G d e

@@ -169,7 +169,7 @@ pub fn step(w: &mut [u32], m: Modulus, x: Stage) -> Stage
 
 // Steps down to degree 0.
 fn finish(w: &mut [u32], m: Modulus, x: Stage) -> Stage
-    requires { ⌜ Known m ⌝ }
+    requires { ⌜ (Known m) × (2 ≤ m .n) ⌝ }
     requires { ⌜ Standing m x (now w) ⌝ }
     ensures { λ r. ⌜ Finished m x (now (w .entry)) r (now (w .exit)) ⌝ }
 {
@@ -182,7 +182,7 @@ fn finish(w: &mut [u32], m: Modulus, x: Stage) -> Stage
 
 // Two steps, where there are so many.
 fn two_steps(w: &mut [u32], m: Modulus, x: Stage) -> Stage
-    requires { ⌜ Known m ⌝ }
+    requires { ⌜ (Known m) × (2 ≤ m .n) ⌝ }
     requires { ⌜ Standing m x (now w) ⌝ }
     ensures { λ r. ⌜ Leads m x (now (w .entry)) r (now (w .exit)) ⌝ }
 {

@@ -1,7 +1,7 @@
 use Rattle.resultant_euclid.proofs.Steps.{began, leads-same, leads-trans}
 use Rattle.resultant_pseudo.proofs.Stepping.{answered}
 use Rattle.modulus.specs.Values.{values}
-use Rattle.resultant_euclid.specs.Running.{meant}
+use Rattle.euclid_steps.specs.Stages.{meant}
 use mathlib.Core.Path.{refl}
 use borrow.Author.Needs.{needs}
 use Rattle.resultant_euclid.proofs.attempt.Statement.{statement}

@@ -1,4 +1,4 @@
-use Rattle.resultant_euclid.proofs.Steps.{asked, around-more, turn-led}
+use Rattle.resultant_euclid.proofs.Steps.{asked, around-more, turn-led, turn-told}
 use native.Mathlib.Omega.{arith}
 use Prim.Native.Nat.{_+_, _-_}
 use mathlib.Core.Path.{refl}
@@ -36,7 +36,7 @@ combine-requires c κs =
     )
 
 returns : tie.Need-returns
-returns c = search (needs, turn-led)
+returns c = (search (needs, turn-led), search (needs, turn-told))
 
 pub turn-step-spec : {M : Type 1} → statement M
 turn-step-spec =
