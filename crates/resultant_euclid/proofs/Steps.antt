@@ -3,7 +3,7 @@
 --   exchanged, turned, dropped               the stage after each step
 --   pair-led, last-led, turn-led, drop-led   where each step leads, from what the word loop wrote
 --   pair-told, last-told, turn-told, drop-told   what each step did
---   asked, asked-here                        what the word loop asks
+--   lead-below, other-below, asked, asked-here   what the word loop asks
 --   standing-values                          what the words stand for stands in the same places
 --   leads-self, leads-trans, leads-same      no step; one after another; the buffer keeps its length
 --   one-is, began                            a run that begins, and where it leads
@@ -11,7 +11,7 @@
 use mathlib.Core.Path.{_≡_, refl, sym, ap, ap₂, subst, _∙_}
 use mathlib.Core.List.{List}
 use mathlib.Core.Logic.{⊎-elim, inl, inr}
-use mathlib.Core.Bool.{true, false}
+use mathlib.Core.Bool.{Bool, true, false}
 use Prim.Native.Nat.{ℕ, _+_, _-_, _*_, _%_, _^_, _≤_, _<_}
 use native.Mathlib.Omega.{arith}
 use native.Mathlib.Nat.{mod-eq-of-lt}
@@ -36,18 +36,19 @@ use Rattle.euclid_steps.specs.declared.Stage.{Stage}
 use Rattle.resultant_euclid.proofs.Moving.{pair-moves, last-moves, turn-moves, drop-moves}
 
 -- ---- the stage after a step: the remainder and f; f and what a turn leaves of g; f without its leading word and g
+-- Where a step leads does not depend on what is kept of it: the last four are any.
 
-abbrev pub exchanged : Stage → ℕ → ℕ → ℕ → ℕ → ℕ → Stage
-exchanged x s p y c k =
-    record { a = x .b; d = x .d - 1; b = x .a; e = x .d; s = s; p = p; t = x .t; y = y; c = c; k = k; swap = true }
+abbrev pub exchanged : Stage → ℕ → ℕ → ℕ → ℕ → ℕ → Bool → Stage
+exchanged x s p y c k z =
+    record { a = x .b; d = x .d - 1; b = x .a; e = x .d; s = s; p = p; t = x .t; y = y; c = c; k = k; swap = z }
 
-abbrev pub turned : Stage → ℕ → ℕ → ℕ → Stage
-turned x p y k =
-    record { a = x .a; d = x .d; b = x .b; e = x .e - 1; s = x .s; p = p; t = x .t; y = y; c = 0; k = k; swap = false }
+abbrev pub turned : Stage → ℕ → ℕ → ℕ → ℕ → Bool → Stage
+turned x p y c k z =
+    record { a = x .a; d = x .d; b = x .b; e = x .e - 1; s = x .s; p = p; t = x .t; y = y; c = c; k = k; swap = z }
 
-abbrev pub dropped : Stage → ℕ → ℕ → ℕ → Stage
-dropped x s t y =
-    record { a = x .a; d = x .d - 1; b = x .b; e = x .e; s = s; p = x .p; t = t; y = y; c = 0; k = 0; swap = false }
+abbrev pub dropped : Stage → ℕ → ℕ → ℕ → ℕ → ℕ → Bool → Stage
+dropped x s t y c k z =
+    record { a = x .a; d = x .d - 1; b = x .b; e = x .e; s = s; p = x .p; t = t; y = y; c = c; k = k; swap = z }
 
 pub around-more : {b l m : ℕ} {w w' : List ℕ} → l ≤ m → Around b l w w' → Around b m w w'
 around-more h ar = record { same = ar .same; low = ar .low; high = λ k g. ar .high k (omega arith) }
@@ -99,9 +100,9 @@ module _ (m : Modulus) (known : Known m) where
     top-none h = sym (at (x .a + x .d)) ∙ ap (value m) h ∙ value-none m known
 
     -- the remainder and f
-    next : (len : ℕ) → len ≤ x .e + 1 → (k s y c q : ℕ) → k < m .n → s < m .n → Around (x .b) len w w' → Below (m .n) (x .b) (x .d) w'
-        → Standing m (exchanged x s k y c q) w'
-    next len l k s y c q lk ls ar be = record {
+    next : (len : ℕ) → len ≤ x .e + 1 → (k s y c q : ℕ) (z : Bool) → k < m .n → s < m .n → Around (x .b) len w w'
+        → Below (m .n) (x .b) (x .d) w' → Standing m (exchanged x s k y c q z) w'
+    next len l k s y c q z lk ls ar be = record {
       placed = next-placed (m .n) (x .a) (x .d) (x .b) (x .e) w w' (st .placed) one (around-more l ar) be;
       s-below = ls;
       p-below = lk;
@@ -128,15 +129,15 @@ module _ (m : Modulus) (known : Known m) where
             ∙ ap₂ (λ (u v : ℕ). u + v + 0 * 0) (ap₂ (λ (u v : ℕ). u * v) (at (x .a + x .d)) (at (x .b + x .d)))
             (ap₂ (λ (u v : ℕ). (m .n - u) * v) (at (x .b + (x .d + 1))) (at (x .a + (x .d - 1)))))
 
-        pub pair-led : (k s : ℕ) → (k < m .n) × (value m k ≡ (value m (x .p) * value m y) % m .n) → (s < m .n)
-            × (value m s ≡ (value m (x .s) * value m k) % m .n) → Stepped m x w (exchanged x s k y p q) w'
-        pair-led k s hk hs =
+        pub pair-led : (k s y′ c′ k′ : ℕ) (o : Bool) → (k < m .n) × (value m k ≡ (value m (x .p) * value m y) % m .n) → (s < m .n)
+            × (value m s ≡ (value m (x .s) * value m k) % m .n) → Stepped m x w (exchanged x s k y′ c′ k′ o) w'
+        pair-led k s y′ c′ k′ o hk hs =
             let z = pair-stepped (m .n) (x .a) (x .d) (x .b) (x .e) (values m w) (values m w') (value m y) (value m p)
             (value m q) in-places one h square upper lower
             (wr .stands) (value m (x .s)) (value m (x .p)) (value m (x .t)) (value m k) (value m s) (hk .1) (hs .1) in
-            (record { standing = next (x .d) (omega arith) k s y p q (hk .0) (hs .0) (wr .around) (wr .below); led = z .0 }, z .1)
+            (record { standing = next (x .d) (omega arith) k s y′ c′ k′ o (hk .0) (hs .0) (wr .around) (wr .below); led = z .0 }, z .1)
 
-        pub pair-told : (k s : ℕ) → Told m x w (exchanged x s k y p q) w'
+        pub pair-told : (k s : ℕ) → Told m x w (exchanged x s k y p q true) w'
         pair-told k s = record {
           around = around-more (omega arith) (wr .around);
           y-below = hy .0;
@@ -144,29 +145,29 @@ module _ (m : Modulus) (known : Known m) where
           k-below = hq .0;
           places = (refl, refl);
           falls = (inl h, (omega arith, refl));
-          moves = pair-moves (m .n) (x .a) (x .d) (x .b) (x .e) (values m w) (values m w') (value m y) (value m p) (value m q) in-places one h
-              square upper lower (wr .stands);
+          moves = pair-moves (m .n) (x .a) (x .d) (x .b) (x .e) (values m w) (values m w') (value m y) (value m p) (value m q) in-places
+              one h square upper lower (wr .stands);
         }
 
     module _ (h : x .e ≡ x .d)
         (wr : Wrote m (combination (m .n) (value m (getD w (x .a + x .d) 0)) 0 (m .n - value m (getD w (x .b + x .d) 0)) (x .a) (x .b)
         (values m w)) (x .b) (x .d) w w') where
-      last-wrote : Written (combination (m .n) (getD (values m w) (x .a + x .d) 0) 0 (m .n - getD (values m w) (x .b + x .d) 0) (x .a) (x .b)
-          (values m w)) (x .b) (x .d) (values m w) (values m w')
+      last-wrote : Written (combination (m .n) (getD (values m w) (x .a + x .d) 0) 0 (m .n - getD (values m w) (x .b + x .d) 0) (x .a)
+          (x .b) (values m w)) (x .b) (x .d) (values m w) (values m w')
       last-wrote =
           written-cong (getD (values m w) (x .a + x .d) 0) 0 (m .n - getD (values m w) (x .b + x .d) 0) (x .a) (values m w)
           (c-eq (at (x .a + x .d))) c-refl (c-eq (ap (λ (u : ℕ). m .n - u) (at (x .b + x .d)))) (wr .stands)
 
-      pub last-led : (k s : ℕ) → (k < m .n) × (value m k ≡ (value m (x .p) * value m (getD w (x .a + x .d) 0)) % m .n)
+      pub last-led : (k s y′ c′ k′ : ℕ) (o : Bool) → (k < m .n) × (value m k ≡ (value m (x .p) * value m (getD w (x .a + x .d) 0)) % m .n)
           → (s < m .n) × (value m s ≡ (value m (x .s) * value m k) % m .n)
-          → Stepped m x w (exchanged x s k (getD w (x .a + x .d) 0) 0 (getD w (x .b + x .d) 0)) w'
-      last-led k s hk hs =
+          → Stepped m x w (exchanged x s k y′ c′ k′ o) w'
+      last-led k s y′ c′ k′ o hk hs =
           let z = last-stepped (m .n) (x .a) (x .d) (x .b) (x .e) (values m w) (values m w') in-places one h last-wrote
           (value m (x .s)) (value m (x .p)) (value m (x .t)) (value m k) (value m s)
           (hk .1 ∙ ap (λ (u : ℕ). (value m (x .p) * u) % m .n) (at (x .a + x .d))) (hs .1) in
-          (record { standing = next (x .d) (omega arith) k s _ _ _ (hk .0) (hs .0) (wr .around) (wr .below); led = z .0 }, z .1)
+          (record { standing = next (x .d) (omega arith) k s y′ c′ k′ o (hk .0) (hs .0) (wr .around) (wr .below); led = z .0 }, z .1)
 
-      pub last-told : (k s : ℕ) → Told m x w (exchanged x s k (getD w (x .a + x .d) 0) 0 (getD w (x .b + x .d) 0)) w'
+      pub last-told : (k s : ℕ) → Told m x w (exchanged x s k (getD w (x .a + x .d) 0) 0 (getD w (x .b + x .d) 0) true) w'
       last-told k s = record {
         around = around-more (omega arith) (wr .around);
         y-below = st .placed .pair .first .at (x .d) (omega arith);
@@ -179,7 +180,7 @@ module _ (m : Modulus) (known : Known m) where
       }
 
     pub drop-told : getD w (x .a + x .d) 0 ≡ 0 → 2 ≤ m .n → (u : ℕ) → (u < m .n) × (value m u ≡ 1 % m .n) → (t s : ℕ)
-        → Told m x w (dropped x s t u) w
+        → Told m x w (dropped x s t u 0 0 false) w
     drop-told h two u hu t s = record {
       around = record { same = refl; low = λ k l. refl; high = λ k l. refl };
       y-below = hu .0;
@@ -191,11 +192,12 @@ module _ (m : Modulus) (known : Known m) where
           (sym (hu .1 ∙ mod-eq-of-lt (omega arith))) less-none;
     }
 
-    pub drop-led : getD w (x .a + x .d) 0 ≡ 0 → (y : ℕ) → value m y ≡ signed (m .n) (x .e) (value m (getD w (x .b + x .e) 0)) → (t s u : ℕ)
+    pub drop-led : getD w (x .a + x .d) 0 ≡ 0 → (y : ℕ) → value m y ≡ signed (m .n) (x .e) (value m (getD w (x .b + x .e) 0))
+        → (t s y′ c′ k′ : ℕ) (o : Bool)
         → (t < m .n) × (value m t ≡ (value m (x .t) * value m y) % m .n) → (s < m .n)
         × (value m s ≡ (value m (x .s) * value m (x .p)) % m .n)
-        → Stepped m x w (dropped x s t u) w
-    drop-led h y hy t s u ht hs =
+        → Stepped m x w (dropped x s t y′ c′ k′ o) w
+    drop-led h y hy t s y′ c′ k′ o ht hs =
         let pl = st .placed in
         let z = drop-stepped (m .n) (x .a) (x .d) (x .b) (x .e) (values m w) in-places one
         (top-none h) (value m y)
@@ -254,7 +256,7 @@ module _ (m : Modulus) (known : Known m) where
           written-cong (getD (values m w) (x .a + x .d) 0) 0 (m .n - getD (values m w) (x .b + x .e) 0) (x .a) (values m w₁)
           (c-eq (at (x .a + x .d))) c-refl (c-eq (ap (λ (u : ℕ). m .n - u) (at (x .b + x .e)))) (wr .stands)
 
-      pub turn-told : (k : ℕ) → Told m x w (turned x k (getD w (x .a + x .d) 0) (getD w (x .b + x .e) 0)) w'
+      pub turn-told : (k : ℕ) → Told m x w (turned x k (getD w (x .a + x .d) 0) 0 (getD w (x .b + x .e) 0) false) w'
       turn-told k = record {
         around = turn-around;
         y-below = st .placed .pair .first .at (x .d) (omega arith);
@@ -266,9 +268,9 @@ module _ (m : Modulus) (known : Known m) where
             turn-wrote _ (m .n - value m 0) _ (sym (at (x .a + x .d))) (less-at (x .b + x .e));
       }
 
-      pub turn-led : (k : ℕ) → (k < m .n) × (value m k ≡ (value m (x .p) * value m (getD w (x .a + x .d) 0)) % m .n)
-          → Stepped m x w (turned x k (getD w (x .a + x .d) 0) (getD w (x .b + x .e) 0)) w'
-      turn-led k hk =
+      pub turn-led : (k y′ c′ k′ : ℕ) (o : Bool) → (k < m .n) × (value m k ≡ (value m (x .p) * value m (getD w (x .a + x .d) 0)) % m .n)
+          → Stepped m x w (turned x k y′ c′ k′ o) w'
+      turn-led k y′ c′ k′ o hk =
           let z = turn-stepped (m .n) (x .a) (x .d) (x .b) (x .e) i (values m w) (values m w₁) (values m w') in-places one lt is turn-scaled
           turn-wrote
           (value m (x .s)) (value m (x .p)) (value m (x .t)) (value m k)
@@ -327,6 +329,12 @@ began {m} {a} {d} {b} {e} {w} {w'} u y two h l =
     (h ∙ mod-eq-of-lt (omega arith)) (l .led)
 
 -- ---- what the code asks
+
+pub lead-below : {n a d b e : ℕ} {w : List ℕ} → Placed n a d b e w → getD w (a + d) 0 < n
+lead-below {d = d} pl = pl .pair .first .at d (omega arith)
+
+pub other-below : {n a d b e : ℕ} {w : List ℕ} → Placed n a d b e w → getD w (b + e) 0 < n
+other-below {e = e} pl = pl .pair .second .at e (omega arith)
 
 -- the word loop, from the place i of g on
 pub asked : (n a d b e c i l q : ℕ) (w w₁ : List ℕ) → Placed n a d b e w → c ≡ b + i → i + d ≤ e + 1 → length w₁ ≡ length w

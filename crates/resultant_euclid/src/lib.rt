@@ -95,7 +95,7 @@ fn last_step(w: &mut [u32], m: Modulus, x: Stage) -> Stage
         y: l,
         c: 0,
         k: c,
-        swap: true,
+        swap: true, // what is left of g is shorter than f
     }
 }
 
@@ -126,7 +126,7 @@ fn turn_step(w: &mut [u32], m: Modulus, x: Stage) -> Stage
         y: l,
         c: 0,
         k: c,
-        swap: false,
+        swap: false, // what is left of g is not
     }
 }
 

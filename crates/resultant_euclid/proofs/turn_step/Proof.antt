@@ -1,4 +1,4 @@
-use Rattle.resultant_euclid.proofs.Steps.{asked, around-more, turn-led, turn-told}
+use Rattle.resultant_euclid.proofs.Steps.{lead-below, other-below, asked, around-more, turn-led, turn-told}
 use native.Mathlib.Omega.{arith}
 use Prim.Native.Nat.{_+_, _-_}
 use mathlib.Core.Path.{refl}
@@ -14,7 +14,7 @@ scale-requires c κs =
     let p = s .pre .1 .0 .placed in (
       s .pre .0,
       (
-        (p .pair .first .at (v .x .d) (omega arith), (omega (arith, p .second), omega (arith, p .second))),
+        (search (needs, lead-below, other-below), (omega (arith, p .second), omega (arith, p .second))),
         record {
           ok =
               λ i j g h e. omega arith;
