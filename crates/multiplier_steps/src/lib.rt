@@ -26,8 +26,9 @@ pub fn bottom(w: &mut [u32], m: Modulus, h: usize, e: usize) -> Found
     requires { ⌜ (e < h) × (h + h ≤ length (now w)) ⌝ }
     ensures { λ r. ⌜ Ended m h e (now (w .entry)) r (now (w .exit)) ⌝ }
 {
+    let one = modulus::enter(m, 1);
     windows::clear(w, 0, h + h);
-    w[0] = modulus::enter(m, 1);
+    w[0] = one;
     Found {
         u: 0,
         v: h,
