@@ -103,11 +103,11 @@ module _ {m : Modulus} {h : ℕ} {x : Logged} {r : Found} {w : List ℕ} (known 
   size : length (values m w) ≡ length w
   size = values-length m w
 
-  pub exchanged : {w' : List ℕ} → x .swap ≡ true
+  exchanged-here : {w' : List ℕ} → x .swap ≡ true
       → Wrote m (combination (m .n) (value m (r .k)) (m .n - value m (x .c)) (m .n - value m (x .k)) (r .u) (r .v) (values m w))
       (r .v) (x .e) w w'
       → Lifted m h x r w (record { u = r .v; v = r .u; k = x .y; d = x .d; e = x .e }) w'
-  exchanged {w'} t wr = record {
+  exchanged-here {w'} t wr = record {
     around = around-wide 0 (h + h) (omega arith) (omega arith) (wr .around);
     held = record {
       room = omega (arith, k .held .room, wr .around .same);
@@ -163,6 +163,15 @@ module _ {m : Modulus} {h : ℕ} {x : Logged} {r : Found} {w : List ℕ} (known 
           (polynomial m w (r .v) h) (polynomial m w' (r .v) h)
       mixed = first-mixed (m .n) h (x .d) (x .e) (m .n - value m (x .c)) (m .n - value m (x .k)) (value m (r .k)) (r .u) (r .v) (values m w)
           (values m w') inside (k .held .apart) (k .high) near β-nil γ-nil (wr .stands)
+
+  -- with the places as equations
+  pub exchanged : {u v : ℕ} {w' : List ℕ} → u ≡ r .v → v ≡ r .u → x .swap ≡ true
+      → Wrote m (combination (m .n) (value m (r .k)) (m .n - value m (x .c)) (m .n - value m (x .k)) (r .u) (r .v) (values m w))
+      (r .v) (x .e) w w'
+      → Lifted m h x r w (record { u = u; v = v; k = x .y; d = x .d; e = x .e }) w'
+  exchanged {u} {v} {w'} p q t wr =
+      subst (λ (y : ℕ). Lifted m h x r w (record { u = y; v = v; k = x .y; d = x .d; e = x .e }) w') (sym p)
+      (subst (λ (y : ℕ). Lifted m h x r w (record { u = r .v; v = y; k = x .y; d = x .d; e = x .e }) w') (sym q) (exchanged-here t wr))
 
   pub raised : {q y one : ℕ} {w' : List ℕ} → 2 ≤ m .n → x .swap ≡ false → Multiplies m (x .k) (r .k) q → Multiplies m (x .y) (r .k) y
       → Enters m 1 one
