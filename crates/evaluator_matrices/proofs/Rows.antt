@@ -96,7 +96,8 @@ module _ {n i h j : ℕ} {m : List (List ℕ)} (z : List ℕ) (a : Reducible n i
     where
       below : (r c : ℕ) → r < 8 → c < 8 → Dec (r ≡ i) → cell (set m i z) r c < n
       below r c p q (yes e) =
-          subst (λ (k : ℕ). cell (set m i z) k c < n) (sym e) (subst (λ (x : ℕ). x < n) (sym (less-at c q)) (mod-lt _ (omega (arith, a .modulus))))
+          subst (λ (k : ℕ). cell (set m i z) k c < n) (sym e)
+          (subst (λ (x : ℕ). x < n) (sym (less-at c q)) (mod-lt _ (omega (arith, a .modulus))))
       below r c p q (no e) = subst (λ (x : ℕ). x < n) (sym (cell-other m i z r c e)) (a .residues .at r c p q)
 
 -- the row j less twice itself is put in at i, and the row i at j
@@ -239,4 +240,6 @@ all-cleared h z = record { combined = h; zero = z }
 
 pub ruleset words = (needs, array-none, less-next, less-end, quotient-fits)
 
-pub ruleset rows = (words, row-reduced, exchanged, combined-none, divisor-first, divisor-second, exchange-asked, turn, falls, swapped, all-cleared)
+pub ruleset turns = (combined-none, divisor-first, divisor-second, exchange-asked, turn, falls, swapped, all-cleared)
+
+pub ruleset rows = (words, row-reduced, exchanged, turns)

@@ -42,8 +42,8 @@ starts-within f g l s one el es =
     let e : l ≡ suc (length f - 1 - (length g - 1)) = el ∙ ap₂ (λ (x y : ℕ). suc (x - y)) (deg-is f) (deg-is g) in
     omega arith
 
-pub quotienting-start : {n i s : ℕ} {f g p q : List ℕ} → QuotientAsked n i f g p → q ≡ replicate (length p) 0 → s ≡ length f - (length g - 1)
-    → Quotienting n s f g q q
+pub quotienting-start : {n i s : ℕ} {f g p q : List ℕ} → QuotientAsked n i f g p → q ≡ replicate (length p) 0
+    → s ≡ length f - (length g - 1) → Quotienting n s f g q q
 quotienting-start {n} {i} {s} {f} {g} {p} {q} a e es =
     let z : (k : ℕ) → coef q k ≡ 0 = λ k. ap (λ (w : List ℕ). coef w k) e ∙ zeros-at (length p) k in
     record {
@@ -209,8 +209,8 @@ divided {n} {i} {f} {g} {p} {q} {r'} r a l qw e =
     division-of n f g q r' (a .modulus) (a .some-g) qw (e ∙ ap (λ (k : ℕ). tabulate k (remainders n f g q)) l)
 
 -- a word of the remainder, as the code makes it
-pub remainder-next : {k k' : ℕ} {r₀ r r' : List ℕ} (n a x y v : ℕ) (f g q : List ℕ) → Filled (remainders n f g q) k r₀ r → k < length r → a ≡ n
-    → x ≡ convolve (coef q) (coef g) k % a → y ≡ coef f k → v ≡ (y + (a - x)) % a → r' ≡ set r k v → k' ≡ k + 1
+pub remainder-next : {k k' : ℕ} {r₀ r r' : List ℕ} (n a x y v : ℕ) (f g q : List ℕ) → Filled (remainders n f g q) k r₀ r → k < length r
+    → a ≡ n → x ≡ convolve (coef q) (coef g) k % a → y ≡ coef f k → v ≡ (y + (a - x)) % a → r' ≡ set r k v → k' ≡ k + 1
     → Filled (remainders n f g q) k' r₀ r'
 remainder-next {k} {k'} {r₀} {r} {r'} n a x y v f g q h l ea ex ey ev er ek =
     rw (er, ek) (filled-step h (omega (arith, h .same))
