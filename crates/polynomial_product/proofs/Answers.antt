@@ -27,7 +27,8 @@ use Rattle.refusals.proofs.Statuses.{replaced-refused}
 use Rattle.refusals.proofs.Cascade.{hit, miss, told, told-not}
 use Rattle.reduction.proofs.Reciprocals.{modulo}
 use Rattle.polynomial_tests.specs.Buffers.{deg-is, placed, Filled, filled-none, filled-step, filled-end}
-use Rattle.polynomial_product.specs.ProductService.{product-refusals, product-status, product-conditions, product-listed, ProductAnswer}
+use Rattle.polynomial_product.specs.ProductService.{product-refusals, product-status, product-conditions, product-listed}
+use Rattle.polynomial_product.specs.ProductService.{ProductAnswer}
 
 -- the sum of the degrees, and the length of the product, as the code has them
 pub degrees-are : (f g : List ℕ) → length f - 1 + (length g - 1) ≡ deg f + deg g
