@@ -1,9 +1,10 @@
 -- What `inverse` returns, at each of its ends.
 --
 --   late, late-accepted              what the code tests after the refusals 1, 2 and 3, and what is known where none of it applies
---   lead-apart, place-apart, lead-at-zero     the test of the leading coefficient and of its place
+--   lead-apart, place-apart, place-far, lead-at-zero     the test of the leading coefficient and of its place
+--   below-by, above-by               the test of a length
 --   inverse-refused, inverse-late, inverse-done     the answers
---   modulus-told, modulus-one, some-told, place-told, place-scaled, length-fits, length-fits-one
+--   modulus-told, modulus-one, some-told, place-told, place-scaled, length-fits, length-fits-one, length-of, length-of-one
 --                                    what is known after the refusals 1, 2 and 3
 --   room-told, inverse-asked         and after the others
 --   tests                            the rules of the refusals
@@ -14,9 +15,9 @@ use Prim.Native.Nat.{ℕ, zero, suc, _+_, _-_, _*_, _^_, _≤_, _<_}
 use native.Mathlib.Nat.{mul-le-mul, sub-zero}
 use native.Mathlib.Numerals.{add-one}
 use native.Mathlib.Omega.{arith}
-use borrow.Author.Tests.{eq-eqb, ne-eqb}
+use borrow.Author.Tests.{eq-eqb, ne-eqb, lt-ltb, le-ltb}
 use borrow.Rule.Slice.PartMut.{midOf, putMid, mid-len}
-use lib.Dec.{T, eqb, leb, leb→le}
+use lib.Dec.{T, eqb, ltb, leb, leb→le, ltb→lt}
 use mir.Syntax.{w64}
 use mir.Val.{Fits}
 use lib.ListN.{length, getD, replicate}
@@ -64,7 +65,17 @@ place-apart g t e h = ap₂ (λ (x y : Bool). not (cond x y false)) (eq-eqb g 1 
 pub lead-at-zero : (g t : ℕ) → g ≡ 1 → t ≡ 0 → not (cond (eqb g 1) (eqb t 0) false) ≡ false
 lead-at-zero g t e h = ap₂ (λ (x y : Bool). not (cond x y false)) (eq-eqb g 1 e) (eq-eqb t 0 h)
 
-pub ruleset tests = (cascade, lead-apart, place-apart, lead-at-zero)
+pub place-far : (g t k : ℕ) → g ≡ 1 → k < t → not (cond (eqb g 1) (eqb t 0) false) ≡ true
+place-far g t k e l = place-apart g t e (omega arith)
+
+-- a length against a bound that is not that of the test
+pub below-by : (l b c : ℕ) → l < c → T (leb c b) → ltb l b ≡ true
+below-by l b c h t = lt-ltb l b (omega (arith, leb→le c b t))
+
+pub above-by : (l b c : ℕ) → c ≤ l → T (leb b c) → ltb l b ≡ false
+above-by l b c h t = le-ltb l b (omega (arith, leb→le b c t))
+
+pub ruleset tests = (cascade, lead-apart, place-apart, place-far, lead-at-zero, below-by, above-by)
 
 late-accepted : (W : Width) (g t lo m l r : ℕ) → r ≡ first-refusal (late W g t lo m l) → r ≡ 0 → InverseAccepted W g t lo m l
 late-accepted W g t lo m l r is z =
@@ -190,12 +201,23 @@ module _ (B n s : ℕ) (f : List ℕ) (is : s ≡ first-refusal (refusals-one (o
       );
     }
 
+  module _ (m k : ℕ) (ek : k ≡ K m) where
+    size-fits : 1 ≤ m → m < 9223372036854775808 → k * (length f - 1) ≤ 2976
+    size-fits one top = length-small m k (length f) one top ek (known .few)
+
+    -- of a modulus that is written out
+    pub length-of : (a b : ℕ) → T (leb 1 m) → T (ltb m 9223372036854775808) → a ≡ k → b ≡ length f - 1 → Fits w64 (a * b)
+    length-of a b one top ea eb = rw (ea, eb) (record { fits = omega (arith, size-fits (leb→le 1 m one) (ltb→lt m _ top)) })
+
+    pub length-of-one : (a b : ℕ) → T (leb 1 m) → T (ltb m 9223372036854775808) → a ≡ k → b ≡ length f - 1 → Fits w64 (a * b + 1)
+    length-of-one a b one top ea eb = rw (ea, eb) (record { fits = omega (arith, size-fits (leb→le 1 m one) (ltb→lt m _ top)) })
+
   module _ (k : ℕ) (ek : k ≡ K n) (big : T (leb B 9223372036854775808)) where
     below-top : n < 9223372036854775808
     below-top = omega (arith, known .bounded, leb→le B 9223372036854775808 big)
 
     small : k * (length f - 1) ≤ 2976
-    small = length-small n k (length f) (omega (arith, known .modulus)) below-top ek (known .few)
+    small = size-fits n k ek (omega (arith, known .modulus)) below-top
 
     pub length-fits : (a b : ℕ) → a ≡ k → b ≡ length f - 1 → Fits w64 (a * b)
     length-fits a b ea eb = rw (ea, eb) (record { fits = omega (arith, small) })
@@ -212,3 +234,5 @@ module _ (B n s : ℕ) (f : List ℕ) (is : s ≡ first-refusal (refusals-one (o
 
 pub room-told : {a b : ℕ} (M g t lo m l r : ℕ) → r ≡ first-refusal (late (of 0 M) g t lo m l) → r ≡ 0 → a ≡ m → b ≡ lo → a ≤ b
 room-told M g t lo m l r er w ea eb = omega (arith, late-accepted (of 0 M) g t lo m l r er w .room)
+
+pub ruleset lengths = (tt, length-fits, length-fits-one, length-of, length-of-one)

@@ -1,7 +1,7 @@
 -- From the words of the working buffer to the inverse: f as it was loaded, and what comes of `window_factor::series_inverse`, for words of
 -- any width.
 --
---   inverse-below, inverse-within, series-room, series-unit     what `window_factor::series_inverse` asks
+--   inverse-below, one-below, inverse-within, series-room, series-unit     what `window_factor::series_inverse` asks
 --   words-wiped, words-inverse                                  what is left
 --   inverses                                                    the rules
 use mathlib.Core.Path.{_≡_, refl, sym, ap, ap₂, subst, _∙_}
@@ -71,6 +71,9 @@ module _ {n i : ℕ} {f out work : List ℕ} (a : InverseAsked n i f out work) w
   pub inverse-below : {i' n' : ℕ} → i' ≡ i → n' ≡ n → i' < n'
   inverse-below ei en = omega (arith, a .inverse .below, a .modulus)
 
+  pub one-below : {n' : ℕ} → n' ≡ n → 1 < n'
+  one-below en = omega (arith, a .modulus)
+
   pub inverse-within : {i' n' : ℕ} → i' ≡ i → n' ≡ n → i' ≤ n'
   inverse-within ei en = omega (arith, a .inverse .below)
 
@@ -97,4 +100,4 @@ module _ {n i : ℕ} {f out work : List ℕ} (a : InverseAsked n i f out work) w
           inverse-of n (length f - 1) i (length out) f work w₁ w₂ _ (a .modulus) fits (a .length-out) (a .room) (a .residues) (a .unit)
           (a .inverse) ld sr ev
 
-pub ruleset inverses = (needs, inverse-below, inverse-within, series-room, series-unit, words-wiped, words-inverse)
+pub ruleset inverses = (needs, inverse-below, one-below, inverse-within, series-room, series-unit, words-wiped, words-inverse)

@@ -1,6 +1,6 @@
 -- What `product` returns, at each of its ends.
 --
---   degrees-are, degrees-over, degrees-within, product-length     the degrees as the code has them
+--   degrees-are, degrees-over, degrees-far, degrees-within, product-length     the degrees as the code has them
 --   some-told                        a polynomial whose length was accepted has a word
 --   product-accepted                 what is known once none of the refusals applies
 --   first-some, second-some, room-told, modulus-told              each part of it, as the code asks for it
@@ -17,7 +17,7 @@ use native.Mathlib.Omega.{arith}
 use borrow.Author.Needs.{needs}
 use borrow.Author.Tests.{lt-ltb, le-ltb}
 use borrow.Rule.Slice.PartMut.{midOf, putMid, mid-len}
-use lib.Dec.{ltb}
+use lib.Dec.{T, ltb, leb, leb→le}
 use lib.ListN.{length, set}
 use Rattle.definitions.specs.Polynomials.{coef, deg, convolve, tabulate, product}
 use Rattle.theory.specs.Words.{length-tabulate}
@@ -36,6 +36,9 @@ degrees-are f g = sym (ap₂ (λ (x y : ℕ). x + y) (deg-is f) (deg-is g))
 
 pub degrees-over : (f g : List ℕ) → 48 < length f - 1 + (length g - 1) → ltb 48 (deg f + deg g) ≡ true
 degrees-over f g h = lt-ltb 48 (deg f + deg g) (subst (λ (x : ℕ). 48 < x) (degrees-are f g) h)
+
+pub degrees-far : (k : ℕ) (f g : List ℕ) → k < length f - 1 + (length g - 1) → T (leb 48 k) → ltb 48 (deg f + deg g) ≡ true
+degrees-far k f g h t = degrees-over f g (omega (arith, leb→le 48 k t))
 
 pub degrees-within : (f g : List ℕ) → length f - 1 + (length g - 1) ≤ 48 → ltb 48 (deg f + deg g) ≡ false
 degrees-within f g h = le-ltb 48 (deg f + deg g) (subst (λ (x : ℕ). x ≤ 48) (degrees-are f g) h)
@@ -109,8 +112,8 @@ module _ (B n s : ℕ) (f g : List ℕ) (l : ℕ) (is : s ≡ product-status (be
   pub second-some : {k : ℕ} → k ≡ length g → 1 ≤ k
   second-some e = omega (arith, known .some-g)
 
-  pub room-told : {j k : ℕ} → j ≡ length f - 1 + (length g - 1) + 1 → k ≡ l → j ≤ k
-  room-told ej ek = omega (arith, known .room)
+  pub room-told : {j k : ℕ} (i : ℕ) → j ≡ length f - 1 + (length g - 1) → T (leb i 1) → k ≡ l → j + i ≤ k
+  room-told i ej li ek = omega (arith, known .room, leb→le i 1 li)
 
   pub modulus-told : {k : ℕ} → k ≡ n → 1 ≤ k
   modulus-told e = omega (arith, known .modulus)
@@ -124,6 +127,6 @@ product-next n a v f g h ev ea l ew ek = rw (ew, ek) (filled-step h (omega (arit
 pub product-end : {F : ℕ → ℕ} {k : ℕ} {w₀ w : List ℕ} → Filled F k w₀ w → k ≤ length w₀ → length w ≤ k → w ≡ tabulate (length w₀) F
 product-end h m l = filled-end h (omega (arith, h .same))
 
-pub ruleset tests = (tt, hit, miss, told, told-not, degrees-over, degrees-within, lacks-room, has-room)
+pub ruleset tests = (tt, hit, miss, told, told-not, degrees-far, degrees-within, lacks-room, has-room)
 
 pub ruleset words = (needs, filled-none, product-next, product-end)
