@@ -65,8 +65,8 @@ pub record Sizes (p b₀ o₀ : List ℕ) (i w : ℕ) (b o m : List ℕ) : Type 
 pub working-lent : (m : List ℕ) → length m ≡ 8192 → Working m → Working (take 8192 m)
 working-lent m e h = subst Working (sym (take-all 8192 m (omega arith))) h
 
-pub working-back : {m : List ℕ} (x : List ℕ) → length m ≡ 8192 → Working x → Working (x ++ postOf 0 8192 m)
-working-back {m} x e h =
+pub working-back : (m x : List ℕ) → length m ≡ 8192 → Working x → Working (x ++ postOf 0 8192 m)
+working-back m x e h =
     subst Working (sym (ap (λ (y : List ℕ). x ++ y) (drop-of-length-le m {i = 8192} (omega arith)) ∙ append-nil x)) h
 
 pub record Going (s p : List ℕ) (i h w : ℕ) (b o₀ o : List ℕ) : Type 0 where
