@@ -1,8 +1,8 @@
 // The runs of a frame's job, each on as many of the working words as it needs: those are wiped, and the others are zeros already.
 //
-//   f, g   the polynomials of the job
-//   work   the working words, all zero before a run and after it
-//   w      the part of them that is lent to a run
+//   f, g      the polynomials of the job
+//   work      the working words, all zero before a run and after it
+//   w, part   the part of them that is lent to a run
 //
 //   ordered      the resultant by Euclid without inverses, where f has no more words than g; or nothing
 //   either       the same either way round
@@ -100,13 +100,13 @@ pub fn resultant(n: u32, f: &[u32], g: &[u32], work: &mut [u32]) -> u32
     odd(n, f, g, work)
 }
 
-fn divisor(w: &mut [u32], n: u32, f: &[u32], g: &[u32]) -> u32
-    requires { ⌜ (2 ≤ n) × DivisorSizes (now f) (now g) (now w) ⌝ }
+fn divisor(part: &mut [u32], n: u32, f: &[u32], g: &[u32]) -> u32
+    requires { ⌜ (2 ≤ n) × DivisorSizes (now f) (now g) (now part) ⌝ }
     ensures { λ r. ⌜ Reduced n (now (f .entry)) (now (g .entry)) r ⌝ }
-    ensures { λ _. ⌜ now (w .exit) ≡ replicate (length (now (w .entry))) 0 ⌝ }
+    ensures { λ _. ⌜ now (part .exit) ≡ replicate (length (now (part .entry))) 0 ⌝ }
 {
-    let value = divisor::run(w, n, f, g);
-    windows::wipe(w);
+    let value = divisor::run(part, n, f, g);
+    windows::wipe(part);
     value
 }
 
