@@ -53,8 +53,8 @@ putting-next {n} {c} {at} {len} {j} {j'} {w} {u₀} {u} {u'} {x} p l e eu ej = r
 })
 
 -- what a word stands for, times c
-pub putting-times : {m : Modulus} {c at len j j' : ℕ} (w : List ℕ) {u₀ u u' : List ℕ} {x : ℕ} → Known m → Putting (m .n) c at len (values m w) u₀ u j
-    → j < len → x ≡ (value m (getD w (at + j) 0) * c) % m .n → u' ≡ set u j x → j' ≡ j + 1
+pub putting-times : {m : Modulus} {c at len j j' : ℕ} (w : List ℕ) {u₀ u u' : List ℕ} {x : ℕ} → Known m
+    → Putting (m .n) c at len (values m w) u₀ u j → j < len → x ≡ (value m (getD w (at + j) 0) * c) % m .n → u' ≡ set u j x → j' ≡ j + 1
     → Putting (m .n) c at len (values m w) u₀ u' j'
 putting-times {m} {c} {at} {len} {j} {j'} w k p l e eu ej = putting-next p l
     (e ∙ ap (λ (y : ℕ). y % m .n) (mul-comm (value m (getD w (at + j) 0)) c ∙ ap (λ (y : ℕ). c * y) (sym (values-at m k w (at + j))))) eu ej
@@ -84,7 +84,8 @@ word-fits {j = j} b l = omega (arith, b .at j l)
 put-times : {n y at len : ℕ} {w v v' : List ℕ} (z K : ℕ) → y ≡ (K * z) % n → Put n y at len w v v' → Put n (z * K) at len w v v'
 put-times {n} {y} {at} {len} {w} z K e p = record {
   same = p .same;
-  words = λ k. p .words k ∙ c-mul (c-trans (c-eq e) (c-trans (c-mod (K * z)) (c-eq (mul-comm K z)))) (c-refl {a = coef (piece w at len) k}) .same;
+  words = λ k. p .words k
+      ∙ c-mul (c-trans (c-eq e) (c-trans (c-mod (K * z)) (c-eq (mul-comm K z)))) (c-refl {a = coef (piece w at len) k}) .same;
 }
 
 pub handed-out : {m : Modulus} {r : Ending} {y z a b : ℕ} {w u v u' v' : List ℕ} → (y < m .n) × (y ≡ (value m (r .k) * z) % m .n)

@@ -65,6 +65,7 @@ pub handed-combination : {m : Modulus} {f g : List ℕ} {r : Ending} {z a b x : 
     → ((j : ℕ) → b ≤ j → polynomial m w (r .v) (length g) j ≡ 0) → x % m .n ≡ (z * value m (r .c)) % m .n
     → Combination (m .n) f g u' v' x
 handed-combination {m} {f} {g} {r} {z} {a} {b} {x} {w} {u} {v} {u'} {v'} pos mu h la lb ea eb hx =
-    bound-scaled (m .n) z (value m (r .k)) (value m (r .c)) x f g u' v' (polynomial m w (r .u) (length g)) (polynomial m w (r .v) (length g)) pos
+    bound-scaled (m .n) z (value m (r .k)) (value m (r .c)) x f g u' v' (polynomial m w (r .u) (length g))
+    (polynomial m w (r .v) (length g)) pos
     (put-all (m .n) z (r .u) a (length g) (values m w) u u' la ea (h .first))
     (put-all (m .n) (z * value m (r .k)) (r .v) b (length g) (values m w) v v' lb eb (h .second)) hx (mu .bound)

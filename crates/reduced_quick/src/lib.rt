@@ -19,8 +19,8 @@ use euclid_steps::Ending;
 use modulus::Modulus;
 use residue::Attempt;
 
-// A last constant that is a unit gives the cofactors of 1 by one inverse: true, and they are in u and v. Otherwise false, and u and v are as
-// found. r is where Euclid ended, h the words of a multiplier.
+// A last constant that is a unit gives the cofactors of 1 by one inverse: true, and they are in u and v. Otherwise false, and u and v are
+// as found. r is where Euclid ended, h the number of words of a multiplier.
 fn settle(u: &mut [u32], v: &mut [u32], w: &[u32], m: Modulus, r: Ending, h: usize) -> bool
     requires { ⌜ HandAsked m r h h (now w) (now u) (now v) ⌝ }
     ensures { λ x. ⌜ Settled m r h (now (w .entry)) (now (u .entry)) (now (v .entry)) (now (u .exit)) (now (v .exit)) x ⌝ }

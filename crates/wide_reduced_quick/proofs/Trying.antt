@@ -21,7 +21,8 @@ certified : (n : ℕ) (f g u v w u' v' : List ℕ) (y : State) (w' : List ℕ) (
 certified n f g u v w u' v' y w' s k l mu inverse pu pv =
     certified-one n f g u v w' w' u' v' s s (y .a + length g) (y .a + (length g + length g)) (k .modulus) (k .some-g) l
     (bound-scaled n s 1 (getD w' (y .a) 0) 1 f g u' v' (coef (piece w' (y .a + length g) (length g)))
-    (coef (piece w' (y .a + (length g + length g)) (length g))) (omega (arith, k .modulus)) (λ j. ap (λ (x : ℕ). x % n) (pu .words j) ∙ mod-mod _ n)
+    (coef (piece w' (y .a + (length g + length g)) (length g))) (omega (arith, k .modulus))
+    (λ j. ap (λ (x : ℕ). x % n) (pu .words j) ∙ mod-mod _ n)
     (λ j. ap (λ (x : ℕ). x % n) (pv .words j) ∙ mod-mod _ n
     ∙ ap (λ (x : ℕ). (x * coef (piece w' (y .a + (length g + length g)) (length g)) j) % n) (sym (mul-one s)))
     (sym inverse) (combination-bound (mu .combination))) pu pv
