@@ -44,39 +44,27 @@ module _ {m : Modulus} {h : ℕ} {x : Logged} {r : Found} {w : List ℕ} (k : Li
   abbrev hd : Held m h (r .d) (r .e) (r .u) (r .v) w
   hd = k .held
 
-  pub exchange-source : r .u + x .e ≤ length w
-  exchange-source = omega (arith, hd .room, hd .under-u, k .high)
-
-  pub exchange-target : r .v + x .e ≤ length w
-  exchange-target = omega (arith, hd .room, hd .under-v, k .high)
-
   pub exchange-apart : Apart (r .u) (x .e) (r .v) (x .e)
-  exchange-apart = record { ok = λ i j p q g. hd .apart .ok i j (omega (arith, k .high)) (omega (arith, k .high)) g }
+  exchange-apart = record { ok = λ i j p q g. hd .apart .ok i j (omega arith) (omega arith) g }
 
   pub exchange-first : Below (m .n) (r .u) (x .e) w
-  exchange-first = record { at = λ i p. hd .below-u .at i (omega (arith, k .high)) }
+  exchange-first = record { at = λ i p. hd .below-u .at i (omega arith) }
 
   pub exchange-second : Below (m .n) (r .v) (x .e) w
-  exchange-second = record { at = λ i p. hd .below-v .at i (omega (arith, k .high)) }
-
-  pub raise-source : r .v + x .d ≤ length w
-  raise-source = omega (arith, hd .room, hd .under-v, k .high, k .near)
-
-  pub raise-target : r .u + (x .e - x .d) + x .d ≤ length w
-  raise-target = omega (arith, hd .room, hd .under-u, k .high, k .near)
+  exchange-second = record { at = λ i p. hd .below-v .at i (omega arith) }
 
   pub raise-apart : Apart (r .v) (x .d) (r .u + (x .e - x .d)) (x .d)
   raise-apart = record {
-    ok = λ i j p q g. hd .apart .ok (x .e - x .d + j) i (omega (arith, k .high, k .near)) (omega (arith, k .high, k .near)) (omega arith);
+    ok = λ i j p q g. hd .apart .ok (x .e - x .d + j) i (omega arith) (omega arith) (omega arith);
   }
 
   pub raise-first : Below (m .n) (r .v) (x .d) w
-  raise-first = record { at = λ i p. hd .below-v .at i (omega (arith, k .high, k .near)) }
+  raise-first = record { at = λ i p. hd .below-v .at i (omega arith) }
 
   pub raise-second : Below (m .n) (r .u + (x .e - x .d)) (x .d) w
   raise-second = record {
     at = λ i p. let j : r .u + (x .e - x .d) + i ≡ r .u + (x .e - x .d + i) = omega arith in
-        subst (λ (y : ℕ). getD w y 0 < m .n) (sym j) (hd .below-u .at (x .e - x .d + i) (omega (arith, k .high, k .near)));
+        subst (λ (y : ℕ). getD w y 0 < m .n) (sym j) (hd .below-u .at (x .e - x .d + i) (omega arith));
   }
 
 -- ---- what a step backwards makes
@@ -115,12 +103,12 @@ module _ {m : Modulus} {h : ℕ} {x : Logged} {r : Found} {w : List ℕ} (known 
   size : length (values m w) ≡ length w
   size = values-length m w
 
-  pub exchanged : {w' : List ℕ} → x .swap ≡ true
+  exchanged-here : {w' : List ℕ} → x .swap ≡ true
       → Wrote m (combination (m .n) (value m (r .k)) (m .n - value m (x .c)) (m .n - value m (x .k)) (r .u) (r .v) (values m w))
       (r .v) (x .e) w w'
       → Lifted m h x r w (record { u = r .v; v = r .u; k = x .y; d = x .d; e = x .e }) w'
-  exchanged {w'} t wr = record {
-    around = around-wide 0 (h + h) (omega arith) (omega (arith, k .held .under-v, k .high)) (wr .around);
+  exchanged-here {w'} t wr = record {
+    around = around-wide 0 (h + h) (omega arith) (omega arith) (wr .around);
     held = record {
       room = omega (arith, k .held .room, wr .around .same);
       under-u = k .held .under-v;
@@ -161,7 +149,7 @@ module _ {m : Modulus} {h : ℕ} {x : Logged} {r : Found} {w : List ℕ} (known 
       inside = omega (arith, size, k .held .room, k .held .under-u)
 
       wide : Around (r .v) h w w'
-      wide = around-wide (r .v) h (omega arith) (omega (arith, k .high)) (wr .around)
+      wide = around-wide (r .v) h (omega arith) (omega arith) (wr .around)
 
       kept : piece (values m w') (r .u) h ≡ piece (values m w) (r .u) h
       kept = first-kept (m .n) h (x .d) (x .e) (m .n - value m (x .c)) (m .n - value m (x .k)) (value m (r .k)) (r .u) (r .v) (values m w)
@@ -176,13 +164,22 @@ module _ {m : Modulus} {h : ℕ} {x : Logged} {r : Found} {w : List ℕ} (known 
       mixed = first-mixed (m .n) h (x .d) (x .e) (m .n - value m (x .c)) (m .n - value m (x .k)) (value m (r .k)) (r .u) (r .v) (values m w)
           (values m w') inside (k .held .apart) (k .high) near β-nil γ-nil (wr .stands)
 
+  -- with the places as equations
+  pub exchanged : {u v : ℕ} {w' : List ℕ} → u ≡ r .v → v ≡ r .u → x .swap ≡ true
+      → Wrote m (combination (m .n) (value m (r .k)) (m .n - value m (x .c)) (m .n - value m (x .k)) (r .u) (r .v) (values m w))
+      (r .v) (x .e) w w'
+      → Lifted m h x r w (record { u = u; v = v; k = x .y; d = x .d; e = x .e }) w'
+  exchanged {u} {v} {w'} p q t wr =
+      subst (λ (y : ℕ). Lifted m h x r w (record { u = y; v = v; k = x .y; d = x .d; e = x .e }) w') (sym p)
+      (subst (λ (y : ℕ). Lifted m h x r w (record { u = r .v; v = y; k = x .y; d = x .d; e = x .e }) w') (sym q) (exchanged-here t wr))
+
   pub raised : {q y one : ℕ} {w' : List ℕ} → 2 ≤ m .n → x .swap ≡ false → Multiplies m (x .k) (r .k) q → Multiplies m (x .y) (r .k) y
       → Enters m 1 one
       → Wrote m (combination (m .n) (value m one) 0 (m .n - value m q) (r .v) (r .u + (x .e - x .d)) (values m w))
       (r .u + (x .e - x .d)) (x .d) w w'
       → Lifted m h x r w (record { u = r .u; v = r .v; k = y; d = x .d; e = x .e }) w'
   raised {q} {y} {one} {w'} more t hq hy hone wr = record {
-    around = around-wide 0 (h + h) (omega arith) (omega (arith, k .held .under-u, k .high, k .near)) (wr .around);
+    around = around-wide 0 (h + h) (omega arith) (omega arith) (wr .around);
     held = record {
       room = omega (arith, k .held .room, wr .around .same);
       under-u = k .held .under-u;
@@ -192,8 +189,8 @@ module _ {m : Modulus} {h : ℕ} {x : Logged} {r : Found} {w : List ℕ} (known 
         at = λ j l. ⊎-elim (λ g. subst (λ (z : ℕ). z < m .n) (sym (wr .around .low (r .u + j) (omega arith))) (k .held .below-u .at j l))
             (λ g. ⊎-elim
             (λ g'. let i : r .u + j ≡ r .u + (x .e - x .d) + (j - (x .e - x .d)) = omega arith in
-            subst (λ (z : ℕ). getD w' z 0 < m .n) (sym i) (wr .below .at (j - (x .e - x .d)) (omega (arith, k .near))))
-            (λ g'. subst (λ (z : ℕ). z < m .n) (sym (wr .around .high (r .u + j) (omega (arith, k .near)))) (k .held .below-u .at j l))
+            subst (λ (z : ℕ). getD w' z 0 < m .n) (sym i) (wr .below .at (j - (x .e - x .d)) (omega arith)))
+            (λ g'. subst (λ (z : ℕ). z < m .n) (sym (wr .around .high (r .u + j) (omega arith))) (k .held .below-u .at j l))
             (lt-or-le j (x .e)))
             (lt-or-le j (x .e - x .d));
       };
@@ -228,7 +225,7 @@ module _ {m : Modulus} {h : ℕ} {x : Logged} {r : Found} {w : List ℕ} (known 
       flipped = record { ok = λ i j p q g. k .held .apart .ok j i q p (sym g) }
 
       wide : Around (r .u) h w w'
-      wide = around-wide (r .u) h (omega arith) (omega (arith, k .high, k .near)) (wr .around)
+      wide = around-wide (r .u) h (omega arith) (omega arith) (wr .around)
 
       unit : value m one ≡ 1
       unit = hone .1 ∙ mod-eq-of-lt (omega arith)
@@ -314,6 +311,6 @@ module _ {m : Modulus} {h e one : ℕ} {w w₁ : List ℕ} (known : Known m) (po
     one = β;
   }
 
-pub ruleset exchanging = (exchange-source, exchange-target, exchange-apart, exchange-first, exchange-second)
+pub ruleset exchanging = (arith, exchange-apart, exchange-first, exchange-second)
 
-pub ruleset raising = (raise-source, raise-target, raise-apart, raise-first, raise-second)
+pub ruleset raising = (arith, raise-apart, raise-first, raise-second)
