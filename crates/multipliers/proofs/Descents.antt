@@ -6,10 +6,10 @@
 --   write-asked         what the log asks
 --   descending-next     one step more
 --   descended           the last step
-use mathlib.Core.Path.{_≡_, refl, sym, _∙_, ap, subst}
+use mathlib.Core.Path.{_≡_, sym, _∙_, ap, subst}
 use mathlib.Core.List.{List}
 use mathlib.Core.Bool.{Bool, true, false}
-use Prim.Native.Nat.{ℕ, zero, suc, _+_, _-_, _*_, _≤_, _<_}
+use Prim.Native.Nat.{ℕ, _+_, _-_, _*_, _≤_, _<_}
 use native.Mathlib.Omega.{arith}
 use lib.ListN.{length, getD}
 use Rattle.definitions.specs.Polynomials.{coef}
@@ -23,14 +23,13 @@ use Rattle.modulus_windows.proofs.Forms.{values-length, values-at}
 use Rattle.resultant_turns.specs.RunLaws.{Run}
 use Rattle.resultant_turns.specs.TurnLaws.{Within}
 use Rattle.resultant_pseudo.specs.Standing.{Placed}
-use Rattle.resultant_euclid.proofs.Steps.{standing-values, leads-self, leads-trans, leads-same}
+use Rattle.resultant_euclid.proofs.Steps.{standing-values, leads-self, leads-trans}
 use Rattle.euclid_steps.specs.declared.Stage.{Stage}
 use Rattle.euclid_steps.specs.declared.Logged.{Logged}
-use Rattle.euclid_steps.specs.Steps.{Falls, Moves}
-use Rattle.euclid_steps.specs.Stages.{Leads, Stepped, Told, Placing, polynomial}
+use Rattle.euclid_steps.specs.Steps.{Moves}
+use Rattle.euclid_steps.specs.Stages.{Leads, Stepped, Told, Placing}
 use Rattle.euclid_steps.specs.Trails.{bit, LoggedAt}
-use Rattle.multipliers.specs.Ways.{DescentAsked, Descending, Descended, stage, TrailTo}
-use Rattle.multipliers.specs.declared.Descent.{Descent}
+use Rattle.multipliers.specs.Ways.{DescentAsked, Descending, Descended, f-at, g-at, TrailTo}
 use Rattle.multipliers.proofs.Trailing.{falls-least, bit-small, trail-kept, trail-next, trail-none}
 
 module _ (m : Modulus) (known : Known m) where
@@ -93,7 +92,7 @@ module _ (m : Modulus) (known : Known m) where
   pub descending-none : (h : ℕ) (x : Stage) (w : List ℕ) → DescentAsked m h x w → Descending m h x w 0 x w
   descending-none h x w k = record {
     leads = leads-self m known (k .standing);
-    trail = trail-none m h w (polynomial m w (x .a) (x .d + 1)) (polynomial m w (x .b) (x .e + 1)) (x .d) (x .e);
+    trail = trail-none m h w (f-at m x w) (g-at m x w) (x .d) (x .e);
     under-a = k .under-a;
     under-b = k .under-b;
     high = k .high;
@@ -140,24 +139,24 @@ module _ {m : Modulus} {h j : ℕ} {x y z : Stage} {w v v₁ v₂ : List ℕ} (k
   second-is : piece (values m v₂) (z .b) (z .e + 1) ≡ piece (values m v₁) (z .b) (z .e + 1)
   second-is = second-kept m known y z v v₁ v₂ (ar .same) (s .0) first second
 
-  moved : Moves (m .n) (y .e - y .d) (polynomial m v (y .a) (y .d + 1)) (polynomial m v (y .b) (y .e + 1))
-      (polynomial m v₂ (z .a) (z .d + 1)) (polynomial m v₂ (z .b) (z .e + 1))
+  moved : Moves (m .n) (y .e - y .d) (f-at m y v) (g-at m y v)
+      (f-at m z v₂) (g-at m z v₂)
       (value m (z .y)) (m .n - value m (z .c)) (m .n - value m (z .k)) (z .swap)
   moved =
-      subst (λ (p : List ℕ). Moves (m .n) (y .e - y .d) (polynomial m v (y .a) (y .d + 1)) (polynomial m v (y .b) (y .e + 1))
-      (coef p) (polynomial m v₂ (z .b) (z .e + 1)) (value m (z .y)) (m .n - value m (z .c)) (m .n - value m (z .k)) (z .swap))
+      subst (λ (p : List ℕ). Moves (m .n) (y .e - y .d) (f-at m y v) (g-at m y v)
+      (coef p) (g-at m z v₂) (value m (z .y)) (m .n - value m (z .c)) (m .n - value m (z .k)) (z .swap))
       (sym first-is)
-      (subst (λ (p : List ℕ). Moves (m .n) (y .e - y .d) (polynomial m v (y .a) (y .d + 1)) (polynomial m v (y .b) (y .e + 1))
-      (polynomial m v₁ (z .a) (z .d + 1)) (coef p) (value m (z .y)) (m .n - value m (z .c)) (m .n - value m (z .k)) (z .swap))
+      (subst (λ (p : List ℕ). Moves (m .n) (y .e - y .d) (f-at m y v) (g-at m y v)
+      (f-at m z v₁) (coef p) (value m (z .y)) (m .n - value m (z .c)) (m .n - value m (z .k)) (z .swap))
       (sym second-is) (t .moves))
 
   trailed : (j' : ℕ) → j' ≡ j + 1 → TrailTo m h x w j' z v₂
   trailed j' is =
-      trail-next m h v₂ (polynomial m w (x .a) (x .d + 1)) (polynomial m w (x .b) (x .e + 1)) (x .d) (x .e) j j'
-      (polynomial m v (y .a) (y .d + 1)) (polynomial m v (y .b) (y .e + 1))
-      (polynomial m v₂ (z .a) (z .d + 1)) (polynomial m v₂ (z .b) (z .e + 1)) (z .d) (z .e) (kept y z)
-      (trail-kept m h v v₂ (polynomial m w (x .a) (x .d + 1)) (polynomial m w (x .b) (x .e + 1)) (x .d) (x .e) j
-      (polynomial m v (y .a) (y .d + 1)) (polynomial m v (y .b) (y .e + 1)) (y .d) (y .e)
+      trail-next m h v₂ (f-at m x w) (g-at m x w) (x .d) (x .e) j j'
+      (f-at m y v) (g-at m y v)
+      (f-at m z v₂) (g-at m z v₂) (z .d) (z .e) (kept y z)
+      (trail-kept m h v v₂ (f-at m x w) (g-at m x w) (x .d) (x .e) j
+      (f-at m y v) (g-at m y v) (y .d) (y .e)
       (λ k p q. ar .low k q ∙ t .around .high k (omega (arith, g .under-b, g .high))) (g .trail))
       lg (one, (near, g .high)) (t .y-below, (t .c-below, t .k-below)) (t .falls) moved is
 

@@ -1,14 +1,14 @@
 -- The whole run.
 --
---   index-asked, bottom-asked    what the end of the steps down asks
---   multiplied                   the multipliers of f and g, and the resultant's equation
-use mathlib.Core.Path.{_≡_, refl, sym, ap, ap₂, _∙_, subst}
+--   multiplied    the multipliers of f and g, and the resultant's equation
+--   scratched     the buffer keeps its length
+use mathlib.Core.Path.{_≡_, refl, sym, ap, _∙_, subst}
 use mathlib.Core.List.{List}
-use Prim.Native.Nat.{ℕ, zero, suc, _+_, _-_, _*_, _%_, _^_, _≤_, _<_}
+use Prim.Native.Nat.{ℕ, _+_, _-_, _*_, _%_, _^_, _≤_, _<_}
 use native.Mathlib.Omega.{arith}
 use lib.ListN.{length, getD}
-use Rattle.numbers.specs.Congruence.{Cong, c-refl, c-trans, c-add, c-mul}
-use Rattle.definitions.specs.Polynomials.{coef, deg, convolve, constant}
+use Rattle.numbers.specs.Congruence.{c-refl, c-add, c-mul}
+use Rattle.definitions.specs.Polynomials.{coef, deg}
 use Rattle.definitions.specs.Resultants.{resultant}
 use Rattle.theory.specs.ReachedSteps.{convolve-mod}
 use Rattle.windows.specs.Window.{Scratch}
@@ -21,23 +21,15 @@ use Rattle.resultant_pseudo.proofs.Stepping.{descended}
 use Rattle.resultant_euclid.proofs.Steps.{standing-values, leads-same}
 use Rattle.euclid_steps.specs.declared.Stage.{Stage}
 use Rattle.euclid_steps.specs.declared.Found.{Found}
-use Rattle.euclid_steps.specs.declared.Ending.{Ending}
 use Rattle.euclid_steps.specs.Steps.{Bound}
 use Rattle.euclid_steps.specs.Stages.{polynomial, meant}
 use Rattle.euclid_steps.specs.Backs.{Ended}
 use Rattle.euclid_steps.specs.Trails.{Trail}
 use Rattle.euclid_steps.specs.Multiplied.{Asked, Multiplied}
-use Rattle.multipliers.specs.Ways.{Started, Descended, Raised, Rising, stage}
+use Rattle.multipliers.specs.Ways.{Started, Descended, Raised, Rising, stage, f-at, g-at}
 use Rattle.multipliers.specs.declared.Descent.{Descent}
 use Rattle.multipliers.proofs.Trailing.{trail-degree}
 use Rattle.multipliers.proofs.Rounds.{bottomed}
-
-pub index-asked : {m : Modulus} {h : ℕ} {x : Stage} {w : List ℕ} {y : Descent} {v : List ℕ} → Descended m h x w y v → y .a < length v
-index-asked g = omega (arith, g .descending .leads .standing .placed .first)
-
-pub bottom-asked : {m : Modulus} {h : ℕ} {x : Stage} {w : List ℕ} {y : Descent} {v : List ℕ} → Descended m h x w y v
-    → (y .e < h) × (h + h ≤ length v)
-bottom-asked g = (g .descending .high, omega (arith, g .descending .room))
 
 -- no step: the pair is the first one
 at-first : (m : Modulus) (h : ℕ) (w : List ℕ) (F₀ G₀ : ℕ → ℕ) (d₀ e₀ : ℕ) (F G : ℕ → ℕ) (d e : ℕ) → Trail m h w F₀ G₀ d₀ e₀ 0 F G d e
@@ -52,10 +44,10 @@ module _ {m : Modulus} {f g w : List ℕ} {x : Stage} {w₁ : List ℕ} {y : Des
   C = value m (getD w₂ (y .a) 0)
 
   abbrev F₀ : ℕ → ℕ
-  F₀ = polynomial m w₁ (x .a) (x .d + 1)
+  F₀ = f-at m x w₁
 
   abbrev G₀ : ℕ → ℕ
-  G₀ = polynomial m w₁ (x .b) (x .e + 1)
+  G₀ = g-at m x w₁
 
   top : Rising m (length g) F₀ G₀ (x .d) (x .e) C 0 r w₄
   top = rs .rising F₀ G₀ (x .d) (x .e) C (bottomed known ds bt)
@@ -131,8 +123,8 @@ module _ {m : Modulus} {f g w : List ℕ} {x : Stage} {w₁ : List ℕ} {y : Des
     equation = ap (λ (i : ℕ). (value m (y .s) * i) % m .n) (sym (st .resultant-is)) ∙ reached .equation
         ∙ ap (λ (i : ℕ). (value m (y .p) * value m (y .t) * i ^ y .e) % m .n)
         (values-at m known w₂ (y .a) ∙ ap (value m) (sym is));
-    degree = λ q. trail-degree m (length g) w₂ F₀ G₀ (x .d) (x .e) (y .steps) (polynomial m w₂ (y .a) (y .d + 1))
-        (polynomial m w₂ (y .b) (y .e + 1)) (y .d) (y .e) (ds .descending .trail) (omega (arith, q, deg-g));
+    degree = λ q. trail-degree m (length g) w₂ F₀ G₀ (x .d) (x .e) (y .steps) (f-at m (stage y) w₂)
+        (g-at m (stage y) w₂) (y .d) (y .e) (ds .descending .trail) (omega (arith, q, deg-g));
   }
 
   pub scratched : Scratch w w₄

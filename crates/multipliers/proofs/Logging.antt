@@ -1,13 +1,13 @@
 -- A step in the log.
 --
---   flag-true, flag-false, bit-none, bit-one    what the log keeps of the degrees
---   logged                                      the five words were written
---   reads-pair, reads-last, reads-turn, reads-drop    the step that the words tell
-use mathlib.Core.Path.{_≡_, refl, sym, _∙_, ap, ap₂, subst}
+--   reads-pair, reads-last, reads-turn, reads-drop        the step that the words tell
+--   bit-swap-none, bit-swap-one, bit-none, bit-one        what is kept of the degrees
+--   log-around, log-stands                                the five words are written, and nothing else
+use mathlib.Core.Path.{_≡_, refl, _∙_, ap, ap₂}
 use mathlib.Core.List.{List}
 use mathlib.Core.Bool.{Bool, true, false}
-use mathlib.Core.Logic.{⊎-elim, _⊎_}
-use Prim.Native.Nat.{ℕ, zero, suc, _+_, _-_, _*_, _≤_, _<_}
+use mathlib.Core.Logic.{⊎-elim}
+use Prim.Native.Nat.{ℕ, _+_, _≤_, _<_}
 use native.Mathlib.Omega.{arith}
 use lib.ListN.{length, getD, set, length-set}
 use lib.Seq.{getD-set-same, getD-set-other}

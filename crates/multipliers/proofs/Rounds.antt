@@ -9,9 +9,8 @@ use mathlib.Core.List.{List}
 use Prim.Native.Nat.{ℕ, zero, suc, _+_, _-_, _*_, _%_, _≤_, _<_}
 use native.Mathlib.Omega.{arith}
 use lib.ListN.{length, getD}
-use Rattle.definitions.specs.Polynomials.{coef, convolve, constant}
+use Rattle.definitions.specs.Polynomials.{convolve, constant}
 use Rattle.theory.specs.ReachedSteps.{convolve-constant}
-use Rattle.windows.specs.Window.{piece}
 use Rattle.windows.proofs.Leaf.{piece-at, piece-over}
 use Rattle.modulus.specs.declared.Modulus.{Modulus}
 use Rattle.modulus.specs.Values.{Known, value, values}
@@ -19,11 +18,11 @@ use Rattle.modulus_windows.proofs.Forms.{values-at}
 use Rattle.euclid_steps.specs.declared.Stage.{Stage}
 use Rattle.euclid_steps.specs.declared.Logged.{Logged}
 use Rattle.euclid_steps.specs.declared.Found.{Found}
-use Rattle.euclid_steps.specs.Steps.{Falls, Bound, bound-lifted}
+use Rattle.euclid_steps.specs.Steps.{bound-lifted}
 use Rattle.euclid_steps.specs.Stages.{polynomial}
 use Rattle.euclid_steps.specs.Backs.{Held, Ended, LiftAsked, Lifted}
-use Rattle.euclid_steps.specs.Trails.{LoggedAt, Passed, Trail}
-use Rattle.multipliers.specs.Ways.{Reads, Descended, Rising, Rises, Raising, stage}
+use Rattle.euclid_steps.specs.Trails.{Passed, Trail}
+use Rattle.multipliers.specs.Ways.{Reads, Descended, Rising, Rises, Raising, stage, f-at, g-at}
 use Rattle.multipliers.specs.declared.Descent.{Descent}
 use Rattle.multipliers.proofs.Trailing.{falls-least, trail-kept}
 
@@ -74,7 +73,8 @@ module _ {m : Modulus} {h : ℕ} {F₀ G₀ : ℕ → ℕ} {d₀ e₀ C j : ℕ}
             G = p .G′;
             trail = subst (λ (d : ℕ). Trail m h v F₀ G₀ d₀ e₀ i (p .F′) (p .G′) d (o .e)) (sym (l .d-is))
                 (subst (λ (e : ℕ). Trail m h v F₀ G₀ d₀ e₀ i (p .F′) (p .G′) (p .x .d) e) (sym (l .e-is))
-                (trail-kept m h w v F₀ G₀ d₀ e₀ i (p .F′) (p .G′) (p .x .d) (p .x .e) (λ q a b. l .around .high q (omega arith)) (p .before)));
+                (trail-kept m h w v F₀ G₀ d₀ e₀ i (p .F′) (p .G′) (p .x .d) (p .x .e) (λ q a b. l .around .high q (omega arith))
+                (p .before)));
             room = omega (arith, k .room, is, l .around .same);
             held = subst (λ (d : ℕ). Held m h d (o .e) (o .u) (o .v) v) (sym (l .d-is))
                 (subst (λ (e : ℕ). Held m h (p .x .d) e (o .u) (o .v) v) (sym (l .e-is)) (l .held));
@@ -90,8 +90,8 @@ module _ {m : Modulus} {h : ℕ} {F₀ G₀ : ℕ → ℕ} {d₀ e₀ C j : ℕ}
 pub raising-none : {m : Modulus} {h j : ℕ} {r : Found} {w : List ℕ} → Raising m h j r w j r w
 raising-none = record { same = refl; rising = λ F₀ G₀ d₀ e₀ C k. k }
 
-module _ {m : Modulus} {h j : ℕ} {r : Found} {w : List ℕ} {i : ℕ} {o : Found} {v : List ℕ} (k : Rises m h j r w) (g : Raising m h j r w i o v)
-    (i' : ℕ) (is : i' ≡ i - 1) (more : 0 < i) where
+module _ {m : Modulus} {h j : ℕ} {r : Found} {w : List ℕ} {i : ℕ} {o : Found} {v : List ℕ} (k : Rises m h j r w)
+    (g : Raising m h j r w i o v) (i' : ℕ) (is : i' ≡ i - 1) (more : 0 < i) where
   next : i ≡ suc i'
   next = omega arith
 
@@ -122,7 +122,7 @@ module _ {m : Modulus} {h : ℕ} {x : Stage} {w : List ℕ} {y : Descent} {v : L
   none k = omega arith
 
   -- the last f is a constant
-  first-is : (k : ℕ) → polynomial m v (y .a) (y .d + 1) k ≡ constant constant-at k
+  first-is : (k : ℕ) → f-at m (stage y) v k ≡ constant constant-at k
   first-is zero = piece-at (values m v) (y .a) (y .d + 1) 0 (omega arith) ∙ ap (λ (i : ℕ). getD (values m v) i 0) (none (y .a))
       ∙ values-at m known v (y .a)
   first-is (suc k) = piece-over (values m v) (y .a) (y .d + 1) (suc k) (omega (arith, g .none))
@@ -145,33 +145,31 @@ module _ {m : Modulus} {h : ℕ} {x : Stage} {w : List ℕ} {y : Descent} {v : L
       turn : (K p q : ℕ) → 1 * p + K * (0 * q) ≡ p
       turn K p q = omega arith
 
-  pub bottomed : Rising m h (polynomial m w (x .a) (x .d + 1)) (polynomial m w (x .b) (x .e + 1)) (x .d) (x .e) constant-at (y .steps) r v'
+  pub bottomed : Rising m h (f-at m x w) (g-at m x w) (x .d) (x .e) constant-at (y .steps) r v'
   bottomed =
       let t = g .descending in
-      let F : ℕ → ℕ = polynomial m v (y .a) (y .d + 1) in
-      let G : ℕ → ℕ = polynomial m v (y .b) (y .e + 1) in
       record {
-        F = F;
-        G = G;
-        trail = subst (λ (d : ℕ). Trail m h v' (polynomial m w (x .a) (x .d + 1)) (polynomial m w (x .b) (x .e + 1)) (x .d) (x .e) (y .steps)
-            F G d (r .e)) (g .none ∙ sym (b .d-is))
-            (subst (λ (e : ℕ). Trail m h v' (polynomial m w (x .a) (x .d + 1)) (polynomial m w (x .b) (x .e + 1)) (x .d) (x .e) (y .steps)
-            F G (y .d) e) (sym (b .e-is))
-            (trail-kept m h v v' (polynomial m w (x .a) (x .d + 1)) (polynomial m w (x .b) (x .e + 1)) (x .d) (x .e) (y .steps) F G (y .d) (y .e)
+        F = f-at m (stage y) v;
+        G = g-at m (stage y) v;
+        trail = subst (λ (d : ℕ). Trail m h v' (f-at m x w) (g-at m x w) (x .d) (x .e) (y .steps) (f-at m (stage y) v) (g-at m (stage y) v)
+            d (r .e)) (g .none ∙ sym (b .d-is))
+            (subst (λ (e : ℕ). Trail m h v' (f-at m x w) (g-at m x w) (x .d) (x .e) (y .steps) (f-at m (stage y) v) (g-at m (stage y) v)
+            (y .d) e) (sym (b .e-is))
+            (trail-kept m h v v' (f-at m x w) (g-at m x w) (x .d) (x .e) (y .steps) (f-at m (stage y) v) (g-at m (stage y) v) (y .d) (y .e)
             (λ q p l. b .around .high q (omega arith)) (t .trail)));
         room = omega (arith, t .room, b .around .same);
         held = subst (λ (d : ℕ). Held m h d (r .e) (r .u) (r .v) v') (sym (b .d-is))
             (subst (λ (e : ℕ). Held m h 0 e (r .u) (r .v) v') (sym (b .e-is)) (b .held));
         k-below = b .k-below;
         bound = record {
-          at = λ k. ap (λ (z : ℕ). z % m .n) (sum F G (value m (r .k)) k ∙ first-is k);
+          at = λ k. ap (λ (z : ℕ). z % m .n) (sum (f-at m (stage y) v) (g-at m (stage y) v) (value m (r .k)) k ∙ first-is k);
         };
       }
 
   pub rises : Rises m h (y .steps) r v'
   rises = record {
-    F₀ = polynomial m w (x .a) (x .d + 1);
-    G₀ = polynomial m w (x .b) (x .e + 1);
+    F₀ = f-at m x w;
+    G₀ = g-at m x w;
     d₀ = x .d;
     e₀ = x .e;
     C = constant-at;

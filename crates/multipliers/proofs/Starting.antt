@@ -1,12 +1,11 @@
 -- The polynomials in the buffer: f from 0 on, g from length g on.
 --
---   load-asked    there is room for g
---   started       what stands there
+--   started    what stands there
 use mathlib.Core.Path.{_≡_, refl, sym, ap, _∙_, subst}
 use mathlib.Core.List.{List}
 use mathlib.Core.Bool.{false}
 use mathlib.Core.Logic.{⊎-elim}
-use Prim.Native.Nat.{ℕ, zero, suc, pred, _+_, _-_, _*_, _%_, _≤_, _<_}
+use Prim.Native.Nat.{ℕ, suc, pred, _+_, _-_, _*_, _%_, _≤_, _<_}
 use native.Mathlib.Omega.{arith}
 use native.Mathlib.Nat.{mod-mod, mod-eq-of-lt}
 use lib.ListN.{length, getD}
@@ -17,13 +16,14 @@ use Rattle.theory.specs.ResultantLaws.{resultant-cong}
 use Rattle.windows.specs.Window.{piece}
 use Rattle.windows.proofs.Leaf.{lt-or-le, piece-at, piece-over, piece-length}
 use Rattle.modulus.specs.declared.Modulus.{Modulus}
-use Rattle.modulus.specs.Values.{Known, Enters, value, values}
+use Rattle.modulus.specs.Values.{Enters, value, values}
 use Rattle.modulus_windows.specs.Standing.{Entered}
 use Rattle.modulus_windows.proofs.Forms.{values-length}
 use Rattle.euclid_steps.specs.Multiplied.{Asked}
 use Rattle.multipliers.specs.Ways.{Started}
 
-module _ (m : Modulus) (f g w w₁ v : List ℕ) (two : 2 ≤ m .n) (k : Asked f g w) (lf : Entered m 0 f w w₁) (lg : Entered m (length g) g w₁ v) where
+module _ (m : Modulus) (f g w w₁ v : List ℕ) (two : 2 ≤ m .n) (k : Asked f g w) (lf : Entered m 0 f w w₁)
+    (lg : Entered m (length g) g w₁ v) where
   same : length v ≡ length w
   same = lg .around .same ∙ lf .around .same
 
@@ -55,8 +55,8 @@ module _ (m : Modulus) (f g w w₁ v : List ℕ) (two : 2 ≤ m .n) (k : Asked f
       subst (λ (x : ℕ). resultant x (piece (values m v) 0 (length f - 1 + 1)) (piece (values m v) (length g) (length g - 1 + 1))
       ≡ resultant x f g) (sym e)
       (resultant-cong n (piece (values m v) 0 (length f - 1 + 1)) f (piece (values m v) (length g) (length g - 1 + 1)) g
-      (ap pred (piece-length (values m v) 0 (length f - 1 + 1) (omega (arith, fits, k .some, k .order, values-length m v)) ∙ size-f))
-      (ap pred (piece-length (values m v) (length g) (length g - 1 + 1) (omega (arith, fits, k .some, k .order, values-length m v)) ∙ size-g))
+      (ap pred (piece-length (values m v) 0 (length f - 1 + 1) (omega (arith, fits, size-g, k .order, values-length m v)) ∙ size-f))
+      (ap pred (piece-length (values m v) (length g) (length g - 1 + 1) (omega (arith, fits, size-g, values-length m v)) ∙ size-g))
       (λ i. subst (λ (x : ℕ). coef (piece (values m v) 0 (length f - 1 + 1)) i % x ≡ coef f i % x) e (first-is i))
       (λ i. subst (λ (x : ℕ). coef (piece (values m v) (length g) (length g - 1 + 1)) i % x ≡ coef g i % x) e (second-is i)))
     where

@@ -16,14 +16,14 @@ use Rattle.modulus.specs.declared.Modulus.{Modulus}
 use Rattle.modulus.specs.Values.{value}
 use Rattle.euclid_steps.specs.declared.Logged.{Logged}
 use Rattle.euclid_steps.specs.Steps.{Falls, Moves}
-use Rattle.euclid_steps.specs.Trails.{bit, LoggedAt, Passed, Trail}
+use Rattle.euclid_steps.specs.Trails.{bit, LoggedAt, Trail}
 
 -- ---- the degrees
 
 pub falls-least : (d e d' e' c : ℕ) (b : Bool) → d ≤ e → Falls d e d' e' c b → (d' ≤ d) × (e' ≤ e)
 falls-least d e d' e' c true l f = (omega (arith, f .1 .0), omega (arith, f .1 .1))
 falls-least d e d' e' c false l f =
-    (⊎-elim (λ p. omega (arith, p .0)) (λ p. omega (arith, p .0)) (f .1), ⊎-elim (λ p. omega (arith, p .1)) (λ p. omega (arith, p .1)) (f .1))
+    ⊎-elim (λ p. (omega (arith, p .0), omega (arith, p .1))) (λ p. (omega (arith, p .0), omega (arith, p .1))) (f .1)
 
 pub falls-degree : (d e d' e' c : ℕ) (b : Bool) → 1 ≤ d → Falls d e d' e' c b → 1 ≤ e'
 falls-degree d e d' e' c true l f = omega (arith, f .1 .1)

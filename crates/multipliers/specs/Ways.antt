@@ -3,9 +3,14 @@
 --   Reads           a step read from the log: the one that was written, whichever it was
 --   DescentAsked    what the steps down ask: the pair in the two windows, and room for the log
 --   stage           where the steps down ended, as a stage
---   Descended       what they promise: what is known of the resultant is led there, and the log is the trail
+--   f-at, g-at      the pair of a stage, as what its words stand for
+--   TrailTo         the log is a trail from the pair of x, with the words w, to that of y, with the words v
+--   Descending      between the steps down: what is known of the resultant is led to y, and the log is the trail
+--   Descended       after the last
 --   Rising          on the way back, i steps from the beginning: the multipliers of the pair there give the constant C
---   Rises, Raised   what the way back asks: some trail; what it promises: of every trail, the multipliers of its first pair
+--   Rises           what the way back asks: some trail
+--   Raising         between the steps back, of every trail: i steps are left
+--   Raised          after the last: the multipliers of the first pair
 --   Started         f and g stand in the buffer, as what they are modulo n
 --
 -- Letters: h is the length of a window; x, y are stages, r, o multipliers, w the words before and v those after.
@@ -16,7 +21,7 @@ use Prim.Native.Nat.{ℕ, _+_, _-_, _*_, _%_, _<_, _≤_}
 use lib.ListN.{length}
 use Rattle.definitions.specs.Polynomials.{coef}
 use Rattle.definitions.specs.Resultants.{resultant}
-use Rattle.windows.specs.Window.{piece, Around}
+use Rattle.windows.specs.Window.{piece}
 use Rattle.modulus.specs.declared.Modulus.{Modulus}
 use Rattle.modulus.specs.Values.{value, values}
 use Rattle.euclid_steps.specs.declared.Stage.{Stage}
@@ -41,13 +46,15 @@ pub record DescentAsked (m : Modulus) (h : ℕ) (x : Stage) (w : List ℕ) : Typ
 abbrev pub stage : Descent → Stage
 stage r = record { a = r .a; d = r .d; b = r .b; e = r .e; s = r .s; p = r .p; t = r .t; y = 0; c = 0; k = 0; swap = false }
 
--- the trail from the pair of x, with the words w, to that of y, with the words v
-abbrev pub TrailTo : Modulus → ℕ → Stage → List ℕ → ℕ → Stage → List ℕ → Type 0
-TrailTo m h x w j y v =
-    Trail m h v (polynomial m w (x .a) (x .d + 1)) (polynomial m w (x .b) (x .e + 1)) (x .d) (x .e) j
-    (polynomial m v (y .a) (y .d + 1)) (polynomial m v (y .b) (y .e + 1)) (y .d) (y .e)
+abbrev pub f-at : Modulus → Stage → List ℕ → ℕ → ℕ
+f-at m x w = polynomial m w (x .a) (x .d + 1)
 
--- between the steps down
+abbrev pub g-at : Modulus → Stage → List ℕ → ℕ → ℕ
+g-at m x w = polynomial m w (x .b) (x .e + 1)
+
+abbrev pub TrailTo : Modulus → ℕ → Stage → List ℕ → ℕ → Stage → List ℕ → Type 0
+TrailTo m h x w j y v = Trail m h v (f-at m x w) (g-at m x w) (x .d) (x .e) j (f-at m y v) (g-at m y v) (y .d) (y .e)
+
 pub record Descending (m : Modulus) (h : ℕ) (x : Stage) (w : List ℕ) (j : ℕ) (y : Stage) (v : List ℕ) : Type 0 where
   pub leads : Leads m x w y v
   pub trail : TrailTo m h x w j y v
@@ -77,7 +84,6 @@ pub record Rises (m : Modulus) (h j : ℕ) (r : Found) (w : List ℕ) : Type 0 w
   pub C : ℕ
   pub rising : Rising m h F₀ G₀ d₀ e₀ C j r w
 
--- i steps are left
 pub record Raising (m : Modulus) (h j : ℕ) (r : Found) (w : List ℕ) (i : ℕ) (o : Found) (v : List ℕ) : Type 0 where
   pub same : length v ≡ length w
   pub rising : (F₀ G₀ : ℕ → ℕ) (d₀ e₀ C : ℕ) → Rising m h F₀ G₀ d₀ e₀ C j r w → Rising m h F₀ G₀ d₀ e₀ C i o v
@@ -93,6 +99,6 @@ pub record Started (m : Modulus) (f g w : List ℕ) (x : Stage) (v : List ℕ) :
   pub s-is : value m (x .s) ≡ 1
   pub p-is : value m (x .p) ≡ 1
   pub t-is : value m (x .t) ≡ 1
-  pub first : (i : ℕ) → polynomial m v (x .a) (x .d + 1) i % m .n ≡ coef f i % m .n
-  pub second : (i : ℕ) → polynomial m v (x .b) (x .e + 1) i % m .n ≡ coef g i % m .n
+  pub first : (i : ℕ) → f-at m x v i % m .n ≡ coef f i % m .n
+  pub second : (i : ℕ) → g-at m x v i % m .n ≡ coef g i % m .n
   pub resultant-is : resultant (m .n) (piece (values m v) (x .a) (x .d + 1)) (piece (values m v) (x .b) (x .e + 1)) ≡ resultant (m .n) f g

@@ -24,7 +24,9 @@ add-read-2 c =
     omega (arith, read-asked (c .before .before .before .before .pre .1) g _ refl (omega arith) .0, g .same)
 
 read-requires : tie.Need-read-requires Inv-loop μ-loop
-read-requires c κs = read-asked (c .before .before .before .before .pre .1) (c .before .before .loop .inv) _ refl (omega arith)
+read-requires c κs =
+    let z = read-asked (c .before .before .before .before .pre .1) (c .before .before .loop .inv) _ refl (omega arith) in
+    (omega (arith, z .0), z .1)
 
 loop-again : tie.Need-loop-again Inv-loop μ-loop
 loop-again c =
