@@ -89,7 +89,8 @@ module _ {s p : List ℕ} {i h w : ℕ} {b o₀ o : List ℕ} (g : Going s p i h
       let line = g .rest ++ part in
       let more = drop (j + 1) p in
       let cut = cut-at p i j (n .least) l (n .at l) in
-      let c : g .rest ++ drop i p ≡ line ++ 10 ∷ more = ap (λ (x : List ℕ). g .rest ++ x) cut ∙ sym (append-assoc (g .rest) part (10 ∷ more)) in
+      let c : g .rest ++ drop i p ≡ line ++ 10 ∷ more =
+      ap (λ (x : List ℕ). g .rest ++ x) cut ∙ sym (append-assoc (g .rest) part (10 ∷ more)) in
       let single : has-newline line ≡ false = none-in-either (g .rest) part (g .held .single) (n .before) in
       record {
         done = g .done ++ line ∷ [];

@@ -1,10 +1,10 @@
 -- Euclid without inverses on words that were loaded, f from 0 on and g after it: its answer is about f and g.
 --
---   found-two, entered-placed     what it asks
---   entered-answer         the same order
---   turned-value           the other order, with the sign (-1)^(d e)
---   turned-below, turned-fits     what the sign asks for
---   value-found            the value
+--   found-two, entered-placed    what it asks
+--   entered-answer               what it answers
+--   turned-value                 the same where g goes first: the sign (-1)^(d e)
+--   turned-below, turned-fits    what the sign asks for
+--   value-found                  the value
 use mathlib.Core.Path.{_≡_, refl, sym, ap, ap₂, subst, _∙_}
 use mathlib.Core.List.{List}
 use mathlib.Core.Logic.{⊎-elim}
@@ -39,7 +39,8 @@ same-words n a f w some at k = ⊎-elim
     (lt-or-le k (length f))
 
 -- and have its degree
-same-degree : (a : ℕ) (f w : List ℕ) → 1 ≤ length f → a + length f ≤ length w → pred (length (piece w a (length f - 1 + 1))) ≡ pred (length f)
+same-degree : (a : ℕ) (f w : List ℕ) → 1 ≤ length f → a + length f ≤ length w
+    → pred (length (piece w a (length f - 1 + 1))) ≡ pred (length f)
 same-degree a f w some fits =
     let e : length f - 1 + 1 ≡ length f = omega arith in
     ap pred (piece-length w a (length f - 1 + 1) (omega arith) ∙ e)

@@ -8,7 +8,8 @@
 //   either       the same either way round
 //   euclid       the same, and the words lent are zeros again
 //   general      the resultant by the general run, which may need all working words
-//   odd          the resultant modulo an odd n: Euclid first, on as many words as f and g have
+//   euclid_first the resultant: Euclid first, on as many words as f and g have
+//   small_prime_divides    where the general run is called at once
 //   resultant    the resultant
 //   divisor      D on the words lent, and they are zeros again
 //   reduced      D, on as many words as its run asks for
@@ -76,7 +77,7 @@ fn general(n: u32, f: &[u32], g: &[u32], work: &mut [u32]) -> u32
     value
 }
 
-fn odd(n: u32, f: &[u32], g: &[u32], work: &mut [u32]) -> u32
+fn euclid_first(n: u32, f: &[u32], g: &[u32], work: &mut [u32]) -> u32
     requires { ⌜ JobAsked n (now f) (now g) (now work) ⌝ }
     ensures { λ r. ⌜ r ≡ resultant n (now (f .entry)) (now (g .entry)) ⌝ }
     ensures { λ _. ⌜ now (work .exit) ≡ replicate (length (now (work .entry))) 0 ⌝ }
@@ -88,16 +89,31 @@ fn odd(n: u32, f: &[u32], g: &[u32], work: &mut [u32]) -> u32
     }
 }
 
-// Modulo an even n some leading word is even nearly always, and Euclid without inverses finds nothing.
+// Whether 2, 3, 5 or 7 divides n. Modulo such an n some leading word is a zero divisor nearly always, and Euclid without inverses finds
+// nothing.
+fn small_prime_divides(n: u32) -> bool {
+    if n % 2 == 0 {
+        return true;
+    }
+    if n % 3 == 0 {
+        return true;
+    }
+    if n % 5 == 0 {
+        return true;
+    }
+    n % 7 == 0
+}
+
+// Whichever way is taken, the value is the resultant.
 pub fn resultant(n: u32, f: &[u32], g: &[u32], work: &mut [u32]) -> u32
     requires { ⌜ JobAsked n (now f) (now g) (now work) ⌝ }
     ensures { λ r. ⌜ r ≡ resultant n (now (f .entry)) (now (g .entry)) ⌝ }
     ensures { λ _. ⌜ now (work .exit) ≡ replicate (length (now (work .entry))) 0 ⌝ }
 {
-    if n % 2 == 0 {
+    if small_prime_divides(n) {
         return general(n, f, g, work);
     }
-    odd(n, f, g, work)
+    euclid_first(n, f, g, work)
 }
 
 fn divisor(part: &mut [u32], n: u32, f: &[u32], g: &[u32]) -> u32

@@ -62,7 +62,8 @@ frame-told {s} {w} {k = k} {d = d} {e = e} {r = r} {v = v} x h ef i q =
       work = q .work ∙ ap (λ (y : ℕ). left y w) (eo .status) ∙ ap (λ (c : Bool). cond c (left (refusal-of s) w) w) (sym ef);
     }
 
-pub told-served : {s m₀ m w w' : List ℕ} {k n d e r v : ℕ} {b : Bool} → Lent s k n d e m₀ w → WordsRead s (d + 1 + (e + 1)) m b → not b ≡ false
+pub told-served : {s m₀ m w w' : List ℕ} {k n d e r v : ℕ} {b : Bool} → Lent s k n d e m₀ w
+    → WordsRead s (d + 1 + (e + 1)) m b → not b ≡ false
     → Served k n (take (d + 1) (take (d + 1 + (e + 1) - 0) m)) (drop (d + 1) (take (d + 1 + (e + 1) - 0) m)) r v w w' → Told s k r v w w'
 told-served {m = m} {d = d} {e = e} {b = b} l p t q =
     let tr = not-false b t in

@@ -55,7 +55,8 @@ first-sent d m = take (d + 1 - 0) m
 abbrev second-sent : ℕ → List ℕ → List ℕ
 second-sent d m = take (length m - (d + 1)) (drop (d + 1) m)
 
-module _ {k : ℕ} (d : ℕ) (m : List ℕ) {n v r : ℕ} {w w' : List ℕ} (e : r ≡ first-refusal (job-refusals n (first-sent d m) (second-sent d m))) where
+module _ {k : ℕ} (d : ℕ) (m : List ℕ) {n v r : ℕ} {w w' : List ℕ}
+    (e : r ≡ first-refusal (job-refusals n (first-sent d m) (second-sent d m))) where
   handed-on : Served k n (first-sent d m) (second-sent d m) r v w w' → Served k n (take (d + 1) m) (drop (d + 1) m) r v w w'
   handed-on p =
       subst (λ (x : List ℕ × List ℕ). Served k n (x .0) (x .1) r v w w') (λ i. (first-handed (d + 1) m i, second-handed (d + 1) m i)) p

@@ -11,8 +11,10 @@ returns : tie.Need-returns
 returns c =
     let at-answer = c .before .before .before .before in
     let start = at-answer .before .before .before .before .before .before .before .before in
-    let e = at-answer .answer .ensures in
-    (λ s k n. part-answered s (start .args .part .now) k (search needs) e, (line-unchanged 0 _ (omega arith), still-working e (search needs)))
+    let e = at-answer .answer .ensures in (
+      λ s k n. part-answered s (start .args .part .now) k (search needs) e,
+      (line-unchanged 0 _ (omega arith), still-working e (search needs)),
+    )
 
 returns-2 : tie.Need-returns-2
 returns-2 c =

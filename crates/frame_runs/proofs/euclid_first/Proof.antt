@@ -1,11 +1,11 @@
 use Rattle.frame_runs.proofs.Entering.{value-found}
 use Rattle.frame_runs.proofs.Lending.{few-back, job-back, all-back}
 use borrow.Author.Needs.{needs}
-use Rattle.frame_runs.proofs.odd.Statement.{statement}
-use Rattle.frame_runs.proofs.odd.Tie as tie
+use Rattle.frame_runs.proofs.euclid_first.Statement.{statement}
+use Rattle.frame_runs.proofs.euclid_first.Tie as tie
 
-pub odd-spec : {M : Type 1} → statement M
-odd-spec =
+pub euclid-first-spec : {M : Type 1} → statement M
+euclid-first-spec =
     tie.close
     (tie.spec
     (λ c. search needs)
