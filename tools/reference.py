@@ -1,5 +1,6 @@
 """What the scripts of tools/ calculate with, each thing once, outside the engine: residues, polynomials modulo n, determinants, the ideal
-of two polynomials, the rows of the table of S90, and the numbers that the trial programs draw and sum up.
+of two polynomials, the rows of the table of S90, the lines that trial programs read and write, and the numbers that some draw and sum
+up.
 
 A polynomial is the list of its words, the constant first. Nothing here is taken from the engine. tools/cofactor_figures.py compares both
 determinants with their definition, tools/residue_figures.py and tools/wide_figures.py the least combinations with a search, and
@@ -8,8 +9,9 @@ import functools, math, os
 from ideal_constants import Ideal, cached_constant, gp, prime_powers, reduced_resultant
 
 __all__ = ['Ideal', 'cached_constant', 'gp', 'prime_powers', 'reduced_resultant', 'STARRED', 'UNSTARRED', 'PRIME', 'drawn', 'mix', 'mixed',
-           'write_cases', 'put_digit', 'put_short', 'put_words', 'put_lent', 'put_working', 'MARK', 'k_of', 'unit', 'radical', 'lead_place', 'kind', 'least_by_inverses', 'least_by_search', 'product', 'divided', 'sylvester',
-           'determinant', 'determinant_modulo', 'resultant']
+           'MARK', 'write_cases', 'put_digit', 'put_short', 'put_words', 'ending', 'put_lent', 'put_working', 'k_of', 'unit', 'radical',
+           'lead_place', 'kind', 'least_by_inverses', 'least_by_search', 'product', 'divided', 'sylvester', 'determinant',
+           'determinant_modulo', 'resultant']
 
 # the table of document 01: the starred rows, and the one without a star
 STARRED = [(7, [1, 1], [2, 1]), (7, [2, 1], [1, 1]), (12, [3, 2], [1, 4]), (4, [1, 2], [3, 2]), (6, [2], [4]), (9, [3], [1, 0, 1]),

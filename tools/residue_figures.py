@@ -53,7 +53,8 @@ def row(service, n, a, count):
 def kind(n, a):
     status = refusal(n, a)
     name, *numbers = ('r', status) if status else reference.kind(powers_of(n), a)
-    return (KIND, n, a, 0), ['kind', max(n.bit_length() - 1, 0), {'u': 'unit', 'n': 'nilpotent', 's': 'splits', 'r': 'refused'}[name], *numbers]
+    word = {'u': 'unit', 'n': 'nilpotent', 's': 'splits', 'r': 'refused'}[name]
+    return (KIND, n, a, 0), ['kind', max(n.bit_length() - 1, 0), word, *numbers]
 
 
 def joined():

@@ -1,7 +1,8 @@
 -- What a turn of each loop keeps. A rule's premises are facts as the code provides them, so that `search turns` finds them.
 --
---   Filled, Passed, front    the invariants, with their start, turn and end
---   turns                    the rules
+--   Filled, Passed    the invariants, with their start, turn and end
+--   front-none, ..    the same of FrontWritten
+--   turns             the rules
 use mathlib.Core.Path.{_≡_, refl, ap, _∙_}
 use mathlib.Core.List.{List, _++_, append-nil}
 use Prim.Native.Nat.{ℕ, _+_, _-_, _≤_, _<_}
@@ -86,4 +87,8 @@ front-next {w₀} {w} {k} v f l = record {
   high = λ j h. getD-set-other w k j v 0 (omega arith) ∙ f .high j (omega arith);
 }
 
-pub ruleset turns = (needs, filled-none, filled-next, filled-end, passed-none, passed-next, passed-found, passed-end, front-none, front-next)
+pub ruleset fills = (filled-none, filled-next, filled-end)
+
+pub ruleset passes = (passed-none, passed-next, passed-found, passed-end)
+
+pub ruleset turns = (needs, fills, passes, front-none, front-next)
