@@ -1,7 +1,7 @@
 // Euclid without inverses with both multipliers, by rows: what it keeps and what it answers. A row has three windows of h words in the
 // lent buffer: a remainder r, then the multipliers u and v with u f + v g = r. Two rows stand at a and at b, with remainders of degrees d
 // and e, d at most e; a step takes multiples of the one row from the other. The laws of its steps, for words of any width, are in proofs/,
-// and what they are about in specs/; the functions are those of `wide_cofactor_euclid`. `multipliers` does without rows.
+// and what they are about in specs/; the functions are those of `wide_cofactor_euclid`. `euclid_multipliers` does without rows.
 //
 //   State    where the rows stand, and what is known of the resultant
 

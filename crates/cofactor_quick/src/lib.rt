@@ -73,7 +73,7 @@ fn ordered(
     ensures { λ r. ⌜ QuickTried (m .n) k (now (f .entry)) (now (g .entry)) (now (u .exit)) (now (v .exit)) r ⌝ }
     ensures { λ _. ⌜ Scratch (now (w .entry)) (now (w .exit)) ⌝ }
 {
-    let x = multipliers::multipliers(w, m, f, g);
+    let x = euclid_multipliers::multipliers(w, m, f, g);
     settle(u, v, w, m, x, k)
 }
 

@@ -1,5 +1,6 @@
 // Euclid without inverses: what its steps keep, forwards on the pair and backwards on the multipliers. The laws of a step, for words of any
-// width and form, are in specs/Steps and specs/Turning; what the functions of `resultant_euclid`, `multiplier_steps` and `multipliers` promise
+// width and form, are in specs/Steps and specs/Turning; what the functions of `resultant_euclid`, `multiplier_steps` and
+// `euclid_multipliers` promise
 // is in specs/Stages, Backs, Trails and Multiplied. No code.
 //
 //   Stage     where the run stands, and the step that led there

@@ -40,7 +40,7 @@ fn ordered(u: &mut [u32], v: &mut [u32], w: &mut [u32], m: Modulus, f: &[u32], g
     ensures { λ r. ⌜ Tried (m .n) (now (f .entry)) (now (g .entry)) (now (u .entry)) (now (v .entry)) (now (u .exit)) (now (v .exit)) r ⌝ }
     ensures { λ _. ⌜ Scratch (now (w .entry)) (now (w .exit)) ⌝ }
 {
-    let r = multipliers::multipliers(w, m, f, g);
+    let r = euclid_multipliers::multipliers(w, m, f, g);
     settle(u, v, w, m, r, g.len())
 }
 

@@ -1,9 +1,9 @@
-use Rattle.multipliers.proofs.Rounds.{rises}
-use Rattle.multipliers.proofs.Finishing.{multiplied, scratched}
+use Rattle.euclid_multipliers.proofs.Rounds.{rises}
+use Rattle.euclid_multipliers.proofs.Finishing.{multiplied, scratched}
 use mathlib.Core.Path.{refl}
 use borrow.Author.Needs.{needs}
-use Rattle.multipliers.proofs.multipliers.Statement.{statement}
-use Rattle.multipliers.proofs.multipliers.Tie as tie
+use Rattle.euclid_multipliers.proofs.multipliers.Statement.{statement}
+use Rattle.euclid_multipliers.proofs.multipliers.Tie as tie
 
 ascend-requires : tie.Need-ascend-requires
 ascend-requires c κs =

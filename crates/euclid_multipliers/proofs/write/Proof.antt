@@ -1,10 +1,10 @@
-use Rattle.multipliers.proofs.Logging.{log-around, log-stands}
+use Rattle.euclid_multipliers.proofs.Logging.{log-around, log-stands}
 use mathlib.Core.Path.{refl}
 use native.Mathlib.Omega.{arith}
 use lib.ListN.{length-set}
 use borrow.Author.Needs.{needs}
-use Rattle.multipliers.proofs.write.Statement.{statement}
-use Rattle.multipliers.proofs.write.Tie as tie
+use Rattle.euclid_multipliers.proofs.write.Statement.{statement}
+use Rattle.euclid_multipliers.proofs.write.Tie as tie
 
 returns : tie.Need-returns
 returns c =

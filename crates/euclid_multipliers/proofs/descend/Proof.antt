@@ -1,11 +1,11 @@
-use Rattle.multipliers.specs.Ways.{Descending}
-use Rattle.multipliers.proofs.Descents.{descending-none, write-asked, descending-next, descended}
+use Rattle.euclid_multipliers.specs.Ways.{Descending}
+use Rattle.euclid_multipliers.proofs.Descents.{descending-none, write-asked, descending-next, descended}
 use Rattle.resultant_euclid.proofs.Steps.{leads-same}
 use Prim.Native.Nat.{_+_}
 use native.Mathlib.Omega.{arith}
 use borrow.Author.Needs.{needs}
-use Rattle.multipliers.proofs.descend.Statement.{statement}
-use Rattle.multipliers.proofs.descend.Tie as tie
+use Rattle.euclid_multipliers.proofs.descend.Statement.{statement}
+use Rattle.euclid_multipliers.proofs.descend.Tie as tie
 
 abbrev Inv-loop : tie.InvT-loop
 Inv-loop w₀ m h y₀ j₀ w y j = Descending m h y₀ w₀ j y w

@@ -15,8 +15,8 @@ use Rattle.windows.specs.Window.{Around}
 use Rattle.euclid_steps.specs.declared.Logged.{Logged}
 use Rattle.euclid_steps.specs.Steps.{Falls}
 use Rattle.euclid_steps.specs.Trails.{flag, bit, LoggedAt}
-use Rattle.multipliers.specs.Ways.{Reads}
-use Rattle.multipliers.proofs.Trailing.{bit-small}
+use Rattle.euclid_multipliers.specs.Ways.{Reads}
+use Rattle.euclid_multipliers.proofs.Trailing.{bit-small}
 
 logged-same : (r x : Logged) → r .d ≡ x .d → r .e ≡ x .e → r .y ≡ x .y → r .c ≡ x .c → r .k ≡ x .k → r .swap ≡ x .swap → r ≡ x
 logged-same r x hd he hy hc hk hs =

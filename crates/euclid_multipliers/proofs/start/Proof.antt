@@ -1,7 +1,7 @@
-use Rattle.multipliers.proofs.Starting.{started}
+use Rattle.euclid_multipliers.proofs.Starting.{started}
 use borrow.Author.Needs.{needs}
-use Rattle.multipliers.proofs.start.Statement.{statement}
-use Rattle.multipliers.proofs.start.Tie as tie
+use Rattle.euclid_multipliers.proofs.start.Statement.{statement}
+use Rattle.euclid_multipliers.proofs.start.Tie as tie
 
 pub start-spec : {M : Type 1} → statement M
 start-spec =

@@ -20,7 +20,7 @@ use Rattle.modulus.specs.Values.{Enters, value, values}
 use Rattle.modulus_windows.specs.Standing.{Entered}
 use Rattle.modulus_windows.proofs.Forms.{values-length}
 use Rattle.euclid_steps.specs.Multiplied.{Asked}
-use Rattle.multipliers.specs.Ways.{Started}
+use Rattle.euclid_multipliers.specs.Ways.{Started}
 
 module _ (m : Modulus) (f g w w₁ v : List ℕ) (two : 2 ≤ m .n) (k : Asked f g w) (lf : Entered m 0 f w w₁)
     (lg : Entered m (length g) g w₁ v) where

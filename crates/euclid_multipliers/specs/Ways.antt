@@ -31,7 +31,7 @@ use Rattle.euclid_steps.specs.Steps.{Falls, Bound}
 use Rattle.euclid_steps.specs.Stages.{Standing, Leads, polynomial}
 use Rattle.euclid_steps.specs.Backs.{Held}
 use Rattle.euclid_steps.specs.Trails.{LoggedAt, Trail}
-use Rattle.multipliers.specs.declared.Descent.{Descent}
+use Rattle.euclid_multipliers.specs.declared.Descent.{Descent}
 
 pub record Reads (at d e : ℕ) (w : List ℕ) (r : Logged) : Type 0 where
   pub is : (x : Logged) → LoggedAt at e x w → Falls (x .d) (x .e) d e (x .c) (x .swap) → r ≡ x

@@ -1,11 +1,11 @@
-use Rattle.multipliers.specs.Ways.{Raising}
-use Rattle.multipliers.proofs.Rounds.{read-asked, lift-asked, raising-none, raising-next}
+use Rattle.euclid_multipliers.specs.Ways.{Raising}
+use Rattle.euclid_multipliers.proofs.Rounds.{read-asked, lift-asked, raising-none, raising-next}
 use mathlib.Core.Path.{refl, subst}
 use Prim.Native.Nat.{ℕ}
 use native.Mathlib.Omega.{arith}
 use borrow.Author.Needs.{needs}
-use Rattle.multipliers.proofs.ascend.Statement.{statement}
-use Rattle.multipliers.proofs.ascend.Tie as tie
+use Rattle.euclid_multipliers.proofs.ascend.Statement.{statement}
+use Rattle.euclid_multipliers.proofs.ascend.Tie as tie
 
 abbrev Inv-loop : tie.InvT-loop
 Inv-loop w₀ m h j o₀ i₀ w o i = Raising m h j o₀ w₀ i o w

@@ -22,9 +22,9 @@ use Rattle.euclid_steps.specs.Steps.{bound-lifted}
 use Rattle.euclid_steps.specs.Stages.{polynomial}
 use Rattle.euclid_steps.specs.Backs.{Held, Ended, LiftAsked, Lifted}
 use Rattle.euclid_steps.specs.Trails.{Passed, Trail}
-use Rattle.multipliers.specs.Ways.{Reads, Descended, Rising, Rises, Raising, stage, f-at, g-at}
-use Rattle.multipliers.specs.declared.Descent.{Descent}
-use Rattle.multipliers.proofs.Trailing.{falls-least, trail-kept}
+use Rattle.euclid_multipliers.specs.Ways.{Reads, Descended, Rising, Rises, Raising, stage, f-at, g-at}
+use Rattle.euclid_multipliers.specs.declared.Descent.{Descent}
+use Rattle.euclid_multipliers.proofs.Trailing.{falls-least, trail-kept}
 
 -- the last step of a trail
 passed : (m : Modulus) (h : ℕ) (w : List ℕ) (F₀ G₀ : ℕ → ℕ) (d₀ e₀ i j : ℕ) (F G : ℕ → ℕ) (d e : ℕ) → j ≡ suc i

@@ -1,7 +1,7 @@
-use Rattle.multipliers.proofs.Logging.{reads-pair, reads-last, reads-turn, reads-drop}
+use Rattle.euclid_multipliers.proofs.Logging.{reads-pair, reads-last, reads-turn, reads-drop}
 use borrow.Author.Needs.{needs}
-use Rattle.multipliers.proofs.read.Statement.{statement}
-use Rattle.multipliers.proofs.read.Tie as tie
+use Rattle.euclid_multipliers.proofs.read.Statement.{statement}
+use Rattle.euclid_multipliers.proofs.read.Tie as tie
 
 pub read-spec : {M : Type 1} → statement M
 read-spec =

@@ -26,10 +26,10 @@ use Rattle.euclid_steps.specs.Stages.{polynomial, meant}
 use Rattle.euclid_steps.specs.Backs.{Ended}
 use Rattle.euclid_steps.specs.Trails.{Trail}
 use Rattle.euclid_steps.specs.Multiplied.{Asked, Multiplied}
-use Rattle.multipliers.specs.Ways.{Started, Descended, Raised, Rising, stage, f-at, g-at}
-use Rattle.multipliers.specs.declared.Descent.{Descent}
-use Rattle.multipliers.proofs.Trailing.{trail-degree}
-use Rattle.multipliers.proofs.Rounds.{bottomed}
+use Rattle.euclid_multipliers.specs.Ways.{Started, Descended, Raised, Rising, stage, f-at, g-at}
+use Rattle.euclid_multipliers.specs.declared.Descent.{Descent}
+use Rattle.euclid_multipliers.proofs.Trailing.{trail-degree}
+use Rattle.euclid_multipliers.proofs.Rounds.{bottomed}
 
 -- no step: the pair is the first one
 at-first : (m : Modulus) (h : ℕ) (w : List ℕ) (F₀ G₀ : ℕ → ℕ) (d₀ e₀ : ℕ) (F G : ℕ → ℕ) (d e : ℕ) → Trail m h w F₀ G₀ d₀ e₀ 0 F G d e

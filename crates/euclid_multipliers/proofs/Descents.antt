@@ -29,8 +29,8 @@ use Rattle.euclid_steps.specs.declared.Logged.{Logged}
 use Rattle.euclid_steps.specs.Steps.{Moves}
 use Rattle.euclid_steps.specs.Stages.{Leads, Stepped, Told, Placing}
 use Rattle.euclid_steps.specs.Trails.{bit, LoggedAt}
-use Rattle.multipliers.specs.Ways.{DescentAsked, Descending, Descended, f-at, g-at, TrailTo}
-use Rattle.multipliers.proofs.Trailing.{falls-least, bit-small, trail-kept, trail-next, trail-none}
+use Rattle.euclid_multipliers.specs.Ways.{DescentAsked, Descending, Descended, f-at, g-at, TrailTo}
+use Rattle.euclid_multipliers.proofs.Trailing.{falls-least, bit-small, trail-kept, trail-next, trail-none}
 
 module _ (m : Modulus) (known : Known m) where
   pub piece-kept : (w v : List ℕ) (a l : ℕ) → length v ≡ length w → a + l ≤ length w

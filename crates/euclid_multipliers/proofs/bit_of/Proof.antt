@@ -1,7 +1,7 @@
-use Rattle.multipliers.proofs.Logging.{bit-swap-none, bit-swap-one, bit-none, bit-one}
+use Rattle.euclid_multipliers.proofs.Logging.{bit-swap-none, bit-swap-one, bit-none, bit-one}
 use borrow.Author.Needs.{needs}
-use Rattle.multipliers.proofs.bit_of.Statement.{statement}
-use Rattle.multipliers.proofs.bit_of.Tie as tie
+use Rattle.euclid_multipliers.proofs.bit_of.Statement.{statement}
+use Rattle.euclid_multipliers.proofs.bit_of.Tie as tie
 
 pub bit-of-spec : {M : Type 1} → statement M
 bit-of-spec =
