@@ -1,6 +1,6 @@
 #!/usr/bin/env python3
-"""Writes the cases of the test program `polynomial_trial` and what it must answer, made outside the engine: crates/polynomial_trial/stdin, a
-case per line (the service, n, the lengths of f and g, of both results and of the working words, the words of f and of g), and
+"""Writes the cases of the test program `polynomial_trial` and what it must answer, made outside the engine: crates/polynomial_trial/stdin,
+a case per line (the service, n, the lengths of f and g, of both results and of the working words, the words of f and of g), and
 crates/polynomial_trial/stdout, an answer per line.
 
 First the worked examples of S91 and the ends of the range; then for each service every refusal, alone and with all that come after it, and
@@ -9,7 +9,8 @@ First the worked examples of S91 and the ends of the range; then for each servic
 Every figure comes from whole numbers of any size and by another method than the engine's: products by convolution, quotients by long
 division from the top, unit and monic part by lifting them from the radical of n, inverses by the geometric series."""
 import functools, random
-from reference import MARK, divided, k_of, lead_place, prime_powers, product, put_lent, put_words, put_working, radical, unit, write_cases
+from reference import (MARK, divided, k_of, lead_place, prime_powers, product, put_lent, put_words, put_working, radical, unit,
+                       write_cases)
 
 SEED = 20261116
 WORKING = 8192
@@ -178,7 +179,8 @@ class Case:
         n, f, g, s = self.n, self.f, self.g, self.service
         if s == DEGREE:
             refused = refusal(n, [f])
-            return ['degree'] + (['refused', refused] if refused else [extent(f) - 1] if extent(f) else ['none']) + [put_words(leading(n, f))]
+            found = ['refused', refused] if refused else [extent(f) - 1] if extent(f) else ['none']
+            return ['degree', *found, put_words(leading(n, f))]
         a, b, work = [MARK] * self.a, [MARK] * self.b, [MARK] * self.w
         if s == PRODUCT:
             value, status = product_service(n, f, g, a)
@@ -246,7 +248,13 @@ def base(service):
 def faults(service):
     """What can be wrong, in the order of the refusals: each is a change of a case."""
     put = lambda name, value: lambda c: setattr(c, name, value)
-    high = lambda name: lambda c: setattr(c, name, [36 if 2 * i == len(getattr(c, name)) // 2 * 2 else x for i, x in enumerate(getattr(c, name))])
+
+    def high(name):
+        def change(c):
+            words = getattr(c, name)
+            setattr(c, name, words[:len(words) // 2] + [36] + words[len(words) // 2 + 1:])
+        return change
+
     two = service in (PRODUCT, DIVISION, WORDS)
     found = [put('n', n) for n in (0, 1)] + [put('f', []), put('f', [1] * 50)] + ([put('g', []), put('g', [1] * 50)] if two else [])
     if service in (PRODUCT, WORDS):
