@@ -3,8 +3,8 @@ use borrow.Author.Needs.{needs}
 use Rattle.multiplier_steps.proofs.exchange.Statement.{statement}
 use Rattle.multiplier_steps.proofs.exchange.Tie as tie
 
-combine-pair-requires : tie.Need-combine-pair-requires
-combine-pair-requires c κs = (
+combine-back-requires : tie.Need-combine-back-requires
+combine-back-requires c κs = (
   search exchanging,
   (
     (search exchanging, (search exchanging, (search exchanging, (search exchanging, search exchanging)))),
@@ -16,4 +16,4 @@ returns : tie.Need-returns
 returns c = search (needs, exchanged)
 
 pub exchange-spec : {M : Type 1} → statement M
-exchange-spec = tie.close (tie.spec combine-pair-requires (λ c. search needs) returns)
+exchange-spec = tie.close (tie.spec combine-back-requires (λ c. search needs) returns)
