@@ -137,22 +137,23 @@ fn descend(w: &mut [u32], m: Modulus, h: usize, x: Stage) -> Descent
     let mut y = x;
     let mut j: usize = 0;
     while 0 < y.d {
-        let z = resultant_euclid::step(w, m, y);
+        let d = y.d;
+        let e = y.e;
+        y = resultant_euclid::step(w, m, y);
         write(
             w,
             h + h + 5 * j,
             Logged {
-                d: y.d,
-                e: y.e,
-                y: z.y,
-                c: z.c,
-                k: z.k,
-                swap: z.swap,
+                d,
+                e,
+                y: y.y,
+                c: y.c,
+                k: y.k,
+                swap: y.swap,
             },
-            z.e,
+            y.e,
         );
         j += 1;
-        y = z;
     }
     Descent {
         a: y.a,
