@@ -54,3 +54,11 @@ static inline spread spread_of(double *t, int count)
     qsort(t, count, sizeof(double), by_size);
     return (spread) { t[0], t[count / 2], t[count - 1] };
 }
+
+/* pairs with zero divisors: our times, the others' and their ratios, in the median and at their ends */
+static inline void print_zero_divisors(const char *name, int d, double *ratio, double *ours, double *theirs, int count)
+{
+    spread times = spread_of(ratio, count), x = spread_of(ours, count), y = spread_of(theirs, count);
+    printf("n = %s, d = e = %d, zero divisors: resultant %.1f us in the median, %.1f at the most; FLINT fmpz_poly_resultant modulo n %.0f us, "
+           "%.0f; %.1f times our time in the median, %.1f at the least\n", name, d, x.median, x.most, y.median, y.most, times.median, times.least);
+}

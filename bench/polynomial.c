@@ -64,21 +64,18 @@ static uint32_t inverse(uint32_t n, uint32_t a)
     return x == 1 ? (uint32_t) (s < 0 ? s + n : s) : 0;
 }
 
-static __attribute__((noinline)) int c_product(uint32_t n, const uint32_t *f, size_t fl, const uint32_t *g, size_t gl, uint32_t *out, size_t ol)
+/* The word of a product at one place, by either of the two ways above: each product and each division below is written once over it. */
+typedef uint32_t word_of(uint32_t n, const uint32_t *f, size_t fl, const uint32_t *g, size_t gl, size_t k);
+#define ONCE static inline __attribute__((always_inline))
+
+ONCE int product_by(word_of *at, uint32_t n, const uint32_t *f, size_t fl, const uint32_t *g, size_t gl, uint32_t *out, size_t ol)
 {
     if (n < 2 || fl < 1 || fl > 49 || gl < 1 || gl > 49 || fl + gl - 2 > 48 || !below(n, f, fl) || !below(n, g, gl) || ol < fl + gl - 1) return 1;
-    for (size_t k = 0; k < fl + gl - 1; k++) out[k] = word(n, f, fl, g, gl, k);
+    for (size_t k = 0; k < fl + gl - 1; k++) out[k] = at(n, f, fl, g, gl, k);
     return 0;
 }
 
-static __attribute__((noinline)) int wide_product(uint32_t n, const uint32_t *f, size_t fl, const uint32_t *g, size_t gl, uint32_t *out, size_t ol)
-{
-    if (n < 2 || fl < 1 || fl > 49 || gl < 1 || gl > 49 || fl + gl - 2 > 48 || !below(n, f, fl) || !below(n, g, gl) || ol < fl + gl - 1) return 1;
-    for (size_t k = 0; k < fl + gl - 1; k++) out[k] = wide_word(n, f, fl, g, gl, k);
-    return 0;
-}
-
-static __attribute__((noinline)) int c_division(uint32_t n, const uint32_t *f, size_t fl, const uint32_t *g, size_t gl, uint32_t *q, size_t ql, uint32_t *r, size_t rl)
+ONCE int division_by(word_of *at, uint32_t n, const uint32_t *f, size_t fl, const uint32_t *g, size_t gl, uint32_t *q, size_t ql, uint32_t *r, size_t rl)
 {
     if (n < 2 || fl < 1 || fl > 49 || gl < 1 || gl > 49 || !below(n, f, fl) || !below(n, g, gl)) return 1;
     size_t e = gl - 1, m = fl > e ? fl - e : 1;
@@ -86,29 +83,22 @@ static __attribute__((noinline)) int c_division(uint32_t n, const uint32_t *f, s
     if (i == 0 || ql < m || rl < e) return 1;
     memset(q, 0, m * 4);
     for (size_t s = fl > e ? fl - e : 0; s-- > 0;) {
-        uint32_t x = word(n, q + s, m - s, g, gl, e);
+        uint32_t x = at(n, q + s, m - s, g, gl, e);
         uint64_t t = (uint64_t) f[e + s] + (n - x);
         q[s] = (uint32_t) ((uint64_t) i * (t >= n ? t - n : t) % n);
     }
-    for (size_t k = 0; k < e; k++) r[k] = (uint32_t) (((uint64_t) (k < fl ? f[k] : 0) + (n - word(n, q, m, g, gl, k))) % n);
+    for (size_t k = 0; k < e; k++) r[k] = (uint32_t) (((uint64_t) (k < fl ? f[k] : 0) + (n - at(n, q, m, g, gl, k))) % n);
     return 0;
 }
 
-static __attribute__((noinline)) int wide_division(uint32_t n, const uint32_t *f, size_t fl, const uint32_t *g, size_t gl, uint32_t *q, size_t ql, uint32_t *r, size_t rl)
-{
-    if (n < 2 || fl < 1 || fl > 49 || gl < 1 || gl > 49 || !below(n, f, fl) || !below(n, g, gl)) return 1;
-    size_t e = gl - 1, m = fl > e ? fl - e : 1;
-    uint32_t i = inverse(n, g[e]);
-    if (i == 0 || ql < m || rl < e) return 1;
-    memset(q, 0, m * 4);
-    for (size_t s = fl > e ? fl - e : 0; s-- > 0;) {
-        uint32_t x = wide_word(n, q + s, m - s, g, gl, e);
-        uint64_t t = (uint64_t) f[e + s] + (n - x);
-        q[s] = (uint32_t) ((uint64_t) i * (t >= n ? t - n : t) % n);
-    }
-    for (size_t k = 0; k < e; k++) r[k] = (uint32_t) (((uint64_t) (k < fl ? f[k] : 0) + (n - wide_word(n, q, m, g, gl, k))) % n);
-    return 0;
-}
+#define PRODUCT(name, at) static __attribute__((noinline)) int name(uint32_t n, const uint32_t *f, size_t fl, const uint32_t *g, size_t gl, \
+    uint32_t *out, size_t ol) { return product_by(at, n, f, fl, g, gl, out, ol); }
+#define DIVISION(name, at) static __attribute__((noinline)) int name(uint32_t n, const uint32_t *f, size_t fl, const uint32_t *g, size_t gl, \
+    uint32_t *q, size_t ql, uint32_t *r, size_t rl) { return division_by(at, n, f, fl, g, gl, q, ql, r, rl); }
+PRODUCT(c_product, word)
+PRODUCT(wide_product, wide_word)
+DIVISION(c_division, word)
+DIVISION(wide_division, wide_word)
 
 /* ---- schoolbook, one % a term */
 

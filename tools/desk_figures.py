@@ -15,7 +15,7 @@ from reference import STARRED, UNSTARRED, resultant
 HERE = os.path.dirname(os.path.abspath(__file__))
 DESK = os.path.join(HERE, "..", "crates", "desk")
 WORD = 2**32
-BLOCK = 4096
+BLOCK = 65536
 
 
 def reduced(n, f, g):
@@ -200,8 +200,8 @@ def lines():
         out += both(n, f, g)
     # the drawn pairs with a zero top in their true degrees
     out += meant
-    # The last line has no newline, and its last digit, on which the value depends, is alone in the last block of 4096 that is read:
-    # a line of zeros before it makes the length 1 modulo 4096.
+    # The last line has no newline, and its last digit, on which the value depends, is alone in the last block of 65536 that is read:
+    # a line of zeros before it makes the length 1 modulo 65536.
     last = frame(1, 4294967291, [2, 3], [5, 9])
     out.append(b"0" * (-len(b"\n".join(out + [last])) % BLOCK))
     return out + [last]

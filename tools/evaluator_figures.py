@@ -1,68 +1,72 @@
 #!/usr/bin/env python3
-"""The output that crates/evaluator_trial must write, made outside the engine:
-python3 tools/evaluator_figures.py > crates/evaluator_trial/stdout
+"""Writes the cases of the test program `evaluator_trial` and what it must answer, made outside the engine: crates/evaluator_trial/stdin, a
+case per line (1 for a pair or 2 for a row, n, the lengths of f and g, how many g a row has, the words of f, and for a pair those of g), and
+crates/evaluator_trial/stdout, an answer per line.
+
+For n from 2 to 6 a row for each f of sent degree 0 to 2 and each sent degree of g up to 2: with all g. For eight moduli and each d + e
+from 0 to 8 180 drawn pairs, many with zero words and zero tops. Then the pairs of S90, and refusals in their order.
 
 Each value is the determinant of Sylvester's matrix over the integers, by Bareiss's elimination, reduced modulo n at the end."""
+import random
 from itertools import product
-from reference import STARRED, UNSTARRED, mix, resultant
+from reference import STARRED, UNSTARRED, put_short, resultant, write_cases
+
+SEED = 20261116
+PAIR, ROW = 1, 2
 
 
 def evaluate(n, f, g):
-    """value and status"""
+    """status and value"""
     if n < 2:
-        return 0, 1
+        return 1, 0
     if not 1 <= len(f) <= 49 or not 1 <= len(g) <= 49 or len(f) + len(g) - 2 > 8:
-        return 0, 2
+        return 2, 0
     if any(x >= n for x in f + g):
-        return 0, 3
-    return resultant(n, f, g), 0
+        return 3, 0
+    return 0, resultant(n, f, g)
 
 
-def mix_pair(h, n, f, g):
-    value, status = evaluate(n, f, g)
-    return mix(mix(h, value), status)
+def pair(n, f, g):
+    return [PAIR, n, len(f), len(g), 0, *f, *g], ['evaluate', *evaluate(n, f, g)]
 
 
-def polynomials(n, d):
-    """all of sent degree d, the constant running fastest"""
-    return [list(reversed(w)) for w in product(range(n), repeat=d + 1)]
+def polynomials(n, words):
+    """All of so many words, in the order in which the constant changes last."""
+    return [list(w) for w in product(range(n), repeat=words)]
 
 
-def all_pairs(n, d, e):
-    h = 0
-    for f in polynomials(n, d):
-        for g in polynomials(n, e):
-            h = mix_pair(h, n, f, g)
-    return h
+def row(n, f, words):
+    answers = [evaluate(n, f, g) for g in polynomials(n, words)]
+    return [ROW, n, len(f), words, len(answers), *f], ['row', ''.join(put_short(s, [value]) for s, value in answers)]
 
 
-def word(n, t, k):
-    x = pow(t * 16 + k + 2, 65537, 2147483647)
-    return 0 if x % 4 == 0 else x * 4093082899 % n
-
-
-def drawn(n, t, d):
-    return [word(n, t, k) for k in range(d + 1)]
-
-
-def drawn_pairs(n, s):
-    h = 0
-    for i in range(180):
-        d = i % (s + 1)
-        h = mix_pair(h, n, drawn(n, i * 2, d), drawn(n, i * 2 + 1, s - d))
-    return h
+def drawn(n, d):
+    """A quarter of the words are zero."""
+    return [random.randrange(4) and random.randrange(n) for _ in range(d + 1)]
 
 
 FULL = STARRED + [UNSTARRED] + [
-    (0, [0], [0]), (1, [0] * 50, [0]), (7, [0] * 50, [7]), (7, [7], [0] * 50),
-    (7, [1, 2, 3, 4, 5, 6, 1, 2, 3], [5]), (7, [1, 2, 3, 4, 5], [2, 0, 6, 1, 3]),
-    (7, [1, 2, 3, 4, 5, 6, 1, 2, 3, 4], [7]), (7, [1, 2, 3, 4, 5], [2, 0, 6, 1, 3, 7]),
-    (7, [], [7]), (7, [7], []), (7, [7], [0]), (7, [0], [1, 7]), (7, [6], [1, 6]),
+    (0, [0], [0]), (1, [0] * 50, [0]), (0, [], []), (1, [1], [2]), (7, [0] * 50, [7]), (7, [7], [0] * 50),
+    (7, [1, 2, 3, 4, 5, 6, 1, 2, 3], [5]), (7, [1, 2, 3, 4, 5], [2, 0, 6, 1, 3]), (7, [5], [1, 2, 3, 4, 5, 6, 1, 2, 3]),
+    (7, [1, 2, 3, 4, 5, 6, 1, 2, 3, 4], [7]), (7, [1, 2, 3, 4, 5], [2, 0, 6, 1, 3, 7]), (7, [7], [1, 2, 3, 4, 5, 6, 1, 2, 3, 4]),
+    (7, [0] * 49, [0]), (7, [0], [0] * 49), (7, [], [7]), (7, [7], []), (7, [7], [0]), (7, [0], [1, 7]), (7, [6], [1, 6]),
 ]
 
-for n in range(2, 7):
-    print(n, *(all_pairs(n, d, e) for d in range(3) for e in range(3)))
-for n in (2, 4, 12, 97, 30030, 2147483648, 4294967291, 4294967295):
-    print(n, *(drawn_pairs(n, s) for s in range(9)))
-for n, f, g in FULL:
-    print(n, len(f), len(g), *evaluate(n, f, g))
+
+def cases():
+    for n in range(2, 7):
+        for d in range(3):
+            for f in polynomials(n, d + 1):
+                for e in range(3):
+                    yield row(n, f, e + 1)
+    for n in (2, 4, 12, 97, 30030, 2147483648, 4294967291, 4294967295):
+        for s in range(9):
+            for i in range(180):
+                d = i % (s + 1)
+                yield pair(n, drawn(n, d), drawn(n, s - d))
+    for n, f, g in FULL:
+        yield pair(n, f, g)
+
+
+random.seed(SEED)
+write_cases('evaluator_trial', cases())

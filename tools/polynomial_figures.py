@@ -1,10 +1,25 @@
 #!/usr/bin/env python3
-"""polynomial_figures.py > crates/polynomial_trial/stdout: the expected output of the polynomial trial, with whole numbers of any size and
-by other methods than the engine's: products by convolution, quotients by long division from the top, unit and monic part by lifting
-them from the radical of n, inverses by the geometric series."""
-from reference import divided, drawn, k_of, lead_place, mix, mixed, prime_powers, product, radical, unit
+"""Writes the cases of the test program `polynomial_trial` and what it must answer, made outside the engine: crates/polynomial_trial/stdin,
+a case per line (the service, n, the lengths of f and g, of both results and of the working words, the words of f and of g), and
+crates/polynomial_trial/stdout, an answer per line.
+
+First the worked examples of S91 and the ends of the range; then for each service every refusal, alone and with all that come after it, and
+40 drawn pairs modulo each of seven n full of zero divisors. The last service makes the product word by word.
+
+Every figure comes from whole numbers of any size and by another method than the engine's: products by convolution, quotients by long
+division from the top, unit and monic part by lifting them from the radical of n, inverses by the geometric series."""
+import functools, random
+from reference import (MARK, divided, k_of, lead_place, prime_powers, product, put_lent, put_words, put_working, radical, unit,
+                       write_cases)
+
+SEED = 20261116
+WORKING = 8192
+MODULI = (4, 8, 12, 36, 2 ** 31, 3 ** 20, 2 ** 32 - 1)
+PRODUCT, DIVISION, MONIC, INVERSE, DEGREE, WORDS = range(1, 7)
+NAMES = {PRODUCT: 'product', DIVISION: 'division', MONIC: 'monic', INVERSE: 'inverse', WORDS: 'words'}
 
 
+@functools.lru_cache(maxsize=None)
 def root(n):
     return radical(prime_powers(n))
 
@@ -112,7 +127,7 @@ def unit_times_monic(n, f, a, b, work):
         return 0, 5
     if len(a) < len(f) or len(b) < len(f):
         return 0, 6
-    if len(work) < 8192:
+    if len(work) < WORKING:
         return 0, 7
     u, h = factors(n, f, t)
     assert product(n, u, h)[:len(f)] == (f + [0] * len(f))[:len(product(n, u, h)[:len(f)])]
@@ -132,7 +147,7 @@ def inverse_service(n, f, a, work):
     m = k_of(n) * (len(f) - 1) + 1
     if len(a) < m:
         return 0, 6
-    if len(work) < 8192:
+    if len(work) < WORKING:
         return 0, 7
     w = inverse(n, f)
     put(a, w + [0] * (m - len(w)))
@@ -145,122 +160,152 @@ def extent(f):
     return max([k + 1 for k, x in enumerate(f) if x] + [0])
 
 
-NONE = 4294967295
-
-
-def true_degree(n, f):
-    s = refusal(n, [f])
-    return (0, s) if s else (extent(f) - 1, 0) if extent(f) else (NONE, 0)
-
-
 def leading(n, f):
     return [] if refusal(n, [f]) else f[:extent(f)]
 
 
-def apply(service, n, f, g, a, b, work):
-    if service == 0:
-        return product_service(n, f, g, a)
-    if service == 1:
-        return division(n, f, g, a, b)
-    if service == 2:
-        return unit_times_monic(n, f, a, b, work)
-    if service == 3:
-        return inverse_service(n, f, a, work)
-    if service == 4:
-        return true_degree(n, f)
-    return words_apart(n, f, g, a)
+# ---- a case
+
+class Case:
+    """The service, n, f and g, and the lengths of the lent buffers."""
+
+    def __init__(self, service, n, f, g, a, b, w):
+        self.service, self.n, self.f, self.g, self.a, self.b, self.w = service, n, list(f), list(g), a, b, w
+
+    def sent(self):
+        return [self.service, self.n, len(self.f), len(self.g), self.a, self.b, self.w, *self.f, *self.g]
+
+    def answered(self):
+        n, f, g, s = self.n, self.f, self.g, self.service
+        if s == DEGREE:
+            refused = refusal(n, [f])
+            found = ['refused', refused] if refused else [extent(f) - 1] if extent(f) else ['none']
+            return ['degree', *found, put_words(leading(n, f))]
+        a, b, work = [MARK] * self.a, [MARK] * self.b, [MARK] * self.w
+        if s == PRODUCT:
+            value, status = product_service(n, f, g, a)
+        elif s == DIVISION:
+            value, status = division(n, f, g, a, b)
+        elif s == MONIC:
+            value, status = unit_times_monic(n, f, a, b, work)
+        elif s == INVERSE:
+            value, status = inverse_service(n, f, a, work)
+        else:
+            value, status = words_apart(n, f, g, a)
+        SEEN.add((s, status))
+        return ([NAMES[s], status, value, put_lent(a)] + ([put_lent(b)] if s in (DIVISION, MONIC) else [])
+                + ([put_working(work)] if s in (MONIC, INVERSE) else []))
 
 
-# ---- the trial
-
-def word(n, kind, x):
-    return x % n if kind == 0 else 6 * x % n if kind == 1 else (1 + 6 * x) % n
+SEEN = set()
 
 
-def kind_at(pattern, k, t, x):
-    if pattern == 0:
-        return x % 3
-    if pattern == 1:
-        return 0 if k < t else 2 if k == t else 1
-    return 2 if k == 0 else 1
+# ---- what is drawn
+
+def word(n, kind):
+    """Any residue, a multiple of 6, or one more than that."""
+    x = random.randrange(n)
+    return (x, 6 * x % n, (1 + 6 * x) % n)[kind]
 
 
-def fill(n, l, t, pattern, x):
-    f = []
-    for k in range(l):
-        z = drawn(x)
-        x = drawn(z)
-        f.append(word(n, kind_at(pattern, k, t, z // 1024), x))
-    return f, x
+def drawn(n, l, t, pattern):
+    """Pattern 0 mixes the kinds; 1 has one more than a multiple of 6 at t, and multiples of 6 above; 2 is that with t = 0."""
+    kinds = ([random.randrange(3) for _ in range(l)], [0] * t + [2] + [1] * (l - 1 - t), [2] + [1] * (l - 1))
+    return [word(n, kind) for kind in kinds[pattern]]
 
 
-def length_of(x):
-    return 50 if x % 17 == 0 else 49 if x % 19 == 0 else x // 32 % 26 + 1
+def some_length():
+    return random.choices([50, 49, random.randrange(1, 27)], [2, 2, 32])[0]
 
 
 def needed(service, n, l, m):
-    if service % 5 == 0:
+    if service in (PRODUCT, WORDS):
         return l + m - 1
-    if service == 1:
+    if service == DIVISION:
         return max(l - m, 0) + 1
-    return l if service == 2 else k_of(n) * (l - 1) + 1
+    return l if service == MONIC else k_of(n) * (l - 1) + 1
 
 
-def trial(service, n, x, h):
-    x1 = drawn(x)
-    x2 = drawn(x1)
-    l, m = length_of(x1), length_of(x2)
-    f, x3 = fill(n, l, x2 % l, x2 // 7 % 3, x2)
-    g, x4 = fill(n, m, m - 1, 1, x3)
-    if x4 % 12 == 0:
+def drawn_case(service, n):
+    """Results are lent one word too few, as many as needed, or more; some words are no residues; some working buffers are short."""
+    l, m = some_length(), some_length()
+    f, g = drawn(n, l, random.randrange(l), random.randrange(3)), drawn(n, m, m - 1, 1)
+    if random.randrange(12) == 0:
         f[0] = n
-    a, b, work = [7] * 2048, [8] * 64, [9] * 8192
-    cut = needed(service, n, l, m) + x4 // 64 % 4 - 1
-    end = 8191 if x4 % 11 == 0 else 8192
-    first, room = a[:cut], work[:end]
-    value, status = apply(service, n, f, g, first, b, room)
-    a[:cut], work[:end] = first, room
-    h = mixed(mix(mix(h, value), status), leading(n, f))
-    return x4, mixed(mixed(mixed(h, a), b), work), status
+    first = needed(service, n, l, m) + random.randrange(-1, 3)
+    return Case(service, n, f, g, first, 64, WORKING - 1 if random.randrange(11) == 0 else WORKING + random.choice([0, 3]))
 
 
-SEEN = {}
+# ---- every refusal, alone and with all that come after it
+
+def base(service):
+    """An answered case, with a modulus that has zero divisors."""
+    f, g = ([5, 6, 12], []) if service == INVERSE else ([5, 2, 3, 1], [] if service in (MONIC, DEGREE) else [7, 6, 5])
+    n = 36
+    return Case(service, n, f, g, needed(service, n, len(f), len(g)), {DIVISION: 2, MONIC: 4}.get(service, 0), WORKING)
 
 
-def line(n, services):
-    out = [n]
-    for service in services:
-        x, h = mix(service % 5 + 1, n), 0
-        for _ in range(40):
-            x, h, s = trial(service, n, x, h)
-            SEEN[(service, s)] = SEEN.get((service, s), 0) + 1
-        out.append(h)
-    print(*out)
+def faults(service):
+    """What can be wrong, in the order of the refusals: each is a change of a case."""
+    put = lambda name, value: lambda c: setattr(c, name, value)
+
+    def high(name):
+        def change(c):
+            words = getattr(c, name)
+            setattr(c, name, words[:len(words) // 2] + [36] + words[len(words) // 2 + 1:])
+        return change
+
+    two = service in (PRODUCT, DIVISION, WORDS)
+    found = [put('n', n) for n in (0, 1)] + [put('f', []), put('f', [1] * 50)] + ([put('g', []), put('g', [1] * 50)] if two else [])
+    if service in (PRODUCT, WORDS):
+        found.append(lambda c: (put('f', [1] * 47)(c), put('g', [1, 0, 1, 0])(c)))
+    found += [high('f')] + ([high('g')] if two else [])
+    found += {DIVISION: [put('g', [7, 6, 2]), put('g', [1, 1, 0])],
+              MONIC: [put('f', [5, 2, 3, 6]), put('f', [5, 2, 4, 18]), put('f', [6, 12, 0]), put('f', [0, 0])],
+              INVERSE: [put('f', [5, 6, 2]), put('f', [2, 6]), put('f', [5, 1, 6]), put('f', [0, 0, 0])]}.get(service, [])
+    short = lambda name: lambda c: setattr(c, name, getattr(base(service), name) - 1)
+    if service != DEGREE:
+        found.append(short('a'))
+    if service in (DIVISION, MONIC):
+        found.append(short('b'))
+    return found + ([short('w')] if service in (MONIC, INVERSE) else [])
 
 
-def example(service, n, f, g, k, l, end):
-    a, b, work = [0] * k, [0] * l, [0] * end
-    print(*(list(apply(service, n, f, g, a, b, work)) + a + b))
+def refused_cases(service):
+    found = faults(service)
+    yield base(service)
+    for k in range(len(found)):
+        for chosen in ([found[k]], found[k:]):
+            c = base(service)
+            for change in reversed(chosen):
+                change(c)
+            yield c
 
 
-def main():
-    example(1, 12, [1, 0, 1], [1, 5], 2, 1, 0)
-    example(2, 4, [3, 1, 2], [1], 3, 3, 8192)
-    example(3, 8, [1, 2], [1], 4, 0, 8192)
-    example(0, 12, [1, 4], [1, 3], 3, 0, 0)
-    example(1, 12, [5, 7], [1, 0, 1], 1, 2, 0)
-    example(1, 12, [5, 7], [1, 2], 1, 2, 0)
-    example(2, 12, [1, 2], [1], 2, 2, 8192)
-    example(2, 4, [3, 1, 2], [1], 3, 3, 8191)
-    example(3, 8, [1, 2], [1], 3, 0, 8192)
-    example(4, 5, [0, 3, 0], [1], 0, 0, 0)
-    example(4, 5, [0, 0, 0], [1], 0, 0, 0)
+def cases():
+    yield Case(DIVISION, 12, [1, 0, 1], [1, 5], 2, 1, 0)
+    yield Case(MONIC, 4, [3, 1, 2], [1], 3, 3, WORKING)
+    yield Case(INVERSE, 8, [1, 2], [1], 4, 0, WORKING)
+    yield Case(PRODUCT, 12, [1, 4], [1, 3], 3, 0, 0)
+    yield Case(DIVISION, 12, [5, 7], [1, 0, 1], 1, 2, 0)
+    yield Case(DIVISION, 12, [5, 7], [1, 2], 1, 2, 0)
+    yield Case(MONIC, 12, [1, 2], [1], 2, 2, WORKING)
+    yield Case(MONIC, 4, [3, 1, 2], [1], 3, 3, WORKING - 1)
+    yield Case(INVERSE, 8, [1, 2], [1], 3, 0, WORKING)
+    yield Case(DEGREE, 5, [0, 3, 0], [1], 0, 0, 0)
+    yield Case(DEGREE, 5, [0, 0, 0], [1], 0, 0, 0)
     for l in (49, 50):
-        example(0, 4294967295, [4294967294] * l, [2], 64, 0, 0)
-    for services in (range(5), [5]):
-        for n in (4, 8, 12, 36, 2 ** 31, 3 ** 20, 2 ** 32 - 1):
-            line(n, services)
+        yield Case(PRODUCT, 2 ** 32 - 1, [2 ** 32 - 2] * l, [2], 64, 0, 0)
+    for service in range(PRODUCT, WORDS + 1):
+        yield from refused_cases(service)
+        for n in MODULI:
+            for _ in range(40):
+                yield drawn_case(service, n)
 
 
 if __name__ == '__main__':
-    main()
+    random.seed(SEED)
+    write_cases('polynomial_trial', ((c.sent(), c.answered()) for c in cases()))
+    expected = {PRODUCT: (0, 1, 2, 3, 6), DIVISION: (0, 1, 2, 3, 4, 6), MONIC: (0, 1, 2, 3, 5, 6, 7), INVERSE: (0, 1, 2, 3, 5, 6, 7),
+                WORDS: (0, 1, 2, 3, 6)}
+    assert SEEN == {(s, status) for s in expected for status in expected[s]}

@@ -1,15 +1,17 @@
 """What the scripts of tools/ calculate with, each thing once, outside the engine: residues, polynomials modulo n, determinants, the ideal
-of two polynomials, the rows of the table of S90, and the numbers that the trial programs draw and sum up.
+of two polynomials, the rows of the table of S90, the lines that trial programs read and write, and the numbers that some draw and sum
+up.
 
 A polynomial is the list of its words, the constant first. Nothing here is taken from the engine. tools/cofactor_figures.py compares both
 determinants with their definition, tools/residue_figures.py and tools/wide_figures.py the least combinations with a search, and
 tools/ideal_constants.py proves the D of each pair and compares it with brute force and with PARI."""
-import functools, math
+import functools, math, os
 from ideal_constants import Ideal, cached_constant, gp, prime_powers, reduced_resultant
 
 __all__ = ['Ideal', 'cached_constant', 'gp', 'prime_powers', 'reduced_resultant', 'STARRED', 'UNSTARRED', 'PRIME', 'drawn', 'mix', 'mixed',
-           'k_of', 'unit', 'radical', 'lead_place', 'kind', 'least_by_inverses', 'least_by_search', 'product', 'divided', 'sylvester',
-           'determinant', 'determinant_modulo', 'resultant']
+           'MARK', 'write_cases', 'put_digit', 'put_short', 'put_words', 'ending', 'put_lent', 'put_working', 'k_of', 'unit', 'radical',
+           'lead_place', 'kind', 'least_by_inverses', 'least_by_search', 'product', 'divided', 'sylvester', 'determinant',
+           'determinant_modulo', 'resultant']
 
 # the table of document 01: the starred rows, and the one without a star
 STARRED = [(7, [1, 1], [2, 1]), (7, [2, 1], [1, 1]), (12, [3, 2], [1, 4]), (4, [1, 2], [3, 2]), (6, [2], [4]), (9, [3], [1, 0, 1]),
@@ -34,6 +36,47 @@ def mixed(h, words):
     for x in words:
         h = mix(h, x)
     return h
+
+
+# ---- cases and answers, as crates/trial_lines reads and writes them
+
+MARK = 2882400001
+
+
+def write_cases(crate, cases):
+    """crates/CRATE/stdin and stdout: a line of numbers and a line of answers for each case."""
+    folder = os.path.join(os.path.dirname(os.path.abspath(__file__)), '..', 'crates', crate)
+    with open(os.path.join(folder, 'stdin'), 'w') as stdin, open(os.path.join(folder, 'stdout'), 'w') as stdout:
+        for sent, answered in cases:
+            print(*sent, file=stdin)
+            print(*answered, file=stdout)
+
+
+def put_digit(x):
+    return '0123456789abcdefghijklmnopqrstuvwxyzABCDEFGHIJKLMNOPQRSTUVWXYZ+/='[x]
+
+
+def put_short(status, values):
+    return '!' + put_digit(status) if status else ''.join(map(put_digit, values))
+
+
+def put_words(words):
+    return ' '.join(['[', *map(str, words), ']'])
+
+
+def ending(words, x):
+    """How many words at the end are x."""
+    return next((i for i, y in enumerate(reversed(words)) if y != x), len(words))
+
+
+def put_lent(words):
+    """A result after the call: the words up to the last that is not as found, and how many after it are."""
+    same = ending(words, MARK)
+    return '%s %d' % (put_words(words[:len(words) - same]), same)
+
+
+def put_working(words):
+    return '%d %d' % (ending(words, MARK), ending(words, 0))
 
 
 # ---- residues; powers are the (p, a) of n, as prime_powers has them

@@ -1,17 +1,23 @@
 #!/usr/bin/env python3
-"""The output that crates/residue_trial must write, made outside the engine: python3 tools/residue_figures.py > crates/residue_trial/stdout
+"""Writes the cases of the test program `residue_trial` and what it must answer, made outside the engine: crates/residue_trial/stdin, a case
+of four numbers per line (the service, n, a, b), and crates/residue_trial/stdout, an answer per line.
 
-Every figure comes from the definitions (S4, S13, S14) and by another method than the engine's: inverses and cofactors by search or
-by Python's pow, kinds by the prime factors of n, greatest common divisors by math.gcd, K by the length of n in bits, joined residues
-by search. Of s and t up to n = 64: s is tried from 0 upward until some t fits, and t is then the least of all that fit; at the ends of the
+For each n up to 64 and each a up to n: rows of the services of two numbers, with all b up to n and all exponents up to 64, and the kind;
+all residues modulo coprime n1 and n2 up to 16, joined; and the ends of the range. n = 0 and 1 and a, b = n are refused.
+
+Every figure comes from the definitions (S4, S13, S14) and by another method than the engine's: inverses and cofactors by search or by
+Python's pow, kinds by the prime factors of n, greatest common divisors by math.gcd, K by the length of n in bits, joined residues by
+search. Of s and t up to n = 64: s is tried from 0 upward until some t fits, and t is then the least of all that fit; at the ends of the
 range they come from Python's pow."""
-import reference
+import functools
 from math import gcd
-from reference import least_by_inverses, least_by_search, mix, prime_powers
+import reference
+from reference import least_by_inverses, least_by_search, prime_powers, put_short, write_cases
 
-
-def kind(n, a):
-    return reference.kind(prime_powers(n), a)
+SUM, DIFFERENCE, PRODUCT, POWER, GCD, KIND, JOIN = range(1, 8)
+ROWS = 10
+NAMES = {SUM: 'sum', DIFFERENCE: 'difference', PRODUCT: 'times', POWER: 'power', GCD: 'gcd'}
+powers_of = functools.lru_cache(maxsize=None)(prime_powers)
 
 
 def refusal(n, *residues):
@@ -20,89 +26,64 @@ def refusal(n, *residues):
     return 3 if any(a >= n for a in residues) else 0
 
 
-def answer(status, value):
-    return (0, status) if status else (value(), 0)
+def answer(service, n, a, b):
+    """The status, and the numbers that are answered."""
+    status = refusal(n, a) if service == POWER else refusal(n, a, b)
+    if status:
+        return status, [0] * (3 if service == GCD else 1)
+    if service == GCD:
+        found = (least_by_search if n <= 64 else least_by_inverses)(n, a, b)
+        assert found == least_by_inverses(n, a, b) and (found[1] * a + found[2] * b - found[0]) % n == 0
+        return 0, list(found)
+    if service == POWER:
+        return 0, [pow(a, b, n)]
+    return 0, [{SUM: a + b, DIFFERENCE: a - b, PRODUCT: a * b}[service] % n]
 
 
-def services(n, a, b):
-    """value and status of sum, difference, product and power"""
-    two, one = refusal(n, a, b), refusal(n, a)
-    return [
-        answer(two, lambda: (a + b) % n),
-        answer(two, lambda: (a - b) % n),
-        answer(two, lambda: a * b % n),
-        answer(one, lambda: pow(a, b, n)),
-    ]
+def one(service, n, a, b):
+    status, values = answer(service, n, a, b)
+    return (service, n, a, b), [NAMES[service], status, *values]
 
 
-def combined(n, a, b):
-    """g, s, t, the status, and the sum s a + t b as the services of product and sum answer it"""
-    status = refusal(n, a, b)
-    if status == 1:
-        return (0, 0, 0, 1, 0, 1)
-    if status == 3:
-        return (0, 0, 0, 3, 0, 0)  # s = t = 0: both products are 0, and so is the sum
-    g, s, t = (least_by_search if n <= 64 else least_by_inverses)(n, a, b)
-    assert n > 64 or (g, s, t) == least_by_inverses(n, a, b)
-    return (g, s, t, 0, (s * a + t * b) % n, 0)
+def row(service, n, a, count):
+    short = ''.join(put_short(*answer(service, n, a, b)) for b in range(count))
+    return (ROWS + service, n, a, count), [NAMES[service], short]
 
 
-def table(n):
-    h = [0] * 6
-    for a in range(65):
-        for b in range(65):
-            for i, (value, status) in enumerate(services(n, a, b)):
-                h[i] = mix(mix(h[i], value), status)
-            for x in combined(n, a, b):
-                h[4] = mix(h[4], x)
-            status = refusal(n, a)
-            if status:
-                h[5] = mix(mix(h[5], 4), status)
-            else:
-                k = kind(n, a)
-                h[5] = mix(h[5], {'u': 1, 'n': 2, 's': 3}[k[0]])
-                for x in k[1:]:
-                    h[5] = mix(h[5], x)
-    return h
-
-
-def kind_line(n, a):
+def kind(n, a):
     status = refusal(n, a)
-    return (n, a, 'r', status) if status else (n, a) + kind(n, a)
+    name, *numbers = ('r', status) if status else reference.kind(powers_of(n), a)
+    word = {'u': 'unit', 'n': 'nilpotent', 's': 'splits', 'r': 'refused'}[name]
+    return (KIND, n, a, 0), ['kind', max(n.bit_length() - 1, 0), word, *numbers]
 
 
 def joined():
-    h = 0
     for n1 in range(1, 17):
         for n2 in range(1, 17):
             if gcd(n1, n2) != 1:
                 continue
             at = {(r % n1, r % n2): r for r in range(n1 * n2)}
             for x in range(n1):
-                for y in range(n2):
-                    h = mix(mix(h, at[1 % n1, 0]), at[x, y])
-    return h
+                yield (JOIN, n1, n2, x), ['join', at[1 % n1, 0], *(at[x, y] for y in range(n2))]
 
 
-def lines():
+def cases():
     for n in range(65):
-        yield [n, max(n.bit_length() - 1, 0)] + table(n)
-    for a in range(13):
-        yield kind_line(12, a)
-    yield [joined()]
-    ends = [2, 2147483648, 4294967294, 4294967295]
+        for a in range(n + 1):
+            yield kind(n, a)
+            for service in NAMES:
+                yield row(service, n, a, 65 if service == POWER else n + 1)
+    yield from joined()
     picks = lambda n: [0, 1, 2, 65536, n // 2, n - 1, n]
+    ends = [2, 2147483648, 4294967294, 4294967295]
     for n in ends:
         for a in picks(n):
-            yield kind_line(n, a)
-    for n in ends:
-        for a in picks(n):
-            for b in picks(n):
-                row = [n, a, b]
-                for pair in services(n, a, b):
-                    row += pair
-                yield row + list(combined(n, a, b))
+            yield kind(n, a)
+    for n in [0, 1] + ends:
+        for a in picks(n) if n > 1 else [0, 5]:
+            for b in picks(n) if n > 1 else [0, 5]:
+                for service in NAMES:
+                    yield one(service, n, a, b)
 
 
-for line in lines():
-    print(*line)
+write_cases('residue_trial', cases())

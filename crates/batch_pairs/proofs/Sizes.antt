@@ -1,19 +1,24 @@
 -- The test of a length against a number of pieces, by division.
 --
 --   too-many, quotient-differs, remainder-is     the test's value at each place where it returns
+--   all-words                  all words are below n where the first k are, and there are no more than k
+--   as-many                    there are no more than the words of all pieces
 --   pieces-told                what is known where neither of two lengths is refused
---   sizes                      the rules
+--   sizes, pieces              the rules
 use mathlib.Core.Path.{_≡_, sym, ap, _∙_}
 use mathlib.Core.Bool.{Bool, true, not, cond}
-use mathlib.Core.List.{[], _∷_}
-use Prim.Native.Nat.{ℕ, suc, _+_, _*_, _/_, _%_, _≤_, _<_}
+use mathlib.Core.List.{List, [], _∷_}
+use Prim.Native.Nat.{ℕ, suc, _+_, _-_, _*_, _/_, _%_, _≤_, _<_}
 use native.Mathlib.Decide.{ℕ-discrete}
 use native.Mathlib.Nat.{div-add-mod', mul-div-cancel, mul-mod-left}
 use native.Mathlib.Omega.{arith}
 use lib.Dec.{eqb}
+use lib.ListN.{length}
+use lib.Seq.{take-all}
 use borrow.Author.Needs.{needs}
 use borrow.Author.Tests.{lt-ltb, le-ltb, eq-eqb, ne-eqb}
-use Rattle.refusals.specs.Refusals.{first-refusal}
+use borrow.Rule.Slice.PartMut.{midOf}
+use Rattle.refusals.specs.Refusals.{all-below, first-refusal}
 use Rattle.refusals.specs.Conditions.{status-zero}
 use Rattle.batch_pairs.specs.Batches.{bad-pieces, ServedPieces, pieces-fail}
 
@@ -56,6 +61,12 @@ remainder-is d count l h q = ap not (go (ℕ-discrete (l % (d + 1)) 0)) ∙ sym 
         ne-eqb (l % (d + 1)) 0 r
         ∙ sym (ne-eqb l (count * suc d) (λ e. r (ap (λ (x : ℕ). x % (d + 1)) e ∙ remainder-of d count)))
 
+pub all-words : (n k : ℕ) (f : List ℕ) (r : Bool) → r ≡ all-below n (midOf 0 k f) → length f ≤ k → r ≡ all-below n f
+all-words n k f r h l = h ∙ ap (all-below n) (take-all k f l)
+
+pub as-many : (d count l : ℕ) → ServedPieces d count l → l ≤ count * (d + 1) - 0
+as-many d count l s = omega (arith, s .words)
+
 pub pieces-told : (d e count a b : ℕ) (s : ℕ) → s ≡ first-refusal ((2, bad-pieces d count a) ∷ (2, bad-pieces e count b) ∷ []) → s ≡ 0
     → ServedPieces d count a × ServedPieces e count b
 pieces-told d e count a b s h z =
@@ -64,3 +75,5 @@ pieces-told d e count a b s h z =
     (p .0, p .1 .0)
 
 pub ruleset sizes = (needs, too-many, quotient-differs, remainder-is)
+
+pub ruleset pieces = (needs, all-words, as-many)

@@ -2,6 +2,7 @@
 --
 --   part-is, part-length       the words from i (d + 1) to i (d + 1) + (d + 1) are the i-th piece
 --   of-pieces                  what is true of those words is true of the pieces
+--   below, below-one, reached  how i stands to count where the number after it is at most count; below it; above it
 --   pair-asked                 the i-th pair is served where all are
 --   pairs-none, pairs-next, pairs-end     no pair is done; one more; all
 --   batch-asked                the pairs are served where no refusal applies
@@ -48,6 +49,15 @@ of-pieces P i d e r f g h =
 
 -- ---- the loop
 
+pub below : {i next count : ℕ} → next ≡ i + 1 → next ≤ count → i < count
+below e l = omega arith
+
+pub below-one : {i next count : ℕ} → next ≡ i + 1 → next < count → i < count
+below-one e l = omega arith
+
+pub reached : {i next count : ℕ} → next ≡ i + 1 → count < next → count ≤ i
+reached e l = omega arith
+
 pub pair-asked : {W : Width} {n d e i count : ℕ} {f g out w₀ w : List ℕ} → BatchAsked W n f d g e count out w₀ → Scratch w₀ w → i < count
     → PairAsked W n f d g e i w
 pair-asked {W} {n} {d} {e} {i} {count} a s l = record {
@@ -85,7 +95,7 @@ still = record { same = refl }
 pub again : {w w' w'' : List ℕ} → Scratch w w' → Scratch w' w'' → Scratch w w''
 again s t = record { same = t .same ∙ s .same }
 
-pub ruleset turns = (needs, pair-asked, pairs-none, pairs-next, pairs-end, still, again)
+pub ruleset turns = (needs, below, below-one, reached, pair-asked, pairs-none, pairs-next, pairs-end, still, again)
 
 -- ---- the service
 

@@ -24,7 +24,8 @@ use Rattle.window_division.proofs.Turns.{spot, risen, risen-at, risen-low, conv
 use Rattle.window_combining.specs.Combined.{combination}
 use Rattle.resultant_turns.specs.RunLaws.{run-turn, run-step, run-drop}
 use Rattle.resultant_turns.specs.TurnLaws.{Turned, turn-law-at, last-law-at, pair-law-at, zero-law-at}
-use Rattle.cofactor_euclid.specs.Combinations.{Row, Mixture, row-mixed, row-same, two, convolve-two}
+use Rattle.euclid_steps.specs.Steps.{Mixture, two, convolve-two}
+use Rattle.cofactor_euclid.specs.Combinations.{Row, row-mixed, row-same}
 use Rattle.cofactor_euclid.specs.Rows.{turned, paired, RowsAsked, RowsWritten, first, second, rest, left, Standing, Placed, Led}
 
 -- ---- rows that are kept

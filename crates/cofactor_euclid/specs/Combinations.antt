@@ -3,10 +3,7 @@
 --   combined             the law over any ring: from u f + v g = r and u′ f + v′ g = r′, the same of l times the second and q times
 --                        the first
 --   Row n f g u v r      u f + v g = r modulo n
---   Mixture n l q x y z  z = l y + q x modulo n
 --   row-mixed            mixtures of two rows with the same l and q are a row
---   two m c              m + c x, a quotient of two words
---   convolve-two         its product with a polynomial
 --
 -- Letters: f, g are the two polynomials; u, v multipliers; r remainders; q a quotient, l a factor; x, y, z, F sequences of numbers.
 use mathlib.Core.Path.{_≡_, refl, sym, _∙_, ap, ap₂, fun-ext}
@@ -22,8 +19,7 @@ use Rattle.algebra.specs.Residues.{Res, toRes, Res-ring}
 use Rattle.algebra.specs.Ring.{CRing}
 use Rattle.algebra.specs.Series.{series, conv, const, conv-const}
 use Rattle.theory.specs.Words.{words, convolve-is}
-use Rattle.windows.specs.Window.{behind}
-use Rattle.window_division.proofs.Turns.{spot, risen, risen-at, risen-low, convolve-add, convolve-spot}
+use Rattle.euclid_steps.specs.Steps.{Mixture}
 
 module _ {R : Type 0} (𝓡 : CRing R) where
   open CRing 𝓡 using (add as _+_, mul as _*_)
@@ -41,10 +37,6 @@ module _ {R : Type 0} (𝓡 : CRing R) where
 -- u f + v g = r
 pub record Row (n : ℕ) (f g : List ℕ) (u v r : ℕ → ℕ) : Type 0 where
   pub at : (k : ℕ) → (convolve u (coef f) k +ℕ convolve v (coef g) k) % n ≡ r k % n
-
--- z = l y + q x
-pub record Mixture (n l : ℕ) (q x y z : ℕ → ℕ) : Type 0 where
-  pub at : (k : ℕ) → z k % n ≡ (l *ℕ y k +ℕ convolve q x k) % n
 
 module _ (m : ℕ) where
   abbrev residues : (ℕ → ℕ) → ℕ → Res m
@@ -93,17 +85,3 @@ row-same {n} {f} {g} {u} {v} {r} {u′} {v′} {r′} hu hv hr h = record {
   at = λ k. ap₂ (λ (x y : ℕ → ℕ). (convolve x (coef f) k +ℕ convolve y (coef g) k) % n) (fun-ext hu) (fun-ext hv) ∙ h .at k
       ∙ ap (λ (x : ℕ). x % n) (sym (hr k));
 }
-
--- m + c x
-pub two : ℕ → ℕ → ℕ → ℕ
-two m c i = spot 1 c i +ℕ spot 0 m i
-
-pub convolve-two : (m c : ℕ) (F : ℕ → ℕ) (k : ℕ) → convolve (two m c) F k ≡ c *ℕ behind F k +ℕ m *ℕ F k
-unfolding two
-convolve-two m c F k =
-    convolve-add (spot 1 c) (spot 0 m) F k ∙ ap₂ (λ (x y : ℕ). x +ℕ y) (convolve-spot 1 c F k) (convolve-spot 0 m F k)
-    ∙ ap₂ (λ (x y : ℕ). c *ℕ x +ℕ m *ℕ y) (before k) (risen-at 0 F k k (omega arith))
-  where
-    before : (k : ℕ) → risen 1 F k ≡ behind F k
-    before zero = risen-low 1 F 0 (omega arith)
-    before (suc k) = risen-at 1 F (suc k) k (omega arith)

@@ -5,26 +5,21 @@
 --   refused, done        the answer
 use mathlib.Core.Path.{_≡_, refl, sym, ap, ap₂, subst, _∙_}
 use mathlib.Core.List.{List, [], _∷_, _++_}
-use Prim.Native.Nat.{ℕ, zero, suc, pred, _+_, _-_, _≤_, _<_}
+use Prim.Native.Nat.{ℕ, zero, suc, _+_, _-_, _≤_, _<_}
+use native.Mathlib.Numerals.{sub-one}
 use native.Mathlib.Omega.{arith}
 use lib.ListN.{length, take, replicate}
 use lib.Seq.{length-take-le}
 use borrow.Rule.Slice.PartMut.{postOf}
-use Rattle.definitions.specs.Polynomials.{coef, deg, Residues}
+use Rattle.definitions.specs.Polynomials.{deg}
 use Rattle.definitions.specs.Resultants.{resultant, Combination}
 use Rattle.refusals.specs.Refusals.{narrow, Tested, short, first-refusal, refusals-two, left}
-use Rattle.refusals.specs.Conditions.{ServedModulus, ServedLength, Passed, status-zero, accepted-two}
+use Rattle.refusals.specs.Conditions.{Passed, status-zero, accepted-two}
 use Rattle.refusals.proofs.Statuses.{refused-early, passed-on, too-short, long-enough, refused-value, answered-value, left-refused}
 use Rattle.answers.specs.Cofactors.{held}
 use Rattle.cofactor_band.specs.Bands.{CofactorsAsked, ResultantCofactors}
 use Rattle.cofactor_service.specs.CofactorService.{cofactor-refusals, cofactor-status, cofactor-conditions, cofactor-listed}
 use Rattle.cofactor_service.specs.CofactorService.{CofactorsLeft, CofactorAnswer}
-
-deg-is : (f : List ℕ) → length f - 1 ≡ deg f
-deg-is f = less (length f)
-  where
-    less : (l : ℕ) → l - 1 ≡ pred l
-    less l = omega arith
 
 -- ---- the status
 
@@ -44,8 +39,8 @@ module _ (n : ℕ) (f g : List ℕ) (lu lv l : ℕ) (s : ℕ) (e : s ≡ first-r
     unfolding later
     found t h =
         passed-on (refusals-two narrow n f g) (later (deg f) (deg g)) s t e z
-        (subst (λ (i : ℕ). t ≡ first-refusal (later i (deg g))) (deg-is f)
-        (subst (λ (i : ℕ). t ≡ first-refusal (later (length f - 1) i)) (deg-is g) h))
+        (subst (λ (i : ℕ). t ≡ first-refusal (later i (deg g))) (sub-one (length f))
+        (subst (λ (i : ℕ). t ≡ first-refusal (later (length f - 1) i)) (sub-one (length g)) h))
 
     pub both-constant : length f - 1 + (length g - 1) < 1 → 9 ≡ cofactor-status narrow n f g lu lv l
     unfolding later
@@ -98,10 +93,10 @@ module _ (n : ℕ) (f g u v work : List ℕ) (s : ℕ) (e : s ≡ cofactor-statu
         (cofactor-listed narrow n f g (length u) (length v) (length work)) .0 (sym e ∙ z)
 
     pub first-fits : length g - 1 ≤ length u
-    first-fits = let p = passed in subst (λ (i : ℕ). i ≤ length u) (sym (deg-is g)) (p .1 .1 .1 .1 .1 .1 .0)
+    first-fits = let p = passed in subst (λ (i : ℕ). i ≤ length u) (sym (sub-one (length g))) (p .1 .1 .1 .1 .1 .1 .0)
 
     pub second-fits : length f - 1 ≤ length v
-    second-fits = let p = passed in subst (λ (i : ℕ). i ≤ length v) (sym (deg-is f)) (p .1 .1 .1 .1 .1 .1 .1 .0)
+    second-fits = let p = passed in subst (λ (i : ℕ). i ≤ length v) (sym (sub-one (length f))) (p .1 .1 .1 .1 .1 .1 .1 .0)
 
     pub some-words : (1 ≤ length f) × (1 ≤ length g)
     some-words = let p = passed in (p .1 .0 .some, p .1 .1 .0 .some)
@@ -113,7 +108,7 @@ module _ (n : ℕ) (f g u v work : List ℕ) (s : ℕ) (e : s ≡ cofactor-statu
           let lu = length-take-le m u (omega (arith, first-fits)) in
           let lv = length-take-le k v (omega (arith, second-fits)) in
           let total : 1 ≤ length f - 1 + (length g - 1) =
-          subst (λ (i : ℕ). 1 ≤ i) (sym (ap₂ _+_ (deg-is f) (deg-is g))) (p .1 .1 .1 .1 .1 .0) in
+          subst (λ (i : ℕ). 1 ≤ i) (sym (ap₂ _+_ (sub-one (length f)) (sub-one (length g)))) (p .1 .1 .1 .1 .1 .0) in
           record {
             modulus = p .0 .least;
             some-f = p .1 .0 .some;
@@ -132,10 +127,10 @@ module _ (n : ℕ) (f g u v work : List ℕ) (s : ℕ) (e : s ≡ cofactor-statu
           → work' ≡ replicate (length work) 0 → (value status : ℕ) → (value ≡ r) × (status ≡ 0)
           → CofactorAnswer narrow n f g u (x ++ postOf 0 m u) v (y ++ postOf 0 k v) work work' value status
       done {x} {y} {work'} {r} lx ly c ew value status i =
-          let p = held n m (deg g) u x (em ∙ deg-is g) (passed .1 .1 .1 .1 .1 .1 .0)
-          (lx ∙ length-take-le m u (omega (arith, first-fits)) ∙ em ∙ deg-is g) (c .first) in
-          let q = held n k (deg f) v y (ek ∙ deg-is f) (passed .1 .1 .1 .1 .1 .1 .1 .0)
-          (ly ∙ length-take-le k v (omega (arith, second-fits)) ∙ ek ∙ deg-is f) (c .second) in
+          let p = held n m (deg g) u x (em ∙ sub-one (length g)) (passed .1 .1 .1 .1 .1 .1 .0)
+          (lx ∙ length-take-le m u (omega (arith, first-fits)) ∙ em ∙ sub-one (length g)) (c .first) in
+          let q = held n k (deg f) v y (ek ∙ sub-one (length f)) (passed .1 .1 .1 .1 .1 .1 .1 .0)
+          (ly ∙ length-take-le k v (omega (arith, second-fits)) ∙ ek ∙ sub-one (length f)) (c .second) in
           record {
             status-is = i .1 ∙ sym z ∙ e;
             value-is = answered-value status (resultant n f g) value (i .1) (i .0 ∙ c .value);

@@ -1,37 +1,21 @@
-// A trial of the cofactors of the resultant on all pairs of degrees 0 to 2 over five small moduli. The expected output is made by
-// tools/cofactor_figures.py, which knows the resultants by formulas. The cofactors are multiplied out.
+// The cofactors of the resultant on cases from outside: tools/cofactor_figures.py writes them, and what must be answered.
 //
-// A line for each modulus and pair of degrees: n, d, e, how many pairs there are, 1 where some went wrong and else 0, and a number made
-// of all values in turn. Where there are more than 300,000 pairs, only those are tried whose g has the constant 0 or 1.
+// Each line of the input is a case: the service, n, the lengths of f and g, the lengths of u, v and the working words, the words of f, the
+// words of g. The service is 1 for one pair: status, value, how many words of u and v are as found, what became of the working words, and
+// whether u f + v g is the value. It is 2 for a row, which sends no g: f with the first so many g of that length, at most 3, in the order
+// in which the constant changes last; so many stands where a pair has the length of u. Each answer is short (trial_lines), and a question
+// mark where u f + v g is not the value.
 ghost use Prim.Native.Nat.{_≤_};
+use refusals::Answer;
+use trial_lines::MARK;
+use trial_lines::ending;
+use trial_lines::put_count;
+use trial_lines::put_name;
+use trial_lines::size;
 
-// What stands in the lent words before a call.
-const MARK: u32 = 2882400001;
+const PAIR: u32 = 1;
 
-// Digit k of i in base n.
-fn digit(i: u32, n: u32, k: usize) -> u32
-    requires { ⌜ 1 ≤ n ⌝ }
-{
-    let mut x = i;
-    let mut j: usize = 0;
-    while j < k {
-        x = x / n;
-        j += 1;
-    }
-    x % n
-}
-
-// Whether each word of w from place `at` on is x.
-fn all_are(w: &[u32], at: usize, x: u32) -> bool {
-    let mut i = at;
-    while i < w.len() {
-        if w[i] != x {
-            return false;
-        }
-        i += 1;
-    }
-    true
-}
+// ---- whether the cofactors combine
 
 // Coefficient k of f: 0 beyond its first l words.
 fn coefficient(f: &[u32], l: usize, k: usize) -> u32 {
@@ -67,15 +51,22 @@ fn constant(c: u32, k: usize) -> u32 {
     0
 }
 
-// Whether u f + v g, with u of e words and v of d words, is the constant c modulo n: it has no more than five coefficients.
-fn combines(n: u32, f: &[u32], g: &[u32], u: &[u32], v: &[u32], d: usize, e: usize, c: u32) -> bool
+// Whether u f + v g, with u of one word less than g and v of one less than f, is the constant c modulo n.
+fn combines(n: u32, f: &[u32], g: &[u32], u: &[u32], v: &[u32], c: u32) -> bool
     requires { ⌜ 1 ≤ n ⌝ }
 {
+    if f.len() == 0 {
+        return false;
+    }
+    if g.len() == 0 {
+        return false;
+    }
+    let d = f.len() - 1;
+    let e = g.len() - 1;
     let mut k: usize = 0;
-    while k < 5 {
+    while k < f.len() + g.len() {
         let x = add_coefficient(n, 0, f, u, e, k);
-        let y = add_coefficient(n, x, g, v, d, k);
-        if y != constant(c, k) {
+        if add_coefficient(n, x, g, v, d, k) != constant(c, k) {
             return false;
         }
         k += 1;
@@ -83,136 +74,183 @@ fn combines(n: u32, f: &[u32], g: &[u32], u: &[u32], v: &[u32], d: usize, e: usi
     true
 }
 
-// Whether the answer is right, and its value.
-struct Tried {
-    right: bool,
-    value: u32,
+// ---- one pair
+
+fn put_combines(n: u32, f: &[u32], g: &[u32], u: &[u32], v: &[u32], c: u32) {
+    if n < 1 {
+        return;
+    }
+    if combines(n, f, g, u, v, c) {
+        put_name(b" combines");
+    }
 }
 
-// One pair of degrees d and e.
-fn call(n: u32, f: &[u32], g: &[u32], d: usize, e: usize, work: &mut [u32]) -> Tried
+fn pair(n: u32, f: &[u32], g: &[u32], u: &mut [u32], v: &mut [u32], work: &mut [u32]) {
+    let r: Answer = cofactor_service::resultant_cofactors(n, f, g, u, v, work);
+    trial_lines::put_answer(b"cofactors", r.status, r.value);
+    put_count(ending(u, MARK));
+    put_count(ending(v, MARK));
+    trial_lines::put_working(work);
+    if r.status == 0 {
+        put_combines(n, f, g, u, v, r.value);
+    }
+}
+
+// The pair with marked words.
+fn mark(n: u32, f: &[u32], g: &[u32], u: &mut [u32], v: &mut [u32], work: &mut [u32]) {
+    trial_lines::fill(u, MARK);
+    trial_lines::fill(v, MARK);
+    trial_lines::fill(work, MARK);
+    pair(n, f, g, u, v, work);
+}
+
+// The pair with as much of each buffer as is lent.
+fn lend(
+    n: u32,
+    f: &[u32],
+    g: &[u32],
+    sizes: &[u32],
+    u: &mut [u32],
+    v: &mut [u32],
+    work: &mut [u32],
+) {
+    if sizes.len() < 3 {
+        return;
+    }
+    let lu = size(sizes[0], u.len());
+    let lv = size(sizes[1], v.len());
+    let lw = size(sizes[2], work.len());
+    mark(n, f, g, &mut u[0..lu], &mut v[0..lv], &mut work[0..lw]);
+}
+
+// ---- rows
+
+// Whether fewer words of u were written than g has, fewer of v than f has, and they combine.
+fn right(n: u32, f: &[u32], g: &[u32], u: &[u32], v: &[u32], c: u32) -> bool
+    requires { ⌜ 1 ≤ n ⌝ }
+{
+    if u.len() - ending(u, MARK) >= g.len() {
+        return false;
+    }
+    if v.len() - ending(v, MARK) >= f.len() {
+        return false;
+    }
+    combines(n, f, g, u, v, c)
+}
+
+fn put_short(n: u32, f: &[u32], g: &[u32], work: &mut [u32])
     requires { ⌜ 1 ≤ n ⌝ }
 {
     let mut u = [MARK; 4];
     let mut v = [MARK; 4];
-    let a: refusals::Answer = cofactor_service::resultant_cofactors(n, f, g, &mut u, &mut v, work);
-    let value = a.value;
-    if a.status != 0 {
-        return Tried {
-            right: false,
-            value,
-        };
-    }
-    if !all_are(&u, e, MARK) {
-        return Tried {
-            right: false,
-            value,
-        };
-    }
-    if !all_are(&v, d, MARK) {
-        return Tried {
-            right: false,
-            value,
-        };
-    }
-    Tried {
-        right: combines(n, f, g, &u, &v, d, e, value),
-        value,
-    }
-}
-
-// Pair i of degrees d and e: its words are the digits of i in base n, those of f first, and the constant of g last.
-fn pair(n: u32, d: usize, e: usize, i: u32, work: &mut [u32]) -> Tried
-    requires { ⌜ (1 ≤ n) × ((d ≤ 2) × (e ≤ 2)) ⌝ }
-{
-    let f = [digit(i, n, 0), digit(i, n, 1), digit(i, n, 2)];
-    let g = [
-        digit(i, n, d + e + 1),
-        digit(i, n, d + 1),
-        digit(i, n, d + 2),
-    ];
-    call(n, &f[0..d + 1], &g[0..e + 1], d, e, work)
-}
-
-fn number(x: u32) {
-    io::print_decimal(1, x as u64);
-}
-
-fn next_number(x: u32) {
-    io::write_all(1, &[b' ']);
-    number(x);
-}
-
-// The pairs of one modulus and two degrees.
-fn tally(n: u32, d: u32, e: u32, count: u32, work: &mut [u32])
-    requires { ⌜ (1 ≤ n) × ((d ≤ 2) × (e ≤ 2)) ⌝ }
-{
-    let mut wrong: u32 = 0;
-    let mut sum: u32 = 0;
-    let mut i: u32 = 0;
-    while i < count {
-        let t = pair(n, d as usize, e as usize, i, work);
-        if !t.right {
-            wrong = 1;
+    let r: Answer = cofactor_service::resultant_cofactors(n, f, g, &mut u, &mut v, work);
+    if r.status == 0 {
+        if !right(n, f, g, &u, &v, r.value) {
+            put_name(b"?");
+            return;
         }
-        sum = arithmetic::mul_add_mod(4294967291, t.value, 31, sum);
-        i += 1;
     }
-    number(n);
-    next_number(d);
-    next_number(e);
-    next_number(count);
-    next_number(wrong);
-    next_number(sum);
-    io::write_all(1, &[b'\n']);
+    trial_lines::put_short(r.status, r.value);
 }
 
-fn block(n: u32, d: u32, e: u32, count: u32)
-    requires { ⌜ (1 ≤ n) × ((d ≤ 2) × (e ≤ 2)) ⌝ }
+// The digits of t to the base n.
+fn counted(n: u32, t: u32) -> [u32; 3]
+    requires { ⌜ 2 ≤ n ⌝ }
 {
-    let mut work = [MARK; 8192];
-    tally(n, d, e, count, &mut work);
+    [t / n / n % n, t / n % n, t % n]
+}
+
+// f with polynomial t of those of m words.
+fn put_one(n: u32, f: &[u32], m: usize, t: u32, work: &mut [u32])
+    requires { ⌜ (2 ≤ n) × (m ≤ 3) ⌝ }
+{
+    let g = counted(n, t);
+    put_short(n, f, &g[3 - m..3], work);
+}
+
+fn put_row(n: u32, f: &[u32], m: usize, count: u32, work: &mut [u32])
+    requires { ⌜ (2 ≤ n) × (m ≤ 3) ⌝ }
+{
+    for t in 0..count {
+        put_one(n, f, m, t, work);
+    }
+}
+
+fn row(n: u32, f: &[u32], m: usize, count: u32, work: &mut [u32]) {
+    put_name(b"row ");
+    if n < 2 {
+        return;
+    }
+    if 3 < m {
+        return;
+    }
+    put_row(n, f, m, count, work);
+}
+
+// ---- the run
+
+// The words of a line; whether they were all there.
+fn try_words(words: &[u32], u: &mut [u32], v: &mut [u32], work: &mut [u32]) -> bool {
+    if words.len() < 7 {
+        return false;
+    }
+    let l = size(words[2], 64);
+    let m = size(words[3], 64);
+    if words.len() < 7 + l {
+        return false;
+    }
+    let f = &words[7..7 + l];
+    if words[0] != PAIR {
+        row(words[1], f, m, words[4], work);
+        return true;
+    }
+    if words.len() < 7 + l + m {
+        return false;
+    }
+    lend(
+        words[1],
+        f,
+        &words[7 + l..7 + l + m],
+        &words[4..7],
+        u,
+        v,
+        work,
+    );
+    true
+}
+
+// The next line; whether there was one.
+fn try_line(
+    line: &mut [u8],
+    words: &mut [u32],
+    u: &mut [u32],
+    v: &mut [u32],
+    work: &mut [u32],
+) -> bool {
+    let count = trial_lines::read_line(line, words);
+    if !try_words(&words[0..count], u, v, work) {
+        return false;
+    }
+    trial_lines::end_line();
+    true
+}
+
+// A proved loop has to end, and nothing says that an input does: it counts its turns down from a number that no run uses up.
+fn run(line: &mut [u8], words: &mut [u32], u: &mut [u32], v: &mut [u32], work: &mut [u32]) {
+    let mut turns = u64::MAX;
+    while turns > 0 {
+        if !try_line(line, words, u, v, work) {
+            return;
+        }
+        turns -= 1;
+    }
 }
 
 fn main() {
-    block(4, 0, 1, 64);
-    block(4, 0, 2, 256);
-    block(4, 1, 0, 64);
-    block(4, 1, 1, 256);
-    block(4, 1, 2, 1024);
-    block(4, 2, 0, 256);
-    block(4, 2, 1, 1024);
-    block(4, 2, 2, 4096);
-    block(6, 0, 1, 216);
-    block(6, 0, 2, 1296);
-    block(6, 1, 0, 216);
-    block(6, 1, 1, 1296);
-    block(6, 1, 2, 7776);
-    block(6, 2, 0, 1296);
-    block(6, 2, 1, 7776);
-    block(6, 2, 2, 46656);
-    block(8, 0, 1, 512);
-    block(8, 0, 2, 4096);
-    block(8, 1, 0, 512);
-    block(8, 1, 1, 4096);
-    block(8, 1, 2, 32768);
-    block(8, 2, 0, 4096);
-    block(8, 2, 1, 32768);
-    block(8, 2, 2, 262144);
-    block(9, 0, 1, 729);
-    block(9, 0, 2, 6561);
-    block(9, 1, 0, 729);
-    block(9, 1, 1, 6561);
-    block(9, 1, 2, 59049);
-    block(9, 2, 0, 6561);
-    block(9, 2, 1, 59049);
-    block(9, 2, 2, 118098);
-    block(12, 0, 1, 1728);
-    block(12, 0, 2, 20736);
-    block(12, 1, 0, 1728);
-    block(12, 1, 1, 20736);
-    block(12, 1, 2, 248832);
-    block(12, 2, 0, 20736);
-    block(12, 2, 1, 248832);
-    block(12, 2, 2, 497664);
+    let mut line = io::buffer();
+    let mut words = [0u32; 128];
+    let mut u = [0u32; 52];
+    let mut v = [0u32; 52];
+    let mut work = [0u32; 8200];
+    run(&mut line, &mut words, &mut u, &mut v, &mut work);
 }

@@ -7,7 +7,8 @@ use libc::EAGAIN;
 use libc::EINTR;
 use libc::STDIN_FILENO;
 use libc::STDOUT_FILENO;
-ghost use Prim.Native.Nat.{_≤_};
+ghost use mathlib.Core.Path.{_≡_};
+ghost use Prim.Native.Nat.{_*_, _≤_};
 ghost use lib.ListN.{length};
 
 // What a read came to: an unfinished line is held, the input has ended, or a call has failed.
@@ -53,12 +54,11 @@ fn put(answers: &[u8]) -> bool {
 }
 
 // Reads once, answers the lines that end in what came, and holds the rest; where the read is to be tried again, all stays as it
-// was. A character can end a line, and a line's answer has 13: so 4096 of the one need 53248 of the other.
-fn take_turn(held: usize, line: &mut [u8], out: &mut [u8]) -> Turn
-    requires { ⌜ (798 ≤ length (now line)) × (53248 ≤ length (now out)) ⌝ }
+// was. A character can end a line, and a line's answer has 13.
+fn take_turn(held: usize, line: &mut [u8], piece: &mut [u8], out: &mut [u8]) -> Turn
+    requires { ⌜ (798 ≤ length (now line)) × (13 * length (now piece) ≤ length (now out)) ⌝ }
 {
-    let mut piece = io::buffer();
-    let got = libc::read(STDIN_FILENO, &mut piece);
+    let got = libc::read(STDIN_FILENO, piece);
     if got < 0 {
         if again() {
             return Turn::Held(held);
@@ -66,7 +66,7 @@ fn take_turn(held: usize, line: &mut [u8], out: &mut [u8]) -> Turn
         os::fail(b"jingcobu-desk: standard input cannot be read");
         return Turn::Stopped;
     }
-    let n = io::count(got, &piece);
+    let n = io::count(got, piece);
     let Input::Came(_) = frame_pieces::what_came(n) else {
         return Turn::Ended;
     };
@@ -87,13 +87,13 @@ fn end(held: usize, line: &[u8], out: &mut [u8])
 }
 
 // A proved loop has to end, and nothing says that an input does: it counts its turns down from a number that no run uses up.
-fn run(line: &mut [u8], out: &mut [u8])
-    requires { ⌜ (798 ≤ length (now line)) × (53248 ≤ length (now out)) ⌝ }
+fn run(line: &mut [u8], piece: &mut [u8], out: &mut [u8])
+    requires { ⌜ (798 ≤ length (now line)) × ((13 ≤ length (now out)) × (13 * length (now piece) ≤ length (now out))) ⌝ }
 {
     let mut held: usize = 0;
     let mut turns = u64::MAX;
     while turns > 0 {
-        match take_turn(held, line, out) {
+        match take_turn(held, line, piece, out) {
             Turn::Held(h) => {
                 held = h;
             }
@@ -109,8 +109,16 @@ fn run(line: &mut [u8], out: &mut [u8])
     }
 }
 
+// Room for the answers to 65536 lines, as many as 65536 characters can end.
+fn answers_room() -> [u8; 851968]
+    ensures { λ r. ⌜ 851968 ≡ length r ⌝ }
+{
+    [0; 851968]
+}
+
 fn main() {
     let mut line = io::buffer();
-    let mut out = io::large_buffer();
-    run(&mut line, &mut out);
+    let mut piece = io::large_buffer();
+    let mut out = answers_room();
+    run(&mut line, &mut piece, &mut out);
 }

@@ -3,15 +3,18 @@
 --   degrees                                     d + e, as the code takes it
 --   entry-before, entry-after, entry-within     a row of f: before its words, after them, and within them
 --   sylvester-first, sylvester-second           the rows of f and the rows of g
+--   row-word, row-end, matrix-end               a row and the matrix, once all of their words are written
 --   filled-residues                             the words are residues where those of f and g are
 --   evaluated                                   the determinant of the matrix is the resultant
+--   filling                                     the rules
 use mathlib.Core.Path.{_≡_, sym, _∙_, ap, ap₂, subst}
 use mathlib.Core.Bool.{Bool, true, false, cond}
-use mathlib.Core.List.{List}
+use mathlib.Core.List.{List, []}
 use Prim.Native.Nat.{ℕ, pred, _+_, _-_, _<_, _≤_}
 use native.Mathlib.Decide.{decLt}
 use native.Mathlib.Nat.{lt-of-lt-of-le}
 use native.Mathlib.Omega.{arith}
+use borrow.Author.Needs.{needs}
 use borrow.Author.Tests.{lt-ltb, le-ltb, le-leb, lt-leb}
 use lib.Dec.{ltb, leb}
 use lib.IntN.{pos, natAbs}
@@ -21,7 +24,8 @@ use Rattle.definitions.specs.Resultants.{sylvester, resultant}
 use Rattle.evaluator.specs.SylvesterRows.{entry}
 use Rattle.evaluator_matrices.specs.Elimination.{cell, ResidueCells}
 use Rattle.evaluator_matrices.specs.LeadingMinors.{leading-minor, minor-sylvester}
-use Rattle.evaluator.specs.Sylvester.{HoldsSylvester}
+use Rattle.evaluator_matrices.proofs.Arrays.{ArrayWritten, array-none, array-next}
+use Rattle.evaluator.specs.Sylvester.{HoldsSylvester, HoldsSylvesterRow}
 
 -- the sent degree, and d + e, as the code takes them
 less-one : (l : ℕ) → l - 1 ≡ pred l
@@ -47,18 +51,31 @@ entry-within f d i j e l h =
     (le-leb j (i + deg f) (subst (λ (x : ℕ). j ≤ i + x) (e ∙ less-one (length f)) h)))
 
 -- the two blocks of rows, e the sent degree of g
-pub sylvester-first : (f g : List ℕ) (e r c : ℕ) → e ≡ length g - 1 → r < e → entry (deg f) f r c ≡ sylvester f g r c
-sylvester-first f g e r c h l =
-    sym (ap (λ (t : Bool). cond t (entry (deg f) f r c) (entry (deg g) g (r - deg g) c))
+pub sylvester-first : (f g : List ℕ) (e r c x : ℕ) → pos x ≡ entry (deg f) f r c → e ≡ length g - 1 → r < e → pos x ≡ sylvester f g r c
+sylvester-first f g e r c x p h l =
+    p ∙ sym (ap (λ (t : Bool). cond t (entry (deg f) f r c) (entry (deg g) g (r - deg g) c))
     (lt-ltb r (deg g) (subst (λ (x : ℕ). r < x) (h ∙ less-one (length g)) l)))
 
-pub sylvester-second : (f g : List ℕ) (e r c : ℕ) → e ≡ length g - 1 → e ≤ r → entry (deg g) g (r - e) c ≡ sylvester f g r c
-sylvester-second f g e r c h l =
-    ap (λ (x : ℕ). entry (deg g) g (r - x) c) (h ∙ less-one (length g))
+pub sylvester-second : (f g : List ℕ) (e r c x : ℕ) → pos x ≡ entry (deg g) g (r - e) c → e ≡ length g - 1 → e ≤ r
+    → pos x ≡ sylvester f g r c
+sylvester-second f g e r c x p h l =
+    p ∙ ap (λ (x : ℕ). entry (deg g) g (r - x) c) (h ∙ less-one (length g))
     ∙ sym (ap (λ (t : Bool). cond t (entry (deg f) f r c) (entry (deg g) g (r - deg g) c))
     (le-ltb r (deg g) (subst (λ (x : ℕ). x ≤ r) (h ∙ less-one (length g)) l)))
 
-pub filled-residues : (n : ℕ) (f g : List ℕ) (m : List (List ℕ)) → 1 ≤ n → Residues n f → Residues n g → HoldsSylvester f g m → ResidueCells n m
+-- ---- the matrix, word by word and row by row
+
+abbrev pub row-word : List ℕ → List ℕ → ℕ → ℕ → ℕ → Type 0
+row-word f g r c w = pos w ≡ sylvester f g r c
+
+pub row-end : (f g : List ℕ) (r k : ℕ) (x : List ℕ) → ArrayWritten 0 (row-word f g r) 8 k x → 8 ≤ k → HoldsSylvesterRow f g r x
+row-end f g r k x w l = record { at = λ c h. w .at c (omega arith) }
+
+pub matrix-end : (f g : List ℕ) (k : ℕ) (m : List (List ℕ)) → ArrayWritten [] (HoldsSylvesterRow f g) 8 k m → 8 ≤ k → HoldsSylvester f g m
+matrix-end f g k m w l = record { at = λ r c p q. w .at r (omega arith) .at c q }
+
+pub filled-residues : (n : ℕ) (f g : List ℕ) (m : List (List ℕ)) → 1 ≤ n → Residues n f → Residues n g → HoldsSylvester f g m
+    → ResidueCells n m
 filled-residues n f g m one hf hg h = record { at = λ r c p q. either (ltb r (deg g)) r c (h .at r c p q) }
   where
     below : (f : List ℕ) → Residues n f → (k : ℕ) → coef f k < n
@@ -87,3 +104,7 @@ evaluated n f g m l h =
   where
     inside : (x : ℕ) → x < deg f + deg g → x < 8
     inside x u = lt-of-lt-of-le u (subst (λ (k : ℕ). k ≤ 8) (degrees f g) l)
+
+pub ruleset entries = (entry-before, entry-after, entry-within, sylvester-first, sylvester-second)
+
+pub ruleset filling = (needs, entries, array-none, array-next, row-end, matrix-end)

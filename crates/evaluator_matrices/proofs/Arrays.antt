@@ -5,22 +5,24 @@
 --   array-next                one element more
 use mathlib.Core.Path.{_≡_, sym, _∙_, subst}
 use mathlib.Core.List.{List}
-use Prim.Native.Nat.{ℕ, _+_, _<_}
+use Prim.Native.Nat.{ℕ, _+_, _≤_, _<_}
 use native.Mathlib.Decide.{ℕ-discrete}
 use native.Mathlib.Omega.{arith}
 use lib.ListN.{length, getD, set, length-set}
 use lib.Seq.{getD-set-same, getD-set-other}
 
 pub record ArrayWritten {A : Type 0} (d : A) (P : ℕ → A → Type 0) (s k : ℕ) (x : List A) : Type 0 where
+  pub most : k ≤ s
   pub size : length x ≡ s
   pub at : (i : ℕ) → i < k → P i (getD x i d)
 
 pub array-none : {A : Type 0} {d : A} {P : ℕ → A → Type 0} {s : ℕ} {x : List A} → length x ≡ s → ArrayWritten d P s 0 x
-array-none e = record { size = e; at = λ i l. absurd (omega arith) }
+array-none e = record { most = omega arith; size = e; at = λ i l. absurd (omega arith) }
 
-pub array-next : {A : Type 0} {d : A} {P : ℕ → A → Type 0} {s k : ℕ} {x : List A} (v : A) → ArrayWritten d P s k x → k < s → P k v
-    → ArrayWritten d P s (k + 1) (set x k v)
-array-next {A} {d} {P} {s} {k} {x} v w l p = record { size = length-set x k v ∙ w .size; at = λ i h. go i h (ℕ-discrete i k) }
+pub array-next : {A : Type 0} {d : A} {P : ℕ → A → Type 0} {s k k' : ℕ} {x x' : List A} (v : A) → ArrayWritten d P s k x → P k v → k < s
+    → x' ≡ set x k v → k' ≡ k + 1 → ArrayWritten d P s k' x'
+array-next {A} {d} {P} {s} {k} {k'} {x} {x'} v w p l ex ek =
+    rw (ex, ek) (record { most = omega arith; size = length-set x k v ∙ w .size; at = λ i h. go i h (ℕ-discrete i k) })
   where
     go : (i : ℕ) → i < k + 1 → Dec (i ≡ k) → P i (getD (set x k v) i d)
     go i h (yes e) =

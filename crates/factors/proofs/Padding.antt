@@ -1,12 +1,13 @@
 -- The words of h with zeros above, as the code stores them.
 --
 --   word-stored, words-after      one word more, and after the last
-use mathlib.Core.Path.{_≡_, refl, sym, ap, _∙_}
+use mathlib.Core.Path.{_≡_, sym, ap, _∙_}
 use mathlib.Core.List.{List, [], _∷_, _++_}
 use Prim.Native.Nat.{ℕ, zero, suc, _+_, _-_, _≤_, _<_}
 use native.Mathlib.Numerals.{add-one}
 use native.Mathlib.Omega.{arith}
 use lib.ListN.{length, getD, set, take, replicate}
+use lib.Seq.{take-all}
 
 stored-at : (m : ℕ) (h : List ℕ) (i : ℕ) → i < length h → i < m
     → set (take i h ++ replicate (m - i) 0) i (getD h i 0) ≡ take (suc i) h ++ replicate (m - suc i) 0
@@ -27,14 +28,8 @@ pub word-stored : (h w : List ℕ) (i : ℕ) → i < length h → length h ≤ 4
     → set w i (getD h i 0) ≡ take (i + 1) h ++ replicate (49 - (i + 1)) 0
 word-stored h w i l b e = rw (e, add-one i) (stored-at 49 h i l (omega arith))
 
-take-all : (h : List ℕ) (i : ℕ) → length h ≤ i → take i h ≡ h
-take-all [] zero l = refl
-take-all [] (suc i) l = refl
-take-all (x ∷ h) zero l = absurd (omega arith)
-take-all (x ∷ h) (suc i) l = ap (λ (t : List ℕ). x ∷ t) (take-all h i (omega arith))
-
 pub words-after : (h w : List ℕ) (i : ℕ) → length h ≤ i → i ≤ length h → w ≡ take i h ++ replicate (49 - i) 0
     → w ≡ h ++ replicate (49 - length h) 0
 words-after h w i l b e =
     let z : i ≡ length h = omega arith in
-    e ∙ ap (λ (t : List ℕ). t ++ replicate (49 - i) 0) (take-all h i l) ∙ ap (λ (j : ℕ). h ++ replicate (49 - j) 0) z
+    e ∙ ap (λ (t : List ℕ). t ++ replicate (49 - i) 0) (take-all i h l) ∙ ap (λ (j : ℕ). h ++ replicate (49 - j) 0) z

@@ -19,6 +19,7 @@ use native.Mathlib.Nat.{mod-eq-of-lt, mod-lt, mul-comm, mul-assoc}
 use native.Mathlib.Omega.{arith}
 use lib.IntN.{ℤ, pos, negsuc}
 use lib.ListN.{length, take, set, replicate}
+use lib.Seq.{take-append-seam}
 use borrow.Author.Tests.{le-ltb}
 use Rattle.definitions.specs.Polynomials.{deg, product}
 use Rattle.definitions.specs.Resultants.{resultant, residue, determinant, sylvester}
@@ -120,10 +121,6 @@ record Stands (W : Width) (n : ℕ) (h : List ℕ) (s : Factors) (S : List Place
   accepted : Accepted W n h
   is : s ≡ stored n h S
 
-take-all : (h w : List ℕ) → take (length h) (h ++ w) ≡ h
-take-all [] w = refl
-take-all (x ∷ h) w = ap (λ (z : List ℕ). x ∷ z) (take-all h w)
-
 map-set : (F : Place → ℕ) (S : List Place) (i : ℕ) (p : Place) → map F (set S i p) ≡ set (map F S) i (F p)
 map-set F [] i p = refl
 map-set F (q ∷ S) zero p = refl
@@ -133,7 +130,7 @@ held-of : (n : ℕ) (h : List ℕ) (S : List Place) → length h ≤ 49 → held
 unfolding stored state
 held-of n h S l =
     ap (λ (b : Bool). take (cond b 0 (length h)) (h ++ replicate (49 - length h) 0)) (le-ltb 49 (length h) l)
-    ∙ take-all h (replicate (49 - length h) 0)
+    ∙ take-append-seam h (replicate (49 - length h) 0)
 
 placed-is : (n : ℕ) (h : List ℕ) (S : List Place) (i : ℕ) (p : Place)
     → replaced-at (stored n h S) i (number-of p) (deg (factor-of p)) (resultant n (factor-of p) h) ≡ stored n h (set S i p)

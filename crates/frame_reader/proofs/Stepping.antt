@@ -11,8 +11,10 @@ use native.Mathlib.Nat.{pos-of-ne-zero}
 use native.Mathlib.Numerals.{add-one}
 use lib.ListN.{length, getD, take, drop, length-drop, take-append-drop, drop-of-length-le}
 use lib.Seq.{take-all, drop-cons, drop-drop}
+use borrow.Rule.Slice.PartMut.{postOf}
 use Rattle.frame_lines.specs.FrameLines.{line-length}
 use Rattle.frame_lines.proofs.Putting.{put-front, put-rest}
+use Rattle.frame_runs.specs.Working.{Working}
 use Rattle.frames.specs.Frames.{AnswerOf, refused, answered, Wrote}
 use Rattle.frame_pieces.specs.Newlines.{has-newline, none-in-either, NewlineAt, Held}
 use Rattle.frame_reader.specs.Lines.{finished, unfinished, last-line, Answers, none}
@@ -57,6 +59,15 @@ pub record Sizes (p b₀ o₀ : List ℕ) (i w : ℕ) (b o m : List ℕ) : Type 
   pub line : length b ≡ length b₀
   pub out : length o ≡ length o₀
   pub work : length m ≡ 8192
+  pub zeros : Working m
+
+-- all working words are lent, and come back
+pub working-lent : (m : List ℕ) → length m ≡ 8192 → Working m → Working (take 8192 m)
+working-lent m e h = subst Working (sym (take-all 8192 m (omega arith))) h
+
+pub working-back : (m x : List ℕ) → length m ≡ 8192 → Working x → Working (x ++ postOf 0 8192 m)
+working-back m x e h =
+    subst Working (sym (ap (λ (y : List ℕ). x ++ y) (drop-of-length-le m {i = 8192} (omega arith)) ∙ append-nil x)) h
 
 pub record Going (s p : List ℕ) (i h w : ℕ) (b o₀ o : List ℕ) : Type 0 where
   pub done : List (List ℕ)
@@ -78,7 +89,8 @@ module _ {s p : List ℕ} {i h w : ℕ} {b o₀ o : List ℕ} (g : Going s p i h
       let line = g .rest ++ part in
       let more = drop (j + 1) p in
       let cut = cut-at p i j (n .least) l (n .at l) in
-      let c : g .rest ++ drop i p ≡ line ++ 10 ∷ more = ap (λ (x : List ℕ). g .rest ++ x) cut ∙ sym (append-assoc (g .rest) part (10 ∷ more)) in
+      let c : g .rest ++ drop i p ≡ line ++ 10 ∷ more =
+      ap (λ (x : List ℕ). g .rest ++ x) cut ∙ sym (append-assoc (g .rest) part (10 ∷ more)) in
       let single : has-newline line ≡ false = none-in-either (g .rest) part (g .held .single) (n .before) in
       record {
         done = g .done ++ line ∷ [];

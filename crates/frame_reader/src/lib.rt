@@ -5,6 +5,7 @@ ghost use mathlib.Core.Bool.{false};
 ghost use mathlib.Core.List.{List, _++_};
 ghost use Prim.Native.Nat.{ℕ, min, _+_, _*_, _≤_};
 ghost use lib.ListN.{length};
+ghost use Rattle.frame_runs.specs.Working.{Working};
 ghost use Rattle.frames.specs.Frames.{Wrote};
 ghost use Rattle.frame_pieces.specs.Newlines.{has-newline, Held, LineAfter};
 ghost use Rattle.frame_reader.specs.Pieces.{Steps, Ends};
@@ -15,9 +16,10 @@ pub struct Progress {
     pub written: usize,
 }
 
-// Working words for the services. Of zeros only the count is told: whoever has them need not look at 8192 of them.
+// Working words for the runs. Only that is told of them which is asked for: whoever has them need not look at 8192 zeros.
 fn working_words() -> [u32; 8192]
     ensures { λ r. ⌜ 8192 ≡ length r ⌝ }
+    ensures { λ r. ⌜ Working r ⌝ }
 {
     [0; 8192]
 }
@@ -34,9 +36,10 @@ fn counted(held: usize) -> usize
 
 // Writes the answer to the line held.
 fn answer_held(held: usize, line: &[u8], work: &mut [u32], out: &mut [u8], at: usize)
-    requires { ⌜ (798 ≤ length (now line)) × ((8192 ≤ length (now work)) × (at + 13 ≤ length (now out))) ⌝ }
+    requires { ⌜ (798 ≤ length (now line)) × ((Working (now work)) × (at + 13 ≤ length (now out))) ⌝ }
     ensures { λ _. ⌜ ((s : List ℕ) → Held s held (now (line .entry))
         → Wrote s at (now (out .entry)) (now (out .exit)) (now (work .entry)) (now (work .exit))) ⌝ }
+    ensures { λ _. ⌜ Working (now (work .exit)) ⌝ }
 {
     if held > 798 {
         frame_lines::write_line(out, at, 255, 8, 0);
@@ -47,10 +50,11 @@ fn answer_held(held: usize, line: &[u8], work: &mut [u32], out: &mut [u8], at: u
 
 // Writes the answer to the line that part ends.
 fn close(held: usize, line: &mut [u8], part: &[u8], work: &mut [u32], out: &mut [u8], at: usize)
-    requires { ⌜ (798 ≤ length (now line)) × ((8192 ≤ length (now work)) × (at + 13 ≤ length (now out))) ⌝ }
+    requires { ⌜ (798 ≤ length (now line)) × ((Working (now work)) × (at + 13 ≤ length (now out))) ⌝ }
     ensures { λ _. ⌜ ((s : List ℕ) → Held s held (now (line .entry)) → has-newline (now (part .entry)) ≡ false
         → Wrote (s ++ now (part .entry)) at (now (out .entry)) (now (out .exit)) (now (work .entry)) (now (work .exit))) ⌝ }
     ensures { λ _. ⌜ LineAfter 0 (now (line .entry)) (now (line .exit)) ⌝ }
+    ensures { λ _. ⌜ Working (now (work .exit)) ⌝ }
 {
     if held == 0 {
         frames::answer(part, work, out, at);

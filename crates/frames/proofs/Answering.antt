@@ -1,8 +1,8 @@
 -- From the parts of a line, its words and its job's outcome to what its answer says.
-use mathlib.Core.Path.{_≡_, sym, ap, ap₂, _∙_, subst}
+use mathlib.Core.Path.{_≡_, refl, sym, ap, ap₂, _∙_, subst}
 use mathlib.Core.Bool.{Bool, true, false, cond, not}
 use mathlib.Core.List.{List, _++_}
-use Prim.Native.Nat.{ℕ, _+_, _-_, _≤_}
+use Prim.Native.Nat.{ℕ, zero, suc, _+_, _-_, _≤_}
 use native.Mathlib.Omega.{arith}
 use lib.ListN.{length, take, drop, replicate, length-drop}
 use lib.Seq.{take-all}
@@ -13,6 +13,7 @@ use Rattle.frame_lines.specs.declared.Head.the-variants.{Frame, Other}
 use Rattle.frame_lines.specs.FrameLines.{kind-of, modulus-of, first-degree, count-of, words-of, frame-words}
 use Rattle.frame_lines.specs.FrameLines.{first-polynomial, second-polynomial, is-frame, answer-line}
 use Rattle.frame_lines.specs.Heads.{Fields, HeadOf, WordsRead}
+use Rattle.frame_runs.specs.Working.{Working}
 use Rattle.frames.specs.Frames.{AnswerOf, refusal-of, Outcome, Served, refused, answered, Told, Wrote}
 use Rattle.frames.specs.Lending.{Lent}
 
@@ -61,7 +62,8 @@ frame-told {s} {w} {k = k} {d = d} {e = e} {r = r} {v = v} x h ef i q =
       work = q .work ∙ ap (λ (y : ℕ). left y w) (eo .status) ∙ ap (λ (c : Bool). cond c (left (refusal-of s) w) w) (sym ef);
     }
 
-pub told-served : {s m₀ m w w' : List ℕ} {k n d e r v : ℕ} {b : Bool} → Lent s k n d e m₀ w → WordsRead s (d + 1 + (e + 1)) m b → not b ≡ false
+pub told-served : {s m₀ m w w' : List ℕ} {k n d e r v : ℕ} {b : Bool} → Lent s k n d e m₀ w
+    → WordsRead s (d + 1 + (e + 1)) m b → not b ≡ false
     → Served k n (take (d + 1) (take (d + 1 + (e + 1) - 0) m)) (drop (d + 1) (take (d + 1 + (e + 1) - 0) m)) r v w w' → Told s k r v w w'
 told-served {m = m} {d = d} {e = e} {b = b} l p t q =
     let tr = not-false b t in
@@ -79,6 +81,18 @@ pub wrote-refused : {s o o' w : List ℕ} {at : ℕ} → is-frame s ≡ false
 wrote-refused h p = wrote-told (told-refused h) p
 
 -- ---- the words lent
+
+-- working words are zeros, and so they are after a line
+left-zeros : (r : ℕ) (w : List ℕ) → Working w → left r w ≡ w
+left-zeros zero w h = sym (h .zeros)
+left-zeros (suc r) w h = refl
+
+after-zeros : (b : Bool) (r : ℕ) (w : List ℕ) → Working w → cond b (left r w) w ≡ w
+after-zeros true r w h = left-zeros r w h
+after-zeros false r w h = refl
+
+pub still-working : {s o o' w w' : List ℕ} {at : ℕ} → Wrote s at o o' w w' → Working w → Working w'
+still-working {s} {w = w} p h = subst Working (sym (p .work ∙ after-zeros (is-frame s) (refusal-of s) w h)) h
 
 pub wiped : (w w₁ w' : List ℕ) → length w₁ ≡ length w → w' ≡ replicate (length w₁) 0 → w' ≡ replicate (length w) 0
 wiped w w₁ w' h e = e ∙ ap (λ (k : ℕ). replicate k 0) h

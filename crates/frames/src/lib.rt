@@ -4,6 +4,7 @@ ghost use Prim.Native.Nat.{_+_, _≤_};
 ghost use lib.ListN.{length, take, drop, replicate};
 ghost use Rattle.frames.specs.Frames.{Served, Told, Wrote};
 ghost use Rattle.frames.specs.Lending.{Lent};
+ghost use Rattle.frame_runs.specs.Working.{Working};
 use frame_lines::Head;
 use refusals::Answer;
 
@@ -17,7 +18,7 @@ struct Line {
 // Serves the job of a frame's words: the first polynomial is the first d + 1 of them, the second is the part from place d + 1
 // onward.
 fn serve(kind: u32, n: u32, words: &[u32], d: usize, work: &mut [u32]) -> Answer
-    requires { ⌜ (1 ≤ kind) × ((d + 1 ≤ length (now words)) × (8192 ≤ length (now work))) ⌝ }
+    requires { ⌜ (1 ≤ kind) × ((d + 1 ≤ length (now words)) × Working (now work)) ⌝ }
     ensures { λ r. ⌜ Served kind n (take (d + 1) (now (words .entry))) (drop (d + 1) (now (words .entry)))
         (r .status) (r .value) (now (work .entry)) (now (work .exit)) ⌝ }
 {
@@ -28,9 +29,11 @@ fn serve(kind: u32, n: u32, words: &[u32], d: usize, work: &mut [u32]) -> Answer
         return Answer { value: 0, status };
     }
     if kind == 1 {
-        return resultant_service::resultant(n, f, g, work);
+        let value = frame_runs::resultant(n, f, g, work);
+        return Answer { value, status };
     }
-    divisor_service::divisor(n, f, g, work)
+    let value = frame_runs::reduced(n, f, g, work);
+    Answer { value, status }
 }
 
 // The words of a frame. Of zeros only the count is told: whoever has them need not look at 98 of them.
@@ -90,7 +93,7 @@ fn serve_line(
 
 // What the answer to the line s says. Words are lent for a line whose head is a frame's.
 fn tell(s: &[u8], work: &mut [u32]) -> Line
-    requires { ⌜ 8192 ≤ length (now work) ⌝ }
+    requires { ⌜ Working (now work) ⌝ }
     ensures { λ r. ⌜ Told (now (s .entry)) (r .kind) (r .status) (r .value) (now (work .entry)) (now (work .exit)) ⌝ }
 {
     let Head::Frame { kind, n, d, e } = frame_lines::read_head(s) else {
@@ -106,7 +109,7 @@ fn tell(s: &[u8], work: &mut [u32]) -> Line
 
 // Writes the answer to the line s from place `at` on. The words of a frame are zero again before the answer is written.
 pub fn answer(s: &[u8], work: &mut [u32], out: &mut [u8], at: usize)
-    requires { ⌜ (at + 13 ≤ length (now out)) × (8192 ≤ length (now work)) ⌝ }
+    requires { ⌜ (at + 13 ≤ length (now out)) × Working (now work) ⌝ }
     ensures { λ _. ⌜ Wrote (now (s .entry)) at (now (out .entry)) (now (out .exit)) (now (work .entry)) (now (work .exit)) ⌝ }
 {
     let line = tell(s, work);

@@ -1,22 +1,31 @@
--- Quotient and remainder by words: what a turn of `quotient_words` keeps, and that both together are the division.
+-- Quotient and remainder by words, for words of any width.
+--
+--   Quotienting                     what a turn of `quotient_words` keeps, with its start, turn and end
+--   remainders, remainder-next      the words of the remainder, and a turn of `remainder_words`
+--   divided                         both together are the division
+--   quotients                       the rules
 use mathlib.Core.Path.{_≡_, refl, sym, ap, ap₂, subst, _∙_}
 use mathlib.Core.List.{List}
 use mathlib.Core.Logic.{⊎-elim}
 use Prim.Native.Nat.{ℕ, zero, suc, _+_, _-_, _*_, _%_, _≤_, _<_}
 use native.Mathlib.Nat.{mod-lt, add-zero, add-comm, mul-one, eq-or-lt-of-le, zero-mul}
 use native.Mathlib.Omega.{arith}
-use lib.ListN.{length, getD, take, drop, set, replicate, length-set, length-drop, List·getD-eq-default}
+use borrow.Author.Needs.{needs}
+use lib.ListN.{length, getD, take, drop, set, replicate, length-set, length-drop, length-replicate, List·getD-eq-default}
 use lib.Seq.{getD-set-same, getD-set-other, getD-drop, take-all}
 use Rattle.numbers.specs.Congruence.{Cong, c-refl, c-sym, c-trans, c-eq, c-add, c-mul, c-mod, c-sub, ring}
 use Rattle.definitions.specs.Polynomials.{coef, deg, convolve, tabulate, quotient-length, Division}
 use Rattle.theory.specs.Words.{total-cong, coef-out, coef-tabulate, length-tabulate}
 use Rattle.convolution.specs.Sums.{total-none, convolve-shift, convolve-first, zeros-at}
 use Rattle.windows.proofs.Leaf.{lt-or-le}
-use Rattle.polynomial_division.specs.Stages.{QuotientWords, difference}
-use Rattle.polynomial_tests.specs.Buffers.{deg-is}
+use Rattle.reduction.proofs.Reciprocals.{modulo, within}
+use Rattle.polynomial_tests.specs.Buffers.{deg-is, Filled, filled-none, filled-step, filled-end}
+use Rattle.polynomial_division.specs.Stages.{QuotientAsked, QuotientWords, difference}
 
 -- the words from s on are made; those below are 0
 pub record Quotienting (n s : ℕ) (f g q₀ q : List ℕ) : Type 0 where
+  pub most : s ≤ length q₀
+  pub reach : s ≤ length f - (length g - 1)
   pub same : length q ≡ length q₀
   pub low : (j : ℕ) → j < s → coef q j ≡ 0
   pub below : (j : ℕ) → coef q j < n
@@ -27,13 +36,22 @@ pub record Quotienting (n s : ℕ) (f g q₀ q : List ℕ) : Type 0 where
 beyond : (f : List ℕ) (k : ℕ) → length f ≤ k → coef f k ≡ 0
 beyond f k l = List·getD-eq-default f 0 l
 
-pub quotienting-start : (n s m : ℕ) (f g q : List ℕ) → 1 ≤ n → q ≡ replicate m 0 → s ≡ length f - (length g - 1) → Quotienting n s f g q q
-quotienting-start n s m f g q pos e es =
-    let z : (k : ℕ) → coef q k ≡ 0 = λ k. ap (λ (w : List ℕ). coef w k) e ∙ zeros-at m k in
+-- the loop begins within the quotient
+starts-within : (f g : List ℕ) (l s : ℕ) → 1 ≤ length f → l ≡ quotient-length (deg f) (deg g) → s ≡ length f - (length g - 1) → s ≤ l
+starts-within f g l s one el es =
+    let e : l ≡ suc (length f - 1 - (length g - 1)) = el ∙ ap₂ (λ (x y : ℕ). suc (x - y)) (deg-is f) (deg-is g) in
+    omega arith
+
+pub quotienting-start : {n i s : ℕ} {f g p q : List ℕ} → QuotientAsked n i f g p → q ≡ replicate (length p) 0
+    → s ≡ length f - (length g - 1) → Quotienting n s f g q q
+quotienting-start {n} {i} {s} {f} {g} {p} {q} a e es =
+    let z : (k : ℕ) → coef q k ≡ 0 = λ k. ap (λ (w : List ℕ). coef w k) e ∙ zeros-at (length p) k in
     record {
+      most = starts-within f g (length q) s (a .some-f) (ap length e ∙ length-replicate (length p) 0 ∙ a .length-q) es;
+      reach = omega arith;
       same = refl;
       low = λ j l. z j;
-      below = λ j. subst (λ (x : ℕ). x < n) (sym (z j)) pos;
+      below = λ j. subst (λ (x : ℕ). x < n) (sym (z j)) (a .modulus);
       high = λ j l. z j;
       at = λ j l. c-eq
           (total-none (suc (deg g)) _ (λ i b. ap (λ (x : ℕ). x * coef g (deg g - i)) (getD-drop j q i 0 ∙ z (j + i))
@@ -41,14 +59,8 @@ quotienting-start n s m f g q pos e es =
           ∙ sym (beyond f (deg g + j) (omega (arith, deg-is g))));
     }
 
--- the loop begins within the quotient
-pub starts-within : (f g : List ℕ) (l s : ℕ) → 1 ≤ length f → l ≡ quotient-length (deg f) (deg g) → s ≡ length f - (length g - 1) → s ≤ l
-starts-within f g l s one el es =
-    let e : l ≡ suc (length f - 1 - (length g - 1)) = el ∙ ap₂ (λ (x y : ℕ). suc (x - y)) (deg-is f) (deg-is g) in
-    omega arith
-
 -- the slice that is read is all that stands from s on
-pub read-is : (q : List ℕ) (s m k : ℕ) → m ≡ length q → k ≡ m - s → take k (drop s q) ≡ drop s q
+read-is : (q : List ℕ) (s m k : ℕ) → m ≡ length q → k ≡ m - s → take k (drop s q) ≡ drop s q
 read-is q s m k em ek = take-all k (drop s q) (omega (arith, length-drop s q))
 
 module _ (n i s x v : ℕ) (f g q₀ q : List ℕ) (pos : 0 < n) (inside : s < length q₀) (reach : deg g + s < length f)
@@ -89,9 +101,11 @@ module _ (n i s x v : ℕ) (f g q₀ q : List ℕ) (pos : 0 < n) (inside : s < l
   kept j l = total-cong (suc (deg g)) _ _ (λ k b. ap (λ (z : ℕ). z * coef g (deg g - k))
       (getD-drop j q' k 0 ∙ getD-set-other q s (j + k) v 0 (omega arith) ∙ sym (getD-drop j q k 0)))
 
-  pub quotienting-step : Quotienting n s f g q₀ (set q s v)
+  quotienting-step : Quotienting n s f g q₀ (set q s v)
   unfolding q'
   quotienting-step = record {
+    most = omega arith;
+    reach = omega (arith, qs .reach);
     same = length-set q s v ∙ qs .same;
     low = λ j l. getD-set-other q s j v 0 (omega arith) ∙ qs .low j (omega arith);
     below = λ j. ⊎-elim
@@ -116,29 +130,24 @@ quotient-word-is n i a z r e = e ∙ c-trans (c-eq (sums i a z)) (c-mul (c-refl 
     sums : (i a z : ℕ) → 0 + i * a + z * i ≡ i * (a + z)
     sums i a z = omega arith
 
--- modulo the modulus found with its reciprocal
-pub quotient-modulo : {a n r : ℕ} (i p x : ℕ) → a ≡ n → r ≡ (i * ((p + (a - x)) % a)) % a → r ≡ (i * ((p + (n - x)) % n)) % n
-quotient-modulo i p x e h = h ∙ ap (λ (z : ℕ). (i * ((p + (z - x)) % z)) % z) e
+-- the turn, as the code has it: a is the modulus found with its reciprocal
+pub quotienting-next : {n' s' : ℕ} {f' g' q₀' q' : List ℕ} (n i s a b e x v : ℕ) (f g h p q₀ q y : List ℕ) → Quotienting n s f g q₀ q
+    → QuotientAsked n i f g p → x ≡ convolve (coef y) (coef h) e % a → v ≡ (i * ((b + (a - x)) % a)) % a → a ≡ n → 0 < s
+    → n' ≡ n → f' ≡ f → g' ≡ g → q₀' ≡ q₀ → s' ≡ s - 1 → q' ≡ set q s' v → h ≡ g → e ≡ length g - 1
+    → y ≡ take (length q₀ - s') (drop s' q) → b ≡ coef f (length g - 1 + s') → Quotienting n' s' f' g' q₀' q'
+quotienting-next {n'} {s'} n i s a b e x v f g h p q₀ q y qs asked ex ev ea l en ef eg e₀ es eq eh ee ey eb =
+    let k : s ≡ s' + 1 = omega arith in
+    rw (en, ef, eg, e₀, eq) (quotienting-step n i s' x v f g q₀ q (asked .modulus) (omega (arith, qs .most))
+    (omega (arith, deg-is g, qs .reach)) (asked .inverse) (rw k at qs)
+    (modulo _ ea ex ∙ rw (ey, eh, ee, read-is q s' (length q) (length q₀ - s') refl (omega (arith, qs .same)), deg-is g) refl)
+    (ev ∙ ap (λ (z : ℕ). (i * ((b + (z - x)) % z)) % z) ea ∙ rw (eb, deg-is g) refl))
 
-pub difference-modulo : {a n r : ℕ} (p x : ℕ) → a ≡ n → r ≡ (p + (a - x)) % a → r ≡ (p + (n - x)) % n
-difference-modulo p x e h = h ∙ ap (λ (z : ℕ). (p + (z - x)) % z) e
-
--- the turn, as the code has it
-pub quotienting-turn : (n i s k x y v : ℕ) (f g q₀ q : List ℕ) → 0 < n → s < length q₀ → s < length f - (length g - 1)
-    → (i * coef g (deg g)) % n ≡ 1 % n
-    → Quotienting n (s + 1) f g q₀ q → k ≡ length q - s → x ≡ convolve (coef (take k (drop s q))) (coef g) (length g - 1) % n
-    → y ≡ (coef f (length g - 1 + s) + (n - x)) % n → v ≡ (i * y) % n → Quotienting n s f g q₀ (set q s v)
-quotienting-turn n i s k x y v f g q₀ q pos inside reach unit qs ek ex ey ev =
-    quotienting-step n i s x v f g q₀ q pos inside (omega (arith, deg-is g)) unit qs
-    (ex ∙ ap₂ (λ (w : List ℕ) (e : ℕ). convolve (coef w) (coef g) e % n) (read-is q s (length q) k refl ek) (sym (deg-is g)))
-    (ev ∙ ap (λ (z : ℕ). (i * z) % n) (ey ∙ ap (λ (e : ℕ). (coef f (e + s) + (n - x)) % n) (sym (deg-is g))))
-
-pub quotienting-end : (n s : ℕ) (f g q₀ q : List ℕ) → s ≡ 0 → 1 ≤ length f → length q₀ ≡ quotient-length (deg f) (deg g)
-    → Quotienting n s f g q₀ q → QuotientWords n f g q
-quotienting-end n s f g q₀ q e one l qs = record {
-  length-q = qs .same ∙ l;
+pub quotienting-end : {n i s : ℕ} {f g p q₀ q : List ℕ} → QuotientAsked n i f g p → q₀ ≡ replicate (length p) 0 → Quotienting n s f g q₀ q
+    → s ≤ 0 → QuotientWords n f g q
+quotienting-end {n} {i} {s} {f} {g} {p} a e qs l = record {
+  length-q = qs .same ∙ ap length e ∙ length-replicate (length p) 0 ∙ a .length-q;
   residues = record { at = λ k b. qs .below k };
-  short = λ b. qs .high 0 (omega (arith, deg-is f));
+  short = λ b. qs .high 0 (omega (arith, deg-is f, a .some-f));
   equation = λ j. qs .at j (omega arith) .same;
 }
 
@@ -175,8 +184,8 @@ module _ (n : ℕ) (f g q r : List ℕ) (pos : 0 < n) (one : 1 ≤ length g) (qw
           ∙ qw .equation j
           ∙ ap (λ (x : ℕ). coef f x % n) (add-comm (deg g) j ∙ sym e)
 
-  pub divided : Division n f g q r
-  divided = record {
+  division-of : Division n f g q r
+  division-of = record {
     length-q = qw .length-q;
     length-r = ap length is ∙ length-tabulate (deg g) (λ (k : ℕ). difference n (coef f k) (convolve (coef q) (coef g) k));
     residues-q = qw .residues;
@@ -191,7 +200,33 @@ module _ (n : ℕ) (f g q r : List ℕ) (pos : 0 < n) (one : 1 ≤ length g) (qw
     equation = record { at = equation };
   }
 
+abbrev pub remainders : ℕ → List ℕ → List ℕ → List ℕ → ℕ → ℕ
+remainders n f g q k = difference n (coef f k) (convolve (coef q) (coef g) k)
+
+pub divided : {n i : ℕ} {f g p q r' : List ℕ} (r : List ℕ) → QuotientAsked n i f g p → length r ≡ deg g → QuotientWords n f g q
+    → r' ≡ tabulate (length r) (remainders n f g q) → Division n f g q r'
+divided {n} {i} {f} {g} {p} {q} {r'} r a l qw e =
+    division-of n f g q r' (a .modulus) (a .some-g) qw (e ∙ ap (λ (k : ℕ). tabulate k (remainders n f g q)) l)
+
 -- a word of the remainder, as the code makes it
-pub remainder-made : (n x a r : ℕ) (f g q : List ℕ) (k : ℕ) → x ≡ convolve (coef q) (coef g) k % n → a ≡ coef f k → r ≡ (a + (n - x)) % n
-    → r ≡ difference n (coef f k) (convolve (coef q) (coef g) k)
-remainder-made n x a r f g q k ex ea er = er ∙ ap₂ (λ (u v : ℕ). (u + (n - v)) % n) ea ex
+pub remainder-next : {k k' : ℕ} {r₀ r r' : List ℕ} (n a x y v : ℕ) (f g q : List ℕ) → Filled (remainders n f g q) k r₀ r → k < length r
+    → a ≡ n → x ≡ convolve (coef q) (coef g) k % a → y ≡ coef f k → v ≡ (y + (a - x)) % a → r' ≡ set r k v → k' ≡ k + 1
+    → Filled (remainders n f g q) k' r₀ r'
+remainder-next {k} {k'} {r₀} {r} {r'} n a x y v f g q h l ea ex ey ev er ek =
+    rw (er, ek) (filled-step h (omega (arith, h .same))
+    (ev ∙ ap (λ (z : ℕ). (y + (z - x)) % z) ea ∙ ap₂ (λ (u w : ℕ). (u + (n - w)) % n) ey (modulo _ ea ex)))
+
+pub remainder-end : {F : ℕ → ℕ} {k : ℕ} {r₀ r : List ℕ} → Filled F k r₀ r → k ≤ length r₀ → length r ≤ k → r ≡ tabulate (length r₀) F
+remainder-end h m l = filled-end h (omega (arith, h .same))
+
+pub residue-within : {b y : ℕ} (a v x : ℕ) → v ≡ x % a → 1 ≤ a → y ≡ v → b ≡ a → y ≤ b
+residue-within a v x h l ey eb = omega (arith, within x l h)
+
+pub beyond-word : (f : List ℕ) (k : ℕ) → length f ≤ k → 0 ≡ coef f k
+beyond-word f k l = sym (beyond f k l)
+
+pub ruleset turns = (quotienting-start, quotienting-next, quotienting-end, quotient-word-is, residue-within)
+
+pub ruleset remains = (beyond-word, filled-none, remainder-next, remainder-end, divided)
+
+pub ruleset quotients = (needs, turns, remains)

@@ -1,10 +1,16 @@
--- From the words of the working buffer to the inverse: f as it was loaded, and what comes of `window_factor::series_inverse`.
+-- From the words of the working buffer to the inverse: f as it was loaded, and what comes of `window_factor::series_inverse`, for words of
+-- any width.
+--
+--   inverse-below, one-below, inverse-within, series-room, series-unit     what `window_factor::series_inverse` asks
+--   words-wiped, words-inverse                                  what is left
+--   inverses                                                    the rules
 use mathlib.Core.Path.{_≡_, refl, sym, ap, ap₂, subst, _∙_}
 use mathlib.Core.List.{List}
 use Prim.Native.Nat.{ℕ, zero, suc, _+_, _-_, _*_, _%_, _≤_, _<_}
 use native.Mathlib.Nat.{mul-comm}
 use native.Mathlib.Omega.{arith}
-use lib.ListN.{length}
+use lib.ListN.{length, replicate}
+use borrow.Author.Needs.{needs}
 use Rattle.definitions.specs.Residues.{K, Inverse}
 use Rattle.definitions.specs.Polynomials.{coef, deg, constant, tabulate, Residues, UnitPolynomial, InverseOf}
 use Rattle.theory.specs.Words.{total-cong, length-tabulate}
@@ -14,6 +20,7 @@ use Rattle.window_factor.specs.Factors.{Series}
 use Rattle.window_factor.proofs.SeriesLaws.{series-exact}
 use Rattle.polynomial_tests.specs.Buffers.{deg-is}
 use Rattle.polynomial_factors.proofs.Parts.{loaded-is, spread}
+use Rattle.polynomial_inverse.specs.Stages.{InverseAsked}
 
 module _ (n d i m : ℕ) (f w w1 w2 v : List ℕ) (two : 2 ≤ n) (e : d + 1 ≡ length f) (em : m ≡ suc (K n * deg f))
     (fits : length f + m ≤ length w) (rs : Residues n f)
@@ -40,7 +47,7 @@ module _ (n d i m : ℕ) (f w w1 w2 v : List ℕ) (two : 2 ≤ n) (e : d + 1 ≡
       less zero = omega arith
       less (suc c) = let z : suc c - 1 ≡ c = omega arith in rw z (omega arith)
 
-  pub inverse-of : InverseOf n f v
+  inverse-of : InverseOf n f v
   unfolding Y
   inverse-of =
       let x = series-exact two sr (subst (UnitPolynomial n) (sym loaded) up) enough in
@@ -59,3 +66,38 @@ module _ (n d i m : ℕ) (f w w1 w2 v : List ℕ) (two : 2 ≤ n) (e : d + 1 ≡
       ends : (k : ℕ) → constant (i * coef (piece w1 0 (d + 1)) 0) k % n ≡ constant 1 k % n
       ends zero = ap (λ (p : List ℕ). (i * coef p 0) % n) loaded ∙ ap (λ (y : ℕ). y % n) (mul-comm i (coef f 0)) ∙ inv .one
       ends (suc k) = refl
+
+module _ {n i : ℕ} {f out work : List ℕ} (a : InverseAsked n i f out work) where
+  pub inverse-below : {i' n' : ℕ} → i' ≡ i → n' ≡ n → i' < n'
+  inverse-below ei en = omega (arith, a .inverse .below, a .modulus)
+
+  pub one-below : {n' : ℕ} → n' ≡ n → 1 < n'
+  one-below en = omega (arith, a .modulus)
+
+  pub inverse-within : {i' n' : ℕ} → i' ≡ i → n' ≡ n → i' ≤ n'
+  inverse-within ei en = omega (arith, a .inverse .below)
+
+  fits : length f - 1 + 1 ≡ length f
+  fits = omega (arith, a .some)
+
+  module _ {w₁ : List ℕ} (ld : Loaded n 0 f work w₁) where
+    pub series-room : {x y : ℕ} → x ≡ length f - 1 + 1 + length out → y ≡ length w₁ → x ≤ y
+    series-room ex ey = omega (arith, a .some, a .room, ld .same)
+
+    pub series-unit : {n' : ℕ} (j : ℕ) (p : List ℕ) → n' ≡ n → j ≡ i → p ≡ piece w₁ 0 (length f - 1 + 1) → (j * coef p 0) % n' ≡ 1 % n'
+    series-unit j p en ej ep =
+        rw (en, ej, ep) (ap (λ (p : List ℕ). (i * coef p 0) % n)
+        (loaded-is n (length f - 1) f work w₁ fits (omega (arith, a .room)) (a .residues) ld)
+        ∙ ap (λ (x : ℕ). x % n) (mul-comm i (coef f 0)) ∙ a .inverse .one)
+
+    module _ {w₂ : List ℕ} (sr : Series n (length f - 1) i (length out) w₁ w₂) where
+      pub words-wiped : {w₃ : List ℕ} → w₃ ≡ replicate (length w₂) 0 → w₃ ≡ replicate (length work) 0
+      words-wiped e = e ∙ ap (λ (x : ℕ). replicate x 0) (sr .around .same ∙ ld .same)
+
+      pub words-inverse : {out' : List ℕ} → out' ≡ tabulate (length out) (coef (piece w₂ (length f - 1 + 1) (length out)))
+          → InverseOf n f out'
+      words-inverse ev =
+          inverse-of n (length f - 1) i (length out) f work w₁ w₂ _ (a .modulus) fits (a .length-out) (a .room) (a .residues) (a .unit)
+          (a .inverse) ld sr ev
+
+pub ruleset inverses = (needs, inverse-below, one-below, inverse-within, series-room, series-unit, words-wiped, words-inverse)

@@ -1,24 +1,34 @@
 -- What `product` returns, at each of its ends.
 --
---   degrees-are, degrees-over, degrees-within, product-length     the degrees as the code has them
+--   degrees-are, degrees-over, degrees-far, degrees-within, product-length     the degrees as the code has them
+--   some-told                        a polynomial whose length was accepted has a word
 --   product-accepted                 what is known once none of the refusals applies
---   product-refused, product-done
+--   first-some, second-some, room-told, modulus-told              each part of it, as the code asks for it
+--   product-refused, product-done    the answers
+--   products, product-next, product-end     the words of the product, and a turn of `product_words`
+--   tests, words                     the rules
 use mathlib.Core.Path.{_≡_, refl, sym, ap, ap₂, subst, _∙_}
-use mathlib.Core.Bool.{true, false}
+use mathlib.Core.Bool.{Bool, true, false}
 use mathlib.Core.List.{List}
 use Prim.Native.Nat.{ℕ, suc, _+_, _-_, _%_, _≤_, _<_}
+use native.Mathlib.Nat.{sub-zero}
 use native.Mathlib.Numerals.{add-one}
+use native.Mathlib.Omega.{arith}
+use borrow.Author.Needs.{needs}
 use borrow.Author.Tests.{lt-ltb, le-ltb}
-use borrow.Rule.Slice.PartMut.{putMid}
-use lib.Dec.{ltb}
-use lib.ListN.{length}
+use borrow.Rule.Slice.PartMut.{midOf, putMid, mid-len}
+use lib.Dec.{T, ltb, leb, leb→le}
+use lib.ListN.{length, set}
 use Rattle.definitions.specs.Polynomials.{coef, deg, convolve, tabulate, product}
 use Rattle.theory.specs.Words.{length-tabulate}
 use Rattle.refusals.specs.Refusals.{Width, bad-length, short}
 use Rattle.refusals.specs.Conditions.{length-fails, status-zero}
 use Rattle.refusals.proofs.Statuses.{replaced-refused}
-use Rattle.polynomial_tests.specs.Buffers.{deg-is, placed}
-use Rattle.polynomial_product.specs.ProductService.{product-refusals, product-status, product-conditions, product-listed, ProductAnswer}
+use Rattle.refusals.proofs.Cascade.{hit, miss, told, told-not}
+use Rattle.reduction.proofs.Reciprocals.{modulo}
+use Rattle.polynomial_tests.specs.Buffers.{deg-is, placed, Filled, filled-none, filled-step, filled-end}
+use Rattle.polynomial_product.specs.ProductService.{product-refusals, product-status, product-conditions, product-listed}
+use Rattle.polynomial_product.specs.ProductService.{ProductAnswer}
 
 -- the sum of the degrees, and the length of the product, as the code has them
 pub degrees-are : (f g : List ℕ) → length f - 1 + (length g - 1) ≡ deg f + deg g
@@ -27,11 +37,17 @@ degrees-are f g = sym (ap₂ (λ (x y : ℕ). x + y) (deg-is f) (deg-is g))
 pub degrees-over : (f g : List ℕ) → 48 < length f - 1 + (length g - 1) → ltb 48 (deg f + deg g) ≡ true
 degrees-over f g h = lt-ltb 48 (deg f + deg g) (subst (λ (x : ℕ). 48 < x) (degrees-are f g) h)
 
+pub degrees-far : (k : ℕ) (f g : List ℕ) → k < length f - 1 + (length g - 1) → T (leb 48 k) → ltb 48 (deg f + deg g) ≡ true
+degrees-far k f g h t = degrees-over f g (omega (arith, leb→le 48 k t))
+
 pub degrees-within : (f g : List ℕ) → length f - 1 + (length g - 1) ≤ 48 → ltb 48 (deg f + deg g) ≡ false
 degrees-within f g h = le-ltb 48 (deg f + deg g) (subst (λ (x : ℕ). x ≤ 48) (degrees-are f g) h)
 
 pub some-word : (f : List ℕ) → bad-length f ≡ false → 1 ≤ length f
 some-word f h = length-fails f .passed h .some
+
+pub some-told : {l : ℕ} (r : Bool) (f : List ℕ) → r ≡ bad-length f → r ≡ false → l ≡ length f → 1 ≤ l
+some-told r f e h el = omega (arith, some-word f (sym e ∙ h))
 
 pub product-length : (f g : List ℕ) → length f - 1 + (length g - 1) + 1 ≡ suc (deg f + deg g)
 product-length f g = add-one (length f - 1 + (length g - 1)) ∙ ap suc (degrees-are f g)
@@ -59,17 +75,58 @@ product-accepted W n s f g l is z =
       room = subst (λ (x : ℕ). x ≤ l) (sym (product-length f g)) (p .1 .1 .1 .1 .1 .1 .0);
     }
 
+-- word k of the product
+abbrev pub products : ℕ → List ℕ → List ℕ → ℕ → ℕ
+products n f g k = convolve (coef f) (coef g) k % n
+
 module _ (W : Width) (n s : ℕ) (f g out : List ℕ) (is : s ≡ product-status W n f g (length out)) where
   pub product-refused : (s ≡ 0 → ⊥) → ProductAnswer W n f g out out 0 s
   product-refused h = record { status-is = is; value-is = refl; out-is = replaced-refused s (product n f g) out h }
 
-  pub product-done : s ≡ 0 → (m k : ℕ) → m ≡ length f - 1 + (length g - 1) + 1 → k ≡ m → (ys : List ℕ) (l : ℕ) → l ≡ m
-      → ys ≡ tabulate l (λ (i : ℕ). convolve (coef f) (coef g) i % n) → ProductAnswer W n f g out (putMid 0 k out ys) 0 0
-  product-done z m k e q ys l r h =
-      let p : m ≡ suc (deg f + deg g) = e ∙ product-length f g in
-      record {
+  pub product-done : s ≡ 0 → {out' : List ℕ} (ys : List ℕ)
+      → ys ≡ tabulate (length (midOf 0 (length f - 1 + (length g - 1) + 1 - 0) out)) (products n f g)
+      → out' ≡ putMid 0 (length f - 1 + (length g - 1) + 1 - 0) out ys → ProductAnswer W n f g out out' 0 0
+  product-done z ys h eo =
+      let m : ℕ = length f - 1 + (length g - 1) + 1 in
+      let p : m ≡ suc (deg f + deg g) = product-length f g in
+      let room : m ≤ length out = product-accepted W n s f g (length out) is z .room in
+      rw eo (record {
         status-is = sym z ∙ is;
         value-is = refl;
-        out-is = placed k out ys (product n f g) (h ∙ ap (λ (x : ℕ). tabulate x (λ (i : ℕ). convolve (coef f) (coef g) i % n)) (r ∙ p))
-            (length-tabulate (suc (deg f + deg g)) (λ (i : ℕ). convolve (coef f) (coef g) i % n) ∙ sym p ∙ sym q);
-      }
+        out-is = placed (m - 0) out ys (product n f g)
+            (h ∙ ap (λ (x : ℕ). tabulate x (products n f g)) (mid-len 0 m out room ∙ sub-zero m ∙ p))
+            (length-tabulate (suc (deg f + deg g)) (products n f g) ∙ sym p ∙ sym (sub-zero m));
+      })
+
+-- moduli below B; of a width nothing else is asked here
+abbrev below-bound : ℕ → Width
+below-bound B = record { bound = B; working = 0 }
+
+module _ (B n s : ℕ) (f g : List ℕ) (l : ℕ) (is : s ≡ product-status (below-bound B) n f g l) (z : s ≡ 0) where
+  known : ProductAccepted n f g l
+  known = product-accepted (below-bound B) n s f g l is z
+
+  pub first-some : {k : ℕ} → k ≡ length f → 1 ≤ k
+  first-some e = omega (arith, known .some-f)
+
+  pub second-some : {k : ℕ} → k ≡ length g → 1 ≤ k
+  second-some e = omega (arith, known .some-g)
+
+  pub room-told : {j k : ℕ} (i : ℕ) → j ≡ length f - 1 + (length g - 1) → T (leb i 1) → k ≡ l → j + i ≤ k
+  room-told i ej li ek = omega (arith, known .room, leb→le i 1 li)
+
+  pub modulus-told : {k : ℕ} → k ≡ n → 1 ≤ k
+  modulus-told e = omega (arith, known .modulus)
+
+-- ---- the words
+
+pub product-next : {k k' : ℕ} {w₀ w w' : List ℕ} (n a v : ℕ) (f g : List ℕ) → Filled (products n f g) k w₀ w
+    → v ≡ convolve (coef f) (coef g) k % a → a ≡ n → k < length w → w' ≡ set w k v → k' ≡ k + 1 → Filled (products n f g) k' w₀ w'
+product-next n a v f g h ev ea l ew ek = rw (ew, ek) (filled-step h (omega (arith, h .same)) (modulo _ ea ev))
+
+pub product-end : {F : ℕ → ℕ} {k : ℕ} {w₀ w : List ℕ} → Filled F k w₀ w → k ≤ length w₀ → length w ≤ k → w ≡ tabulate (length w₀) F
+product-end h m l = filled-end h (omega (arith, h .same))
+
+pub ruleset tests = (tt, hit, miss, told, told-not, degrees-far, degrees-within, lacks-room, has-room)
+
+pub ruleset words = (needs, filled-none, product-next, product-end)

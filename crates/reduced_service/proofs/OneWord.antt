@@ -9,9 +9,8 @@ use mathlib.Core.List.{List}
 use Prim.Native.Nat.{ℕ, zero, suc, pred, _+_, _*_, _%_, _<_, _≤_, _∣_}
 use native.Mathlib.Nat.{mul-zero, dvd-add, dvd-mul-left-of-dvd}
 use native.Mathlib.Omega.{arith}
-use lib.ListN.{length, replicate, set, List·getD-eq-default, getD-replicate, length-replicate}
+use lib.ListN.{length, replicate, set, List·getD-eq-default, length-replicate}
 use lib.Seq.{getD-set-same, getD-set-other}
-use native.Mathlib.Decide.{decLt}
 use Rattle.definitions.specs.Residues.{LeastCofactors}
 use Rattle.definitions.specs.Polynomials.{coef, convolve, constant}
 use Rattle.definitions.specs.Resultants.{Combination, Reached}
@@ -19,6 +18,7 @@ use Rattle.numbers.specs.Congruence.{Cong, c-trans, c-sym, c-dvd, c-zero, dvd-c
 use Rattle.theory.specs.Words.{convolve-zero}
 use Rattle.theory.specs.ReachedSteps.{convolve-constant}
 use Rattle.theory.specs.ReachedLaws.{reduced-from}
+use Rattle.convolution.specs.Sums.{zeros-at}
 use Rattle.reduced_cofactors.specs.Cofactors.{Certified}
 use Rattle.reduced_service.specs.ReducedService.{LeastConstants}
 use Rattle.reduced_service.specs.Constants.{HoldsConstant, ConstantCofactors}
@@ -27,16 +27,9 @@ use Rattle.reduced_service.specs.Constants.{HoldsConstant, ConstantCofac
 pub put-in-front : (l x : ℕ) → 1 ≤ l → HoldsConstant x (set (replicate l 0) 0 x)
 put-in-front l x h = record { at = at }
   where
-    zeros : (k : ℕ) → coef (replicate l 0) k ≡ 0
-    zeros k = go (decLt k l)
-      where
-        go : Dec (k < l) → coef (replicate l 0) k ≡ 0
-        go (yes q) = getD-replicate l k 0 0 q
-        go (no q) = List·getD-eq-default (replicate l 0) 0 {n = k} (omega (arith, length-replicate {A = ℕ} l 0))
-
     at : (k : ℕ) → coef (set (replicate l 0) 0 x) k ≡ constant x k
     at zero = getD-set-same (replicate l 0) 0 x 0 (omega (arith, length-replicate {A = ℕ} l 0))
-    at (suc k) = getD-set-other (replicate l 0) 0 (suc k) x 0 (λ e. absurd (omega arith)) ∙ zeros (suc k)
+    at (suc k) = getD-set-other (replicate l 0) 0 (suc k) x 0 (λ e. absurd (omega arith)) ∙ zeros-at l (suc k)
 
 constant-below : {n x : ℕ} {u : List ℕ} → x < n → HoldsConstant x u → (k : ℕ) → coef u k < n
 constant-below {n} {x} {u} l h zero = subst (λ (y : ℕ). y < n) (sym (h .at 0)) l

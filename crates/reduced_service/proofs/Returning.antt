@@ -1,9 +1,10 @@
 -- The reduced resultant's promise at each place where it returns, and that the run has the words that it asks for, over any width W.
 --
 --   Serves W k    K of a modulus of the width is at most k, and the working words of the width are enough for it
-use mathlib.Core.Path.{_≡_, refl, sym, ap, ap₂, subst, _∙_}
+use mathlib.Core.Path.{_≡_, refl, sym, ap₂, subst, _∙_}
 use mathlib.Core.List.{List, [], _∷_, _++_}
-use Prim.Native.Nat.{ℕ, zero, suc, pred, max, _+_, _-_, _*_, _≤_, _<_}
+use Prim.Native.Nat.{ℕ, zero, suc, max, _+_, _-_, _*_, _≤_, _<_}
+use native.Mathlib.Numerals.{sub-one}
 use native.Mathlib.Omega.{arith}
 use native.Mathlib.Nat.{mul-le-mul}
 use lib.ListN.{length, take, replicate}
@@ -23,12 +24,6 @@ use Rattle.reduced_service.specs.ReducedService.{LeastConstants, HoldsCo
 left-alone : (s n : ℕ) (f g u v : List ℕ) → (s ≡ 0 → ⊥) → ReducedLeft s n f g u u v v 0
 left-alone zero n f g u v z = absurd (z refl)
 left-alone (suc s) n f g u v z = record { nothing = refl; first = refl; second = refl }
-
-deg-is : (f : List ℕ) → length f - 1 ≡ deg f
-deg-is f = less (length f)
-  where
-    less : (l : ℕ) → l - 1 ≡ pred l
-    less l = omega arith
 
 -- a part of l words is as long as it should be
 pub part-long : (m l x : ℕ) (b : List ℕ) → m ≡ l → l ≡ x → l ≤ length b → x ≤ length (take m b)
@@ -94,7 +89,7 @@ module _ (W : Width) (n : ℕ) (f g u v work : List ℕ) (s : ℕ) (e : s ≡ fi
 
   module _ (z : s ≡ 0) (l : ℕ) (el : l ≡ L n (length f - 1) (length g - 1)) where
     length-is : l ≡ L n (deg f) (deg g)
-    length-is = el ∙ ap₂ (L n) (deg-is f) (deg-is g)
+    length-is = el ∙ ap₂ (L n) (sub-one (length f)) (sub-one (length g))
 
     -- the first refusal among 6 and 7, found for l
     found : (t : ℕ) → t ≡ first-refusal (later l) → t ≡ first-refusal (refusals-two W n f g ++ later (L n (deg f) (deg g)))

@@ -1,19 +1,24 @@
 -- What is known once no refusal applies, and what a service promises in its two cases. The status r is that of the refusals t.
 --
---   residue-accepted, residues-accepted    what is known where none applies
+--   modulus-one, modulus-two, pair-one, first-within, second-within     what is known where none applies, of one residue and of two
+--   residue-over, residue-far, residue-under     the test of a residue
 --   first-status, second-status            the status of two residues from that of each
 --   refused-residue, residue-answered      the services with one value
 --   refused-gcd, gcd-answered              the gcd with cofactors
 --   refused-kind, kind-answered            the kind
-use mathlib.Core.Path.{_≡_, refl, sym, _∙_}
+--   tests, promises                        the rules
+use mathlib.Core.Path.{_≡_, refl, sym, ap, _∙_}
 use mathlib.Core.Bool.{Bool, true, false, not}
 use mathlib.Core.List.{List, [], _∷_}
 use Prim.Native.Nat.{ℕ, zero, suc, _≤_, _<_}
 use native.Mathlib.Omega.{arith}
+use borrow.Author.Needs.{needs}
+use borrow.Author.Tests.{lt-ltb, le-ltb}
 use lib.Dec.{ltb}
 use Rattle.definitions.specs.Residues.{GcdWithCofactors, LeastCofactors}
 use Rattle.refusals.specs.Refusals.{Width, Tested, bad-modulus, first-refusal}
 use Rattle.refusals.specs.Conditions.{ServedModulus, status-zero}
+use Rattle.refusals.proofs.Cascade.{cascade}
 use Rattle.refusals.proofs.Statuses.{refused-early, refused-value, answered-value}
 use Rattle.residue.specs.declared.Kind.{Kind}
 use Rattle.residue.specs.declared.Kind.the-variants.{Unit as Unit', Nilpotent, Splits}
@@ -31,23 +36,57 @@ use Rattle.residue_services.specs.Services.{
   residues-listed,
 }
 
-pub residue-accepted : (W : Width) (n a : ℕ) → first-refusal (refusals-residue W n a) ≡ 0 → (2 ≤ n) × (a < n)
-residue-accepted W n a h =
-    let p = status-zero (refusals-residue W n a) (ServedModulus W n ∷ (a < n) ∷ []) (residue-listed W n a) .0 h in (p .0 .least, p .1 .0)
+-- moduli below B; of a width nothing else is asked here
+abbrev below-bound : ℕ → Width
+below-bound B = record { bound = B; working = 0 }
 
-pub residues-accepted : (W : Width) (n a b : ℕ) → first-refusal (refusals-residues W n a b) ≡ 0 → (2 ≤ n) × ((a < n) × (b < n))
-residues-accepted W n a b h =
-    let p = status-zero (refusals-residues W n a b) (ServedModulus W n ∷ (a < n) ∷ (b < n) ∷ []) (residues-listed W n a b) .0 h in
-    (p .0 .least, (p .1 .0, p .1 .1 .0))
+module _ (B n a r : ℕ) (is : r ≡ first-refusal (refusals-residue (below-bound B) n a)) (z : r ≡ 0) where
+  modulus : 2 ≤ n
+  modulus =
+      status-zero (refusals-residue (below-bound B) n a) (ServedModulus (below-bound B) n ∷ (a < n) ∷ [])
+      (residue-listed (below-bound B) n a) .0 (sym is ∙ z) .0 .least
+
+  pub modulus-one : {k : ℕ} → k ≡ n → 1 ≤ k
+  modulus-one e = omega (arith, modulus)
+
+  pub modulus-two : {k : ℕ} → k ≡ n → 2 ≤ k
+  modulus-two e = omega (arith, modulus)
+
+module _ (B n a b r : ℕ) (is : r ≡ first-refusal (refusals-residues (below-bound B) n a b)) (z : r ≡ 0) where
+  known : (2 ≤ n) × ((a < n) × (b < n))
+  known =
+      let p = status-zero (refusals-residues (below-bound B) n a b) (ServedModulus (below-bound B) n ∷ (a < n) ∷ (b < n) ∷ [])
+      (residues-listed (below-bound B) n a b) .0 (sym is ∙ z) in
+      (p .0 .least, (p .1 .0, p .1 .1 .0))
+
+  pub pair-one : {k : ℕ} → k ≡ n → 1 ≤ k
+  pair-one e = omega (arith, known .0)
+
+  pub first-within : {j k : ℕ} → j ≡ a → k ≡ n → j ≤ k
+  first-within ej ek = omega (arith, known .1 .0)
+
+  pub second-within : {j k : ℕ} → j ≡ b → k ≡ n → j ≤ k
+  second-within ej ek = omega (arith, known .1 .1)
+
+pub residue-over : (a n : ℕ) → n ≤ a → not (ltb a n) ≡ true
+residue-over a n h = ap not (le-ltb a n h)
+
+pub residue-far : (a n : ℕ) → n < a → not (ltb a n) ≡ true
+residue-far a n h = residue-over a n (omega arith)
+
+pub residue-under : (a n : ℕ) → a < n → not (ltb a n) ≡ false
+residue-under a n h = ap not (lt-ltb a n h)
+
+pub ruleset tests = (cascade, residue-over, residue-far, residue-under)
 
 -- the first residue's refusal stands for both; where it passes, the second's status does
-pub first-status : (W : Width) (n a b r : ℕ) → r ≡ first-refusal (refusals-residue W n a) → (r ≡ 0 → ⊥)
-    → r ≡ first-refusal (refusals-residues W n a b)
-first-status W n a b r e f = refused-early (refusals-residue W n a) ((3, not (ltb b n)) ∷ []) r e f
+pub first-status : (B n a b r : ℕ) → r ≡ first-refusal (refusals-residue (below-bound B) n a) → (r ≡ 0 → ⊥)
+    → r ≡ first-refusal (refusals-residues (below-bound B) n a b)
+first-status B n a b r e f = refused-early (refusals-residue (below-bound B) n a) ((3, not (ltb b n)) ∷ []) r e f
 
-pub second-status : (W : Width) (n a b r s : ℕ) → r ≡ first-refusal (refusals-residue W n a) → r ≡ 0
-    → s ≡ first-refusal (refusals-residue W n b) → s ≡ first-refusal (refusals-residues W n a b)
-second-status W n a b r s e z h = go (bad-modulus W n) (ltb a n) (sym e ∙ z) h
+pub second-status : (B n a b r s : ℕ) → r ≡ first-refusal (refusals-residue (below-bound B) n a) → r ≡ 0
+    → s ≡ first-refusal (refusals-residue (below-bound B) n b) → s ≡ first-refusal (refusals-residues (below-bound B) n a b)
+second-status B n a b r s e z h = go (bad-modulus (below-bound B) n) (ltb a n) (sym e ∙ z) h
   where
     go : (m p : Bool) → first-refusal ((1, m) ∷ (3, not p) ∷ []) ≡ 0 → s ≡ first-refusal ((1, m) ∷ (3, not (ltb b n)) ∷ [])
         → s ≡ first-refusal ((1, m) ∷ (3, not p) ∷ (3, not (ltb b n)) ∷ [])
@@ -82,3 +121,7 @@ refused-kind W n a (suc r) e f = record { status-is = e; values-are = refl }
 pub kind-answered : (W : Width) (n a r : ℕ) (k : Kind) → r ≡ first-refusal (refusals-residue W n a) → r ≡ 0 → KindOf n a k
     → KindPromised W n a (Known k)
 kind-answered W n a r k e z h = record { status-is = sym z ∙ e; values-are = true-values n a k h }
+
+pub ruleset answers = (refused-residue, residue-answered, refused-gcd, gcd-answered, refused-kind, kind-answered)
+
+pub ruleset promises = (needs, modulus-one, modulus-two, pair-one, first-within, second-within, answers)

@@ -8,16 +8,16 @@
 --   KindPromised                           all that is promised of the kind
 --   residue-listed, residues-listed        each refusal under its condition and no other
 --   values-one                             the values that are true of a residue are one list
-use mathlib.Core.Path.{_≡_, refl, sym, ap, subst, _∙_}
-use mathlib.Core.Bool.{Bool, true, false, not}
+use mathlib.Core.Path.{_≡_, refl, sym, ap, _∙_}
+use mathlib.Core.Bool.{not}
 use mathlib.Core.List.{List, [], _∷_}
 use Prim.Native.Nat.{ℕ, zero, suc, _+_, _-_, _*_, _%_, _^_, _≤_, _<_}
 use native.Mathlib.Omega.{arith}
-use borrow.Author.Tests.{ltb-true, ltb-false}
-use lib.Dec.{T, ltb}
+use borrow.Author.Tests.{ltb-true, lt-ltb}
+use lib.Dec.{ltb}
 use Rattle.definitions.specs.Residues.{Inverse, IsNilpotent, Splitting, GcdWithCofactors, LeastCofactors}
 use Rattle.refusals.specs.Refusals.{Width, Tested, bad-modulus, first-refusal, answered}
-use Rattle.refusals.specs.Conditions.{Fails, Listed, ServedModulus, modulus-fails}
+use Rattle.refusals.specs.Conditions.{Fails, Listed, ServedModulus, fails, modulus-fails}
 use Rattle.residue.specs.declared.Kind.{Kind}
 use Rattle.residue.specs.declared.Kind.the-variants.{Unit as Unit', Nilpotent, Splits}
 use Rattle.residue.specs.Kinds.{KindOf, kind-unique}
@@ -91,11 +91,7 @@ pub record KindPromised (W : Width) (n a : ℕ) (r : KindAnswer) : Type 0 where
 
 -- the conditions of an answer: so `status-zero` and `status-is` (refusals/Conditions) say when the status is 0, and when it is k
 residue-fails : (n a : ℕ) → Fails (not (ltb a n)) (a < n)
-residue-fails n a = go (ltb a n) refl
-  where
-    go : (t : Bool) → ltb a n ≡ t → Fails (not t) (a < n)
-    go true e = record { passed = λ z. ltb-true a n e; failed = λ z h. subst T (sym z) tt }
-    go false e = record { passed = λ z. absurd (subst T z tt); failed = λ z h. let l = ltb-false a n e in omega arith }
+residue-fails n a = fails (ltb a n) (ltb-true a n) (lt-ltb a n)
 
 pub residue-listed : (W : Width) (n a : ℕ) → Listed (refusals-residue W n a) (ServedModulus W n ∷ (a < n) ∷ [])
 residue-listed W n a = ((omega arith, modulus-fails W n), ((omega arith, residue-fails n a), tt))

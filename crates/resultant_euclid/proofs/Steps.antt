@@ -1,22 +1,25 @@
 -- The steps of a run without inverses: each is the step of `resultant_pseudo` on what the words stand for.
 --
---   pair-led, last-led, turn-led, drop-led   what each step makes, from what the word loop wrote
---   asked, asked-here                        what the word loop asks
+--   exchanged, turned, dropped               the stage after each step
+--   pair-led, last-led, turn-led, drop-led   where each step leads, from what the word loop wrote
+--   pair-told, last-told, turn-told, drop-told   what each step did
+--   lead-below, other-below, asked, asked-here   what the word loop asks
 --   standing-values                          what the words stand for stands in the same places
 --   leads-self, leads-trans, leads-same      no step; one after another; the buffer keeps its length
 --   one-is, began                            a run that begins, and where it leads
 --   value-is                                 the value at the end
 use mathlib.Core.Path.{_≡_, refl, sym, ap, ap₂, subst, _∙_}
 use mathlib.Core.List.{List}
-use mathlib.Core.Logic.{⊎-elim}
+use mathlib.Core.Logic.{⊎-elim, inl, inr}
+use mathlib.Core.Bool.{Bool, true, false}
 use Prim.Native.Nat.{ℕ, _+_, _-_, _*_, _%_, _^_, _≤_, _<_}
 use native.Mathlib.Omega.{arith}
-use native.Mathlib.Nat.{mod-eq-of-lt, mod-self, zero-mod}
+use native.Mathlib.Nat.{mod-eq-of-lt}
 use lib.ListN.{length, getD}
-use Rattle.numbers.specs.Congruence.{Cong, c-refl, c-sym, c-trans, c-eq, c-add, c-mul}
+use Rattle.numbers.specs.Congruence.{Cong, c-refl, c-eq, c-add, c-mul}
 use Rattle.theory.specs.ResultantLaws.{signed}
 use Rattle.windows.specs.Window.{Moved, mulBy, Written, Below, Around, Apart}
-use Rattle.windows.proofs.Leaf.{lt-or-le, apart-at}
+use Rattle.windows.proofs.Leaf.{lt-or-le}
 use Rattle.window_combining.specs.Combined.{combination}
 use Rattle.modulus.specs.declared.Modulus.{Modulus}
 use Rattle.modulus.specs.Values.{Known, value, values}
@@ -24,12 +27,28 @@ use Rattle.modulus.proofs.Valuing.{value-none}
 use Rattle.modulus_windows.specs.Standing.{Wrote, Scaled}
 use Rattle.modulus_windows.proofs.Forms.{values-length, values-at, values-below}
 use Rattle.resultant_turns.specs.RunLaws.{Run}
-use Rattle.resultant_pseudo.specs.Standing.{Placed, PlacedState, Led, TriedAnswer, standing}
+use Rattle.resultant_pseudo.specs.Standing.{Placed, Led, TriedAnswer, standing}
 use Rattle.resultant_pseudo.specs.declared.Tried.the-variants.{Value}
-use Rattle.resultant_pseudo.specs.declared.State.{State}
 use Rattle.resultant_pseudo.proofs.Stepping.{pair-stepped, last-stepped, turn-stepped, drop-stepped, next-placed}
 use Rattle.resultant_pseudo.proofs.Stepping.{turned-placed, asked as asked-below, led-self, led-trans, run-value}
-use Rattle.resultant_euclid.specs.Running.{Standing, Leads, Stepped, meant}
+use Rattle.euclid_steps.specs.Stages.{Standing, Leads, Stepped, Told}
+use Rattle.euclid_steps.specs.declared.Stage.{Stage}
+use Rattle.resultant_euclid.proofs.Moving.{pair-moves, last-moves, turn-moves, drop-moves}
+
+-- ---- the stage after a step: the remainder and f; f and what a turn leaves of g; f without its leading word and g
+-- Where a step leads does not depend on what is kept of it: the last four are any.
+
+abbrev pub exchanged : Stage → ℕ → ℕ → ℕ → ℕ → ℕ → Bool → Stage
+exchanged x s p y c k z =
+    record { a = x .b; d = x .d - 1; b = x .a; e = x .d; s = s; p = p; t = x .t; y = y; c = c; k = k; swap = z }
+
+abbrev pub turned : Stage → ℕ → ℕ → ℕ → ℕ → Bool → Stage
+turned x p y c k z =
+    record { a = x .a; d = x .d; b = x .b; e = x .e - 1; s = x .s; p = p; t = x .t; y = y; c = c; k = k; swap = z }
+
+abbrev pub dropped : Stage → ℕ → ℕ → ℕ → ℕ → ℕ → Bool → Stage
+dropped x s t y c k z =
+    record { a = x .a; d = x .d - 1; b = x .b; e = x .e; s = s; p = x .p; t = t; y = y; c = c; k = k; swap = z }
 
 pub around-more : {b l m : ℕ} {w w' : List ℕ} → l ≤ m → Around b l w w' → Around b m w w'
 around-more h ar = record { same = ar .same; low = ar .low; high = λ k g. ar .high k (omega arith) }
@@ -64,65 +83,124 @@ module _ (m : Modulus) (known : Known m) where
     };
   }
 
-  module _ (x : State) (w w' : List ℕ) (st : Standing m x w) (one : 1 ≤ x .d) where
+  module _ (x : Stage) (w w' : List ℕ) (st : Standing m x w) (one : 1 ≤ x .d) where
     at : (i : ℕ) → value m (getD w i 0) ≡ getD (values m w) i 0
     at i = sym (values-at m known w i)
+
+    less-at : (i : ℕ) → m .n - getD (values m w) i 0 ≡ m .n - value m (getD w i 0)
+    less-at i = ap (λ (u : ℕ). m .n - u) (sym (at i))
+
+    less-none : m .n ≡ m .n - value m 0
+    less-none = omega (arith, value-none m known)
 
     in-places : Placed (m .n) (x .a) (x .d) (x .b) (x .e) (values m w)
     in-places = standing-values (x .a) (x .d) (x .b) (x .e) w (st .placed)
 
+    top-none : getD w (x .a + x .d) 0 ≡ 0 → getD (values m w) (x .a + x .d) 0 ≡ 0
+    top-none h = sym (at (x .a + x .d)) ∙ ap (value m) h ∙ value-none m known
+
     -- the remainder and f
-    next : (len : ℕ) → len ≤ x .e + 1 → (k s : ℕ) → k < m .n → s < m .n → Around (x .b) len w w' → Below (m .n) (x .b) (x .d) w'
-        → Standing m (record { a = x .b; d = x .d - 1; b = x .a; e = x .d; s = s; p = k; t = x .t }) w'
-    next len l k s lk ls ar be = record {
+    next : (len : ℕ) → len ≤ x .e + 1 → (k s y c q : ℕ) (z : Bool) → k < m .n → s < m .n → Around (x .b) len w w'
+        → Below (m .n) (x .b) (x .d) w' → Standing m (exchanged x s k y c q z) w'
+    next len l k s y c q z lk ls ar be = record {
       placed = next-placed (m .n) (x .a) (x .d) (x .b) (x .e) w w' (st .placed) one (around-more l ar) be;
       s-below = ls;
       p-below = lk;
       t-below = st .t-below;
     }
 
-    pub pair-led : (y p q : ℕ) → x .e ≡ x .d + 1 → value m y ≡ (value m (getD w (x .a + x .d) 0) * value m (getD w (x .a + x .d) 0)) % m .n
-        → value m p ≡ (value m (getD w (x .a + x .d) 0) * value m (getD w (x .b + (x .d + 1)) 0)) % m .n
-        → value m q ≡ (value m (getD w (x .a + x .d) 0) * value m (getD w (x .b + x .d) 0)
-        + (m .n - value m (getD w (x .b + (x .d + 1)) 0)) * value m (getD w (x .a + (x .d - 1)) 0)) % m .n
-        → Wrote m (combination (m .n) (value m y) (m .n - value m p) (m .n - value m q) (x .a) (x .b) (values m w)) (x .b) (x .d) w w'
-        → (k s : ℕ) → (k < m .n) × (value m k ≡ (value m (x .p) * value m y) % m .n) → (s < m .n)
-        × (value m s ≡ (value m (x .s) * value m k) % m .n)
-        → Stepped m x w (record { a = x .b; d = x .d - 1; b = x .a; e = x .d; s = s; p = k; t = x .t }) w'
-    pair-led y p q h hy hp hq wr k s hk hs =
-        let z = pair-stepped (m .n) (x .a) (x .d) (x .b) (x .e) (values m w) (values m w') (value m y) (value m p)
-        (value m q) in-places one h
-        (hy ∙ ap₂ (λ (u v : ℕ). (u * v) % m .n) (at (x .a + x .d)) (at (x .a + x .d)))
-        (hp ∙ ap₂ (λ (u v : ℕ). (u * v) % m .n) (at (x .a + x .d)) (at (x .b + (x .d + 1))))
-        (hq ∙ ap (λ (u : ℕ). u % m .n) (nothing _ _
-        ∙ ap₂ (λ (u v : ℕ). u + v + 0 * 0) (ap₂ (λ (u v : ℕ). u * v) (at (x .a + x .d)) (at (x .b + x .d)))
-        (ap₂ (λ (u v : ℕ). (m .n - u) * v) (at (x .b + (x .d + 1))) (at (x .a + (x .d - 1))))))
-        (wr .stands) (value m (x .s)) (value m (x .p)) (value m (x .t)) (value m k) (value m s) (hk .1) (hs .1) in
-        (record { standing = next (x .d) (omega arith) k s (hk .0) (hs .0) (wr .around) (wr .below); led = z .0 }, z .1)
+    module _ (y p q : ℕ) (h : x .e ≡ x .d + 1)
+        (hy : (y < m .n) × (value m y ≡ (value m (getD w (x .a + x .d) 0) * value m (getD w (x .a + x .d) 0)) % m .n))
+        (hp : (p < m .n) × (value m p ≡ (value m (getD w (x .a + x .d) 0) * value m (getD w (x .b + (x .d + 1)) 0)) % m .n))
+        (hq : (q < m .n) × (value m q ≡ (value m (getD w (x .a + x .d) 0) * value m (getD w (x .b + x .d) 0)
+        + (m .n - value m (getD w (x .b + (x .d + 1)) 0)) * value m (getD w (x .a + (x .d - 1)) 0)) % m .n))
+        (wr : Wrote m (combination (m .n) (value m y) (m .n - value m p) (m .n - value m q) (x .a) (x .b) (values m w)) (x .b) (x .d) w w')
+      where
+        square : value m y ≡ (getD (values m w) (x .a + x .d) 0 * getD (values m w) (x .a + x .d) 0) % m .n
+        square = hy .1 ∙ ap₂ (λ (u v : ℕ). (u * v) % m .n) (at (x .a + x .d)) (at (x .a + x .d))
 
-    pub last-led : x .e ≡ x .d
-        → Wrote m (combination (m .n) (value m (getD w (x .a + x .d) 0)) 0 (m .n - value m (getD w (x .b + x .d) 0)) (x .a) (x .b)
-        (values m w)) (x .b) (x .d) w w'
-        → (k s : ℕ) → (k < m .n) × (value m k ≡ (value m (x .p) * value m (getD w (x .a + x .d) 0)) % m .n)
-        → (s < m .n) × (value m s ≡ (value m (x .s) * value m k) % m .n)
-        → Stepped m x w (record { a = x .b; d = x .d - 1; b = x .a; e = x .d; s = s; p = k; t = x .t }) w'
-    last-led h wr k s hk hs =
-        let z = last-stepped (m .n) (x .a) (x .d) (x .b) (x .e) (values m w) (values m w') in-places one h
-        (written-cong (getD (values m w) (x .a + x .d) 0) 0 (m .n - getD (values m w) (x .b + x .d) 0) (x .a) (values m w)
-        (c-eq (at (x .a + x .d))) c-refl
-        (c-eq (ap (λ (u : ℕ). m .n - u) (at (x .b + x .d)))) (wr .stands))
-        (value m (x .s)) (value m (x .p)) (value m (x .t)) (value m k) (value m s)
-        (hk .1 ∙ ap (λ (u : ℕ). (value m (x .p) * u) % m .n) (at (x .a + x .d))) (hs .1) in
-        (record { standing = next (x .d) (omega arith) k s (hk .0) (hs .0) (wr .around) (wr .below); led = z .0 }, z .1)
+        upper : value m p ≡ (getD (values m w) (x .a + x .d) 0 * getD (values m w) (x .b + (x .d + 1)) 0) % m .n
+        upper = hp .1 ∙ ap₂ (λ (u v : ℕ). (u * v) % m .n) (at (x .a + x .d)) (at (x .b + (x .d + 1)))
 
-    pub drop-led : getD w (x .a + x .d) 0 ≡ 0 → (y : ℕ) → value m y ≡ signed (m .n) (x .e) (value m (getD w (x .b + x .e) 0)) → (t s : ℕ)
+        lower : value m q ≡ (getD (values m w) (x .a + x .d) 0 * getD (values m w) (x .b + x .d) 0
+            + (m .n - getD (values m w) (x .b + (x .d + 1)) 0) * getD (values m w) (x .a + (x .d - 1)) 0 + 0 * 0) % m .n
+        lower =
+            hq .1 ∙ ap (λ (u : ℕ). u % m .n) (nothing _ _
+            ∙ ap₂ (λ (u v : ℕ). u + v + 0 * 0) (ap₂ (λ (u v : ℕ). u * v) (at (x .a + x .d)) (at (x .b + x .d)))
+            (ap₂ (λ (u v : ℕ). (m .n - u) * v) (at (x .b + (x .d + 1))) (at (x .a + (x .d - 1)))))
+
+        pub pair-led : (k s y′ c′ k′ : ℕ) (o : Bool) → (k < m .n) × (value m k ≡ (value m (x .p) * value m y) % m .n) → (s < m .n)
+            × (value m s ≡ (value m (x .s) * value m k) % m .n) → Stepped m x w (exchanged x s k y′ c′ k′ o) w'
+        pair-led k s y′ c′ k′ o hk hs =
+            let z = pair-stepped (m .n) (x .a) (x .d) (x .b) (x .e) (values m w) (values m w') (value m y) (value m p)
+            (value m q) in-places one h square upper lower
+            (wr .stands) (value m (x .s)) (value m (x .p)) (value m (x .t)) (value m k) (value m s) (hk .1) (hs .1) in
+            (record { standing = next (x .d) (omega arith) k s y′ c′ k′ o (hk .0) (hs .0) (wr .around) (wr .below); led = z .0 }, z .1)
+
+        pub pair-told : (k s : ℕ) → Told m x w (exchanged x s k y p q true) w'
+        pair-told k s = record {
+          around = around-more (omega arith) (wr .around);
+          y-below = hy .0;
+          c-below = hp .0;
+          k-below = hq .0;
+          places = (refl, refl);
+          falls = (inl h, (omega arith, refl));
+          moves = pair-moves (m .n) (x .a) (x .d) (x .b) (x .e) (values m w) (values m w') (value m y) (value m p) (value m q) in-places
+              one h square upper lower (wr .stands);
+        }
+
+    module _ (h : x .e ≡ x .d)
+        (wr : Wrote m (combination (m .n) (value m (getD w (x .a + x .d) 0)) 0 (m .n - value m (getD w (x .b + x .d) 0)) (x .a) (x .b)
+        (values m w)) (x .b) (x .d) w w') where
+      last-wrote : Written (combination (m .n) (getD (values m w) (x .a + x .d) 0) 0 (m .n - getD (values m w) (x .b + x .d) 0) (x .a)
+          (x .b) (values m w)) (x .b) (x .d) (values m w) (values m w')
+      last-wrote =
+          written-cong (getD (values m w) (x .a + x .d) 0) 0 (m .n - getD (values m w) (x .b + x .d) 0) (x .a) (values m w)
+          (c-eq (at (x .a + x .d))) c-refl (c-eq (ap (λ (u : ℕ). m .n - u) (at (x .b + x .d)))) (wr .stands)
+
+      pub last-led : (k s y′ c′ k′ : ℕ) (o : Bool) → (k < m .n) × (value m k ≡ (value m (x .p) * value m (getD w (x .a + x .d) 0)) % m .n)
+          → (s < m .n) × (value m s ≡ (value m (x .s) * value m k) % m .n)
+          → Stepped m x w (exchanged x s k y′ c′ k′ o) w'
+      last-led k s y′ c′ k′ o hk hs =
+          let z = last-stepped (m .n) (x .a) (x .d) (x .b) (x .e) (values m w) (values m w') in-places one h last-wrote
+          (value m (x .s)) (value m (x .p)) (value m (x .t)) (value m k) (value m s)
+          (hk .1 ∙ ap (λ (u : ℕ). (value m (x .p) * u) % m .n) (at (x .a + x .d))) (hs .1) in
+          (record { standing = next (x .d) (omega arith) k s y′ c′ k′ o (hk .0) (hs .0) (wr .around) (wr .below); led = z .0 }, z .1)
+
+      pub last-told : (k s : ℕ) → Told m x w (exchanged x s k (getD w (x .a + x .d) 0) 0 (getD w (x .b + x .d) 0) true) w'
+      last-told k s = record {
+        around = around-more (omega arith) (wr .around);
+        y-below = st .placed .pair .first .at (x .d) (omega arith);
+        c-below = known .pos;
+        k-below = st .placed .pair .second .at (x .d) (omega arith);
+        places = (refl, refl);
+        falls = (inr (h, refl), (omega arith, refl));
+        moves = last-moves (m .n) (x .a) (x .d) (x .b) (x .e) (values m w) (values m w') in-places one h last-wrote _ _ _
+            (sym (at (x .a + x .d))) less-none (less-at (x .b + x .d));
+      }
+
+    pub drop-told : getD w (x .a + x .d) 0 ≡ 0 → 2 ≤ m .n → (u : ℕ) → (u < m .n) × (value m u ≡ 1 % m .n) → (t s : ℕ)
+        → Told m x w (dropped x s t u 0 0 false) w
+    drop-told h two u hu t s = record {
+      around = record { same = refl; low = λ k l. refl; high = λ k l. refl };
+      y-below = hu .0;
+      c-below = known .pos;
+      k-below = known .pos;
+      places = (refl, refl);
+      falls = (omega (arith, st .placed .near), inr (omega arith, refl));
+      moves = drop-moves (m .n) (x .a) (x .d) (x .b) (x .e) (values m w) one (top-none h) _ (m .n - value m 0) _
+          (sym (hu .1 ∙ mod-eq-of-lt (omega arith))) less-none;
+    }
+
+    pub drop-led : getD w (x .a + x .d) 0 ≡ 0 → (y : ℕ) → value m y ≡ signed (m .n) (x .e) (value m (getD w (x .b + x .e) 0))
+        → (t s y′ c′ k′ : ℕ) (o : Bool)
         → (t < m .n) × (value m t ≡ (value m (x .t) * value m y) % m .n) → (s < m .n)
         × (value m s ≡ (value m (x .s) * value m (x .p)) % m .n)
-        → Stepped m x w (record { a = x .a; d = x .d - 1; b = x .b; e = x .e; s = s; p = x .p; t = t }) w
-    drop-led h y hy t s ht hs =
+        → Stepped m x w (dropped x s t y′ c′ k′ o) w
+    drop-led h y hy t s y′ c′ k′ o ht hs =
         let pl = st .placed in
         let z = drop-stepped (m .n) (x .a) (x .d) (x .b) (x .e) (values m w) in-places one
-        (sym (at (x .a + x .d)) ∙ ap (value m) h ∙ value-none m known) (value m y)
+        (top-none h) (value m y)
         (hy ∙ ap (signed (m .n) (x .e)) (at (x .b + x .e))) (value m (x .s)) (value m (x .p)) (value m (x .t)) (value m t) (value m s)
         (ht .1) (hs .1) in (
           record {
@@ -169,14 +247,32 @@ module _ (m : Modulus) (known : Known m) where
             (lt-or-le k i);
       }
 
-      pub turn-led : (k : ℕ) → (k < m .n) × (value m k ≡ (value m (x .p) * value m (getD w (x .a + x .d) 0)) % m .n)
-          → Stepped m x w (record { a = x .a; d = x .d; b = x .b; e = x .e - 1; s = x .s; p = k; t = x .t }) w'
-      turn-led k hk =
-          let z = turn-stepped (m .n) (x .a) (x .d) (x .b) (x .e) i (values m w) (values m w₁) (values m w') in-places one lt is
-          (subst (λ (u : ℕ). Moved (mulBy (m .n) u) (x .b) (x .b) i (values m w) (values m w₁)) (at (x .a + x .d)) (sc .stands))
-          (written-cong (getD (values m w) (x .a + x .d) 0) 0 (m .n - getD (values m w) (x .b + x .e) 0) (x .a) (values m w₁)
-          (c-eq (at (x .a + x .d))) c-refl
-          (c-eq (ap (λ (u : ℕ). m .n - u) (at (x .b + x .e)))) (wr .stands))
+      turn-scaled : Moved (mulBy (m .n) (getD (values m w) (x .a + x .d) 0)) (x .b) (x .b) i (values m w) (values m w₁)
+      turn-scaled = subst (λ (u : ℕ). Moved (mulBy (m .n) u) (x .b) (x .b) i (values m w) (values m w₁)) (at (x .a + x .d)) (sc .stands)
+
+      turn-wrote : Written (combination (m .n) (getD (values m w) (x .a + x .d) 0) 0 (m .n - getD (values m w) (x .b + x .e) 0) (x .a)
+          (x .b + i) (values m w₁)) (x .b + i) (x .d) (values m w₁) (values m w')
+      turn-wrote =
+          written-cong (getD (values m w) (x .a + x .d) 0) 0 (m .n - getD (values m w) (x .b + x .e) 0) (x .a) (values m w₁)
+          (c-eq (at (x .a + x .d))) c-refl (c-eq (ap (λ (u : ℕ). m .n - u) (at (x .b + x .e)))) (wr .stands)
+
+      pub turn-told : (k : ℕ) → Told m x w (turned x k (getD w (x .a + x .d) 0) 0 (getD w (x .b + x .e) 0) false) w'
+      turn-told k = record {
+        around = turn-around;
+        y-below = st .placed .pair .first .at (x .d) (omega arith);
+        c-below = known .pos;
+        k-below = st .placed .pair .second .at (x .e) (omega arith);
+        places = (refl, refl);
+        falls = (omega arith, inl (refl, omega arith));
+        moves = turn-moves (m .n) (x .a) (x .d) (x .b) (x .e) i (values m w) (values m w₁) (values m w') in-places one lt is turn-scaled
+            turn-wrote _ (m .n - value m 0) _ (sym (at (x .a + x .d))) (less-at (x .b + x .e));
+      }
+
+      pub turn-led : (k y′ c′ k′ : ℕ) (o : Bool) → (k < m .n) × (value m k ≡ (value m (x .p) * value m (getD w (x .a + x .d) 0)) % m .n)
+          → Stepped m x w (turned x k y′ c′ k′ o) w'
+      turn-led k y′ c′ k′ o hk =
+          let z = turn-stepped (m .n) (x .a) (x .d) (x .b) (x .e) i (values m w) (values m w₁) (values m w') in-places one lt is turn-scaled
+          turn-wrote
           (value m (x .s)) (value m (x .p)) (value m (x .t)) (value m k)
           (hk .1 ∙ ap (λ (u : ℕ). (value m (x .p) * u) % m .n) (at (x .a + x .d))) in (
             record {
@@ -193,11 +289,11 @@ module _ (m : Modulus) (known : Known m) where
 
   -- ---- the whole run
 
-  pub leads-self : {x : State} {w : List ℕ} → Standing m x w → Leads m x w x w
+  pub leads-self : {x : Stage} {w : List ℕ} → Standing m x w → Leads m x w x w
   leads-self {x} {w} st = record { standing = st; led = led-self (standing-values (x .a) (x .d) (x .b) (x .e) w (st .placed)) }
 
   -- the value at the end of a run, from what the code found
-  pub value-is : (y : State) (w : List ℕ) (R₀ i g s l c z u v : ℕ) → Standing m y w → y .d ≡ 0
+  pub value-is : (y : Stage) (w : List ℕ) (R₀ i g s l c z u v : ℕ) → Standing m y w → y .d ≡ 0
       → Run (m .n) (value m (y .s)) (value m (y .p)) (value m (y .t)) (y .d) R₀ (standing (m .n) (y .a) (y .d) (y .b) (y .e) (values m w))
       → R₀ < m .n
       → s ≡ value m (y .s) → (i * s) % m .n ≡ g % m .n → g ≡ 1 → l ≡ value m (getD w (y .a) 0) → c ≡ (l ^ y .e) % m .n
@@ -210,21 +306,21 @@ module _ (m : Modulus) (known : Known m) where
       (subst (λ (q : ℕ). (i * q) % m .n ≡ g % m .n) hs hi) hg
       (hc ∙ ap (λ (q : ℕ). (q ^ y .e) % m .n) (hl ∙ sym (values-at m known w (y .a)))) hz hu hv
 
-pub leads-trans : {m : Modulus} {x y z : State} {w w' w'' : List ℕ} → Leads m x w y w' → Leads m y w' z w'' → Leads m x w z w''
+pub leads-trans : {m : Modulus} {x y z : Stage} {w w' w'' : List ℕ} → Leads m x w y w' → Leads m y w' z w'' → Leads m x w z w''
 leads-trans p q = record { standing = q .standing; led = led-trans (p .led) (q .led) }
 
-pub leads-same : {m : Modulus} {x y : State} {w w' : List ℕ} → Leads m x w y w' → length w' ≡ length w
+pub leads-same : {m : Modulus} {x y : Stage} {w w' : List ℕ} → Leads m x w y w' → length w' ≡ length w
 leads-same {m} {w = w} {w' = w'} h = sym (values-length m w') ∙ h .led .same ∙ values-length m w
 
 -- ---- a run that begins
 
-abbrev pub beginning : ℕ → ℕ → ℕ → ℕ → ℕ → State
-beginning a d b e u = record { a = a; d = d; b = b; e = e; s = u; p = u; t = u }
+abbrev pub beginning : ℕ → ℕ → ℕ → ℕ → ℕ → Stage
+beginning a d b e u = record { a = a; d = d; b = b; e = e; s = u; p = u; t = u; y = 0; c = 0; k = 0; swap = false }
 
 pub begun : {m : Modulus} {a d b e : ℕ} {w : List ℕ} (u : ℕ) → Placed (m .n) a d b e w → u < m .n → Standing m (beginning a d b e u) w
 begun u pl l = record { placed = pl; s-below = l; p-below = l; t-below = l }
 
-pub began : {m : Modulus} {a d b e : ℕ} {w w' : List ℕ} (u : ℕ) (y : State) → 2 ≤ m .n → value m u ≡ 1 % m .n → Leads m
+pub began : {m : Modulus} {a d b e : ℕ} {w w' : List ℕ} (u : ℕ) (y : Stage) → 2 ≤ m .n → value m u ≡ 1 % m .n → Leads m
     (beginning a d b e u) w y w'
     → Led (m .n) a d b e 1 1 1 (values m w) (y .a) (y .d) (y .b) (y .e) (value m (y .s)) (value m (y .p)) (value m (y .t)) (values m w')
 began {m} {a} {d} {b} {e} {w} {w'} u y two h l =
@@ -233,6 +329,12 @@ began {m} {a} {d} {b} {e} {w} {w'} u y two h l =
     (h ∙ mod-eq-of-lt (omega arith)) (l .led)
 
 -- ---- what the code asks
+
+pub lead-below : {n a d b e : ℕ} {w : List ℕ} → Placed n a d b e w → getD w (a + d) 0 < n
+lead-below {d = d} pl = pl .pair .first .at d (omega arith)
+
+pub other-below : {n a d b e : ℕ} {w : List ℕ} → Placed n a d b e w → getD w (b + e) 0 < n
+other-below {e = e} pl = pl .pair .second .at e (omega arith)
 
 -- the word loop, from the place i of g on
 pub asked : (n a d b e c i l q : ℕ) (w w₁ : List ℕ) → Placed n a d b e w → c ≡ b + i → i + d ≤ e + 1 → length w₁ ≡ length w

@@ -2,7 +2,7 @@
 // the words stand for: they are held multiplied by 2^32 modulo n where the modulus says so. The value leaves in the old form.
 //
 //   w, m         the buffer, and the modulus
-//   x, y         states: the places and degrees of f and g, and what is known of the resultant by them
+//   x, y         stages: the places and degrees of f and g, what is known of the resultant by them, and the step that led there
 //   l, c         the leading words of f and g
 //
 //   attempt      the value, or nothing where some leading word is no unit
@@ -21,9 +21,10 @@ ghost use Rattle.theory.specs.ResultantLaws.{signed};
 ghost use Rattle.windows.specs.Window.{piece, Scratch};
 ghost use Rattle.modulus.specs.Values.{Known, value, values};
 ghost use Rattle.resultant_pseudo.specs.Standing.{Placed, TriedAnswer};
-ghost use Rattle.resultant_euclid.specs.Running.{Standing, Leads, Stepped, Finished, Descends, Answering};
+ghost use Rattle.euclid_steps.specs.Stages.{Standing, Leads, Stepped, Finished, Told};
+ghost use Rattle.resultant_euclid.specs.Running.{Descends, Answering};
+use euclid_steps::Stage;
 use modulus::Modulus;
-use resultant_pseudo::State;
 use resultant_pseudo::Tried;
 
 // x with the sign (-1)^e.
@@ -37,10 +38,11 @@ fn with_sign(m: Modulus, e: usize, x: u32) -> u32
     modulus::difference(m, 0, x)
 }
 
-fn pair_step(w: &mut [u32], m: Modulus, x: State) -> State
+fn pair_step(w: &mut [u32], m: Modulus, x: Stage) -> Stage
     requires { ⌜ Known m ⌝ }
     requires { ⌜ (Standing m x (now w)) × ((1 ≤ x .d) × (x .e ≡ x .d + 1)) ⌝ }
     ensures { λ r. ⌜ Stepped m x (now (w .entry)) r (now (w .exit)) ⌝ }
+    ensures { λ r. ⌜ Told m x (now (w .entry)) r (now (w .exit)) ⌝ }
 {
     let a = x.a;
     let d = x.d;
@@ -53,7 +55,7 @@ fn pair_step(w: &mut [u32], m: Modulus, x: State) -> State
     modulus_windows::combine_pair(w, m, y, p, q, a, b, d);
     let k = modulus::product(m, x.p, y);
     let s = modulus::product(m, x.s, k);
-    State {
+    Stage {
         a: b,
         d: d - 1,
         b: a,
@@ -61,13 +63,18 @@ fn pair_step(w: &mut [u32], m: Modulus, x: State) -> State
         s,
         p: k,
         t: x.t,
+        y,
+        c: p,
+        k: q,
+        swap: true,
     }
 }
 
-fn last_step(w: &mut [u32], m: Modulus, x: State) -> State
+fn last_step(w: &mut [u32], m: Modulus, x: Stage) -> Stage
     requires { ⌜ Known m ⌝ }
     requires { ⌜ (Standing m x (now w)) × ((1 ≤ x .d) × (x .e ≡ x .d)) ⌝ }
     ensures { λ r. ⌜ Stepped m x (now (w .entry)) r (now (w .exit)) ⌝ }
+    ensures { λ r. ⌜ Told m x (now (w .entry)) r (now (w .exit)) ⌝ }
 {
     let a = x.a;
     let d = x.d;
@@ -77,7 +84,7 @@ fn last_step(w: &mut [u32], m: Modulus, x: State) -> State
     modulus_windows::combine(w, m, l, c, a, b, d);
     let k = modulus::product(m, x.p, l);
     let s = modulus::product(m, x.s, k);
-    State {
+    Stage {
         a: b,
         d: d - 1,
         b: a,
@@ -85,13 +92,18 @@ fn last_step(w: &mut [u32], m: Modulus, x: State) -> State
         s,
         p: k,
         t: x.t,
+        y: l,
+        c: 0,
+        k: c,
+        swap: true, // what is left of g is shorter than f
     }
 }
 
-fn turn_step(w: &mut [u32], m: Modulus, x: State) -> State
+fn turn_step(w: &mut [u32], m: Modulus, x: Stage) -> Stage
     requires { ⌜ Known m ⌝ }
     requires { ⌜ (Standing m x (now w)) × ((1 ≤ x .d) × (x .d < x .e)) ⌝ }
     ensures { λ r. ⌜ Stepped m x (now (w .entry)) r (now (w .exit)) ⌝ }
+    ensures { λ r. ⌜ Told m x (now (w .entry)) r (now (w .exit)) ⌝ }
 {
     let a = x.a;
     let d = x.d;
@@ -103,7 +115,7 @@ fn turn_step(w: &mut [u32], m: Modulus, x: State) -> State
     modulus_windows::scale(w, m, l, b, b, i);
     modulus_windows::combine(w, m, l, c, a, b + i, d);
     let k = modulus::product(m, x.p, l);
-    State {
+    Stage {
         a,
         d,
         b,
@@ -111,13 +123,18 @@ fn turn_step(w: &mut [u32], m: Modulus, x: State) -> State
         s: x.s,
         p: k,
         t: x.t,
+        y: l,
+        c: 0,
+        k: c,
+        swap: false, // what is left of g is not
     }
 }
 
-fn step(w: &mut [u32], m: Modulus, x: State) -> State
-    requires { ⌜ Known m ⌝ }
+pub fn step(w: &mut [u32], m: Modulus, x: Stage) -> Stage
+    requires { ⌜ (Known m) × (2 ≤ m .n) ⌝ }
     requires { ⌜ (Standing m x (now w)) × (1 ≤ x .d) ⌝ }
     ensures { λ r. ⌜ Stepped m x (now (w .entry)) r (now (w .exit)) ⌝ }
+    ensures { λ r. ⌜ Told m x (now (w .entry)) r (now (w .exit)) ⌝ }
 {
     let a = x.a;
     let d = x.d;
@@ -127,7 +144,7 @@ fn step(w: &mut [u32], m: Modulus, x: State) -> State
         let y = with_sign(m, e, w[b + e]);
         let t = modulus::product(m, x.t, y);
         let s = modulus::product(m, x.s, x.p);
-        return State {
+        return Stage {
             a,
             d: d - 1,
             b,
@@ -135,6 +152,10 @@ fn step(w: &mut [u32], m: Modulus, x: State) -> State
             s,
             p: x.p,
             t,
+            y: modulus::enter(m, 1),
+            c: 0,
+            k: 0,
+            swap: false,
         };
     }
     if e == d + 1 {
@@ -147,8 +168,8 @@ fn step(w: &mut [u32], m: Modulus, x: State) -> State
 }
 
 // Steps down to degree 0.
-fn finish(w: &mut [u32], m: Modulus, x: State) -> State
-    requires { ⌜ Known m ⌝ }
+fn finish(w: &mut [u32], m: Modulus, x: Stage) -> Stage
+    requires { ⌜ (Known m) × (2 ≤ m .n) ⌝ }
     requires { ⌜ Standing m x (now w) ⌝ }
     ensures { λ r. ⌜ Finished m x (now (w .entry)) r (now (w .exit)) ⌝ }
 {
@@ -160,8 +181,8 @@ fn finish(w: &mut [u32], m: Modulus, x: State) -> State
 }
 
 // Two steps, where there are so many.
-fn two_steps(w: &mut [u32], m: Modulus, x: State) -> State
-    requires { ⌜ Known m ⌝ }
+fn two_steps(w: &mut [u32], m: Modulus, x: Stage) -> Stage
+    requires { ⌜ (Known m) × (2 ≤ m .n) ⌝ }
     requires { ⌜ Standing m x (now w) ⌝ }
     ensures { λ r. ⌜ Leads m x (now (w .entry)) r (now (w .exit)) ⌝ }
 {
@@ -176,7 +197,7 @@ fn two_steps(w: &mut [u32], m: Modulus, x: State) -> State
 }
 
 // All steps from f of degree d at a and g of degree e at b; both are lost.
-pub fn descend(w: &mut [u32], m: Modulus, a: usize, d: usize, b: usize, e: usize) -> State
+pub fn descend(w: &mut [u32], m: Modulus, a: usize, d: usize, b: usize, e: usize) -> Stage
     requires { ⌜ (Known m) × (2 ≤ m .n) ⌝ }
     requires { ⌜ Placed (m .n) a d b e (now w) ⌝ }
     ensures { λ r. ⌜ Descends m a d b e (now (w .entry)) r (now (w .exit)) ⌝ }
@@ -185,7 +206,7 @@ pub fn descend(w: &mut [u32], m: Modulus, a: usize, d: usize, b: usize, e: usize
     finish(
         w,
         m,
-        State {
+        Stage {
             a,
             d,
             b,
@@ -193,12 +214,16 @@ pub fn descend(w: &mut [u32], m: Modulus, a: usize, d: usize, b: usize, e: usize
             s: one,
             p: one,
             t: one,
+            y: 0,
+            c: 0,
+            k: 0,
+            swap: false,
         },
     )
 }
 
 // The value, from a state of degree 0: s times the resultant is p t times the power of the constant, and s is a unit.
-fn value_of(w: &[u32], m: Modulus, y: State) -> Tried
+fn value_of(w: &[u32], m: Modulus, y: Stage) -> Tried
     requires { ⌜ Known m ⌝ }
     requires { ⌜ (Standing m y (now w)) × (y .d ≡ 0) ⌝ }
     ensures { λ r. ⌜ Answering m y (now (w .entry)) r ⌝ }
@@ -229,7 +254,7 @@ pub fn attempt(w: &mut [u32], m: Modulus, a: usize, d: usize, b: usize, e: usize
     let x = two_steps(
         w,
         m,
-        State {
+        Stage {
             a,
             d,
             b,
@@ -237,6 +262,10 @@ pub fn attempt(w: &mut [u32], m: Modulus, a: usize, d: usize, b: usize, e: usize
             s: one,
             p: one,
             t: one,
+            y: 0,
+            c: 0,
+            k: 0,
+            swap: false,
         },
     );
     if 16 <= x.d {

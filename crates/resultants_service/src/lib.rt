@@ -27,7 +27,7 @@ fn pair(work: &mut [u32], n: u32, f: &[u32], d: usize, g: &[u32], e: usize, i: u
     resultant::run(work, n, &f[a..a + (d + 1)], &g[b..b + (e + 1)])
 }
 
-// The resultants of all pairs, in the first count words of out.
+// The resultants of all pairs, in the first count words of out. The number after i is next.
 fn each_pair(
     out: &mut [u32],
     work: &mut [u32],
@@ -43,9 +43,11 @@ fn each_pair(
     ensures { λ _. ⌜ Scratch (now (work .entry)) (now (work .exit)) ⌝ }
 {
     let mut i: usize = 0;
-    while i < count {
+    let mut next: usize = 1;
+    while next <= count {
         out[i] = pair(work, n, f, d, g, e, i);
-        i += 1;
+        i = next;
+        next += 1;
     }
 }
 

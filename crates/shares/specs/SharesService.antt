@@ -5,14 +5,14 @@
 --   shared s n w                 the four counts at status s
 --   SharesAnswer                 all that is promised of a call
 --   shares-listed                the refusal comes under its condition and no other
-use mathlib.Core.Path.{_≡_, refl}
-use mathlib.Core.Bool.{Bool, true, false, cond}
+use mathlib.Core.Path.{_≡_}
+use mathlib.Core.Bool.{Bool, true, cond}
 use mathlib.Core.List.{List, [], _∷_}
 use Prim.Native.Nat.{ℕ, zero, suc, _≤_}
 use native.Mathlib.Omega.{arith}
 use lib.Dec.{ltb}
 use Rattle.refusals.specs.Refusals.{Tested, first-refusal}
-use Rattle.refusals.specs.Conditions.{Listed, Fails, short-fails}
+use Rattle.refusals.specs.Conditions.{Listed, Fails, either-fails, short-fails}
 use Rattle.shares.specs.GivingOut.{given-out}
 
 -- S59: "It refuses with 15 an N outside the range", "N from 1 to 1024"
@@ -36,14 +36,8 @@ pub record ServedFrames (n : ℕ) : Type 0 where
   pub most : n ≤ 1024
 
 frames-fail : (n : ℕ) → Fails (bad-frames n) (ServedFrames n)
-frames-fail n = go (ltb n 1) (ltb 1024 n) (short-fails n 1) (short-fails 1024 n)
-  where
-    go : (s t : Bool) → Fails s (1 ≤ n) → Fails t (n ≤ 1024) → Fails (cond s true t) (ServedFrames n)
-    go true t a b = record { passed = λ z. let e : _≡_ {A = ℕ} 0 1 = cc in absurd (omega arith); failed = λ z m. a .failed refl (m .least) }
-    go false t a b = record {
-      passed = λ z. record { least = a .passed refl; most = b .passed z };
-      failed = λ z m. b .failed z (m .most);
-    }
+frames-fail n =
+    either-fails (short-fails n 1) (short-fails 1024 n) (λ a b. record { least = a; most = b }) (λ m. m .least) (λ m. m .most)
 
 pub shares-listed : (n : ℕ) → Listed (share-refusals n) (ServedFrames n ∷ [])
 shares-listed n = ((omega arith, frames-fail n), tt)

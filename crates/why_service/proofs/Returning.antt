@@ -10,7 +10,7 @@ use Prim.Native.Nat.{ℕ, zero, suc, _+_, _-_, _≤_, _<_, _∣_}
 use native.Mathlib.Nat.{dvd-trans}
 use native.Mathlib.Omega.{arith}
 use lib.ListN.{length, take, drop, replicate, length-append, length-drop}
-use lib.Seq.{length-take-le}
+use lib.Seq.{length-take-le, take-append-seam, drop-append-seam}
 use borrow.Rule.Slice.PartMut.{postOf}
 use Rattle.definitions.specs.Resultants.{Reduced}
 use Rattle.windows.specs.Window.{Scratch}
@@ -25,15 +25,6 @@ use Rattle.why_service.specs.WhyService.{NamedDivisor, GroundHolds, WhyL
 left-alone : (s n : ℕ) (f g w : List ℕ) → (s ≡ 0 → ⊥) → WhyLeft s n f g w w 0 0 0
 left-alone zero n f g w z = absurd (z refl)
 left-alone (suc s) n f g w z = record { no-ground = refl; no-modulus = refl; no-degree = refl; kept = refl }
-
--- the words of a buffer whose first part was lent
-take-front : (x y : List ℕ) → take (length x) (x ++ y) ≡ x
-take-front [] y = refl
-take-front (a ∷ x) y = ap (λ (z : List ℕ). a ∷ z) (take-front x y)
-
-drop-front : (x y : List ℕ) → drop (length x) (x ++ y) ≡ y
-drop-front [] y = refl
-drop-front (a ∷ x) y = drop-front x y
 
 -- a divisor of D is one of n
 named-up : {n D m : ℕ} → D ∣ n → NamedDivisor D D m → NamedDivisor n D m
@@ -113,9 +104,9 @@ module _ (n : ℕ) (f g w work : List ℕ) (s : ℕ) (e : s ≡ first-refusal (r
         D = D;
         reduced = r;
         same = length-append x (postOf 0 49 w) ∙ ap₂ _+_ is (length-drop 49 w) ∙ back (length w) a;
-        beyond = ap (λ (i : ℕ). drop i (x ++ postOf 0 49 w)) (sym is) ∙ drop-front x (postOf 0 49 w);
+        beyond = ap (λ (i : ℕ). drop i (x ++ postOf 0 49 w)) (sym is) ∙ drop-append-seam x (postOf 0 49 w);
         holds = ground-up k n D f g _ m t (r .divides) (subst (λ (o : List ℕ). GroundHolds k D D f g o m t)
-            (sym (ap (λ (i : ℕ). take i (x ++ postOf 0 49 w)) (sym is) ∙ take-front x (postOf 0 49 w))) gr);
+            (sym (ap (λ (i : ℕ). take i (x ++ postOf 0 49 w)) (sym is) ∙ take-append-seam x (postOf 0 49 w))) gr);
       };
       work-is = ew;
     })

@@ -14,6 +14,7 @@ use Rattle.definitions.specs.Resultants.{Reduced}
 use Rattle.definitions.specs.Polynomials.{coef}
 use Rattle.theory.specs.Computed.{multiplied-by, below-by}
 use Rattle.theory.specs.ReachedLaws.{reduced-unique}
+use Rattle.convolution.specs.Sums.{zeros-at}
 use Rattle.why_service.specs.WhyService.{NamedDivisor, GroundHolds, HoldsReason, CommonDivisor, BothZero}
 
 -- a divisor of D above 1 is named for every ground but that they are coprime
@@ -41,16 +42,10 @@ coprime-exactly {n} {f} {g} {w} {w'} {k} {m} {t} l r = (
 
 -- ---- at numbers
 
-zero-at : (n k : ℕ) → coef (replicate n 0) k ≡ 0
-zero-at zero zero = refl
-zero-at zero (suc k) = refl
-zero-at (suc n) zero = refl
-zero-at (suc n) (suc k) = zero-at n k
-
 above-one : (k : ℕ) → 1 < k → coef (1 ∷ 1 ∷ replicate 47 0) k % 2 ≡ 0
 above-one zero l = absurd (omega arith)
 above-one (suc zero) l = absurd (omega arith)
-above-one (suc (suc k)) l = ap (λ (x : ℕ). x % 2) (zero-at 47 k)
+above-one (suc (suc k)) l = ap (λ (x : ℕ). x % 2) (zeros-at 47 k)
 
 row-common : CommonDivisor 6 2 (5 ∷ 0 ∷ 1 ∷ []) (3 ∷ 1 ∷ []) (1 ∷ 1 ∷ replicate 47 0) 2 1
 row-common = record {

@@ -1,7 +1,13 @@
-// Euclid without inverses with both multipliers, in words of 64 bits. The 32-bit twin `cofactor_euclid` has the description and the laws.
+// Euclid without inverses with both multipliers, in words of 64 bits: f and g come to a constant c = u f + v g, whatever the leading words
+// are. It works by rows, a remainder and its two multipliers each, which `cofactor_euclid` describes and whose laws it has; no leading word
+// is tested for a unit.
 //
-//   State          where the rows stand, and what is known of the resultant
-//   multipliers    the whole run
+//   State                    where the rows stand, and what is known of the resultant
+//   turn_window, turn_rows   l times the words at b, and c times those at a, i places higher: a window, a row
+//   pair_rows                two such turns at once
+//   pair_step, last_step, turn_step, step    steps of Euclid's algorithm
+//   start                    the rows of f and of g
+//   multipliers              the whole run
 ghost use mathlib.Core.Path.{_≡_};
 ghost use Prim.Native.Nat.{_+_, _-_, _*_, _%_, _<_, _≤_};
 ghost use lib.ListN.{length};

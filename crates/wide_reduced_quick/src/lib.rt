@@ -1,12 +1,16 @@
-// The quick attempt at the reduced resultant in words of 64 bits. The 32-bit twin `reduced_quick` has the description and the laws.
+// The quick attempt at the reduced resultant in words of 64 bits. The 32-bit twin `reduced_quick` has the description and the laws; here
+// Euclid works by rows, and words are as they are.
 //
+//   put        a number times the words of a window, in a lent buffer, with zeros above
+//   ordered    the quick attempt where f is not the longer of the two
 //   attempt    both attempts, the quick one first
 ghost use Prim.Native.Nat.{_+_, _≤_};
 ghost use lib.ListN.{length};
 ghost use Rattle.windows.specs.Window.{Scratch};
 ghost use Rattle.wide_reduction.specs.Moduli.{Ready};
 ghost use Rattle.wide_reduced_attempt.specs.Attempts.{AttemptAsked, Attempted};
-ghost use Rattle.reduced_quick.specs.Quick.{Put, QuickAsked, Tried};
+ghost use Rattle.multiplier_words.specs.Words.{Put};
+ghost use Rattle.reduced_quick.specs.Quick.{QuickAsked, Tried};
 use wide_reduction::Reciprocal;
 use wide_residue::Attempt;
 

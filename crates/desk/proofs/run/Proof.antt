@@ -5,10 +5,11 @@ use Rattle.desk.proofs.run.Statement.{statement}
 use Rattle.desk.proofs.run.Tie as tie
 
 abbrev Inv-loop : tie.InvT-loop
-Inv-loop line₀ out₀ held₀ turns₀ line out held turns = (length line ≡ length line₀) × (length out ≡ length out₀)
+Inv-loop line₀ piece₀ out₀ held₀ turns₀ line piece out held turns =
+    (length line ≡ length line₀) × ((length piece ≡ length piece₀) × (length out ≡ length out₀))
 
 abbrev μ-loop : tie.MeasureT-loop
-μ-loop line₀ out₀ held₀ turns₀ line out held turns = turns
+μ-loop line₀ piece₀ out₀ held₀ turns₀ line piece out held turns = turns
 
 pub run-spec : {M : Type 1} → statement M
 run-spec =
@@ -21,6 +22,9 @@ run-spec =
     (λ c. search needs)
     (λ c. search needs)
     (λ c κs. search needs)
+    (λ c. search needs)
+    (λ c. search needs)
+    (λ c. search needs)
     (λ c. search needs)
     (λ c. search needs)
     (λ c. search needs)

@@ -1,7 +1,7 @@
 use borrow.Author.Needs.{needs}
 use mathlib.Core.Path.{sym, _∙_}
 use Rattle.frame_pieces.proofs.Holding.{held-counted}
-use Rattle.frame_reader.proofs.Stepping.{ended-none, ended-line}
+use Rattle.frame_reader.proofs.Stepping.{ended-none, ended-line, working-lent}
 use Rattle.frame_reader.proofs.finish.Statement.{statement}
 use Rattle.frame_reader.proofs.finish.Tie as tie
 
@@ -15,7 +15,7 @@ returns-2 c =
     let e = at-if1 .before .counted .ensures in (
       search needs,
       λ s k. ended-line s (λ z. at-if1 .if1 .left (e ∙ z)) (search needs) k
-          (at-answer-held .answer-held .ensures s (held-counted e k)),
+          (at-answer-held .answer-held .ensures .0 s (held-counted e k)),
     )
 
 pub finish-spec : {M : Type 1} → statement M
@@ -28,6 +28,6 @@ finish-spec =
     (λ c. search needs)
     (λ c. search needs)
     (λ c. search needs)
-    (λ c κs. search needs)
+    (λ c κs. search (needs, working-lent))
     (λ c. search needs)
     returns-2)

@@ -7,7 +7,7 @@ use native.Mathlib.Omega.{arith}
 use lib.ListN.{length}
 use Rattle.frame_pieces.specs.Newlines.{Held, LineAfter}
 use Rattle.frame_pieces.proofs.Holding.{held-counted, line-unchanged, line-then}
-use Rattle.frame_reader.proofs.Stepping.{Sizes, Going, going-none, going-step, going-hold, going-end}
+use Rattle.frame_reader.proofs.Stepping.{Sizes, working-lent, working-back, Going, going-none, going-step, going-hold, going-end}
 use Rattle.frame_reader.proofs.step.Statement.{statement}
 use Rattle.frame_reader.proofs.step.Tie as tie
 
@@ -40,6 +40,11 @@ returns c =
       ),
     )
 
+close-requires : tie.Need-close-requires Inv-loop μ-loop
+close-requires c κs =
+    let sizes = c .before .before .before .before .before .before .before .loop .inv .0 in
+    (search needs, (working-lent _ (sizes .work) (sizes .zeros), search needs))
+
 loop-again : tie.Need-loop-again Inv-loop μ-loop
 loop-again c =
     let at-close = c .before .before .before .before .before in
@@ -53,9 +58,10 @@ loop-again c =
         line = search needs;
         out = search needs;
         work = same-len-mid 0 8192 (at-loop .loop .work) words (at-close .close .kept .1 .1 .1 .0) ∙ at-loop .loop .inv .0 .work;
+        zeros = working-back (at-loop .loop .work) words (at-loop .loop .inv .0 .work) (at-close .close .ensures .1 .1);
       },
       (
-        line-then (at-loop .loop .inv .1 .0) (at-close .close .ensures .1),
+        line-then (at-loop .loop .inv .1 .0) (at-close .close .ensures .1 .0),
         λ s k.
             let g = at-loop .loop .inv .1 .1 s k in
             let wrote = at-close .close .ensures .0 (g .rest) (g .held) (found .before) in
@@ -89,7 +95,7 @@ step-spec =
     (λ c. search needs)
     (λ c. search needs)
     (λ c. search needs)
-    (λ c κs. search needs)
+    close-requires
     (λ c. search needs)
     (λ c. search needs)
     (λ c. search needs)

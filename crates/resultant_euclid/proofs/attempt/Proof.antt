@@ -1,7 +1,7 @@
 use Rattle.resultant_euclid.proofs.Steps.{began, leads-same, leads-trans}
 use Rattle.resultant_pseudo.proofs.Stepping.{answered}
 use Rattle.modulus.specs.Values.{values}
-use Rattle.resultant_euclid.specs.Running.{meant}
+use Rattle.euclid_steps.specs.Stages.{meant}
 use mathlib.Core.Path.{refl}
 use borrow.Author.Needs.{needs}
 use Rattle.resultant_euclid.proofs.attempt.Statement.{statement}
@@ -9,8 +9,9 @@ use Rattle.resultant_euclid.proofs.attempt.Tie as tie
 
 value-of-requires : tie.Need-value-of-requires
 value-of-requires c κs =
+    let s = c .before .before .before .before .before .before .before .before .before .before .before .before .before in
     let y = c .before .before .before .finish .ensures in
-    (c .before .before .before .before .before .before .before .before .before .before .before .before .before .pre .0 .0, (y .0 .standing, y .1))
+    (s .pre .0 .0, (y .0 .standing, y .1))
 
 returns-2 : tie.Need-returns-2
 returns-2 c =

@@ -1,7 +1,7 @@
 use Rattle.resultant_euclid.proofs.Steps.{began, leads-same, standing-values}
 use Rattle.resultant_pseudo.proofs.Stepping.{descended, first-inside}
 use Rattle.modulus.specs.Values.{values}
-use Rattle.resultant_euclid.specs.Running.{meant}
+use Rattle.euclid_steps.specs.Stages.{meant}
 use borrow.Author.Needs.{needs}
 use Rattle.resultant_euclid.proofs.descend.Statement.{statement}
 use Rattle.resultant_euclid.proofs.descend.Tie as tie

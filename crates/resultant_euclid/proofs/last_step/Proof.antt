@@ -1,4 +1,4 @@
-use Rattle.resultant_euclid.proofs.Steps.{asked-here, last-led}
+use Rattle.resultant_euclid.proofs.Steps.{asked-here, last-led, last-told}
 use native.Mathlib.Omega.{arith}
 use borrow.Author.Needs.{needs}
 use Rattle.resultant_euclid.proofs.last_step.Statement.{statement}
@@ -15,7 +15,7 @@ combine-requires c κs =
     )
 
 returns : tie.Need-returns
-returns c = search (needs, last-led)
+returns c = (search (needs, last-led), search (needs, last-told))
 
 pub last-step-spec : {M : Type 1} → statement M
 last-step-spec =

@@ -1,4 +1,4 @@
-use Rattle.resultant_euclid.proofs.Steps.{asked-here, pair-led}
+use Rattle.resultant_euclid.proofs.Steps.{asked-here, pair-led, pair-told}
 use native.Mathlib.Nat.{le-of-lt}
 use native.Mathlib.Omega.{arith}
 use Prim.Native.Nat.{_+_, _-_}
@@ -40,7 +40,7 @@ combine-pair-requires c κs =
     (s .pre .0, ((z .0 .0, (c .before .before .before .before .product2 .ensures .0, z .0 .1)), z .1))
 
 returns : tie.Need-returns
-returns c = search (needs, pair-led)
+returns c = (search (needs, pair-led), search (needs, pair-told))
 
 pub pair-step-spec : {M : Type 1} → statement M
 pair-step-spec =

@@ -1,4 +1,4 @@
-use Rattle.resultant_euclid.proofs.Steps.{asked, around-more, turn-led}
+use Rattle.resultant_euclid.proofs.Steps.{lead-below, other-below, asked, around-more, turn-led, turn-told}
 use native.Mathlib.Omega.{arith}
 use Prim.Native.Nat.{_+_, _-_}
 use mathlib.Core.Path.{refl}
@@ -14,7 +14,7 @@ scale-requires c κs =
     let p = s .pre .1 .0 .placed in (
       s .pre .0,
       (
-        (p .pair .first .at (v .x .d) (omega arith), (omega (arith, p .second), omega (arith, p .second))),
+        (search (needs, lead-below, other-below), (omega (arith, p .second), omega (arith, p .second))),
         record {
           ok =
               λ i j g h e. omega arith;
@@ -36,7 +36,7 @@ combine-requires c κs =
     )
 
 returns : tie.Need-returns
-returns c = search (needs, turn-led)
+returns c = (search (needs, turn-led), search (needs, turn-told))
 
 pub turn-step-spec : {M : Type 1} → statement M
 turn-step-spec =

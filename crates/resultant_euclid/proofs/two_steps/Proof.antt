@@ -5,7 +5,7 @@ use Rattle.resultant_euclid.proofs.two_steps.Statement.{statement}
 use Rattle.resultant_euclid.proofs.two_steps.Tie as tie
 
 returns : tie.Need-returns
-returns c = let s = c .before .before .before in leads-self (s .args .m) (s .pre .0) (s .pre .1)
+returns c = let s = c .before .before .before in leads-self (s .args .m) (s .pre .0 .0) (s .pre .1)
 
 step-requires-2 : tie.Need-step-requires-2
 step-requires-2 c κs = (search needs, (search needs, omega arith))

@@ -1,4 +1,5 @@
-use Prim.Native.Nat.{_-_, _≤_}
+use mathlib.Core.Path.{_≡_}
+use Prim.Native.Nat.{_+_, _-_, _≤_}
 use borrow.Author.Needs.{needs}
 use Rattle.windows.specs.Window.{Scratch}
 use Rattle.batch_pairs.specs.Batches.{Pairs}
@@ -11,7 +12,9 @@ pub each-pair-spec : {M : Type 1} → statement M
 each-pair-spec =
     tie.close
     (tie.spec
-    (λ out₀ work₀ n f d g e count i₀ out work i. (i ≤ count) × (Pairs (IsResultant n) f d g e i out₀ out × Scratch work₀ work))
-    (λ out₀ work₀ n f d g e count i₀ out work i. count - i)
+    (λ out₀ work₀ n f d g e count i₀ next₀ out work i next. (next ≡ i + 1) × ((i ≤ count) × (Pairs (IsResultant n) f d g e i out₀ out
+    × Scratch work₀ work)))
+    (λ out₀ work₀ n f d g e count i₀ next₀ out work i next. count - i)
     (λ c. search turns) (λ c κs. search turns) (λ c. search needs) (λ c. search needs) (λ c. search needs) (λ c. search needs)
-    (λ c. (search needs, (search turns, search turns))) (λ c. search needs) (λ c. search needs) (λ c. (search turns, search turns)))
+    (λ c. (search needs, (search needs, (search turns, search turns)))) (λ c. search needs) (λ c. search needs)
+    (λ c. (search turns, search turns)))

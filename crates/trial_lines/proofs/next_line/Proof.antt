@@ -1,0 +1,15 @@
+use mathlib.Core.Path.{_≡_}
+use Prim.Native.Nat.{_-_, _≤_}
+use lib.ListN.{length}
+use borrow.Author.Needs.{needs}
+use Rattle.trial_lines.proofs.next_line.Statement.{statement}
+use Rattle.trial_lines.proofs.next_line.Tie as tie
+
+pub next-line-spec : {M : Type 1} → statement M
+next-line-spec =
+    tie.close
+    (tie.spec
+    (λ line₀ k₀ line k. (k ≤ length line₀) × (length line ≡ length line₀))
+    (λ line₀ k₀ line k. length line₀ - k)
+    (λ c. search needs) (λ c κs. search needs) (λ c. search needs) (λ c. search needs) (λ c. search needs) (λ c. search needs)
+    (λ c. search needs) (λ c. search needs) (λ c. search needs) (λ c. search needs) (λ c. search needs) (λ c. search needs))
