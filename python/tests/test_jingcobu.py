@@ -16,6 +16,7 @@ import subprocess
 import sys
 import tempfile
 import threading
+import time
 import unittest
 import zipfile
 from array import array
@@ -802,8 +803,17 @@ class Laws(unittest.TestCase):
 
 class Sharing(unittest.TestCase):
     def test_factors_and_threads(self):
-        """Sixteen threads whose factors arrive and leave at one object: none is lost."""
-        held, wrong = Factors(4294967291, [5, 1]), []
+        """Sixteen threads whose factors arrive and leave at one object: none is lost. Each call lets the other threads run before its answer is
+        kept, so that without the lock many are lost."""
+        held, wrong, call = Factors(4294967291, [5, 1]), [], jingcobu._call
+
+        def yielding(service, *given):
+            answer = call(service, *given)
+            time.sleep(0)
+            return answer
+
+        jingcobu._call = yielding
+        self.addCleanup(setattr, jingcobu, "_call", call)
 
         def run(number):
             for _ in range(200):
