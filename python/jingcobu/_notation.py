@@ -56,8 +56,9 @@ def unspell(text: str, most: int) -> List[int]:
 
 _POLY = re.compile(r"\s*Poly\(")
 _POLY_END = re.compile(r"\s*,\s*x\s*,\s*(?:modulus\s*=\s*(?P<of>[0-9]+)|domain\s*=\s*(?:'ZZ'|ZZ))\s*\)\s*$")
-_TOKEN = re.compile(r"\s*(?:(?P<number>[0-9]+)|(?P<power>\*\*|\^)|(?P<sign>[+-])|(?P<times>\*)|(?P<x>x)|(?P<mod>Mod\s*\(\s*(?P<residue>-?[0-9]+)"
-                    r"\s*,\s*(?P<of>[0-9]+)\s*\))|(?P<end>$)|(?P<other>.))", re.S)
+_TOKEN = re.compile(
+    r"\s*(?:(?P<mod>Mod\s*\(\s*(?P<residue>-?[0-9]+)\s*,\s*(?P<of>[0-9]+)\s*\)|(?P<left>[0-9]+)\s+mod\s+(?P<by>[0-9]+))|(?P<number>[0-9]+)"
+    r"|(?P<power>\*\*|\^)|(?P<sign>[+-])|(?P<times>\*)|(?P<x>x)|(?P<end>$)|(?P<other>.))", re.S)
 
 
 class _Reading:
@@ -109,13 +110,13 @@ def _same(digits: str, n: int) -> bool:
 
 
 def _coefficient(reading: _Reading, n: int) -> Optional[int]:
-    """A number, or a residue as PARI prints it, modulo n; None if neither is here."""
+    """A number, or a residue as PARI or sympy prints it, modulo n; None if neither is here."""
     if reading.kind == "number":
         found = _reduced(reading.part("number"), n)
     elif reading.kind == "mod":
-        if not _same(reading.part("of"), n):
+        if not _same(reading.part("of") or reading.part("by"), n):
             raise reading.refuse("a residue of another modulus than %d" % n)
-        found = _reduced(reading.part("residue"), n)
+        found = _reduced(reading.part("residue") or reading.part("left"), n)
     else:
         return None
     reading.step()
@@ -157,8 +158,8 @@ def _opened(text: str, n: int) -> _Reading:
 
 def parse(text: str, n: int, degree: Optional[int] = None, most: int = 48) -> List[int]:
     """The words of a polynomial in x modulo n as people and PARI, Sage and sympy write it: blanks, minus signs, `x` alone, `**` for `^`,
-    terms in any order, powers that stand twice, coefficients of any size, residues `Mod(3, 12)` and sympy's `Poly(...)`. Coefficients are
-    taken modulo n. There is no zero on top unless a sent degree is given. A text that cannot be read is a ValueError that says at which
+    terms in any order, powers that stand twice, coefficients of any size, residues `Mod(3, 12)` and `3 mod 12`, and `Poly(...)`. Coefficients
+    are taken modulo n. There is no zero on top unless a sent degree is given. A text that cannot be read is a ValueError that says at which
     character.
 
     >>> parse("3*x^2 - x + 1", 12)

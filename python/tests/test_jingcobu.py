@@ -861,10 +861,10 @@ class Parsing(unittest.TestCase):
         self.assertEqual(jingcobu.parse("%s*x - %s" % ("9" * 10000, "1" * 5000), 10), [9, 9])
 
     def test_sympy(self):
-        for text, words in (("Poly(3*x**2 - x + 1, x, modulus=13)", [1, 12, 3]), ("Poly(3*x**2 - 14*x, x, domain='ZZ')", [0, 12, 3]), (" Poly( 1, x , modulus = 13 ) ", [1])):
+        for text, words in (("Poly(3*x**2 - x + 1, x, modulus=13)", [1, 12, 3]), ("Poly(3*x**2 - 14*x, x, domain='ZZ')", [0, 12, 3]), (" Poly( 1, x , modulus = 13 ) ", [1]), ("3 mod 13*x**2 + 12 mod 13*x + 1 mod 13", [1, 12, 3])):
             self.assertEqual(jingcobu.parse(text, 13), words)
         for text, place, said in (("Poly(3*x**2 -, x, modulus=13)", 14, "a term"), ("Poly(x, x, modulus=11)", 20, "another modulus"),
-                                  ("Poly(x, y, modulus=13)", 1, "a term"), ("Poly(x", 1, "a term"), ("Poly(x y, x, modulus=13)", 8, "+ or -")):
+                                  ("Poly(x, y, modulus=13)", 1, "a term"), ("Poly(x", 1, "a term"), ("Poly(x y, x, modulus=13)", 8, "+ or -"), ("x + 3 mod 7", 5, "another modulus"), ("3 mod", 3, "+ or -")):
             with self.assertRaisesRegex(ValueError, "^character %d of .*: .*%s" % (place, re.escape(said))):
                 jingcobu.parse(text, 13)
 
@@ -878,7 +878,8 @@ class Parsing(unittest.TestCase):
             while len(words) > 1 and not words[-1]:
                 words.pop()
             expression = sum(c * x ** k for k, c in enumerate(f))
-            for printed in (expression, sympy.Poly(expression, x), sympy.Poly(expression, x, modulus=n)):
+            y = sympy.ring("x", sympy.GF(n, symmetric=False))[1]
+            for printed in (expression, sympy.Poly(expression, x), sympy.Poly(expression, x, modulus=n), sum((c * y ** k for k, c in enumerate(f)), 0 * y)):
                 self.assertEqual(jingcobu.parse(str(printed), n), words)
 
     @unittest.skipUnless(shutil.which("gp"), "PARI's gp is not installed")
