@@ -104,13 +104,14 @@ SIGNATURES = {
 
 def source_tree(package: Path) -> Optional[Path]:
     """The root of the sources that hold this very package, or None if it is installed or was copied elsewhere. The sources and their
-    build folder belong to the package's owner or to root; so nobody can add them around a package in a folder that all can write to."""
+    build folder belong to the package's owner, to who runs this, or to root; so nobody else can add them around a package in a folder
+    that all can write to."""
     root = package.parent.parent
     parts = [root / "python" / "pyproject.toml", root / "include" / "jingcobu.h", root / "crates.txt", root / "build"]
     if root / "python" / "jingcobu" != package or not all(part.exists() for part in parts):
         return None
     owners = {part.stat().st_uid for part in parts}
-    return root if owners <= {0, package.stat().st_uid} else None
+    return root if owners <= {0, os.getuid(), package.stat().st_uid} else None
 
 
 def candidates() -> Iterator[str]:
