@@ -38,9 +38,10 @@ row(n, f, g) =
   print(jingcobu_resultant(12, Vecsmall([3,2]), Vecsmall([1,4])), "  ", jingcobu_resultant(5, Vecsmall([2,1,0]), [1,1]~));
   print(jingcobu_reduced_resultant(6, Vecsmall([5,0,1]), Vecsmall([3,1]))[1], "  ", jingcobu_product(6, Vecsmall([1,2]), Vecsmall([1,3])));
   print(jingcobu_resultant_two(61, [Vecsmall([0,60]), [1,0]], [[0,59], Vecsmall([1,0])]));
-  print([jingcobu_true_degree(5, [2,1,0]), jingcobu_true_degree(5, Vecsmall([3])), jingcobu_true_degree(5, 5*x^2 + x), jingcobu_true_degree(5, Mod(2,5)*x^7)]);
-  print([jingcobu_divisor(6, Vecsmall([5,0,1]), Vecsmall([3,1])), jingcobu_divisors(6, [Vecsmall([5,0,1])], [Vecsmall([3,1])]), jingcobu_why(9, Vecsmall([3,3]), Vecsmall([6]))]);
-  print([jingcobu_check_claim(6, Vecsmall([2]), Vecsmall([4]), 2, Vecsmall([0]), Vecsmall([2])), jingcobu_resultant_cofactors(7, Vecsmall([1,1]), Vecsmall([2,1]))]);
+  print(apply(f -> jingcobu_true_degree(5, f), [[2,1,0], Vecsmall([3]), 5*x^2 + x, Mod(2,5)*x^7]));
+  my(s = Vecsmall);
+  print([jingcobu_divisor(6, s([5,0,1]), s([3,1])), jingcobu_divisors(6, [s([5,0,1])], [s([3,1])]), jingcobu_why(9, s([3,3]), s([6]))]);
+  print([jingcobu_check_claim(6, s([2]), s([4]), 2, s([0]), s([2])), jingcobu_resultant_cofactors(7, s([1,1]), s([2,1]))]);
 }
 
 /* words of 64 bits */
@@ -48,7 +49,7 @@ row(n, f, g) =
   print(jingcobu_resultant(2^62, 2^40*x + 1, x + 3), "  ", jingcobu_resultant(2^62, Vecsmall([1,2^40]), Mod(1,2^62)*(x + 3)));
   print(jingcobu_resultant(2^63 - 1, -1, x), "  ", jingcobu_product(2^63 - 1, [2^63 - 2, 1], [2^63 - 2, 1]));
   print(jingcobu_reduced_resultant(3^39, 3^25, 3^30 + x));
-  print(jingcobu_true_degree(2^40, [0,2^33,0]), "  ", jingcobu_true_degree(2^63 - 1, x^48), "  ", jingcobu_true_degree(2^40, Vecsmall([0,0])));
+  print([jingcobu_true_degree(2^40, [0,2^33,0]), jingcobu_true_degree(2^63 - 1, x^48), jingcobu_true_degree(2^40, Vecsmall([0,0]))]);
   print(jingcobu_divisor(3^39, 3^25, 3^30 + x), "  ", jingcobu_divisor(2^63 - 1, 0, [0,0]), "  ", jingcobu_gcd(2^40, 2^33, 3));
 }
 

@@ -243,7 +243,7 @@ renewals() { # DESTDIR KNOWN: how often the list is renewed, by install and unin
 }
 if [ "$(id -u)" = 0 ]; then
     [ "$(renewals "" "$folder/lib")" = 2 ] || fail "the loader's list is not renewed"
-    grep -q "the loader knows the shared library" "$scratch/said.install" || fail "make install does not say that the loader knows the library"
+    grep -q "the loader knows the shared library" "$scratch/said.install" || fail "make install does not say that the loader's list is new"
     [ "$(renewals "" "$folder/lib64")" = 0 ] || fail "the loader's list is renewed for a folder that it does not know"
     grep -q "ldconfig, as root" "$scratch/said.install" || fail "make install does not say how the loader gets to know the library"
     [ "$(renewals "$scratch/dest" "$folder/lib")" = 0 ] || fail "the loader's list is renewed with DESTDIR"

@@ -289,6 +289,7 @@ _N: Tuple[str, Dict[str, Any]] = ("n", {"type": int, "metavar": "N", "help": "th
 _N32: Tuple[str, Dict[str, Any]] = ("n", {"type": int, "metavar": "N", "help": "the modulus, 2 to 4294967295: words of 32 bits only"})
 _F: Tuple[str, Dict[str, Any]] = ("f", {"metavar": "F", "help": "a polynomial, as 3*x^2 - x + 1 or 1,11,3"})
 _G: Tuple[str, Dict[str, Any]] = ("g", {"metavar": "G", "help": "a polynomial"})
+_STEPS: Tuple[str, Dict[str, Any]] = ("steps", {"nargs": "*", "metavar": "STEP", "help": "NUMBER=F or NUMBER="})
 _PAIRS: Tuple[str, Dict[str, Any]] = ("file", {"nargs": "?", "metavar": "FILE", "help": "lines of two polynomials, 2*x + 3 ; 4*x + 1"})
 
 
@@ -308,14 +309,15 @@ COMMANDS = {
     "divisors": Command(divisors, (_N, _PAIRS), "12 pairs.txt"),
     "cofactors": Command(cofactors, (_N32, _F, _G), "12 '2*x + 3' '4*x + 1'"),
     "why": Command(why, (_N32, _F, _G), "7 'x^2 - 1' 'x + 1'"),
-    "check": Command(check, (_N32, _F, _G, _integer("d", "the claimed D"), _text("u", "a multiplier"), _text("v", "a multiplier")), "6 2 4 2 0 2"),
+    "check": Command(check, (_N32, _F, _G, _integer("d", "the claimed D"), _text("u", "a multiplier"), _text("v", "a multiplier")),
+                     "6 2 4 2 0 2"),
     "product": Command(product, (_N, _F, _G), "6 '2*x + 1' '3*x + 1'"),
     "word": Command(word, (_N32, _F, _G, _integer("k", "which word")), "6 '2*x + 1' '3*x + 1' 1"),
     "degree": Command(degree, (_N, _F), "5 2,1,0"),
     "gcd": Command(gcd, (_N, _integer("a", "a residue"), _integer("b", "a residue")), "12 8 6"),
-    "two": Command(two, (_N32, _text("f", "rows of words, as 0,60;1,0 for y - z modulo 61"), _text("g", "rows of words")), "61 '0,60;1,0' '0,59;1,0'"),
-    "factors": Command(factors, (_N32, _text("h", "a polynomial"), ("steps", {"nargs": "*", "metavar": "STEP", "help": "NUMBER=F or NUMBER="})),
-                       "12 '4*x + 1' '7=2*x + 3' 8=5 7="),
+    "two": Command(two, (_N32, _text("f", "rows of words, as 0,60;1,0 for y - z modulo 61"), _text("g", "rows of words")),
+                   "61 '0,60;1,0' '0,59;1,0'"),
+    "factors": Command(factors, (_N32, _text("h", "a polynomial"), _STEPS), "12 '4*x + 1' '7=2*x + 3' 8=5 7="),
     "shares": Command(shares, (_integer("frames", "1 to 1024"), ("waiting", {"type": int, "nargs": 4, "metavar": "W", "help": "jobs that wait"})),
                       "10 1 100 2 100"),
     "text": Command(text, (_N32, _F), "12 'x - 1'"),

@@ -54,9 +54,9 @@ def two_dimensional(F: Any) -> Optional[memoryview]:
 class _Buffer(ctypes.Structure):
     """What Python's C interface tells of a buffer (Py_buffer)."""
 
-    _fields_ = [("place", ctypes.c_void_p), ("of", ctypes.c_void_p), ("bytes", ctypes.c_ssize_t), ("itemsize", ctypes.c_ssize_t), ("readonly", ctypes.c_int),
-                ("ndim", ctypes.c_int), ("format", ctypes.c_void_p), ("shape", ctypes.c_void_p), ("strides", ctypes.c_void_p),
-                ("suboffsets", ctypes.c_void_p), ("internal", ctypes.c_void_p)]
+    _fields_ = [("place", ctypes.c_void_p), ("of", ctypes.c_void_p), ("bytes", ctypes.c_ssize_t), ("itemsize", ctypes.c_ssize_t),
+                ("readonly", ctypes.c_int), ("ndim", ctypes.c_int), ("format", ctypes.c_void_p), ("shape", ctypes.c_void_p),
+                ("strides", ctypes.c_void_p), ("suboffsets", ctypes.c_void_p), ("internal", ctypes.c_void_p)]
 
 
 def _place(view: memoryview) -> Optional[int]:

@@ -157,9 +157,9 @@ def library() -> ctypes.CDLL:
         except OSError as error:
             tried.append("%s (%s)" % (name, error))
     raise LibraryMissing(
-        "the shared library of Jingcobu was not found. Run `make` at the root of its sources and use the package from there; or `make install`, "
-        "and use the package that it puts in place, or `ldconfig` after it; or name the file in the environment variable JINGCOBU_LIBRARY. "
-        "Tried: " + "; ".join(tried))
+        "the shared library of Jingcobu was not found. Run `make` at the root of its sources and use the package from there; or "
+        "`make install`, and use the package that it puts in place, or `ldconfig` after it; or name the file in the environment variable "
+        "JINGCOBU_LIBRARY. Tried: " + "; ".join(tried))
 
 
 def symbol(name: str) -> str:

@@ -158,9 +158,9 @@ def _opened(text: str, n: int) -> _Reading:
 
 def parse(text: str, n: int, degree: Optional[int] = None, most: int = 48) -> List[int]:
     """The words of a polynomial in x modulo n as people and PARI, Sage and sympy write it: blanks, minus signs, `x` alone, `**` for `^`,
-    terms in any order, powers that stand twice, coefficients of any size, residues `Mod(3, 12)` and `3 mod 12`, and `Poly(...)`. Coefficients
-    are taken modulo n. There is no zero on top unless a sent degree is given. A text that cannot be read is a ValueError that says at which
-    character.
+    terms in any order, powers that stand twice, coefficients of any size, residues `Mod(3, 12)` and `3 mod 12`, and `Poly(...)`.
+    Coefficients are taken modulo n. There is no zero on top unless a sent degree is given. A text that cannot be read is a ValueError that
+    says at which character.
 
     >>> parse("3*x^2 - x + 1", 12)
     [1, 11, 3]

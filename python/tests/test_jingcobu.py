@@ -861,10 +861,12 @@ class Parsing(unittest.TestCase):
         self.assertEqual(jingcobu.parse("%s*x - %s" % ("9" * 10000, "1" * 5000), 10), [9, 9])
 
     def test_sympy(self):
-        for text, words in (("Poly(3*x**2 - x + 1, x, modulus=13)", [1, 12, 3]), ("Poly(3*x**2 - 14*x, x, domain='ZZ')", [0, 12, 3]), (" Poly( 1, x , modulus = 13 ) ", [1]), ("3 mod 13*x**2 + 12 mod 13*x + 1 mod 13", [1, 12, 3])):
+        for text, words in (("Poly(3*x**2 - x + 1, x, modulus=13)", [1, 12, 3]), ("Poly(3*x**2 - 14*x, x, domain='ZZ')", [0, 12, 3]),
+                            (" Poly( 1, x , modulus = 13 ) ", [1]), ("3 mod 13*x**2 + 12 mod 13*x + 1 mod 13", [1, 12, 3])):
             self.assertEqual(jingcobu.parse(text, 13), words)
         for text, place, said in (("Poly(3*x**2 -, x, modulus=13)", 14, "a term"), ("Poly(x, x, modulus=11)", 20, "another modulus"),
-                                  ("Poly(x, y, modulus=13)", 1, "a term"), ("Poly(x", 1, "a term"), ("Poly(x y, x, modulus=13)", 8, "+ or -"), ("x + 3 mod 7", 5, "another modulus"), ("3 mod", 3, "+ or -")):
+                                  ("Poly(x, y, modulus=13)", 1, "a term"), ("Poly(x", 1, "a term"), ("Poly(x y, x, modulus=13)", 8, "+ or -"),
+                                  ("x + 3 mod 7", 5, "another modulus"), ("3 mod", 3, "+ or -")):
             with self.assertRaisesRegex(ValueError, "^character %d of .*: .*%s" % (place, re.escape(said))):
                 jingcobu.parse(text, 13)
 
@@ -879,7 +881,8 @@ class Parsing(unittest.TestCase):
                 words.pop()
             expression = sum(c * x ** k for k, c in enumerate(f))
             y = sympy.ring("x", sympy.GF(n, symmetric=False))[1]
-            for printed in (expression, sympy.Poly(expression, x), sympy.Poly(expression, x, modulus=n), sum((c * y ** k for k, c in enumerate(f)), 0 * y)):
+            element = sum((c * y ** k for k, c in enumerate(f)), 0 * y)
+            for printed in (expression, sympy.Poly(expression, x), sympy.Poly(expression, x, modulus=n), element):
                 self.assertEqual(jingcobu.parse(str(printed), n), words)
 
     @unittest.skipUnless(shutil.which("gp"), "PARI's gp is not installed")
@@ -957,14 +960,19 @@ class CommandLine(unittest.TestCase):
 
     def test_bad_words(self):
         """What is wrong with a word is told, with its place; a bad N or too many words are for the engine to refuse."""
-        for words, told in ((("resultant", "12", "1,12", "1"), "F: word 1 is 12, not from 0 to 11"), (("divisor", "12", "1", "1,2,-3"), "G: word 2 is -3, not from 0 to 11"),
-                            (("resultant", "12", "-1,2", "1"), "F: word 0 is -1, not from 0 to 11"), (("product", "12", "1,1_0", "1"), "F: word 1 is '1_0', not an integer"),
-                            (("product", "12", "1,", "1"), "F: word 1 is '', not an integer"), (("check", "6", "2", "4", "2", "0,6", "2"), "U: word 1 is 6, not from 0 to 5"),
-                            (("two", "61", "0,60;1,61", "1"), "F, row 1: word 1 is 61, not from 0 to 60"), (("gcd", "12", "8", "13"), "B is 13, not from 0 to 11"),
-                            (("gcd", "12", "-8", "1"), "A is -8, not from 0 to 11"), (("why", "4294967296", "1", "1"),
-                             "why: n = 4294967296 is not from 2 to 4294967295; this service has words of 32 bits only"),
-                            (("resultant", "1", "1,12", "1"), "refused with 1: " + jingcobu.MEANING[1]),
-                            (("resultant", "12", "12" + ",12" * 49, "1"), "refused with 2: " + jingcobu.MEANING[2])):
+        for words, told in (
+                (("resultant", "12", "1,12", "1"), "F: word 1 is 12, not from 0 to 11"),
+                (("divisor", "12", "1", "1,2,-3"), "G: word 2 is -3, not from 0 to 11"),
+                (("resultant", "12", "-1,2", "1"), "F: word 0 is -1, not from 0 to 11"),
+                (("product", "12", "1,1_0", "1"), "F: word 1 is '1_0', not an integer"),
+                (("product", "12", "1,", "1"), "F: word 1 is '', not an integer"),
+                (("check", "6", "2", "4", "2", "0,6", "2"), "U: word 1 is 6, not from 0 to 5"),
+                (("two", "61", "0,60;1,61", "1"), "F, row 1: word 1 is 61, not from 0 to 60"),
+                (("gcd", "12", "8", "13"), "B is 13, not from 0 to 11"),
+                (("gcd", "12", "-8", "1"), "A is -8, not from 0 to 11"),
+                (("why", "4294967296", "1", "1"), "why: n = 4294967296 is not from 2 to 4294967295; this service has words of 32 bits only"),
+                (("resultant", "1", "1,12", "1"), "refused with 1: " + jingcobu.MEANING[1]),
+                (("resultant", "12", "12" + ",12" * 49, "1"), "refused with 2: " + jingcobu.MEANING[2])):
             self.assertEqual(self.run_main(*words, status=1), "jingcobu %s: %s\n" % (words[0], told))
 
     def test_factors(self):
@@ -972,7 +980,8 @@ class CommandLine(unittest.TestCase):
         self.assertEqual(self.run_main("factors", "12", "4*x + 1"), "1\n")
         self.assertEqual(json.loads(self.run_main("factors", "--json", "12", "4*x + 1", "7=2*x + 3", "8=5", "7=")), {"resultant": 5, "steps": [2, 10, 5]})
         for steps, told in ((["7=x", "7=x"], "step 2: refused with 14: " + jingcobu.MEANING[14]), (["x"], "step 1: NUMBER=F or NUMBER= is expected, not 'x'"),
-                            (["-7=x"], "step 1: NUMBER=F or NUMBER= is expected, not ' -7=x'"), (["7=y"], "step 1: F: character 1 of 'y': a term"), (["9="], "step 1: refused with 14")):
+                            (["-7=x"], "step 1: NUMBER=F or NUMBER= is expected, not ' -7=x'"), (["7=y"], "step 1: F: character 1 of 'y': a term"),
+                            (["9="], "step 1: refused with 14")):
             self.assertIn("jingcobu factors: " + told, self.run_main("factors", "12", "4*x + 1", *steps, status=1))
 
     def test_own_notation(self):
@@ -1178,8 +1187,9 @@ class CommandLine(unittest.TestCase):
         environment = {k: x for k, x in os.environ.items() if k != "JINGCOBU_LIBRARY"}
 
         def places(package, **more):
-            said = subprocess.run([sys.executable, "-c", "import jingcobu._library as l; print(*l.candidates(), sep='\\n')"], capture_output=True, text=True, cwd="/",
-                                  env={**environment, "PYTHONPATH": str(package.parent), **more}, check=True)
+            program = "import jingcobu._library as l; print(*l.candidates(), sep='\\n')"
+            said = subprocess.run([sys.executable, "-c", program], capture_output=True, text=True, cwd="/", check=True,
+                                  env={**environment, "PYTHONPATH": str(package.parent), **more})
             return said.stdout.splitlines()
 
         with tempfile.TemporaryDirectory() as folder:
