@@ -361,6 +361,11 @@ class Many(unittest.TestCase):
             thread.join()
         self.assertEqual(found, [right] * 8)
 
+    def test_nothing_but_the_standard_library(self):
+        program = "import sys, jingcobu; view = memoryview(bytearray(16)).cast('I', [2, 2]); jingcobu.resultants(5, view, view); print('numpy' in sys.modules)"
+        said = subprocess.run([sys.executable, "-c", program], capture_output=True, text=True)
+        self.assertEqual((said.stdout, said.stderr), ("False\n", ""))
+
     @unittest.skipUnless(importlib.util.find_spec("numpy"), "numpy is not installed")
     def test_numpy(self):
         import numpy
