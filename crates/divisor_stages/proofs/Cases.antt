@@ -9,6 +9,7 @@ use mathlib.Core.Path.{_≡_, subst}
 use mathlib.Core.List.{List}
 use Prim.Native.Nat.{ℕ, _+_, _*_, _/_, _≤_, _<_}
 use native.Mathlib.Nat.{le-refl}
+use borrow.Author.Needs.{needs}
 use mir.Syntax.{Width}
 use mir.Val.{Fits}
 use Rattle.definitions.specs.Resultants.{Reduced}
@@ -89,8 +90,8 @@ module _ (n a d b s : ℕ) (w w' : List ℕ) (r : Clearing) (p : Clears n a d b 
 
 pub ruleset leads = (factors, unit-at, place-at, splits-at, nilpotents-at)
 
-pub ruleset clearings = (factors, contents, next-at, lead-splits-at, lead-nilpotents-at)
+pub ruleset clearings = (needs, contents, next-at, lead-splits-at, lead-nilpotents-at)
 
-pub ruleset stages = (factors, divisions, done-at, parts-at, positive-at, falls-at, asked-at, value-at, split-at)
+pub ruleset stages = (needs, divisions, done-at, parts-at, positive-at, falls-at, asked-at, value-at, split-at)
 
 pub ruleset fitting = (le-refl, positive-at, fits-at)
