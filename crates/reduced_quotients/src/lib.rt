@@ -35,8 +35,7 @@ pub fn over_first(x: &mut [u32], w: &mut [u32], n: u32, up: usize, k: usize, zp:
     let l = len + lz - 1;
     windows::clear(w, b, l);
     reduced_products::sub_product(w, n, a, len, zp, lz, b);
-    windows::wipe(x);
-    windows::load(x, 0, &w[b..b + l], n);
+    place(x, &w[b..b + l], n);
 }
 
 // G at 0 modulo H at q.

@@ -34,8 +34,7 @@ pub fn over_first(x: &mut [u64], w: &mut [u64], n: u64, up: usize, k: usize, zp:
     let l = len + lz - 1;
     wide_windows::clear(w, b, l);
     wide_reduced_products::sub_product(w, n, a, len, zp, lz, b);
-    wide_windows::wipe(x);
-    wide_windows::load(x, 0, &w[b..b + l], n);
+    place(x, &w[b..b + l], n);
 }
 
 // G at 0 modulo H at q.
