@@ -1,20 +1,26 @@
--- The subtraction of a product: what a turn keeps, two words of the first factor at a time.
+-- The subtraction of a product, at any width: what a turn keeps, two words of the first factor at a time.
+--
+--   Taking          the invariant of the loop
+--   taking-…        its start, turn and ends
+--   pair-asked, first-…, second-…, last-…    what the places in between ask
+--   subtractions    the rules
 use mathlib.Core.Path.{_≡_, refl, sym, ap, ap₂, subst, _∙_, fun-ext}
 use mathlib.Core.List.{List}
 use mathlib.Core.Logic.{⊎-elim}
 use Prim.Native.Nat.{ℕ, zero, suc, _+_, _-_, _*_, _%_, _≤_, _<_}
 use native.Mathlib.Omega.{arith}
-use native.Mathlib.Nat.{mod-lt, zero-add, add-zero, add-assoc, add-comm, mul-zero, eq-or-lt-of-le}
+use native.Mathlib.Nat.{mod-lt, zero-add, add-zero, add-assoc, add-comm, mul-zero, eq-or-lt-of-le, le-of-lt}
 use native.Mathlib.Decide.{ℕ-discrete}
+use borrow.Author.Needs.{needs}
 use lib.ListN.{length, getD, set, length-set}
 use lib.Seq.{getD-set-same, getD-set-other}
 use Rattle.numbers.specs.Congruence.{Cong, c-refl, c-trans, c-eq, c-add}
 use Rattle.definitions.specs.Polynomials.{coef, convolve, Divided}
-use Rattle.windows.specs.Window.{piece, Moved, addMul, Below, Around, Apart, Paired, behind}
+use Rattle.windows.specs.Window.{piece, Moved, addMul, Below, Around, Apart, Clear, PairAsked, Paired, behind}
 use Rattle.windows.proofs.Leaf.{lt-or-le, piece-at, piece-over, apart-at}
 use Rattle.window_division.proofs.Turns.{convolve-none, convolve-add, convolve-spot, spot, spot-off, spot-low, spot-at, risen, risen-at, risen-low, back}
 use Rattle.window_division.proofs.Double.{back-two}
-use Rattle.reduced_products.specs.Products.{Factors, Subtracted}
+use Rattle.reduced_products.specs.Products.{ProductRoom, Factors, Subtracted}
 
 -- the first j words of the first factor have been taken; l words stand at dst
 pub record Subtracting (n p lp q lq dst l j : ℕ) (w₀ w : List ℕ) : Type 0 where
@@ -25,7 +31,7 @@ pub record Subtracting (n p lp q lq dst l j : ℕ) (w₀ w : List ℕ) : Type 0 
   pub rest : (i : ℕ) → j ≤ i → part i ≡ 0
   pub at : (k : ℕ) → Cong n (convolve part (coef (piece w₀ q lq)) k + coef (piece w dst l) k) (coef (piece w₀ dst l) k)
 
-pub subtracting-start : (n p lp q lq dst l : ℕ) (w : List ℕ) → Below n dst l w → Subtracting n p lp q lq dst l 0 w w
+subtracting-start : (n p lp q lq dst l : ℕ) (w : List ℕ) → Below n dst l w → Subtracting n p lp q lq dst l 0 w w
 subtracting-start n p lp q lq dst l w b = record {
   around = record { same = refl; low = λ k h. refl; high = λ k h. refl };
   below = b;
@@ -35,7 +41,7 @@ subtracting-start n p lp q lq dst l w b = record {
   at = λ k. c-eq (ap (λ (x : ℕ). x + coef (piece w dst l) k) (convolve-none (coef (piece w q lq)) k) ∙ zero-add _);
 }
 
-pub subtracting-end : (n p lp q lq dst l j : ℕ) (w₀ w : List ℕ) → j ≡ lp → l ≡ lp + lq - 1 → Subtracting n p lp q lq dst l j w₀ w → Subtracted n p lp q lq dst w₀ w
+subtracting-end : (n p lp q lq dst l j : ℕ) (w₀ w : List ℕ) → j ≡ lp → l ≡ lp + lq - 1 → Subtracting n p lp q lq dst l j w₀ w → Subtracted n p lp q lq dst w₀ w
 subtracting-end n p lp q lq dst l j w₀ w e el s =
     subst (λ (x : ℕ). Around dst x w₀ w → Below n dst x w → Divided n (piece w₀ dst x) (piece w₀ q lq) (piece w₀ p lp) (piece w dst x) → Subtracted n p lp q lq dst w₀ w) (sym el)
     (λ a b d. record { around = a; below = b; divided = d }) (s .around) (s .below)
@@ -45,15 +51,15 @@ subtracting-end n p lp q lq dst l j w₀ w e el s =
     word i = ⊎-elim (λ h. s .done i (omega arith)) (λ h. s .rest i (omega arith) ∙ sym (piece-over w₀ p lp i h)) (lt-or-le i lp)
 
 -- a word of the first factor, while the product is taken
-pub first-small : {n p lp q lq dst l j : ℕ} {w₀ w : List ℕ} → Subtracting n p lp q lq dst l j w₀ w → Apart p lp dst l → Below n p lp w₀ → (i : ℕ) → i < lp → getD w (p + i) 0 < n
+first-small : {n p lp q lq dst l j : ℕ} {w₀ w : List ℕ} → Subtracting n p lp q lq dst l j w₀ w → Apart p lp dst l → Below n p lp w₀ → (i : ℕ) → i < lp → getD w (p + i) 0 < n
 first-small {n} s a b i h = subst (λ (x : ℕ). x < n) (sym (apart-at a (s .around) i h)) (b .at i h)
 
 -- the words that a turn changes
-pub turn-below : {n p lp q lq dst l j : ℕ} {w₀ w : List ℕ} → Subtracting n p lp q lq dst l j w₀ w → j + lq ≤ l → Below n (dst + j) lq w
+turn-below : {n p lp q lq dst l j : ℕ} {w₀ w : List ℕ} → Subtracting n p lp q lq dst l j w₀ w → j + lq ≤ l → Below n (dst + j) lq w
 turn-below {n} {p} {lp} {q} {lq} {dst} {l} {j} {w₀} {w} s h =
     record { at = λ k b. subst (λ (x : ℕ). getD w x 0 < n) (let z : dst + (j + k) ≡ dst + j + k = omega arith in z) (s .below .at (j + k) (omega arith)) }
 
-pub turn-apart : {q lq dst l : ℕ} → Apart q lq dst l → (j : ℕ) → j + lq ≤ l → Apart q lq (dst + j) lq
+turn-apart : {q lq dst l : ℕ} → Apart q lq dst l → (j : ℕ) → j + lq ≤ l → Apart q lq (dst + j) lq
 turn-apart a j h = record { ok = λ i k p r e. a .ok i (j + k) p (omega arith) (omega arith) }
 
 -- some words more of the first factor are taken, F of them
@@ -133,7 +139,7 @@ module _ (n p lp q lq dst l j m : ℕ) (w₀ w : List ℕ) (pos : 0 < n) (some :
           (lt-or-le k j);
     }
 
-    pub subtracting-one : Subtracting n p lp q lq dst l (j + 1) w₀ w'
+    subtracting-one : Subtracting n p lp q lq dst l (j + 1) w₀ w'
     unfolding Q
     subtracting-one =
         advance n p lp q lq dst l j (j + 1) w₀ w w' (spot j m) (omega arith) s
@@ -254,7 +260,7 @@ module _ (n p lp q lq dst l j m : ℕ) (w₀ w : List ℕ) (pos : 0 < n) (some :
             (subst (λ (x : ℕ). x < n) (sym (getD-set-same w' (dst + (j + lq)) v 0 (omega (arith, mv .same)) ∙ is-v)) (mod-lt _ pos))
         go k h (no e) = subst (λ (x : ℕ). x < n) (sym (getD-set-other w' (dst + (j + lq)) (dst + k) v 0 (λ d. e (omega arith)))) (rest k h e)
 
-    pub subtracting-two : Subtracting n p lp q lq dst l (j + 2) w₀ (set w' (dst + (j + lq)) v)
+    subtracting-two : Subtracting n p lp q lq dst l (j + 2) w₀ (set w' (dst + (j + lq)) v)
     unfolding W Q Goal
     subtracting-two =
         advance n p lp q lq dst l j (j + 2) w₀ w (set w' (dst + (j + lq)) v) (λ i. spot (suc j) c i + spot j m i) (omega arith) s around below
@@ -268,3 +274,71 @@ module _ (n p lp q lq dst l j m : ℕ) (w₀ w : List ℕ) (pos : 0 < n) (some :
         (λ k. c-trans (c-eq (ap (λ (x : ℕ). x + coef (piece (set w' (dst + (j + lq)) v) dst l) k)
         (convolve-add (spot (suc j) c) (spot j m) (coef (piece w₀ q lq)) k
         ∙ ap₂ (λ (x y : ℕ). x + y) (convolve-spot (suc j) c (coef (piece w₀ q lq)) k) (convolve-spot j m (coef (piece w₀ q lq)) k)))) (turn k))
+
+-- ---- as the code has it
+
+pub record Taking (n p lp q lq dst : ℕ) (w₀ w : List ℕ) (j : ℕ) : Type 0 where
+  pub most : j ≤ lp
+  pub done : Subtracting n p lp q lq dst (lp + lq - 1) j w₀ w
+
+pub taking-start : (n p lp q lq dst : ℕ) (w : List ℕ) → Factors n p lp q lq dst w → Taking n p lp q lq dst w w 0
+taking-start n p lp q lq dst w fs = record { most = omega arith; done = subtracting-start _ _ _ _ _ _ _ _ (fs .product) }
+
+pub taking-end : (n p lp q lq dst j : ℕ) (w₀ w : List ℕ) → Taking n p lp q lq dst w₀ w j → j ≡ lp → Subtracted n p lp q lq dst w₀ w
+taking-end n p lp q lq dst j w₀ w x e = subtracting-end _ _ _ _ _ _ _ j _ _ e refl (x .done)
+
+module _ (n p lp q lq dst j : ℕ) (w₀ w : List ℕ) (x : Taking n p lp q lq dst w₀ w j) (room : ProductRoom n p lp q lq dst w₀)
+    (fs : Factors n p lp q lq dst w₀) where
+  small : (i : ℕ) → i < lp → getD w (p + i) 0 < n
+  small = first-small (x .done) (fs .apart-first) (fs .first)
+
+  pub first-most : j + 1 < lp → getD w (p + j) 0 ≤ n
+  first-most h = le-of-lt (small j (omega arith))
+
+  pub second-most : j + 1 < lp → getD w (p + (j + 1)) 0 ≤ n
+  second-most h = le-of-lt (small (j + 1) h)
+
+  pub last-most : (j ≡ lp → ⊥) → getD w (p + j) 0 ≤ n
+  last-most ne = le-of-lt (small j (omega (arith, x .most)))
+
+  pub pair-asked : (m : ℕ) → j + 1 < lp → PairAsked n (n - m) q (dst + j) lq w
+  pair-asked m h = record {
+    modulus = room .modulus;
+    factor = omega arith;
+    source = omega (arith, room .second, x .done .around .same);
+    target = omega (arith, room .product, x .done .around .same);
+    apart = turn-apart (fs .apart-second) j (omega arith);
+    below = turn-below (x .done) (omega arith);
+  }
+
+  pub taking-next : (v j' : ℕ) (w' w'' : List ℕ) → j + 1 < lp
+      → Paired n (n - getD w (p + (j + 1)) 0) (n - getD w (p + j) 0) q (dst + j) lq w w'
+      → v ≡ (getD w' (dst + (j + lq)) 0 + (n - getD w (p + (j + 1)) 0) * getD w' (q + (lq - 1)) 0) % n
+      → w'' ≡ set w' (dst + (j + lq)) v → j' ≡ j + 2 → Taking n p lp q lq dst w₀ w'' j'
+  taking-next v j' w' w'' h mv is ew ej =
+      rw (ew, ej) (record {
+        most = omega arith;
+        done = subtracting-two _ _ _ _ _ _ _ j _ w₀ w (room .modulus) (room .some-second) (fs .apart-first) (fs .apart-second)
+            (small j (omega arith)) refl (x .done) _ v w' (small (j + 1) h) h (omega arith)
+            (omega (arith, room .product, x .done .around .same)) refl mv is;
+      })
+
+  pub last-source : q + lq ≤ length w
+  last-source = omega (arith, room .second, x .done .around .same)
+
+  pub last-target : (j ≡ lp → ⊥) → dst + j + lq ≤ length w
+  last-target ne = omega (arith, room .product, room .some-second, x .most, x .done .around .same)
+
+  pub last-clear : (j ≡ lp → ⊥) → Clear q (dst + j) lq
+  last-clear ne = record { ok = λ i k a b e. fs .apart-second .ok i (j + k) b (omega (arith, x .most)) (omega arith) }
+
+  pub taking-last : (w' : List ℕ) → (j ≡ lp → ⊥) → lp ≤ j + 1 → Moved (addMul n (n - getD w (p + j) 0)) q (dst + j) lq w w'
+      → Subtracted n p lp q lq dst w₀ w'
+  taking-last w' ne h mv =
+      subtracting-end _ _ _ _ _ _ _ (j + 1) _ _ (omega (arith, x .most)) refl
+      (subtracting-one _ _ _ _ _ _ _ j _ w₀ w (room .modulus) (room .some-second) (fs .apart-first) (fs .apart-second)
+      (small j (omega (arith, x .most))) refl (x .done) w' (omega (arith, x .most)) (omega (arith, x .most, room .some-second)) mv)
+
+pub ruleset asked = (first-most, second-most, last-most, pair-asked, last-source, last-target, last-clear)
+
+pub ruleset subtractions = (needs, asked, taking-start, taking-next, taking-end, taking-last)
