@@ -1,10 +1,15 @@
--- B = U H modulo ν: B is copied to the room, factored there, and H takes its place.
+-- B = U H modulo ν, at any width: B is copied to the room, factored there, and H takes its place.
+--
+--   split-room, split-given    what the factoring asks
+--   split-done                 what comes of it
+--   splittings                 the rules
 use mathlib.Core.Path.{_≡_, refl, sym, ap, ap₂, subst, _∙_}
 use mathlib.Core.List.{List}
 use mathlib.Core.Logic.{⊎-elim}
 use Prim.Native.Nat.{ℕ, zero, suc, _+_, _-_, _*_, _%_, _≤_, _<_}
 use native.Mathlib.Omega.{arith}
 use native.Mathlib.Nat.{mul-comm, add-zero, add-assoc}
+use borrow.Author.Needs.{needs}
 use lib.ListN.{length, getD}
 use borrow.Rule.Slice.PartMut.{putMid, midOf}
 use Rattle.definitions.specs.Residues.{IsNilpotent}
@@ -15,7 +20,11 @@ use Rattle.windows.proofs.Lift.{moved-around, moved-copy, piece-equal, mid-leng
 use Rattle.window_factor.specs.Factors.{LeadingUnit, Given, Factored}
 use Rattle.reduced_units.specs.Factorings.{SplitAsked, UnitSplit, unit-place}
 
-module _ (ν t pb a s i m : ℕ) (w w₁ : List ℕ) (is-m : m ≡ 3 * (t + 1)) (asked : SplitAsked ν t pb a s i w) (cp : Moved second pb (8 * (t + 1)) a w w₁) where
+module _ (ν t pb a s i : ℕ) (w w₁ : List ℕ) (asked : SplitAsked ν t pb a s i w) (cp : Moved second pb (8 * (t + 1)) a w w₁) where
+  -- the words that are lent
+  abbrev m : ℕ
+  m = 8 * (t + 1) + 3 * (t + 1) - 8 * (t + 1)
+
   inside : 8 * (t + 1) + m ≤ length w₁
   inside = omega (arith, cp .same)
 
@@ -77,3 +86,5 @@ module _ (ν t pb a s i m : ℕ) (w w₁ : List ℕ) (is-m : m ≡ 3 * (t + 1)) 
             (sym (cq .mid k h ∙ is-now (8 * (t + 1)) m w₁ inside ys ly (8 * (t + 1) + a + k) (a - 1 + 1 + k) (omega arith) (omega arith))) (fc .below-h .at k h);
       };
     }
+
+pub ruleset splittings = (needs, split-room, split-given, split-done)
