@@ -1,11 +1,16 @@
--- The content c of B is taken out: B over c, the multiplier of A times c, A modulo ν / c.
+-- The content c of B is taken out: B over c, the multiplier of A times c, A modulo ν / c. The facts are those of the code, which reads B as a
+-- part of the window.
+--
+--   part                         the a words from p on, as the code lends them
+--   none-solved, none-kept       B is 0 modulo ν
+--   content-positive, content-asked, content-stage, content-change, content-kept, content-primitive    it is not
 use mathlib.Core.Path.{_≡_, refl, sym, ap, ap₂, subst, _∙_, fun-ext}
 use mathlib.Core.List.{List, []}
 use mathlib.Core.Logic.{⊎-elim}
 use Prim.Native.Nat.{ℕ, zero, suc, _+_, _-_, _*_, _/_, _%_, _≤_, _<_, _∣_}
 use native.Mathlib.Omega.{arith}
 use native.Mathlib.Nat.{mod-lt, mod-mod, mod-eq-of-lt, mod-self, zero-mod, mul-zero, mul-one, one-mul, mul-comm, mul-assoc, mul-pos, mul-le-mul-left, mul-div-cancel', pos-of-dvd-of-pos, dvd-trans, dvd-mul-left, mul-dvd-mul-left, le-of-dvd, mod-eq-zero-of-dvd, eq-of-mul-eq-mul-left, dvd-zero}
-use lib.ListN.{length, getD}
+use lib.ListN.{length, getD, take, drop}
 use Rattle.definitions.specs.Residues.{IsUnit, IsNilpotent, Inverse}
 use Rattle.definitions.specs.Polynomials.{coef, constant}
 use Rattle.definitions.specs.Resultants.{Reduced}
@@ -20,9 +25,16 @@ use Rattle.windows.proofs.Lift.{moved-around}
 use Rattle.reduced_multipliers.specs.Leads.{Leads, Completes, lifted, leads-scaled, completes-none}
 use Rattle.reduced_multipliers.specs.Reductions.{UnitLead, reduced-same, reduced-lead, reduced-none}
 use Rattle.reduced_products.specs.Products.{MonicAtZero}
-use Rattle.reduced_units.specs.States.{Multiplier, Stage, Solved, Change}
-use Rattle.reduced_clearing.specs.Clearings.{ContentTaken}
-use Rattle.reduced_units.proofs.Regions.{apart-low, apart-swap, below-apart, piece-apart, multiplier-apart, monic-apart, kept-around, kept-trans, kept-piece}
+use Rattle.reduced_units.specs.States.{Multiplier, Stage, StageAt, Solved, Change}
+use Rattle.reduced_units.specs.declared.Places.{Places}
+use Rattle.reduced_clearing.specs.Clearings.{ContentAsked, ContentTaken}
+use Rattle.reduced_units.proofs.Regions.{part-piece, apart-low, apart-swap, below-apart, piece-apart, multiplier-apart, monic-apart, kept-around, kept-trans, kept-piece}
+
+abbrev pub part : List ℕ → ℕ → ℕ → List ℕ
+part w p a = take (p + a - p) (drop p w)
+
+pub part-is : (w : List ℕ) (p a : ℕ) → part w p a ≡ piece w p a
+part-is w p a = part-piece w p a (p + a - p) (omega arith)
 
 -- A has a leading unit
 pub unit-lead : {n ν t pa a pb c al be l : ℕ} {w : List ℕ} → Stage n ν t pa a pb c al be l w → UnitLead ν a (piece w pa (a + 1))
@@ -40,7 +52,11 @@ all-coefficients w p l x h d k = ⊎-elim
 
 -- ---- B is 0 modulo ν
 
-module _ (n ν t pa a pb al be l : ℕ) (w w' : List ℕ) (st : Stage n ν t pa a pb a al be l w) (ct : Content ν (piece w pb a) ν) (mv : Moved zeroed (t + 1) (t + 1) t w w') where
+module _ (n ν t pa a pb al be l c : ℕ) (w w' : List ℕ) (st : Stage n ν t pa a pb a al be l w) (of-part : Content ν (part w pb a) c) (whole : c ≡ ν)
+    (mv : Moved zeroed (t + 1) (t + 1) t w w') where
+  whole-content : Content ν (piece w pb a) ν
+  whole-content = subst (Content ν (piece w pb a)) whole (subst (λ (f : List ℕ). Content ν f c) (part-is w pb a) of-part)
+
   pub none-kept : Kept (t + 1) w w'
   none-kept = kept-around (omega arith) (moved-around mv)
 
@@ -50,14 +66,17 @@ module _ (n ν t pa a pb al be l : ℕ) (w w' : List ℕ) (st : Stage n ν t pa 
   pub none-solved : Solved n ν t pa a pb a al be ν w w'
   none-solved = record {
     reduced = reduced-none ν a (omega (arith, st .above)) (st .degree) (piece w pa (a + 1)) (piece w pb a) (unit-lead st)
-        (λ k. mod-eq-zero-of-dvd ν (all-coefficients w pb a ν (omega (arith, st .room, st .within, st .places .b-high)) (ct .divides) k));
+        (λ k. mod-eq-zero-of-dvd ν (all-coefficients w pb a ν (omega (arith, st .room, st .within, st .places .b-high)) (whole-content .divides) k));
     below = record { at = λ k h. subst (λ (x : ℕ). x < n) (sym (mv .mid k h)) (st .positive) };
     completes = λ g m p e x y. completes-none n (m * ν) (st .positive) (ap (λ (z : ℕ). z % n) (sym e) ∙ mod-self n) (piece w 0 (t + 1)) g (piece w' (t + 1) t) empty;
   }
 
 -- ---- c is not ν
 
-module _ (n ν t pa a pb al be l c : ℕ) (w : List ℕ) (st : Stage n ν t pa a pb a al be l w) (ct : Content ν (piece w pb a) c) where
+module _ (n ν t pa a pb al be l c : ℕ) (w : List ℕ) (st : Stage n ν t pa a pb a al be l w) (of-part : Content ν (part w pb a) c) where
+  ct : Content ν (piece w pb a) c
+  ct = subst (λ (f : List ℕ). Content ν f c) (part-is w pb a) of-part
+
   pub content-positive : 0 < c
   content-positive = pos-of-dvd-of-pos (ct .divides-n) (omega (arith, st .above))
 
@@ -234,3 +253,14 @@ module _ (n ν t pa a pb al be l c : ℕ) (w : List ℕ) (st : Stage n ν t pa a
       where
         big : (c p : ℕ) → 0 < c → 1 < p → c * p ≤ c → ⊥
         big c p h q l = let z : c * 2 ≤ c * p = mul-le-mul-left c q in omega arith
+
+pub content-asked : (n ν : ℕ) (p : Places) (a l c : ℕ) (w : List ℕ) → StageAt n ν p a a l w → Content ν (part w (p .pb) a) c → (c ≡ ν → ⊥)
+    → ContentAsked n ν c p a w
+content-asked n ν p a l c w st ct ne = record {
+  positive = st .positive;
+  content = content-positive _ _ _ _ _ _ _ _ _ _ _ st ct;
+  quotient = omega (arith, content-above _ _ _ _ _ _ _ _ _ _ _ st ct ne);
+  multiplier = omega (arith, st .room, st .places .al-high);
+  second = omega (arith, st .room, st .within, st .places .b-high);
+  first = omega (arith, st .room, st .within, st .places .a-high);
+}
