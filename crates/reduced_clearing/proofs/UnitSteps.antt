@@ -1,4 +1,5 @@
--- The unit factor of B is taken out: B is monic of degree s, and its multiplier is over the unit. Together with the content this is what the
+-- The unit factor of B is taken out: B is monic of degree s, and its multiplier is over the unit. Together with the content this is what
+-- the
 -- clearing promises.
 --
 --   unit-…, monic-…, taken-…    the unit factor alone
@@ -37,12 +38,17 @@ use Rattle.reduced_clearing.proofs.ContentSteps.{content-whole, content
 shorter-than : (ν s i p a : ℕ) (w : List ℕ) → p + a ≤ length w → LeadingUnit ν s i (piece w p a) → s < a
 shorter-than ν s i p a w h x = omega (arith, x .place, piece-length w p a h)
 
-module _ (n ν t pa a pb al be l s r : ℕ) (w w' : List ℕ) (st : Stage n ν t pa a pb a al be l w) (shorter : s < a) (ut : UnitTaken n ν t pb a be s l r w w') where
+module _ (n ν t pa a pb al be l s r : ℕ) (w w' : List ℕ) (st : Stage n ν t pa a pb a al be l w) (shorter : s < a)
+    (ut : UnitTaken n ν t pb a be s l r w w') where
   long : 8 * (t + 1) ≤ length w
   long = omega (arith, st .room)
 
   unit-kept : Kept (t + 1) w w'
-  unit-kept = record { same = ut .same; low = λ k h. ut .at k (omega arith) (λ i q e. omega (arith, st .places .b-low)) (λ i q e. omega (arith, st .places .be-low)) }
+  unit-kept = record {
+    same = ut .same;
+    low = λ k h. ut .at k (omega arith) (λ i q e. omega (arith, st .places .b-low))
+        (λ i q e. omega (arith, st .places .be-low));
+  }
 
   word-a : (k : ℕ) → k < a + 1 → getD w' (pa + k) 0 ≡ getD w (pa + k) 0
   word-a k h = ut .at (pa + k) (omega (arith, st .within, st .places .a-high))
@@ -50,7 +56,8 @@ module _ (n ν t pa a pb al be l s r : ℕ) (w w' : List ℕ) (st : Stage n ν t
       (λ i q e. omega (arith, st .within, st .places .a-high, st .places .be-low))
 
   word-al : (k : ℕ) → k < 2 * (t + 1) → getD w' (al + k) 0 ≡ getD w (al + k) 0
-  word-al k h = ut .at (al + k) (omega (arith, st .places .al-high)) (λ i q e. omega (arith, st .within, st .places .b-high, st .places .al-low)) (λ i q e. st .places .multipliers .ok k i h (omega arith) e)
+  word-al k h = ut .at (al + k) (omega (arith, st .places .al-high)) (λ i q e. omega
+      (arith, st .within, st .places .b-high, st .places .al-low)) (λ i q e. st .places .multipliers .ok k i h (omega arith) e)
 
   same-h : piece w' 0 (t + 1) ≡ piece w 0 (t + 1)
   same-h = kept-piece unit-kept (omega (arith, long))
@@ -89,18 +96,21 @@ module _ (n ν t pa a pb al be l s r : ℕ) (w w' : List ℕ) (st : Stage n ν t
   unit-reduced : (D : ℕ) → Reduced ν (piece w' pa (a + 1)) (piece w' pb (s + 1)) D → Reduced ν (piece w pa (a + 1)) (piece w pb a) D
   unit-reduced D x =
       let i = inverse-of-negated ν (omega (arith, st .above)) (ut .u) (ut .j) (ut .inverse) in
-      reduced-unit-second ν (omega (arith, st .above)) (piece w pa (a + 1)) (piece w pb a) (ut .u) (i .0) (piece w' pb (s + 1)) D (ut .equation) (i .1)
+      reduced-unit-second ν (omega (arith, st .above)) (piece w pa (a + 1)) (piece w pb a) (ut .u) (i .0) (piece w' pb (s + 1)) D
+      (ut .equation) (i .1)
       (subst (λ (f : List ℕ). Reduced ν f (piece w' pb (s + 1)) D) same-a x)
 
   unit-second : (g : List ℕ) (m : ℕ) → 1 ≤ m → n ≡ m * ν → Leads n m (piece w 0 (t + 1)) g (piece w be (2 * (t + 1))) (piece w pb a)
       → Leads n m (piece w 0 (t + 1)) g (piece w' be (2 * (t + 1))) (piece w' pb (s + 1))
   unit-second g m p e x =
-      leads-unit n m ν p (omega (arith, st .above)) e (piece w 0 (t + 1)) g [] (piece w be (2 * (t + 1))) (piece w' be (2 * (t + 1))) (ut .j) (ut .u) (piece w' pb (s + 1)) (piece w pb a)
+      leads-unit n m ν p (omega (arith, st .above)) e (piece w 0 (t + 1)) g [] (piece w be (2 * (t + 1))) (piece w' be (2 * (t + 1)))
+      (ut .j) (ut .u) (piece w' pb (s + 1)) (piece w pb a)
       (λ k. coef-beyond [] k (omega arith)) (ut .taken) (ut .equation) (ut .inverse) x
 
 -- ---- the content, and then the unit factor
 
-module _ (n ν t pa a pb al be l c s r : ℕ) (w w₁ w₂ : List ℕ) (st : Stage n ν t pa a pb a al be l w) (ct : Content ν (part w pb a) c) (ne : c ≡ ν → ⊥)
+module _ (n ν t pa a pb al be l c s r : ℕ) (w w₁ w₂ : List ℕ) (st : Stage n ν t pa a pb a al be l w) (ct : Content ν (part w pb a) c)
+    (ne : c ≡ ν → ⊥)
     (tk : ContentTaken n ν c t pa a pb al w w₁) (shorter : s < a) (ut : UnitTaken n (ν / c) t pb a be s l r w₁ w₂) where
   stage₁ : Stage n (ν / c) t pa a pb a al be l w₁
   stage₁ = content-stage n ν t pa a pb al be l c w st ct ne w₁ tk
@@ -117,17 +127,16 @@ module _ (n ν t pa a pb al be l c s r : ℕ) (w w₁ w₂ : List ℕ) (st : Sta
   same-h₁ : piece w₁ 0 (t + 1) ≡ piece w 0 (t + 1)
   same-h₁ = kept-piece kept₁ (omega (arith, st .room))
 
-  both-kept : Kept (t + 1) w w₂
-  both-kept = kept-trans kept₁ (unit-kept n (ν / c) t pa a pb al be l s r w₁ w₂ stage₁ shorter ut)
-
   modulus : (m : ℕ) → n ≡ m * ν → n ≡ m * c * (ν / c)
   modulus m e = e ∙ ap (λ (y : ℕ). m * y) (content-whole n ν t pa a pb al be l c w st ct) ∙ sym (mul-assoc m c (ν / c))
 
   both-first : (g : List ℕ) (m : ℕ) → 1 ≤ m → n ≡ m * ν → Leads n m (piece w 0 (t + 1)) g (piece w al (2 * (t + 1))) (piece w pa (a + 1))
       → Leads n (m * c) (piece w 0 (t + 1)) g (piece w₂ al (2 * (t + 1))) (piece w₂ pa (a + 1))
   both-first g m p e x =
-      subst (λ (f : List ℕ). Leads n (m * c) (piece w 0 (t + 1)) g f (piece w₂ pa (a + 1))) (sym (same-al n (ν / c) t pa a pb al be l s r w₁ w₂ stage₁ shorter ut))
-      (subst (λ (f : List ℕ). Leads n (m * c) (piece w 0 (t + 1)) g (piece w₁ al (2 * (t + 1))) f) (sym (same-a n (ν / c) t pa a pb al be l s r w₁ w₂ stage₁ shorter ut)) (change₁ .first g m p e x))
+      subst (λ (f : List ℕ). Leads n (m * c) (piece w 0 (t + 1)) g f (piece w₂ pa (a + 1)))
+      (sym (same-al n (ν / c) t pa a pb al be l s r w₁ w₂ stage₁ shorter ut))
+      (subst (λ (f : List ℕ). Leads n (m * c) (piece w 0 (t + 1)) g (piece w₁ al (2 * (t + 1))) f)
+      (sym (same-a n (ν / c) t pa a pb al be l s r w₁ w₂ stage₁ shorter ut)) (change₁ .first g m p e x))
 
   both-second : (g : List ℕ) (m : ℕ) → 1 ≤ m → n ≡ m * ν → Leads n m (piece w 0 (t + 1)) g (piece w be (2 * (t + 1))) (piece w pb a)
       → Leads n (m * c) (piece w 0 (t + 1)) g (piece w₂ be (2 * (t + 1))) (piece w₂ pb (s + 1))
@@ -136,7 +145,8 @@ module _ (n ν t pa a pb al be l c s r : ℕ) (w w₁ w₂ : List ℕ) (st : Sta
       (unit-second n (ν / c) t pa a pb al be l s r w₁ w₂ stage₁ shorter ut g (m * c) (mul-pos p c-pos) (modulus m e)
       (subst (λ (h : List ℕ). Leads n (m * c) h g (piece w₁ be (2 * (t + 1))) (piece w₁ pb a)) (sym same-h₁) (change₁ .second g m p e x)))
 
-  both-reduced : (D : ℕ) → Reduced (ν / c) (piece w₂ pa (a + 1)) (piece w₂ pb (s + 1)) D → Reduced ν (piece w pa (a + 1)) (piece w pb a) (c * D)
+  both-reduced : (D : ℕ) → Reduced (ν / c) (piece w₂ pa (a + 1)) (piece w₂ pb (s + 1)) D → Reduced ν (piece w pa (a + 1)) (piece w pb a)
+      (c * D)
   both-reduced D x = change₁ .reduced D (unit-reduced n (ν / c) t pa a pb al be l s r w₁ w₂ stage₁ shorter ut D x)
 
   -- the monic factor has a degree
@@ -152,9 +162,6 @@ module _ (n ν t pa a pb al be l c s r : ℕ) (w w₁ w₂ : List ℕ) (st : Sta
 
   -- it is 1
   module _ (none : s ≡ 0) (w₃ : List ℕ) (cp : Moved second be (t + 1) t w₂ w₃) where
-    last-kept : Kept (t + 1) w w₃
-    last-kept = kept-trans both-kept (kept-around (omega arith) (moved-around cp))
-
     unity : (k : ℕ) → coef (piece w₂ pb (s + 1)) k ≡ constant 1 k
     unity zero = piece-at w₂ pb (s + 1) 0 (omega arith) ∙ ap (λ (x : ℕ). getD w₂ (pb + x) 0) (sym none) ∙ ut .monic
     unity (suc k) = piece-over w₂ pb (s + 1) (suc k) (omega arith)
@@ -162,16 +169,19 @@ module _ (n ν t pa a pb al be l c s r : ℕ) (w w₁ w₂ : List ℕ) (st : Sta
     found : (k : ℕ) → coef (piece w₂ be (2 * (t + 1))) k ≡ coef (piece w₃ (t + 1) t) k
     found k =
         multiplier-short (ut .multiplier) t (ut .most) (omega arith) k
-        ∙ ⊎-elim (λ h. piece-at w₂ be t k h ∙ sym (piece-at w₃ (t + 1) t k h ∙ cp .mid k h)) (λ h. piece-over w₂ be t k h ∙ sym (piece-over w₃ (t + 1) t k h)) (lt-or-le k t)
+        ∙ ⊎-elim (λ h. piece-at w₂ be t k h ∙ sym (piece-at w₃ (t + 1) t k h ∙ cp .mid k h))
+        (λ h. piece-over w₂ be t k h ∙ sym (piece-over w₃ (t + 1) t k h)) (lt-or-le k t)
 
     last-solved : Solved n ν t pa a pb a al be c w w₃
     last-solved = record {
       reduced = subst (Reduced ν (piece w pa (a + 1)) (piece w pb a)) (mul-one c)
-          (both-reduced 1 (reduced-unity (ν / c) (omega (arith, stage₁ .above)) (piece w₂ pa (a + 1)) (piece w₂ pb (s + 1)) (λ k. ap (λ (x : ℕ). x % (ν / c)) (unity k))));
+          (both-reduced 1 (reduced-unity (ν / c) (omega (arith, stage₁ .above)) (piece w₂ pa (a + 1)) (piece w₂ pb (s + 1))
+          (λ k. ap (λ (x : ℕ). x % (ν / c)) (unity k))));
       below = record { at = λ k h. subst (λ (x : ℕ). x < n) (sym (cp .mid k h)) (ut .multiplier .below .at k (omega arith)) };
       completes = λ g m p e x y.
           completes-same n (m * c) (piece w 0 (t + 1)) g (piece w₂ be (2 * (t + 1))) (piece w₃ (t + 1) t) found
-          (leads-completes n (m * c) (ν / c) (mul-pos p c-pos) (omega (arith, stage₁ .above)) (modulus m e) (piece w 0 (t + 1)) g (piece w₂ be (2 * (t + 1))) (piece w₂ pb (s + 1))
+          (leads-completes n (m * c) (ν / c) (mul-pos p c-pos) (omega (arith, stage₁ .above)) (modulus m e) (piece w 0 (t + 1)) g
+          (piece w₂ be (2 * (t + 1))) (piece w₂ pb (s + 1))
           (λ k. ap (λ (z : ℕ). z % (ν / c)) (unity k)) (both-second g m p e y));
     }
 

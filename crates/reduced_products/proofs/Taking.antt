@@ -38,12 +38,14 @@ taken-short n t p lp q lq dst w w' room s h = record {
   zero = λ k l m. absurd (omega arith);
   taken = record {
     z = [];
-    at = λ k. ap (λ (x : ℕ). (x + convolve (coef (piece w p lp)) (coef (piece w q lq)) k + coef (piece w' dst (lp + lq - 1)) k) % n) (convolve-empty (coef (piece w 0 (t + 1))) k)
+    at = λ k. ap (λ (x : ℕ). (x + convolve (coef (piece w p lp)) (coef (piece w q lq)) k + coef (piece w' dst (lp + lq - 1)) k) % n)
+        (convolve-empty (coef (piece w 0 (t + 1))) k)
         ∙ ap (λ (x : ℕ). (x + coef (piece w' dst (lp + lq - 1)) k) % n) (zero-add _) ∙ s .divided .at k;
   };
 }
 
-module _ (n t p lp q lq dst l : ℕ) (w w₁ w₂ w₃ : List ℕ) (pos : 1 ≤ n) (one : 1 ≤ t) (fits : dst + l ≤ length w) (is-l : l ≡ lp + lq - 1) (over : t < l) (apart : t + 1 ≤ dst)
+module _ (n t p lp q lq dst l : ℕ) (w w₁ w₂ w₃ : List ℕ) (pos : 1 ≤ n) (one : 1 ≤ t) (fits : dst + l ≤ length w) (is-l : l ≡ lp + lq - 1)
+    (over : t < l) (apart : t + 1 ≤ dst)
     (s : Subtracted n p lp q lq dst w w₁) (r : Remainder n 0 t dst (l - 1) w₁ w₂) (z : Moved zeroed (dst + t) (dst + t) (l - t) w₂ w₃) where
   -- the polynomial at 0 is what it was
   kept : piece w₁ 0 (t + 1) ≡ piece w 0 (t + 1)
@@ -73,11 +75,16 @@ module _ (n t p lp q lq dst l : ℕ) (w w₁ w₂ w₃ : List ℕ) (pos : 1 ≤ 
   shorter : l - 1 + 1 ≡ l
   shorter = omega arith
 
-  whole : (k : ℕ) → (convolve (coef Z) (coef (piece w 0 (t + 1))) k + convolve (coef (piece w p lp)) (coef (piece w q lq)) k + coef (piece w₃ dst l) k) % n ≡ coef (piece w dst l) k % n
+  whole : (k : ℕ) → (convolve (coef Z) (coef (piece w 0 (t + 1))) k + convolve (coef (piece w p lp)) (coef (piece w q lq)) k + coef
+      (piece w₃ dst l) k) % n ≡ coef (piece w dst l) k % n
   whole k =
-      c-trans (c-eq (turn (convolve (coef Z) (coef (piece w 0 (t + 1))) k) (convolve (coef (piece w p lp)) (coef (piece w q lq)) k) (coef (piece w₃ dst l) k)))
+      c-trans (c-eq (turn (convolve (coef Z) (coef (piece w 0 (t + 1))) k) (convolve (coef (piece w p lp)) (coef (piece w q lq)) k)
+      (coef (piece w₃ dst l) k)))
       (c-trans (c-add (c-refl {a = convolve (coef (piece w p lp)) (coef (piece w q lq)) k}) rest)
-      (record { same = subst (λ (x : ℕ). (convolve (coef (piece w p lp)) (coef (piece w q lq)) k + coef (piece w₁ dst x) k) % n ≡ coef (piece w dst x) k % n) (sym is-l) (s .divided .at k) })) .same
+      (record {
+        same = subst (λ (x : ℕ). (convolve (coef (piece w p lp)) (coef (piece w q lq)) k + coef (piece w₁ dst x) k) % n ≡ coef
+            (piece w dst x) k % n) (sym is-l) (s .divided .at k);
+      })) .same
     where
       turn : (a b c : ℕ) → a + b + c ≡ b + (a + c)
       turn a b c = omega arith
@@ -108,8 +115,19 @@ module _ (n t p lp q lq dst l : ℕ) (w w₁ w₂ w₃ : List ℕ) (pos : 1 ≤ 
   long-taken : TakenFrom n t p lp q lq dst t w w₃
   unfolding Z
   long-taken = subst (λ (x : ℕ). t < x → Around dst x w w₃ → Below n dst x w₃ → ((k : ℕ) → t ≤ k → k < x → getD w₃ (dst + k) 0 ≡ 0)
-      → Taken n (piece w 0 (t + 1)) (piece w q lq) (piece w p lp) (piece w dst x) (piece w₃ dst x) → x ≡ lp + lq - 1 → TakenFrom n t p lp q lq dst t w w₃) (sym is-l)
-      (λ o a b c d e. record { around = a; below = b; within = omega arith; most = omega arith; some = one; full = λ x. absurd (omega arith); zero = c; taken = d })
+      → Taken n (piece w 0 (t + 1)) (piece w q lq) (piece w p lp) (piece w dst x) (piece w₃ dst x) → x ≡ lp + lq - 1
+      → TakenFrom n t p lp q lq dst t w w₃) (sym is-l)
+      (λ o a b c d e. record {
+        around = a;
+        below = b;
+        within = omega arith;
+        most = omega arith;
+        some = one;
+        full = λ x. absurd
+            (omega arith);
+        zero = c;
+        taken = d;
+      })
       over around below nought (record { z = Z; at = whole }) is-l
 
 -- ---- as the code has it

@@ -71,7 +71,8 @@ module _ (ν x k κ g s : ℕ) (w : List ℕ) (is-κ : κ ≡ K ν) (two : 2 ≤
   positive = go s (inverse .one)
     where
       go : (s : ℕ) → (getD w x 0 * s) % ν ≡ 1 % ν → 1 ≤ s
-      go zero h = let z : _≡_ {A = ℕ} 0 1 = sym (zero-mod ν) ∙ ap (λ (y : ℕ). y % ν) (sym (mul-zero (getD w x 0))) ∙ h ∙ mod-eq-of-lt two in absurd (omega arith)
+      go zero h = let z : _≡_ {A = ℕ} 0 1 = sym (zero-mod ν) ∙ ap (λ (y : ℕ). y % ν) (sym (mul-zero (getD w x 0))) ∙ h
+          ∙ mod-eq-of-lt two in absurd (omega arith)
       go (suc s) h = omega arith
 
   mid-first : piece (midOf x m w) 0 (k + 1) ≡ piece w x (k + 1)
@@ -84,7 +85,8 @@ module _ (ν x k κ g s : ℕ) (w : List ℕ) (is-κ : κ ≡ K ν) (two : 2 ≤
   negate-room = omega (arith, mid-length x m w inside)
 
   one-unit : (s * coef (piece (midOf x m w) 0 (k + 1)) 0) % ν ≡ 1 % ν
-  one-unit = ap (λ (f : List ℕ). (s * coef f 0) % ν) mid-first ∙ ap (λ (y : ℕ). y % ν) (ap (λ (y : ℕ). s * y) first ∙ mul-comm s (getD w x 0)) ∙ inverse .one
+  one-unit = ap (λ (f : List ℕ). (s * coef f 0) % ν) mid-first ∙ ap (λ (y : ℕ). y % ν)
+      (ap (λ (y : ℕ). s * y) first ∙ mul-comm s (getD w x 0)) ∙ inverse .one
 
   pub negate-unit : (ν' s' k' : ℕ) (f : List ℕ) → ν' ≡ ν → s' ≡ s → k' ≡ k → f ≡ midOf x m w
       → (s' * coef (piece f 0 (k' + 1)) 0) % ν' ≡ 1 % ν'
@@ -94,7 +96,8 @@ module _ (ν x k κ g s : ℕ) (w : List ℕ) (is-κ : κ ≡ K ν) (two : 2 ≤
   minus : ((ν - s) * coef (piece (midOf x m w) 0 (k + 1)) 0 + 1) % ν ≡ 0
   minus =
       c-trans (c-add (c-refl {a = (ν - s) * U}) (c-sym (record { same = one-unit })))
-      (c-trans (c-eq {b = ν * U} (sums (ν - s) (omega (arith, co .at-most)))) (record { same = mul-mod-right ν U ∙ sym (zero-mod ν) })) .same ∙ zero-mod ν
+      (c-trans (c-eq {b = ν * U} (sums (ν - s) (omega (arith, co .at-most))))
+      (record { same = mul-mod-right ν U ∙ sym (zero-mod ν) })) .same ∙ zero-mod ν
     where
       U : ℕ
       U = coef (piece (midOf x m w) 0 (k + 1)) 0
@@ -105,20 +108,24 @@ module _ (ν x k κ g s : ℕ) (w : List ℕ) (is-κ : κ ≡ K ν) (two : 2 ≤
       sums : (r : ℕ) → r + s ≡ ν → r * U + s * U ≡ ν * U
       sums r e = spread r U ∙ ap (λ (y : ℕ). y * U) e
 
-  pub negate-done : (ys : List ℕ) → length ys ≡ length (midOf x m w) → Series ν k (ν - s) ((κ - 1) * k + 1) (midOf x m w) ys → Negated ν x k ((κ - 1) * k + 1) w (putMid x m w ys)
+  pub negate-done : (ys : List ℕ) → length ys ≡ length (midOf x m w) → Series ν k (ν - s) ((κ - 1) * k + 1) (midOf x m w) ys
+      → Negated ν x k ((κ - 1) * k + 1) w (putMid x m w ys)
   negate-done ys ly sr = record {
     is-len = ap (λ (y : ℕ). (y - 1) * k + 1) is-κ;
     around = lift-around x m w inside ys ly (k + 1) ((κ - 1) * k + 1) (omega arith) (sr .around);
     below = lift-below x m w inside ys ly ν (k + 1) ((κ - 1) * k + 1) (omega arith) (sr .below);
     inverse = subst (λ (u : List ℕ). NegatedInverse ν u (piece (putMid x m w ys) (x + (k + 1)) ((κ - 1) * k + 1))) mid-first
-        (subst (λ (j : List ℕ). NegatedInverse ν (piece (midOf x m w) 0 (k + 1)) j) (sym (piece-put x m w inside ys ly (k + 1) ((κ - 1) * k + 1) (omega arith))) (record { at = go }));
+        (subst (λ (j : List ℕ). NegatedInverse ν (piece (midOf x m w) 0 (k + 1)) j)
+        (sym (piece-put x m w inside ys ly (k + 1) ((κ - 1) * k + 1) (omega arith))) (record { at = go }));
   }
     where
       exact : SeriesInverse ν k (ν - s) (piece (midOf x m w) 0 (k + 1)) (piece ys (k + 1) ((κ - 1) * k + 1))
-      exact = series-exact two sr (subst (UnitPolynomial ν) (sym mid-first) up) (subst (λ (y : ℕ). (y - 1) * k < (κ - 1) * k + 1) is-κ (omega arith))
+      exact = series-exact two sr (subst (UnitPolynomial ν) (sym mid-first) up)
+          (subst (λ (y : ℕ). (y - 1) * k < (κ - 1) * k + 1) is-κ (omega arith))
 
       go : (j : ℕ) → (convolve (coef (piece ys (k + 1) ((κ - 1) * k + 1))) (coef (piece (midOf x m w) 0 (k + 1))) j + constant 1 j) % ν ≡ 0
-      go zero = c-trans (c-add (record { same = exact .equation 0 }) (c-refl {a = 1})) (record { same = minus ∙ sym (zero-mod ν) }) .same ∙ zero-mod ν
+      go zero = c-trans (c-add (record { same = exact .equation 0 }) (c-refl {a = 1})) (record { same = minus ∙ sym (zero-mod ν) }) .same
+          ∙ zero-mod ν
       go (suc j) = c-trans (c-add (record { same = exact .equation (suc j) }) (c-refl {a = 0})) (c-eq (add-zero 0)) .same ∙ zero-mod ν
 
 pub ruleset lengths = (logarithm-positive, inverse-within, product-fits, length-fits, end-fits)

@@ -19,7 +19,8 @@ use Rattle.reduced_multipliers.specs.Leads.{Taken}
 use Rattle.reduced_products.specs.Products.{ProductRoom, Factors, FactorsModulo, MonicAtZero, TakenFrom}
 use Rattle.reduced_units.specs.States.{Multiplier}
 use Rattle.reduced_units.specs.Factorings.{OverAsked, OverUnit}
-use Rattle.reduced_units.proofs.Regions.{apart-low, apart-swap, below-apart, piece-apart, multiplier-apart, multiplier-short, monic-apart}
+use Rattle.reduced_units.proofs.Regions.{apart-low, apart-swap, below-apart, piece-apart, multiplier-apart, multiplier-short}
+use Rattle.reduced_units.proofs.Regions.{monic-apart}
 
 module _ (n t x len be l y : ℕ) (w w₁ : List ℕ) (asked : OverAsked n t x len be l y w) (cl : Moved zeroed y y (len + t) w w₁) where
   cleared : Around y (len + t) w w₁
@@ -120,14 +121,19 @@ module _ (n t x len be l y : ℕ) (w w₁ : List ℕ) (asked : OverAsked n t x l
       longer = ⊎-elim (λ h. omega (arith, tk .full h)) (λ h. omega arith) (lt-or-le r t);
       most = tk .within;
       multiplier = record {
-        below = record { at = λ k h. ⊎-elim (λ b. subst (λ (z : ℕ). z < n) (sym (placed k b)) (P-small k)) (λ b. subst (λ (z : ℕ). z < n) (sym (above k b h)) (asked .positive)) (lt-or-le k t) };
+        below = record {
+          at = λ k h. ⊎-elim (λ b. subst (λ (z : ℕ). z < n) (sym (placed k b)) (P-small k))
+              (λ b. subst (λ (z : ℕ). z < n) (sym (above k b h)) (asked .positive)) (lt-or-le k t);
+        };
         zero = λ k h b. ⊎-elim (λ c. placed k c ∙ P-zero k h) (λ c. above k c b) (lt-or-le k t);
       };
       taken = record {
         z = tk .taken .z;
         at = λ k.
-            ap₂ (λ (h : List ℕ) (F : ℕ → ℕ). (convolve (coef (tk .taken .z)) (coef h) k + convolve (coef (piece w x len)) F k + coef (piece w₃ be (2 * (t + 1))) k) % n) (sym same-h) (fun-ext beta-is)
-            ∙ ap₂ (λ (f : List ℕ) (v : ℕ). (convolve (coef (tk .taken .z)) (coef (piece w₁ 0 (t + 1))) k + convolve (coef f) (coef (piece w₁ be l)) k + v) % n) (sym same-x) (whole k)
+            ap₂ (λ (h : List ℕ) (F : ℕ → ℕ). (convolve (coef (tk .taken .z)) (coef h) k + convolve (coef (piece w x len)) F k + coef
+            (piece w₃ be (2 * (t + 1))) k) % n) (sym same-h) (fun-ext beta-is)
+            ∙ ap₂ (λ (f : List ℕ) (v : ℕ). (convolve (coef (tk .taken .z)) (coef (piece w₁ 0 (t + 1))) k + convolve (coef f)
+            (coef (piece w₁ be l)) k + v) % n) (sym same-x) (whole k)
             ∙ tk .taken .at k ∙ ap (λ (v : ℕ). v % n) (none k);
       };
     }

@@ -32,7 +32,8 @@ inverse-most n ν t k a b c =
     let q : K ν * (k + 1) ≤ K n * t = mul-le-mul (K-monotone ν n (omega arith) b) c in
     omega arith
 
-module _ (n ν t pa pb a al be l s : ℕ) (w w₁ : List ℕ) (stage : Stage n ν t pa a pb a al be l w) (shorter : s < a) (sp : UnitSplit ν t pb a s w w₁) where
+module _ (n ν t pa pb a al be l s : ℕ) (w w₁ : List ℕ) (stage : Stage n ν t pa a pb a al be l w) (shorter : s < a)
+    (sp : UnitSplit ν t pb a s w w₁) where
   small : ν ≤ n
   small = le-of-dvd (stage .positive) (stage .divides)
 
@@ -65,7 +66,10 @@ module _ (n ν t pa pb a al be l s : ℕ) (w w₁ : List ℕ) (stage : Stage n �
   monic₁ : MonicAtZero n t w₁
   monic₁ = record {
     lead = word t (omega arith) (λ i q e. omega arith) ∙ stage .monic .lead;
-    below = record { at = λ k h. subst (λ (x : ℕ). x < n) (sym (word (0 + k) (omega arith) (λ i q e. omega arith))) (stage .monic .below .at k h) };
+    below = record {
+      at = λ k h. subst (λ (x : ℕ). x < n) (sym (word (0 + k) (omega arith) (λ i q e. omega arith)))
+          (stage .monic .below .at k h);
+    };
   }
 
   be-word : (k : ℕ) → k < 2 * (t + 1) → getD w₁ (be + k) 0 ≡ getD w (be + k) 0
@@ -127,7 +131,8 @@ module _ (n ν t pa pb a al be l s : ℕ) (w w₁ : List ℕ) (stage : Stage n �
       multiplier = over-multiplier;
     }
 
-    module _ (r : ℕ) (w₃ : List ℕ) (ov : OverUnit n t (unit-place t a s + (a - 1 - s + 1)) len be l (unit-place t a s + (a - 1 - s + 1) + len) r w₂ w₃) where
+    module _ (r : ℕ) (w₃ : List ℕ) (ov : OverUnit n t (unit-place t a s + (a - 1 - s + 1)) len be l
+        (unit-place t a s + (a - 1 - s + 1) + len) r w₂ w₃) where
       -- a word below the room, but for the multiplier
       later : (k : ℕ) → k < 8 * (t + 1) → ((i : ℕ) → i < t → k ≡ be + i → ⊥) → getD w₃ k 0 ≡ getD w₁ k 0
       later k h p = ov .outside .at k p (λ j q e. omega arith) ∙ around-at (ng .around) k (λ j q e. omega arith)
@@ -139,10 +144,12 @@ module _ (n ν t pa pb a al be l s : ℕ) (w w₁ : List ℕ) (stage : Stage n �
       same-pb = piece-same w₁ w₃ pb (s + 1) (omega (arith, sp .outside .same)) (ov .outside .same ∙ ng .around .same) pb-word
 
       same-h₂ : piece w₂ 0 (t + 1) ≡ piece w 0 (t + 1)
-      same-h₂ = piece-apart (apart-low 0 (t + 1) (unit-place t a s + (a - 1 - s + 1)) len (omega arith)) (ng .around) (omega (arith, sp .outside .same)) ∙ same-h₁
+      same-h₂ = piece-apart (apart-low 0 (t + 1) (unit-place t a s + (a - 1 - s + 1)) len (omega arith)) (ng .around)
+          (omega (arith, sp .outside .same)) ∙ same-h₁
 
       same-be₂ : piece w₂ be (2 * (t + 1)) ≡ piece w be (2 * (t + 1))
-      same-be₂ = piece-apart (apart-low be (2 * (t + 1)) (unit-place t a s + (a - 1 - s + 1)) len (omega arith)) (ng .around) (omega (arith, sp .outside .same)) ∙ same-be₁
+      same-be₂ = piece-apart (apart-low be (2 * (t + 1)) (unit-place t a s + (a - 1 - s + 1)) len (omega arith)) (ng .around)
+          (omega (arith, sp .outside .same)) ∙ same-be₁
 
       pub unit-taken : UnitTaken n ν t pb a be s l r w w₃
       unit-taken = record {
@@ -151,14 +158,17 @@ module _ (n ν t pa pb a al be l s : ℕ) (w w₁ : List ℕ) (stage : Stage n �
         u = piece w₁ (unit-place t a s) (a - s);
         j = piece w₂ (unit-place t a s + (a - 1 - s + 1)) len;
         equation = subst (Multiplied ν (piece w pb a) (piece w₁ (unit-place t a s) (a - s))) (sym same-pb) (sp .equation);
-        inverse = subst (λ (x : ℕ). NegatedInverse ν (piece w₁ (unit-place t a s) x) (piece w₂ (unit-place t a s + (a - 1 - s + 1)) len)) degree (ng .inverse);
+        inverse = subst (λ (x : ℕ). NegatedInverse ν (piece w₁ (unit-place t a s) x)
+            (piece w₂ (unit-place t a s + (a - 1 - s + 1)) len)) degree (ng .inverse);
         monic = pb-word s (omega arith) ∙ sp .monic;
         below = record { at = λ k h. subst (λ (x : ℕ). x < ν) (sym (pb-word k h)) (sp .below .at k h) };
         longer = ov .longer;
         most = ov .most;
         multiplier = ov .multiplier;
-        taken = subst (λ (f : List ℕ). Taken n f (piece w be (2 * (t + 1))) (piece w₂ (unit-place t a s + (a - 1 - s + 1)) len) [] (piece w₃ be (2 * (t + 1)))) same-h₂
-            (subst (λ (f : List ℕ). Taken n (piece w₂ 0 (t + 1)) f (piece w₂ (unit-place t a s + (a - 1 - s + 1)) len) [] (piece w₃ be (2 * (t + 1)))) same-be₂ (ov .taken));
+        taken = subst (λ (f : List ℕ). Taken n f (piece w be (2 * (t + 1))) (piece w₂ (unit-place t a s + (a - 1 - s + 1)) len) []
+            (piece w₃ be (2 * (t + 1)))) same-h₂
+            (subst (λ (f : List ℕ). Taken n (piece w₂ 0 (t + 1)) f (piece w₂ (unit-place t a s + (a - 1 - s + 1)) len) []
+            (piece w₃ be (2 * (t + 1)))) same-be₂ (ov .taken));
       }
 
 pub ruleset factorings = (needs, unit-room, unit-given, over-fits, over-asked, unit-taken)

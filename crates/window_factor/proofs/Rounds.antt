@@ -254,13 +254,15 @@ pub round-left : (n d t z : ℕ) (w w' : List ℕ) → RoundGiven n d t w → Ro
 round-left n d t z w w' g r zs = record {
   round = r;
   most = omega (arith, zs .most, count);
-  zero = λ k l. sym (mid-at (d + 1 + (t + 1)) (d + 1 + (t + 1) + t - (d + 1 + (t + 1))) w' k (omega (arith, zs .most, count))) ∙ zs .zero k l;
+  zero = λ k l. sym (mid-at (d + 1 + (t + 1)) (d + 1 + (t + 1) + t - (d + 1 + (t + 1))) w' k (omega (arith, zs .most, count)))
+      ∙ zs .zero k l;
   next = λ l e. zs .next (omega (arith, count)) (mid-at (d + 1 + (t + 1)) (d + 1 + (t + 1) + t - (d + 1 + (t + 1))) w' z (omega arith) ∙ e);
 }
   where
     count : length (midOf (d + 1 + (t + 1)) (d + 1 + (t + 1) + t - (d + 1 + (t + 1))) w') ≡ t
     count = length-take-le (d + 1 + (t + 1) + t - (d + 1 + (t + 1))) (drop (d + 1 + (t + 1)) w')
-        (simp length-drop (omega (arith, r .around .same, g .fits, g .within))) ∙ (let e : d + 1 + (t + 1) + t - (d + 1 + (t + 1)) ≡ t = omega arith in e)
+        (simp length-drop (omega (arith, r .around .same, g .fits, g .within))) ∙
+        (let e : d + 1 + (t + 1) + t - (d + 1 + (t + 1)) ≡ t = omega arith in e)
 
 -- ---- the loop, as the code has it: w₀ is the buffer after the first scaling, w what it is now
 

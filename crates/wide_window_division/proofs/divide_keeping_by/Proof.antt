@@ -16,5 +16,6 @@ divide-keeping-by-spec =
     (λ c κs. search divisions) (λ c. search needs) (λ c. search needs) (λ c. search needs) (λ c. search needs) (λ c. search needs)
     (λ c. search needs) (λ c. search needs) (λ c. search needs) (λ c. search words) (λ c. search needs) (λ c. search divisions)
     (λ c. search needs) (λ c. search divisions) (λ c. search needs) (λ c. search needs) (λ c. search needs) (λ c. search needs)
-    (λ c κs. search needs) (λ c. search words) (λ c. search needs) (λ c κs. (search lasts, (search lasts, search lasts))) (λ c. search needs)
+    (λ c κs. search needs) (λ c. search words) (λ c. search needs) (λ c κs. (search lasts, (search lasts, search lasts)))
+    (λ c. search needs)
     (λ c. search needs) (λ c. search needs) (λ c. search needs) (λ c. search divisions) (λ c. search divisions))
