@@ -2,7 +2,8 @@
  * a search over moduli with many divisors and polynomials full of zero divisors, zero tops and common factors. Each figure is the best of
  * several calls, in microseconds of processor time; a random pair has d = e = 48 and words and n drawn evenly (two variables: d = e = 48
  * in y, a = 0 and b = 1 in z, n the largest prime). If a call is refused, or two services return different numbers, the program says
- * so and exits with 1.
+ * so and exits with 1. Services whose work does not hang on the words (products, the true degree, texts, shares) have no pairs; nor have
+ * many pairs in one call, where each pair costs at most what the single call does, and factors, whose arrival is a resultant.
  * Build and run: make -C bench slowest. A search: ./worst search SECONDS [SEED [SERVICE]] in the folder bench prints lines for worst.txt;
  * it begins with what worst.txt has. */
 #include <stdio.h>
@@ -17,9 +18,10 @@
 #define RANDOM 201
 #define STORE "worst.txt"
 
-enum service { RESULTANT, REDUCED, DIVISOR, COFACTORS, WHY, CLAIM, TWO, RESULTANT64, REDUCED64, SERVICES };
+enum service { RESULTANT, REDUCED, DIVISOR, COFACTORS, WHY, CLAIM, TWO, RESULTANT64, REDUCED64, DIVISOR64,
+    SERVICES };
 static const char *const names[SERVICES] = { "resultant", "reduced_resultant", "divisor", "resultant_cofactors", "why", "check_claim",
-    "resultant_two", "64_resultant", "64_reduced_resultant" };
+    "resultant_two", "64_resultant", "64_reduced_resultant", "64_divisor" };
 
 /* sent degrees d and e in y, a and b in z; a = b = 0 but for two variables */
 typedef struct { uint64_t n; size_t d, a, e, b; uint64_t f[ROOM], g[ROOM]; } pair;
@@ -76,6 +78,7 @@ static uint32_t call(enum service s, const pair *p)
     case CLAIM: return jingcobu_check_claim(n, f, fl, g, gl, claimed, u, claim_words, v, claim_words, work, JINGCOBU_WORK).status;
     case TWO: return jingcobu_resultant_two(n, f, fl, p->d, p->a, g, gl, p->e, p->b, out, JINGCOBU_TWO, work, JINGCOBU_WORK).status;
     case RESULTANT64: return jingcobu64_resultant(p->n, p->f, fl, p->g, gl, work64, JINGCOBU64_WORK).status;
+    case DIVISOR64: return jingcobu64_divisor(p->n, p->f, fl, p->g, gl, work64, JINGCOBU64_WORK).status;
     default: return jingcobu64_reduced_resultant(p->n, p->f, fl, p->g, gl, u64, JINGCOBU64_COFACTOR, v64, JINGCOBU64_COFACTOR, work64,
                                                  JINGCOBU64_WORK).status;
     }
@@ -108,6 +111,16 @@ static void compare(const pair *p)
     uint64_t wide = jingcobu64_resultant(p->n, p->f, fl, p->g, gl, work64, JINGCOBU64_WORK).value;
     check(r == with && D == reduced && wide == r, "n = %u, d = %zu, e = %zu: resultants %u %u %llu, D %u %u", n, p->d, p->e, r, with,
           (unsigned long long) wide, D, reduced);
+}
+
+static void compare64(const pair *p)
+{
+    size_t fl = f_words(p), gl = g_words(p);
+    uint64_t D = jingcobu64_divisor(p->n, p->f, fl, p->g, gl, work64, JINGCOBU64_WORK).value;
+    uint64_t reduced = jingcobu64_reduced_resultant(p->n, p->f, fl, p->g, gl, u64, JINGCOBU64_COFACTOR, v64, JINGCOBU64_COFACTOR, work64,
+                                                    JINGCOBU64_WORK).value;
+    check(D == reduced, "n = %llu, d = %zu, e = %zu: D %llu %llu", (unsigned long long) p->n, p->d, p->e, (unsigned long long) D,
+          (unsigned long long) reduced);
 }
 
 /* ---- random pairs */
@@ -184,7 +197,8 @@ static void read_store(pair *slowest, double *most)
         double t = cost(s, &p, 9);
         check(t != 0, "a stored pair of %s is refused", names[s]);
         if (t > most[s]) { most[s] = t; slowest[s] = p; }
-        if (!is_wide(s) && s != TWO) compare(&p);
+        if (is_wide(s)) compare64(&p);
+        else if (s != TWO) compare(&p);
     }
     fclose(in);
 }

@@ -321,6 +321,19 @@ SEEN GEN gp_product(GEN N, GEN F, GEN G)
     return out_words(&out, q.narrow, count);
 }
 
+/* the true degree; -oo, as GP's poldegree has it, for the zero polynomial */
+SEEN GEN gp_true_degree(GEN N, GEN F)
+{
+    pari_sp av = avma;
+    call c = asked("jingcobu_true_degree", N, WIDE);
+    sent p = polynomial(&c, "f", F, MOST, 0);
+    jingcobu_degree a = p.fits ? jingcobu_true_degree((uint32_t) c.n, p.narrow, p.count)
+                               : jingcobu64_true_degree(c.n, (const uint64_t *) p.words, p.count);
+    accept(&c, a.status, &p, 1);
+    set_avma(av);
+    return a.some ? utoi(a.degree) : mkmoo();
+}
+
 static jingcobu64_cofactors gcd_of(ulong n, ulong a, ulong b)
 {
     if (n > NARROW || a > NARROW || b > NARROW) return jingcobu64_gcd(n, a, b);

@@ -19,6 +19,7 @@
   install("gp_two", "GGG", "jingcobu_resultant_two", file);
   install("gp_two", "GGG", "jingcobu_two", file);
   install("gp_product", "GGG", "jingcobu_product", file);
+  install("gp_true_degree", "GG", "jingcobu_true_degree", file);
   install("gp_gcd", "GGG", "jingcobu_gcd", file);
 }
 {
@@ -68,6 +69,11 @@ addhelp(jingcobu_divisors, "jingcobu_divisors(n, f, g): D alone of many pairs, z
   addhelp(jingcobu_product, Str(
     "jingcobu_product(n, f, g): the words of the product of f and g modulo n, 2 <= n < 2^63, constant first, zero tops too: with a ",
     "zero polynomial, one zero for each word of g."));
+}
+{
+  addhelp(jingcobu_true_degree, Str(
+    "jingcobu_true_degree(n, f): the place of the highest word of f that is not 0 modulo n, counted from 0; 2 <= n < 2^63. A zero ",
+    "polynomial, in whatever degree, has none: -oo, as poldegree gives it."));
 }
 {
   addhelp(jingcobu_gcd, Str(

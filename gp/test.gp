@@ -38,6 +38,10 @@ row(n, f, g) =
   print(jingcobu_resultant(12, Vecsmall([3,2]), Vecsmall([1,4])), "  ", jingcobu_resultant(5, Vecsmall([2,1,0]), [1,1]~));
   print(jingcobu_reduced_resultant(6, Vecsmall([5,0,1]), Vecsmall([3,1]))[1], "  ", jingcobu_product(6, Vecsmall([1,2]), Vecsmall([1,3])));
   print(jingcobu_resultant_two(61, [Vecsmall([0,60]), [1,0]], [[0,59], Vecsmall([1,0])]));
+  print(apply(f -> jingcobu_true_degree(5, f), [[2,1,0], Vecsmall([3]), 5*x^2 + x, Mod(2,5)*x^7]));
+  my(s = Vecsmall);
+  print([jingcobu_divisor(6, s([5,0,1]), s([3,1])), jingcobu_divisors(6, [s([5,0,1])], [s([3,1])]), jingcobu_why(9, s([3,3]), s([6]))]);
+  print([jingcobu_check_claim(6, s([2]), s([4]), 2, s([0]), s([2])), jingcobu_resultant_cofactors(7, s([1,1]), s([2,1]))]);
 }
 
 /* words of 64 bits */
@@ -45,12 +49,14 @@ row(n, f, g) =
   print(jingcobu_resultant(2^62, 2^40*x + 1, x + 3), "  ", jingcobu_resultant(2^62, Vecsmall([1,2^40]), Mod(1,2^62)*(x + 3)));
   print(jingcobu_resultant(2^63 - 1, -1, x), "  ", jingcobu_product(2^63 - 1, [2^63 - 2, 1], [2^63 - 2, 1]));
   print(jingcobu_reduced_resultant(3^39, 3^25, 3^30 + x));
+  print([jingcobu_true_degree(2^40, [0,2^33,0]), jingcobu_true_degree(2^63 - 1, x^48), jingcobu_true_degree(2^40, Vecsmall([0,0]))]);
   print(jingcobu_divisor(3^39, 3^25, 3^30 + x), "  ", jingcobu_divisor(2^63 - 1, 0, [0,0]), "  ", jingcobu_gcd(2^40, 2^33, 3));
 }
 
 /* zero polynomials in their sent degrees, as the help says it */
 {
   print([jingcobu_resultant(7, 0, 3), jingcobu_resultant(7, 0, x), jingcobu_resultant(7, [0,0], 3), jingcobu_resultant(7, [0,0], x)]);
+  print([jingcobu_true_degree(7, 0), jingcobu_true_degree(7, [0,0]), jingcobu_true_degree(7, 7*x)]);
   print([jingcobu_reduced_resultant(12, [0,0,0], 8)[1], jingcobu_reduced_resultant(12, 0, [0,0])[1], jingcobu_product(6, 0, [1,2])]);
   print([polresultant(Mod(0,7)*x, Mod(3,7)), polresultant(Mod(0,7)*x, Mod(1,7)*x)]);
 }
@@ -118,6 +124,13 @@ said(c) = print(iferr(c(); "ANSWERED", E, my(s = Str(E)); strsplit(s, "\n")[1]))
   said(() -> jingcobu_check_claim(5, x, x, 1, [], 1));
   said(() -> jingcobu_check_claim(5, x, x, 1, [1], vector(4097)));
   said(() -> jingcobu_check_claim(5, x, x, 1, [1], [0,5]));
+  said(() -> jingcobu_true_degree(1, [1]));
+  said(() -> jingcobu_true_degree(2^63, [1]));
+  said(() -> jingcobu_true_degree(5, []));
+  said(() -> jingcobu_true_degree(5, x^49));
+  said(() -> jingcobu_true_degree(5, [0,5]));
+  said(() -> jingcobu_true_degree(5, [-1]));
+  said(() -> jingcobu_true_degree(5, "x"));
   said(() -> jingcobu_gcd(2^63, 1, 1));
   said(() -> jingcobu_gcd(2^40, 1, 2^40));
   said(() -> jingcobu_resultants(12, [x, x], [x]));
@@ -168,6 +181,7 @@ said(c) = print(iferr(c(); "ANSWERED", E, my(s = Str(E)); strsplit(s, "\n")[1]))
     g = x^(1 + random(8)) * (1 + random(n - 1)); g += random(x^poldegree(g) * n);
     if (lift(jingcobu_resultant(n, f, g)) != polresultant(f, g) % n, wrong++);
     if (jingcobu_product(n, f, g) != Vecrev(f * g) % n, wrong++);
+    if (jingcobu_true_degree(n, f) != poldegree(f), wrong++);
     b = jingcobu_reduced_resultant(n, f, g);
     if (jingcobu_divisor(n, f, g) != b[1], wrong++);
     if (n % b[1] || b[2] * f + b[3] * g != Mod(b[1], n), wrong++);

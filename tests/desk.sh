@@ -32,11 +32,14 @@ printf '010000000002\n' > "$folder/answer one"
 printf '010000000002\nff0800000000\n' > "$folder/answer both"
 printf 'ff0800000000\n010000000002\nff0800000000\n' > "$folder/answer three"
 
-# standard input and files, under each shell that is there
+# standard input and files, under each shell that is there; in some it could wait for itself where input is closed, so there is a limit
+# where no gate is run
+limit='timeout 300'
+[ -z "${CI:-}" ] || limit=
 for shell in sh dash bash 'busybox sh'; do
     command -v ${shell%% *} > /dev/null || continue
     $shell -c : 2> /dev/null || continue
-    run() { timeout 300 $shell "$desk" "$@"; }          # in some shells it could wait for itself where input is closed
+    run() { $limit $shell "$desk" "$@"; }
     expect 0 "$shell: standard input" run < "$frames" && silent "$shell" && answers "$right" "$shell: standard input"
     expect 0 "$shell: -" run - < "$frames" && answers "$right" "$shell: -"
     expect 0 "$shell: empty input" run < /dev/null && silent "$shell" && nothing "$shell: empty input"

@@ -20,7 +20,8 @@ echo foreign > "$folder/share/jingcobu/foreign"
 for file in include/jingcobu.h lib/libjingcobu.a lib/libjingcobu.so lib/pkgconfig/jingcobu.pc bin/jingcobu-desk libexec/jingcobu/desk \
     lib/cmake/jingcobu/jingcobu-config.cmake lib/cmake/jingcobu/jingcobu-config-version.cmake share/man/man3/jingcobu_resultant.3 \
     bin/jingcobu-parts share/man/man1/jingcobu-desk.1 share/man/man1/jingcobu-parts.1 share/man/man3/jingcobu.3 \
-    share/jingcobu/python/jingcobu/__init__.py share/jingcobu/python/pyproject.toml share/jingcobu/frames.sbatch; do
+    share/jingcobu/python/jingcobu/__init__.py share/jingcobu/python/pyproject.toml share/jingcobu/python/setup.py \
+    share/jingcobu/python/LICENSE share/jingcobu/frames.sbatch; do
     [ -s "$folder/$file" ] || fail "$file is not installed"
 done
 for file in bin/jingcobu-desk libexec/jingcobu/desk bin/jingcobu-parts; do [ -x "$folder/$file" ] || fail "$file cannot be run"; done
@@ -226,5 +227,26 @@ grep -q "^installed='/opt/jingcobu/libexec/jingcobu/desk'" "$scratch/dest dir/op
     fail "the path of the proved program"
 make -s uninstall DESTDIR="$scratch/dest dir" PREFIX=/opt/jingcobu
 [ -z "$(ls -A "$scratch/dest dir")" ] || fail "uninstall leaves something under DESTDIR"
+# If root installs into a folder that the loader knows, the loader's list is renewed, and after the removal again; not with DESTDIR.
+mkdir "$scratch/fake"
+cat > "$scratch/fake/ldconfig" << 'END'
+#!/bin/sh
+if [ $# = 0 ]; then echo renewed >> "$0.log"; else printf '%s: (from a file)\n' /lib "$KNOWN" /usr/local/lib; fi
+END
+chmod 755 "$scratch/fake/ldconfig"
+renewals() { # DESTDIR KNOWN: how often the list is renewed, by install and uninstall
+    : > "$scratch/fake/ldconfig.log"
+    for action in install uninstall; do
+        PATH="$scratch/fake:$PATH" KNOWN=$2 make -s $action DESTDIR="$1" PREFIX="$folder" > "$scratch/said.$action"
+    done
+    wc -l < "$scratch/fake/ldconfig.log"
+}
+if [ "$(id -u)" = 0 ]; then
+    [ "$(renewals "" "$folder/lib")" = 2 ] || fail "the loader's list is not renewed"
+    grep -q "the loader knows the shared library" "$scratch/said.install" || fail "make install does not say that the loader's list is new"
+    [ "$(renewals "" "$folder/lib64")" = 0 ] || fail "the loader's list is renewed for a folder that it does not know"
+    grep -q "ldconfig, as root" "$scratch/said.install" || fail "make install does not say how the loader gets to know the library"
+    [ "$(renewals "$scratch/dest" "$folder/lib")" = 0 ] || fail "the loader's list is renewed with DESTDIR"
+fi
 if make -s install PREFIX=relative > /dev/null 2>&1 || [ -e relative ]; then fail "a PREFIX that is not an absolute path is not refused"; fi
 echo "installation: header, libraries, pkg-config, CMake, jingcobu-desk, jingcobu-parts, Python, GP and manual pages are in place and work"

@@ -14,8 +14,8 @@ word may be zero and counts: the resultant is the Sylvester determinant in the s
 What the engine refuses raises `Refused`, with the refusal's number and sentence; an integer that fits no word raises ValueError, and
 what is no integer TypeError; both name the function, the polynomial and the place. The functions may be called from several threads.
 `resultant`, `reduced_resultant`, `divisor`, `resultants`, `divisors`, `product`, `gcd` and `true_degree` use words of 32 bits where n and
-all words fit them, and words of 64 bits otherwise: both sets of the engine answer the same numbers. `product64`, `resultant64` and `reduced_resultant64` always
-use words of 64 bits. The other functions have words of 32 bits only.
+all words fit them, and words of 64 bits otherwise: both sets of the engine answer the same numbers. `product64`, `resultant64` and
+`reduced_resultant64` are older names of three of them. The other functions have words of 32 bits only.
 
 >>> jingcobu.resultant(5, [2, 7], [1, 1])
 Traceback (most recent call last):
@@ -34,8 +34,8 @@ from ._library import LibraryMissing
 from ._notation import parse, spell, unspell
 from ._refusals import MEANING, Refused
 from ._polynomials import Words
-from ._polynomials import modulus as _modulus, number as _number, one as _one, pair as _pair, residues as _residues, room as _room
-from ._polynomials import trimmed as _trimmed, words as _words
+from ._polynomials import integers as _integers, modulus as _modulus, number as _number, one as _one, pair as _pair, residues as _residues
+from ._polynomials import room as _room, sequence as _sequence, shown as _shown, trimmed as _trimmed, words as _words
 
 __version__ = "1.0.0"
 __all__ = [
@@ -299,7 +299,8 @@ def check_claim(n: int, f: Words, g: Words, d: int, u: Words, v: Words) -> Claim
 
 def _grid(f: Sequence[Words], name: str, n: int) -> Tuple["array[int]", int, int]:
     """The words of a polynomial in y and z, and its sent degrees. Without a word the degrees are sent as 0, which no length fits."""
-    rows = [_words(row, "%s[%d]" % (name, i), "resultant_two", n).tolist() for i, row in enumerate(f)]
+    given = _sequence(f, name, "resultant_two", "rows")
+    rows = [_words(row, "%s[%d]" % (name, i), "resultant_two", n).tolist() for i, row in enumerate(given)]
     if any(len(row) != len(rows[0]) for row in rows):
         raise ValueError("resultant_two: the rows of %s have different lengths" % name)
     found = array("I", [w for row in rows for w in row])
@@ -378,44 +379,9 @@ def gcd(n: int, a: int, b: int) -> Gcd:
     return Gcd(answer.g, answer.s, answer.t)
 
 
-# ---- words of 64 bits, whatever n and the words are
+# ---- older names, from when the width was not chosen
 
-def _pair64(n: int, f: Words, g: Words, service: str) -> Tuple[int, "array[int]", "array[int]"]:
-    n = _modulus(n, service, _MOST64)
-    return n, _words(f, "f", service, n, 64), _words(g, "g", service, n, 64)
-
-
-def product64(n: int, f: Words, g: Words) -> List[int]:
-    """`product` with words of 64 bits. Refusals: 1, 2 (also d + e above 48), 3.
-
-    >>> product64(2 ** 62, [1, 2 ** 31], [1, 2 ** 31])
-    [1, 4294967296, 0]
-    """
-    n, x, y = _pair64(n, f, g, "product64")
-    out = _room(max(len(x) + len(y) - 1, 0), 64)
-    _accept(_call("product64", n, x, y, out))
-    return out.tolist()
-
-
-def resultant64(n: int, f: Words, g: Words) -> int:
-    """`resultant` with words of 64 bits. Refusals: 1, 2, 3.
-
-    >>> resultant64(2 ** 62, [1, 2 ** 40], [3, 1])
-    3298534883327
-    """
-    n, x, y = _pair64(n, f, g, "resultant64")
-    return _value(_call("resultant64", n, x, y, _work(64)))
-
-
-def reduced_resultant64(n: int, f: Words, g: Words) -> Reduced:
-    """`reduced_resultant` with words of 64 bits. Refusals: 1, 2, 3.
-
-    >>> reduced_resultant64(3 ** 39, [3 ** 25], [3 ** 30, 1]).D == 3 ** 25
-    True
-    """
-    n, x, y = _pair64(n, f, g, "reduced_resultant64")
-    D, u, v = _reduced(n, 64, x, y)
-    return Reduced(D, _trimmed(u), _trimmed(v))
+product64, resultant64, reduced_resultant64 = product, resultant, reduced_resultant
 
 
 # ---- texts, shares and factors
@@ -427,7 +393,7 @@ def read_text(n: int, text: str) -> List[int]:
     [5, 1, 0, 3]
     """
     if not isinstance(text, str):
-        raise TypeError("read_text: a text is a str, not %s" % type(text).__name__)
+        raise TypeError("read_text: text is %s, not a str" % _shown(text))
     spelled = array("B", text.encode("utf-8", "surrogateescape"))
     found = _room(_library.WORDS)
     answer = _accept(_call("read_text", _modulus(n, "read_text", _MOST32), spelled, found))
@@ -452,7 +418,7 @@ def shares(frames: int, waiting: Sequence[int]) -> Tuple[int, int, int, int]:
     >>> shares(10, [1, 100, 2, 100])
     (1, 4, 2, 3)
     """
-    counts = list(waiting)
+    counts = _integers(waiting, "waiting", "shares")
     if len(counts) != 4:
         raise ValueError("shares: four groups wait, not %d" % len(counts))
     groups = (_number(w, "waiting[%d]" % i, "shares", _MOST32) for i, w in enumerate(counts))

@@ -1,14 +1,15 @@
 """The command line: python3 -m jingcobu COMMAND ... (installed: jingcobu COMMAND ...)
 
 Polynomials are written as people write them, 3*x^2 - x + 1: blanks, minus signs, ** for ^, terms in any order, coefficients of any size,
-which are reduced modulo N. Words with commas between them, constant first, are accepted too; so a zero top can be sent: 2,1,0. A text that
-begins with a minus sign must follow --. A refusal or an error is reported on standard error, and the exit status is 1; so it is if a claim
-is false.
+which are reduced modulo N. Words with commas between them, constant first, are accepted too; so a zero top can be sent: 2,1,0. N is up to
+9223372036854775807, and where a command has words of 32 bits only, which it says, up to 4294967295. A refusal or an error is reported on
+standard error, and the exit status is 1; so it is if a claim is false.
 """
 from __future__ import annotations
 
 import argparse
 import json
+import re
 import subprocess
 import sys
 from typing import Any, Callable, Dict, List, NamedTuple, Optional, Tuple
@@ -27,14 +28,21 @@ class Said(NamedTuple):
     good: bool = True
 
 
-def _listed(text: str, name: str) -> List[int]:
-    """Words with commas between them."""
+def _below(n: int, x: int, name: str) -> None:
+    """Says of a word what is wrong with it; a bad N is for the engine to refuse."""
+    if n >= 2 and not 0 <= x < n:
+        raise ValueError("%s is %d, not from 0 to %d" % (name, x, n - 1))
+
+
+def _listed(n: int, text: str, name: str, most: int) -> List[int]:
+    """Words with commas between them. More than so many are for the engine to refuse, before it reads one."""
     found = []
     for place, word in enumerate(text.split(",")):
-        try:
-            found.append(int(word))
-        except ValueError:
-            raise ValueError("%s: word %d is %r, not an integer" % (name, place, word)) from None
+        if not re.fullmatch(r"\s*[+-]?[0-9]+\s*", word):
+            raise ValueError("%s: word %d is %r, not an integer" % (name, place, word))
+        found.append(int(word))
+    for place, x in enumerate(found if len(found) <= most else []):
+        _below(n, x, "%s: word %d" % (name, place))
     return found
 
 
@@ -42,10 +50,10 @@ def _words(n: int, text: str, name: str, most: int) -> List[int]:
     """The words of a polynomial of at most so many words: written with powers of x, or with commas."""
     if "," not in text or "(" in text:
         try:
-            return jingcobu.parse(text, n, most=most - 1)
+            return jingcobu.parse(text.strip(), n, most=most - 1)
         except ValueError as error:
             raise ValueError("%s: %s" % (name, error)) from None
-    return _listed(text, name)
+    return _listed(n, text, name, most)
 
 
 def polynomial(n: int, text: str, name: str) -> List[int]:
@@ -166,18 +174,42 @@ def degree(n: int, f: str) -> Said:
 
 def gcd(n: int, a: int, b: int) -> Said:
     """gcd(A, B, N) with its least cofactors"""
+    _below(n, a, "A")
+    _below(n, b, "B")
     g, s, t = jingcobu.gcd(n, a, b)
     return Said("%d = %d * %d + %d * %d modulo %d" % (g, s, a, t, b, n), {"gcd": g, "s": s, "t": t})
 
 
 def two(n: int, f: str, g: str) -> Said:
     """the resultant in y of two polynomials in y and z: rows of words of z, one row for each power of y, with ; between them"""
-    found = jingcobu.resultant_two(n, _rows(f, "F"), _rows(g, "G"))
+    found = jingcobu.resultant_two(n, _rows(n, f, "F"), _rows(n, g, "G"))
     return Said(spell(found).replace("x", "z"), {"resultant": found})
 
 
-def _rows(text: str, name: str) -> List[List[int]]:
-    return [_listed(row, "%s, row %d" % (name, i)) for i, row in enumerate(text.split(";"))]
+def _rows(n: int, text: str, name: str) -> List[List[int]]:
+    return [_listed(n, row, "%s, row %d" % (name, i), 49) for i, row in enumerate(text.split(";"))]
+
+
+def _step(n: int, held: jingcobu.Factors, step: str) -> None:
+    number, equals, text = step.partition("=")
+    if not equals or not re.fullmatch(r"\s*[0-9]+\s*", number):
+        raise ValueError("NUMBER=F or NUMBER= is expected, not %r" % step)
+    if text.strip():
+        held.arrive(int(number), polynomial(n, text, "F"))
+    else:
+        held.leave(int(number))
+
+
+def factors(n: int, h: str, steps: List[str]) -> Said:
+    """the resultant with H of a product whose factors come and go, after each step: NUMBER=F arrives, NUMBER= leaves"""
+    held, found = jingcobu.Factors(n, polynomial(n, h, "H")), []
+    for place, step in enumerate(steps, 1):
+        try:
+            _step(n, held, step)
+        except ValueError as error:
+            raise ValueError("step %d: %s" % (place, error)) from None
+        found.append(held.resultant())
+    return Said("\n".join(map(str, found or [held.resultant()])), {"resultant": held.resultant(), "steps": found})
 
 
 def shares(frames: int, waiting: List[int]) -> Said:
@@ -187,9 +219,15 @@ def shares(frames: int, waiting: List[int]) -> Said:
 
 
 def text(n: int, f: str) -> Said:
-    """F in the engine's own notation, which read_text reads"""
+    """F in the engine's own notation"""
     words = polynomial(n, f, "F")
     return Said(jingcobu.write_text(n, words), {"text": jingcobu.write_text(n, words), "words": words})
+
+
+def read(n: int, text: str) -> Said:
+    """the words that a text of the engine's own notation spells, constant first; no other text is read"""
+    words = jingcobu.read_text(n, text)
+    return Said(",".join(map(str, words)), {"words": words})
 
 
 def frame(kind: str, n: int, f: str, g: str) -> Said:
@@ -217,8 +255,17 @@ def _lines(file: str) -> int:
     return count + (last != b"\n")
 
 
+def _bar(done: int, whole: int) -> str:
+    """The lines done of the lines counted.
+
+    >>> _bar(1, 4)
+    '[##########                              ] 1 of 4 lines'
+    """
+    return "[%-40s] %d of %d lines" % ("#" * (40 * done // whole), done, whole)
+
+
 def frames(file: str) -> Said:
-    """the answers of jingcobu-desk to the frames of FILE, with the lines done on standard error if that is a terminal"""
+    """the answers of jingcobu-desk to the frames of FILE, with a progress bar on standard error if that is a terminal"""
     shown, done, step, found = sys.stderr.isatty(), 0, 0, []
     whole = _lines(file) if shown else 0
     with open(file, "rb") as source, subprocess.Popen([_library.program()], stdin=source, stdout=subprocess.PIPE, text=True) as desk:
@@ -228,7 +275,7 @@ def frames(file: str) -> Said:
             done += 1
             if shown and (done == whole or done * 100 // whole > step):
                 step = done * 100 // whole
-                print("\r%d of %d lines" % (done, whole), end="\n" if done == whole else "", file=sys.stderr, flush=True)
+                print("\r" + _bar(done, whole), end="\n" if done == whole else "", file=sys.stderr, flush=True)
     return Said("\n".join(found), [answer._asdict() for answer in jingcobu.answers(found)], desk.returncode == 0)
 
 
@@ -238,9 +285,11 @@ class Command(NamedTuple):
     example: str
 
 
-_N: Tuple[str, Dict[str, Any]] = ("n", {"type": int, "metavar": "N", "help": "the modulus, 2 or more"})
+_N: Tuple[str, Dict[str, Any]] = ("n", {"type": int, "metavar": "N", "help": "the modulus, 2 to 9223372036854775807"})
+_N32: Tuple[str, Dict[str, Any]] = ("n", {"type": int, "metavar": "N", "help": "the modulus, 2 to 4294967295: words of 32 bits only"})
 _F: Tuple[str, Dict[str, Any]] = ("f", {"metavar": "F", "help": "a polynomial, as 3*x^2 - x + 1 or 1,11,3"})
 _G: Tuple[str, Dict[str, Any]] = ("g", {"metavar": "G", "help": "a polynomial"})
+_STEPS: Tuple[str, Dict[str, Any]] = ("steps", {"nargs": "*", "metavar": "STEP", "help": "NUMBER=F or NUMBER="})
 _PAIRS: Tuple[str, Dict[str, Any]] = ("file", {"nargs": "?", "metavar": "FILE", "help": "lines of two polynomials, 2*x + 3 ; 4*x + 1"})
 
 
@@ -258,18 +307,22 @@ COMMANDS = {
     "divisor": Command(divisor, (_N, _F, _G), "6 'x^2 - 1' 'x + 3'"),
     "resultants": Command(resultants, (_N, _PAIRS), "12 pairs.txt"),
     "divisors": Command(divisors, (_N, _PAIRS), "12 pairs.txt"),
-    "cofactors": Command(cofactors, (_N, _F, _G), "12 '2*x + 3' '4*x + 1'"),
-    "why": Command(why, (_N, _F, _G), "7 'x^2 - 1' 'x + 1'"),
-    "check": Command(check, (_N, _F, _G, _integer("d", "the claimed D"), _text("u", "a multiplier"), _text("v", "a multiplier")), "6 2 4 2 0 2"),
+    "cofactors": Command(cofactors, (_N32, _F, _G), "12 '2*x + 3' '4*x + 1'"),
+    "why": Command(why, (_N32, _F, _G), "7 'x^2 - 1' 'x + 1'"),
+    "check": Command(check, (_N32, _F, _G, _integer("d", "the claimed D"), _text("u", "a multiplier"), _text("v", "a multiplier")),
+                     "6 2 4 2 0 2"),
     "product": Command(product, (_N, _F, _G), "6 '2*x + 1' '3*x + 1'"),
-    "word": Command(word, (_N, _F, _G, _integer("k", "which word")), "6 '2*x + 1' '3*x + 1' 1"),
+    "word": Command(word, (_N32, _F, _G, _integer("k", "which word")), "6 '2*x + 1' '3*x + 1' 1"),
     "degree": Command(degree, (_N, _F), "5 2,1,0"),
     "gcd": Command(gcd, (_N, _integer("a", "a residue"), _integer("b", "a residue")), "12 8 6"),
-    "two": Command(two, (_N, _text("f", "rows of words, as 0,60;1,0 for y - z modulo 61"), _text("g", "rows of words")), "61 '0,60;1,0' '0,59;1,0'"),
+    "two": Command(two, (_N32, _text("f", "rows of words, as 0,60;1,0 for y - z modulo 61"), _text("g", "rows of words")),
+                   "61 '0,60;1,0' '0,59;1,0'"),
+    "factors": Command(factors, (_N32, _text("h", "a polynomial"), _STEPS), "12 '4*x + 1' '7=2*x + 3' 8=5 7="),
     "shares": Command(shares, (_integer("frames", "1 to 1024"), ("waiting", {"type": int, "nargs": 4, "metavar": "W", "help": "jobs that wait"})),
                       "10 1 100 2 100"),
-    "text": Command(text, (_N, _F), "12 'x - 1'"),
-    "frame": Command(frame, (("kind", {"choices": ["resultant", "reduced"]}), _N, _F, _G), "resultant 12 '2*x + 3' '4*x + 1'"),
+    "text": Command(text, (_N32, _F), "12 'x - 1'"),
+    "read": Command(read, (_N32, _text("text", "a text, as 3*x^2+11*x+1")), "12 '3*x^3+1*x+5'"),
+    "frame": Command(frame, (("kind", {"choices": ["resultant", "reduced"]}), _N32, _F, _G), "resultant 12 '2*x + 3' '4*x + 1'"),
     "frames": Command(frames, (("file", {"metavar": "FILE"}),), "frames.txt"),
     "answers": Command(answers, (("file", {"nargs": "?", "metavar": "FILE"}),), "answers.txt"),
 }
@@ -290,8 +343,17 @@ def _parser() -> argparse.ArgumentParser:
     return parser
 
 
+def _negative(word: str) -> str:
+    """A word that begins with a minus sign and is no option, as argparse takes it: with a blank before it.
+
+    >>> _negative("-x^2+1"), _negative("-3,2"), _negative("-Mod(1,5)*x"), _negative("--json"), _negative("-h")
+    (' -x^2+1', ' -3,2', ' -Mod(1,5)*x', '--json', '-h')
+    """
+    return " " + word if re.match(r"-\s*[0-9xM]", word) else word
+
+
 def main(arguments: Optional[List[str]] = None) -> int:
-    given = vars(_parser().parse_args(arguments))
+    given = vars(_parser().parse_args([_negative(word) for word in (sys.argv[1:] if arguments is None else arguments)]))
     name, work, as_json = given.pop("command"), given.pop("work"), given.pop("json")
     try:
         said = work(**given)

@@ -7,7 +7,7 @@ from array import array
 from itertools import chain
 from typing import Any, Dict, Iterator, List, NamedTuple, Optional, Sequence, Tuple
 
-from ._polynomials import CODES, REFUSED_KINDS, shown, words
+from ._polynomials import CODES, REFUSED_KINDS, sequence, shown, words
 
 MOST = 49  # words of a polynomial
 _READ = "bBhHiIlLqQnNfd?"  # formats of buffers whose items Python reads
@@ -51,6 +51,36 @@ def two_dimensional(F: Any) -> Optional[memoryview]:
     return view if view.ndim == 2 else None
 
 
+class _Buffer(ctypes.Structure):
+    """What Python's C interface tells of a buffer (Py_buffer)."""
+
+    _fields_ = [("place", ctypes.c_void_p), ("of", ctypes.c_void_p), ("bytes", ctypes.c_ssize_t), ("itemsize", ctypes.c_ssize_t),
+                ("readonly", ctypes.c_int), ("ndim", ctypes.c_int), ("format", ctypes.c_void_p), ("shape", ctypes.c_void_p),
+                ("strides", ctypes.c_void_p), ("suboffsets", ctypes.c_void_p), ("internal", ctypes.c_void_p)]
+
+
+def _place(view: memoryview) -> Optional[int]:
+    """Where the first word of a contiguous view stands, also where it can only be read; it stays there as long as the view is kept. None
+    if this Python does not tell, or if words cannot be read there.
+
+    >>> words = array("I", [1, 2])
+    >>> _place(memoryview(words).toreadonly()) == words.buffer_info()[0]
+    True
+    """
+    try:
+        get, release = ctypes.pythonapi.PyObject_GetBuffer, ctypes.pythonapi.PyBuffer_Release
+    except AttributeError:
+        return None
+    told = _Buffer()
+    try:
+        get(ctypes.py_object(view), ctypes.byref(told), 0)
+    except BufferError:
+        return None
+    place: Optional[int] = told.place
+    release(ctypes.byref(told))
+    return place if place is not None and place % view.itemsize == 0 else None
+
+
 def _width(view: memoryview) -> int:
     """The bits of its unsigned words in the machine's order; 0 where it holds something else."""
     plain = view.format.lstrip("@=<") in ("I", "L", "Q")
@@ -58,17 +88,17 @@ def _width(view: memoryview) -> int:
 
 
 def rows_of(view: memoryview, width: int) -> Rows:
-    """The rows of a buffer of unsigned words. They are lent where they stand; copied where the words must become wider, where the rows do
-    not stand one after the other, and where the buffer can only be read, whose place Python does not tell.
+    """The rows of a buffer of unsigned words. They are lent where they stand, and copied only where the words must become wider or the rows
+    do not stand one after the other.
 
     >>> view = memoryview(array("I", [1, 2, 3, 4, 5, 6])).cast("B").cast("I", [2, 3])
     >>> rows_of(view, 32)[:3], rows_of(view, 64).words.keeper
     ((2, 3, 32), array('Q', [1, 2, 3, 4, 5, 6]))
     """
     (count, length), found = view.shape or (0, 0), array(CODES[_width(view)])
-    if width == _width(view) and view.c_contiguous and not view.readonly and view.nbytes:
-        lent = (ctypes.c_char * view.nbytes).from_buffer(view)
-        return Rows(count, length, width, Lent(ctypes.addressof(lent), count * length, lent))
+    place = _place(view) if width == _width(view) and view.c_contiguous and view.nbytes else None
+    if place is not None:
+        return Rows(count, length, width, Lent(place, count * length, view))
     found.frombytes(view.tobytes())
     return Rows(count, length, width, of_array(found if width == _width(view) else array(CODES[width], found)))
 
@@ -105,9 +135,9 @@ def polynomials(F: Any, name: str, service: str, n: int) -> List[Any]:
 def pairs(given: Any, service: str) -> Tuple[List[Any], List[Any]]:
     """Pairs as two lists."""
     first, second = [], []
-    for i, pair in enumerate(given):
+    for i, pair in enumerate(sequence(given, "F", service, "pairs")):
         try:
-            f, g = pair
+            f, g = sequence(pair, "pair", service)
         except (TypeError, ValueError):
             raise TypeError("%s: pair %d is %s, not two polynomials" % (service, i, shown(pair))) from None
         first.append(f)

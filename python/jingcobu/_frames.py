@@ -1,10 +1,10 @@
 """Job frames and answer lines, as the frame program jingcobu-desk reads and writes them. Nothing here needs the shared library."""
 from __future__ import annotations
 
-import operator
 import re
-from typing import Iterable, List, NamedTuple, Sequence, Union
+from typing import Iterable, List, NamedTuple, Union
 
+from ._polynomials import Words, number, sequence, shown, words
 from ._refusals import MEANING
 
 _KINDS = {"resultant": 1, "reduced": 2}
@@ -32,21 +32,23 @@ class Answer(NamedTuple):
         return "%s %d" % (_NAMES.get(self.kind, "kind %d" % self.kind), self.value)
 
 
-def frame(kind: str, n: int, f: Sequence[int], g: Sequence[int]) -> str:
+def frame(kind: str, n: int, f: Words, g: Words) -> str:
     """The frame of a job, without its newline; kind is "resultant" or "reduced". f and g have 1 to 49 words each, constant first. The
     frame program refuses a frame whose top word of f or g is zero.
 
     >>> frame("resultant", 12, [3, 2], [1, 4])
     '010000000c010100000003000000020000000100000004'
     """
+    if not isinstance(kind, str):
+        raise TypeError("frame: kind is %s, not a str" % shown(kind))
     if kind not in _KINDS:
-        raise ValueError("a frame's kind is resultant or reduced, not %r" % kind)
-    n, words = operator.index(n), [operator.index(w) for w in (*f, *g)]
-    if not (1 <= len(f) <= 49 and 1 <= len(g) <= 49):
-        raise ValueError("a frame's polynomials have 1 to 49 words each")
-    if any(not 0 <= w < 2 ** 32 for w in (n, *words)):
-        raise ValueError("a frame's numbers are from 0 to 4294967295")
-    return "%02x%08x%02x%02x" % (_KINDS[kind], n, len(f) - 1, len(g) - 1) + "".join("%08x" % w for w in words)
+        raise ValueError("frame: kind is %r, not resultant or reduced" % kind)
+    n = number(n, "n", "frame", 2 ** 32 - 1)
+    x, y = words(f, "f", "frame", n), words(g, "g", "frame", n)
+    for name, sent in (("f", x), ("g", y)):
+        if not 1 <= len(sent) <= 49:
+            raise ValueError("frame: %s has %d words, not from 1 to 49" % (name, len(sent)))
+    return "%02x%08x%02x%02x" % (_KINDS[kind], n, len(x) - 1, len(y) - 1) + "".join("%08x" % w for w in x + y)
 
 
 def answers(lines: Union[str, Iterable[str]]) -> List[Answer]:
@@ -58,9 +60,11 @@ def answers(lines: Union[str, Iterable[str]]) -> List[Answer]:
     [Answer(kind=2, status=0, value=1)]
     """
     found = []
-    for number, line in enumerate(lines.splitlines() if isinstance(lines, str) else lines, 1):
+    for place, line in enumerate(lines.splitlines() if isinstance(lines, str) else sequence(lines, "lines", "answers", "lines"), 1):
+        if not isinstance(line, str):
+            raise TypeError("answers: line %d is %s, not a str" % (place, shown(line)))
         match = _LINE.fullmatch(line.rstrip("\n"))
         if not match:
-            raise ValueError("line %d is not an answer line: %r" % (number, line))
+            raise ValueError("line %d is not an answer line: %r" % (place, line))
         found.append(Answer(*(int(part, 16) for part in match.groups())))
     return found

@@ -5,7 +5,6 @@ import ctypes
 import functools
 import os
 import shutil
-import sys
 from pathlib import Path
 from typing import Any, Iterator, List, Optional
 
@@ -104,15 +103,20 @@ SIGNATURES = {
 
 
 def source_tree(package: Path) -> Optional[Path]:
-    """The root of the sources that hold this very package, or None if it is installed or was copied elsewhere."""
+    """The root of the sources that hold this very package, or None if it is installed or was copied elsewhere. The sources and their
+    build folder belong to the package's owner, to who runs this, or to root; so nobody else can add them around a package in a folder
+    that all can write to."""
     root = package.parent.parent
-    own = root / "python" / "jingcobu" == package and (root / "python" / "pyproject.toml").is_file()
-    return root if own and (root / "include" / "jingcobu.h").is_file() and (root / "crates.txt").is_file() else None
+    parts = [root / "python" / "pyproject.toml", root / "include" / "jingcobu.h", root / "crates.txt", root / "build"]
+    if root / "python" / "jingcobu" != package or not all(part.exists() for part in parts):
+        return None
+    owners = {part.stat().st_uid for part in parts}
+    return root if owners <= {0, os.getuid(), package.stat().st_uid} else None
 
 
 def candidates() -> Iterator[str]:
     """The files that are tried, in order. JINGCOBU_LIBRARY, if it is set, is the only one. No folder is looked into that is not the
-    package's own, its sources', or one that the system keeps libraries in."""
+    package's own or its sources'; after them the system's loader is asked."""
     named = os.environ.get("JINGCOBU_LIBRARY")
     if named:
         yield named
@@ -124,8 +128,6 @@ def candidates() -> Iterator[str]:
     if root is not None:
         yield str(root / "build" / "libjingcobu.so")
     yield INTERFACE                                        # where the system's loader looks
-    for prefix in dict.fromkeys([sys.prefix, sys.base_prefix, "/usr/local"]):
-        yield str(Path(prefix) / "lib" / INTERFACE)
 
 
 def program() -> str:
@@ -155,8 +157,9 @@ def library() -> ctypes.CDLL:
         except OSError as error:
             tried.append("%s (%s)" % (name, error))
     raise LibraryMissing(
-        "the shared library of Jingcobu was not found. Run `make` at the root of its sources and use the package from there, or "
-        "`make install`, or name the file in the environment variable JINGCOBU_LIBRARY. Tried: " + "; ".join(tried))
+        "the shared library of Jingcobu was not found. Run `make` at the root of its sources and use the package from there; or "
+        "`make install`, and use the package that it puts in place, or `ldconfig` after it; or name the file in the environment variable "
+        "JINGCOBU_LIBRARY. Tried: " + "; ".join(tried))
 
 
 def symbol(name: str) -> str:

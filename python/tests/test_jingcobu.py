@@ -16,7 +16,9 @@ import subprocess
 import sys
 import tempfile
 import threading
+import time
 import unittest
+import zipfile
 from array import array
 from contextlib import redirect_stderr, redirect_stdout
 from pathlib import Path
@@ -64,6 +66,28 @@ def drawn(generator, n, d, sparse=4):
     return [generator.randrange(n) * generator.choice([1, small]) % n * (generator.randrange(sparse) != 0) for _ in range(d + 1)]
 
 
+def _wide(name, n, f, g):
+    """n and the words of both, for the set of 64 bits, whatever they are."""
+    return _polynomials.modulus(n, name, 2 ** 64 - 1), *(_polynomials.words(x, "fg"[i], name, n, 64) for i, x in enumerate((f, g)))
+
+
+def product64(n, f, g):
+    n, x, y = _wide("product64", n, f, g)
+    out = _polynomials.room(max(len(x) + len(y) - 1, 0), 64)
+    jingcobu._accept(jingcobu._call("product64", n, x, y, out))
+    return out.tolist()
+
+
+def resultant64(n, f, g):
+    return jingcobu._value(jingcobu._call("resultant64", *_wide("resultant64", n, f, g), jingcobu._work(64)))
+
+
+def reduced_resultant64(n, f, g):
+    n, x, y = _wide("reduced_resultant64", n, f, g)
+    D, u, v = jingcobu._reduced(n, 64, x, y)
+    return jingcobu.Reduced(D, _polynomials.trimmed(u), _polynomials.trimmed(v))
+
+
 class Examples(unittest.TestCase):
     def test_docstrings(self):
         for module in (jingcobu, _batch, _frames, _library, _notation, _polynomials, _refusals, __main__):
@@ -98,6 +122,11 @@ class Examples(unittest.TestCase):
     def test_older_python(self):
         for file in (HERE.parent / "jingcobu").glob("*.py"):
             ast.parse(file.read_text(), feature_version=(3, 9))
+
+    @unittest.skipUnless(shutil.which("mypy"), "mypy is not installed")
+    def test_types(self):
+        said = subprocess.run(["mypy", "--strict", "--python-version", "3.9", "--cache-dir", os.devnull, "jingcobu"], cwd=HERE.parent, capture_output=True, text=True)
+        self.assertEqual(said.returncode, 0, said.stdout + said.stderr)
 
     def test_everything_is_there(self):
         missing = [name for name in _library.SIGNATURES if not _library.has(name)]
@@ -161,15 +190,15 @@ class Wide(unittest.TestCase):
             f, g = words[:d + 1], words[d + 1:]
             value, reduced = (int(x, 16) for x in number.split())
             with self.subTest(n=n, f=f, g=g):
-                self.assertEqual(jingcobu.resultant64(n, f, g), value)
-                D, u, v = jingcobu.reduced_resultant64(n, f, g)
+                self.assertEqual(resultant64(n, f, g), value)
+                D, u, v = reduced_resultant64(n, f, g)
                 self.assertEqual(D, reduced)
                 self.assertEqual(combined(n, u, f, v, g), constant(n, D))
             count += 1
         self.assertGreaterEqual(count, 312)
 
     def test_refusals(self):
-        for function in (jingcobu.product64, jingcobu.resultant64, jingcobu.reduced_resultant64):
+        for function in (product64, resultant64, reduced_resultant64):
             for number, n, f, g in ((1, 0, [], []), (1, 1, [9] * 50, []), (1, 2 ** 63, [], [1]), (1, 2 ** 64 - 1, [1], [1]), (2, 5, [], [1]),
                                     (2, 5, [9], []), (2, 5, [1] * 50, [1]), (3, 5, [5], [1]), (3, 2 ** 63 - 1, [1], [1, 2 ** 63 - 1])):
                 with self.assertRaises(Refused) as caught:
@@ -184,7 +213,7 @@ class Wide(unittest.TestCase):
                 with self.assertRaises(TypeError):
                     function(5, [bad], [1])
         with self.assertRaises(Refused) as caught:
-            jingcobu.product64(5, [1] * 25, [1] * 26)
+            product64(5, [1] * 25, [1] * 26)
         self.assertEqual(caught.exception.number, 2)
         words, work = (ctypes.c_uint64 * 2)(1, 1), (ctypes.c_uint64 * 16384)()
         self.assertEqual(_library.service("product64")(5, words, 2, words, 2, (ctypes.c_uint64 * 2)(), 2).status, 6)
@@ -195,11 +224,11 @@ class Wide(unittest.TestCase):
         for _ in range(300):
             n = generator.choice(self.MODULI)
             f, g, h = (drawn(generator, n, generator.randrange(9)) for _ in range(3))
-            p = jingcobu.product64(n, f, g)
+            p = product64(n, f, g)
             self.assertEqual(p, times(n, f, g))
-            rp, rf, rg = (jingcobu.resultant64(n, x, h) for x in (p, f, g))
+            rp, rf, rg = (resultant64(n, x, h) for x in (p, f, g))
             self.assertEqual(rp, rf * rg % n)
-            Dp, Df, Dg = (jingcobu.reduced_resultant64(n, x, h).D for x in (p, f, g))
+            Dp, Df, Dg = (reduced_resultant64(n, x, h).D for x in (p, f, g))
             self.assertEqual((Dp % Df, Dp % Dg, Df * Dg % Dp), (0, 0, 0))
 
     def test_both(self):
@@ -207,9 +236,9 @@ class Wide(unittest.TestCase):
         for _ in range(300):
             n = generator.choice(MODULI)
             f, g = drawn(generator, n, generator.randrange(20)), drawn(generator, n, generator.randrange(20))
-            self.assertEqual(jingcobu.product64(n, f, g), jingcobu.product(n, f, g))
-            self.assertEqual(jingcobu.resultant64(n, f, g), jingcobu.resultant(n, f, g))
-            self.assertEqual(jingcobu.reduced_resultant64(n, f, g).D, jingcobu.reduced_resultant(n, f, g).D)
+            self.assertEqual(product64(n, f, g), jingcobu.product(n, f, g))
+            self.assertEqual(resultant64(n, f, g), jingcobu.resultant(n, f, g))
+            self.assertEqual(reduced_resultant64(n, f, g).D, jingcobu.reduced_resultant(n, f, g).D)
 
 
 @needs("resultants", "divisors", "resultants64", "divisors64")
@@ -259,7 +288,12 @@ class Many(unittest.TestCase):
         words = array("I", [3, 2, 1, 4])
         view = memoryview(words).cast("B").cast("I", [2, 2])
         self.assertEqual(_batch.rows_of(view, 32).words.place, words.buffer_info()[0])
-        self.assertNotEqual(_batch.rows_of(view.toreadonly(), 32).words.place, words.buffer_info()[0])
+        self.assertEqual(_batch.rows_of(view.toreadonly(), 32).words.place, words.buffer_info()[0])
+        self.assertNotEqual(_batch.rows_of(view, 64).words.place, words.buffer_info()[0])
+        self.assertEqual(_batch.rows_of(view.toreadonly(), 64).words.keeper.tolist(), words.tolist())
+        odd = memoryview(bytearray(b"\0" + words.tobytes()))[1:].cast("I", [2, 2])  # words that do not stand where words can stand
+        self.assertEqual(_batch.rows_of(odd, 32).words.keeper.tolist(), words.tolist())
+        self.assertEqual(jingcobu.resultants(12, odd, view), [0, 0])
         words[0] = 7
         self.assertEqual(jingcobu.resultants(12, view, view), [0, 0])
         self.assertEqual(words.tolist(), [7, 2, 1, 4])
@@ -327,6 +361,11 @@ class Many(unittest.TestCase):
             thread.join()
         self.assertEqual(found, [right] * 8)
 
+    def test_nothing_but_the_standard_library(self):
+        program = "import sys, jingcobu; view = memoryview(bytearray(16)).cast('I', [2, 2]); jingcobu.resultants(5, view, view); print('numpy' in sys.modules)"
+        said = subprocess.run([sys.executable, "-c", program], capture_output=True, text=True)
+        self.assertEqual((said.stdout, said.stderr), ("False\n", ""))
+
     @unittest.skipUnless(importlib.util.find_spec("numpy"), "numpy is not installed")
     def test_numpy(self):
         import numpy
@@ -346,6 +385,11 @@ class Many(unittest.TestCase):
         self.assertEqual((caught.exception.number, caught.exception.place), (3, 1))
         with self.assertRaises(TypeError):
             jingcobu.resultants(5, numpy.ones((2, 2)), numpy.ones((2, 2)))
+        for kind, width in (("u4", 32), ("u8", 64)):
+            for writeable in (True, False):
+                F = numpy.ones((3, 2), kind)
+                F.flags.writeable = writeable
+                self.assertEqual(_batch.rows_of(memoryview(F), width).words.place, F.ctypes.data)
 
 
 class Refusals(unittest.TestCase):
@@ -475,7 +519,7 @@ class Refusals(unittest.TestCase):
     def test_mistakes_are_told(self):
         """What is not a polynomial is a TypeError, and what does not fit a word a ValueError; both say of which function, where and what."""
         for bad in (b"\3\2", bytearray(b"\3\2"), {3, 2}, frozenset([3]), {3: 2}, "32", memoryview(b"\3\2"), 7, None, 1.5):
-            for name in ("resultant", "reduced_resultant", "divisor", "product", "why", "resultant64", "product64"):
+            for name in ("resultant", "reduced_resultant", "divisor", "product", "why", "resultant_cofactors"):
                 for pair in ((bad, [1]), ([1], bad)):
                     with self.assertRaisesRegex(TypeError, "^%s: [fg] is .* not a sequence of integers$" % name):
                         getattr(jingcobu, name)(12, *pair)
@@ -498,17 +542,92 @@ class Refusals(unittest.TestCase):
                 (lambda: jingcobu.resultant(12, [1, 2.0], [3]), r"resultant: f\[1\] is 2.0 of type float, not an integer"),
                 (lambda: jingcobu.resultant("12", [1], [3]), "resultant: n is '12' of type str, not an integer"),
                 (lambda: jingcobu.gcd(12, None, 0), "gcd: a is None of type NoneType, not an integer"),
-                (lambda: jingcobu.read_text(12, b"1"), "read_text: a text is a str, not bytes")):
+                (lambda: jingcobu.read_text(12, b"1"), "read_text: text is b'1' of type bytes, not a str"),
+                (lambda: jingcobu.shares(10, b"\1\2\3\4"), r"shares: waiting is b'.*' of type bytes, not a sequence of integers"),
+                (lambda: jingcobu.shares(10, [1, 2, 3, None]), r"shares: waiting\[3\] is None of type NoneType, not an integer"),
+                (lambda: jingcobu.shares("10", [1, 2, 3, 4]), "shares: frames is '10' of type str, not an integer"),
+                (lambda: jingcobu.resultant_two(61, {(1, 2)}, [[1]]), r"resultant_two: f is \{\(1, 2\)\} of type set, not a sequence of rows"),
+                (lambda: jingcobu.resultant_two(61, [[1]], 7), "resultant_two: g is 7 of type int, not a sequence of rows"),
+                (lambda: jingcobu.resultant_two(61, [[1]], [b"1"]), r"resultant_two: g\[0\] is b'1' of type bytes, not a sequence of integers"),
+                (lambda: jingcobu.resultants(12, 7), "resultants: F is 7 of type int, not a sequence of pairs"),
+                (lambda: jingcobu.divisors(12, {1: 2}), r"divisors: F is \{1: 2\} of type dict, not a sequence of pairs"),
+                (lambda: jingcobu.divisors(12, ["ab"]), "divisors: pair 0 is 'ab' of type str, not two polynomials"),
+                (lambda: jingcobu.resultant(12, {1: 2}.keys(), [1]), r"resultant: f is dict_keys\(\[1\]\) of type dict_keys, not a sequence of integers"),
+                (lambda: jingcobu.product_word(12, [1], [1], 1.5), "product_word: k is 1.5 of type float, not an integer"),
+                (lambda: jingcobu.check_claim(12, [1], [1], None, [1], [1]), "check_claim: d is None of type NoneType, not an integer"),
+                (lambda: jingcobu.check_claim(12, [1], [1], 1, b"1", [1]), "check_claim: u is b'1' of type bytes, not a sequence of integers"),
+                (lambda: jingcobu.write_text(12, "x"), "write_text: f is 'x' of type str, not a sequence of integers"),
+                (lambda: jingcobu.spell(b"12"), "spell: words is b'12' of type bytes, not a sequence of integers"),
+                (lambda: jingcobu.spell([1, "2"]), r"spell: words\[1\] is '2' of type str, not an integer"),
+                (lambda: jingcobu.unspell(b"1", 49), "unspell: text is b'1' of type bytes, not a str"),
+                (lambda: jingcobu.unspell("1", "49"), "unspell: most is '49' of type str, not an integer"),
+                (lambda: jingcobu.parse(b"x", 12), "parse: text is b'x' of type bytes, not a str"),
+                (lambda: jingcobu.parse("x", "12"), "parse: n is '12' of type str, not an integer"),
+                (lambda: jingcobu.parse("x", 12, degree=2.0), "parse: degree is 2.0 of type float, not an integer"),
+                (lambda: jingcobu.frame("resultant", 12, b"12", [1]), "frame: f is b'12' of type bytes, not a sequence of integers"),
+                (lambda: jingcobu.frame("resultant", 12, [1], [2.5]), r"frame: g\[0\] is 2.5 of type float, not an integer"),
+                (lambda: jingcobu.frame("resultant", None, [1], [2]), "frame: n is None of type NoneType, not an integer"),
+                (lambda: jingcobu.frame(1, 12, [1], [2]), "frame: kind is 1 of type int, not a str"),
+                (lambda: jingcobu.answers(b"010000000002"), "answers: lines is b'010000000002' of type bytes, not a sequence of lines"),
+                (lambda: jingcobu.answers([b"010000000002"]), "answers: line 1 is b'010000000002' of type bytes, not a str"),
+                (lambda: Factors(12, [1]).arrive("7", [1]), "Factors.arrive: number is '7' of type str, not an integer"),
+                (lambda: Factors(12, [1]).arrive(7, b"1"), "Factors.arrive: f is b'1' of type bytes, not a sequence of integers"),
+                (lambda: Factors(12, [1]).leave(None), "Factors.leave: number is None of type NoneType, not an integer")):
             with self.assertRaisesRegex(TypeError, "^" + told + "$"):
                 call()
+        for call, told in (
+                (lambda: jingcobu.frame("resultant", 12, [1, -3], [1]), r"frame: f\[1\] = -3 is not from 0 to 11"),
+                (lambda: jingcobu.frame("resultant", 12, [1], [2 ** 32]), r"frame: g\[0\] = 4294967296 is not from 0 to 11"),
+                (lambda: jingcobu.frame("resultant", 12, [1], [1] * 50), "frame: g has 50 words, not from 1 to 49"),
+                (lambda: jingcobu.frame("other", 12, [1], [1]), "frame: kind is 'other', not resultant or reduced"),
+                (lambda: jingcobu.shares(4, [1, 1, 1]), "shares: four groups wait, not 3"),
+                (lambda: jingcobu.shares(4, [1, 1, 1, -1]), r"shares: waiting\[3\] = -1 is not from 0 to 4294967295")):
+            with self.assertRaisesRegex(ValueError, "^" + told + "$"):
+                call()
+
+    def test_services_of_one_width(self):
+        """Those that have words of 32 bits only say so."""
+        for name, *more in (("resultant_cofactors", [1], [1]), ("why", [1], [1]), ("check_claim", [1], [1], 1, [1], [1]), ("resultant_two", [[1]], [[1]]),
+                            ("product_word", [1], [1], 0), ("write_text", [1]), ("read_text", "1"), ("Factors", [1])):
+            with self.assertRaisesRegex(ValueError, "^%s: n = 4294967296 is not from 2 to 4294967295; this service has words of 32 bits only$" % name):
+                getattr(jingcobu, name)(2 ** 32, *more)
+
+    def test_older_names(self):
+        self.assertIs(jingcobu.product64, jingcobu.product)
+        self.assertIs(jingcobu.resultant64, jingcobu.resultant)
+        self.assertIs(jingcobu.reduced_resultant64, jingcobu.reduced_resultant)
+
+    def test_which_width(self):
+        """The set that is called: that of 32 bits where n and all words fit it, whatever kind of sequence has them."""
+        calls, told = {"resultant": 2, "reduced_resultant": 2, "divisor": 2, "product": 2, "true_degree": 1, "resultants": -2, "divisors": -2}, []
+        found, jingcobu._call = jingcobu._call, lambda service, *given: told.append(service) or found(service, *given)
+        try:
+            for n, word, narrow in ((12, 11, True), (2 ** 32 - 1, 5, True), (2 ** 32, 5, False), (2 ** 63 - 1, 2 ** 62, False), (12, 2 ** 32, False)):
+                for name, count in calls.items():
+                    for make in (list, tuple, iter, lambda x: array("Q", x)):
+                        given = [make([0, word]) if count > 0 else [make([0, word])] for _ in range(abs(count))]
+                        told.clear()
+                        try:
+                            getattr(jingcobu, name)(n, *given)
+                        except Refused as refused:
+                            self.assertEqual((n, word, refused.number), (12, 2 ** 32, 3))
+                        self.assertEqual(told, [name if narrow else name + "64"], (n, word))
+                told.clear()
+                try:
+                    jingcobu.gcd(n, 0, word)
+                except Refused as refused:
+                    self.assertEqual((n, word, refused.number), (12, 2 ** 32, 3))
+                self.assertEqual(told, ["gcd" if narrow else "gcd64"])
+        finally:
+            jingcobu._call = found
 
     def test_width_chosen(self):
         """n and words that do not fit 32 bits go to the set of 64 bits, with its refusals."""
         n = 2 ** 40 + 15
-        self.assertEqual(jingcobu.resultant(n, [1, 1], [2, 1]), jingcobu.resultant64(n, [1, 1], [2, 1]))
+        self.assertEqual(jingcobu.resultant(n, [1, 1], [2, 1]), resultant64(n, [1, 1], [2, 1]))
         self.assertEqual(jingcobu.product(n, [n - 1], [n - 1]), [1])
-        self.assertEqual(jingcobu.reduced_resultant(n, [3], [5]), jingcobu.reduced_resultant64(n, [3], [5]))
-        self.assertEqual(jingcobu.resultant(2 ** 63 - 1, iter([1, 1]), range(2)), jingcobu.resultant64(2 ** 63 - 1, [1, 1], [0, 1]))
+        self.assertEqual(jingcobu.reduced_resultant(n, [3], [5]), reduced_resultant64(n, [3], [5]))
+        self.assertEqual(jingcobu.resultant(2 ** 63 - 1, iter([1, 1]), range(2)), resultant64(2 ** 63 - 1, [1, 1], [0, 1]))
         for n, f, number in ((2 ** 63, [1], 1), (12, [2 ** 40], 3), (12, [1] * 50, 2), (2 ** 32, [1] * 50, 2)):
             for function in (jingcobu.resultant, jingcobu.reduced_resultant, jingcobu.divisor, jingcobu.product):
                 self.refused(number, function, n, f, [1])
@@ -524,7 +643,7 @@ class Refusals(unittest.TestCase):
         for _ in range(300):
             n = generator.choice([2 ** 32, 6 ** 24, 3 ** 39, 2 ** 61 - 1, 3037000493 ** 2, 2 ** 63 - 1])
             f, g = (drawn(generator, n, generator.randrange(9)) for _ in range(2))
-            self.assertEqual(jingcobu.divisor(n, f, g), jingcobu.reduced_resultant64(n, f, g).D)
+            self.assertEqual(jingcobu.divisor(n, f, g), reduced_resultant64(n, f, g).D)
             degrees = [i for i, x in enumerate(f) if x]
             self.assertEqual(jingcobu.true_degree(n, f), degrees[-1] if degrees else None)
             a, b = f[0], g[0]
@@ -535,9 +654,9 @@ class Refusals(unittest.TestCase):
             self.assertTrue(found.s < common // found.g and found.t < n // common)  # the least: two that fit differ by these
         for n in MODULI:
             f, g = (drawn(generator, n, generator.randrange(9)) for _ in range(2))
-            self.assertEqual(jingcobu.divisor(n, f, g), jingcobu.reduced_resultant64(n, f, g).D)
+            self.assertEqual(jingcobu.divisor(n, f, g), reduced_resultant64(n, f, g).D)
             a, b = generator.randrange(n), generator.randrange(n)
-            self.assertEqual(jingcobu.gcd(n, a, b), tuple(x if isinstance(x, int) else x[0] for x in jingcobu.reduced_resultant64(n, [a], [b])))
+            self.assertEqual(jingcobu.gcd(n, a, b), tuple(x if isinstance(x, int) else x[0] for x in reduced_resultant64(n, [a], [b])))
 
     def test_place(self):
         with self.assertRaises(Refused) as caught:
@@ -689,8 +808,17 @@ class Laws(unittest.TestCase):
 
 class Sharing(unittest.TestCase):
     def test_factors_and_threads(self):
-        """Sixteen threads whose factors arrive and leave at one object: none is lost."""
-        held, wrong = Factors(4294967291, [5, 1]), []
+        """Sixteen threads whose factors arrive and leave at one object: none is lost. Each call lets the other threads run before its answer is
+        kept, so that without the lock many are lost."""
+        held, wrong, call = Factors(4294967291, [5, 1]), [], jingcobu._call
+
+        def yielding(service, *given):
+            answer = call(service, *given)
+            time.sleep(0)
+            return answer
+
+        jingcobu._call = yielding
+        self.addCleanup(setattr, jingcobu, "_call", call)
 
         def run(number):
             for _ in range(200):
@@ -735,6 +863,47 @@ class Parsing(unittest.TestCase):
             with self.subTest(text):
                 self.assertEqual(jingcobu.parse(text, 12), words)
         self.assertEqual(jingcobu.parse("x", 12, degree=2), [0, 1, 0])
+        self.assertEqual(jingcobu.parse("%s*x - %s" % ("9" * 10000, "1" * 5000), 10), [9, 9])
+
+    def test_sympy(self):
+        for text, words in (("Poly(3*x**2 - x + 1, x, modulus=13)", [1, 12, 3]), ("Poly(3*x**2 - 14*x, x, domain='ZZ')", [0, 12, 3]),
+                            (" Poly( 1, x , modulus = 13 ) ", [1]), ("3 mod 13*x**2 + 12 mod 13*x + 1 mod 13", [1, 12, 3])):
+            self.assertEqual(jingcobu.parse(text, 13), words)
+        for text, place, said in (("Poly(3*x**2 -, x, modulus=13)", 14, "a term"), ("Poly(x, x, modulus=11)", 20, "another modulus"),
+                                  ("Poly(x, y, modulus=13)", 1, "a term"), ("Poly(x", 1, "a term"), ("Poly(x y, x, modulus=13)", 8, "+ or -"),
+                                  ("x + 3 mod 7", 5, "another modulus"), ("3 mod", 3, "+ or -")):
+            with self.assertRaisesRegex(ValueError, "^character %d of .*: .*%s" % (place, re.escape(said))):
+                jingcobu.parse(text, 13)
+
+    @unittest.skipUnless(importlib.util.find_spec("sympy"), "sympy is not installed")
+    def test_as_sympy_prints(self):
+        import sympy
+        x, generator = sympy.symbols("x"), random.Random(14)
+        for _ in range(50):
+            n, f = generator.choice([7, 13, 101, 2147483647]), [generator.randrange(-300, 300) for _ in range(generator.randrange(1, 9))]
+            words = [w % n for w in f]
+            while len(words) > 1 and not words[-1]:
+                words.pop()
+            expression = sum(c * x ** k for k, c in enumerate(f))
+            y = sympy.ring("x", sympy.GF(n, symmetric=False))[1]
+            element = sum((c * y ** k for k, c in enumerate(f)), 0 * y)
+            for printed in (expression, sympy.Poly(expression, x), sympy.Poly(expression, x, modulus=n), element):
+                self.assertEqual(jingcobu.parse(str(printed), n), words)
+
+    @unittest.skipUnless(shutil.which("gp"), "PARI's gp is not installed")
+    def test_as_pari_prints(self):
+        generator, jobs, script = random.Random(15), [], []
+        for _ in range(50):
+            n, f = generator.choice(MODULI), [generator.randrange(-300, 300) for _ in range(generator.randrange(1, 9))]
+            jobs.append((n, [w % n for w in f]))
+            script.append("print(Polrev(%s));print(Mod(1,%d)*Polrev(%s))" % (f, n, f))
+        said = subprocess.run(["gp", "-q", "-f"], input="\n".join(script) + "\n", capture_output=True, text=True, check=True).stdout.splitlines()
+        self.assertEqual(len(said), 2 * len(jobs))
+        for i, text in enumerate(said):
+            n, words = jobs[i // 2]
+            while len(words) > 1 and not words[-1]:
+                words.pop()
+            self.assertEqual(jingcobu.parse(text, n), words, text)
 
     def test_own_notation(self):
         generator = random.Random(13)
@@ -791,6 +960,48 @@ class CommandLine(unittest.TestCase):
                          "jingcobu resultant: F: character 1 of 'y': a term is expected: a number, x, or both with * between them\n")
         self.assertEqual(self.run_main("resultant", "12", "1,y", "1", status=1), "jingcobu resultant: F: word 1 is 'y', not an integer\n")
         self.assertEqual(self.run_main("resultant", str(2 ** 62), "1,%d" % 2 ** 40, "x + 3"), "3298534883327\n")
+        self.assertEqual(self.run_main("resultant", "5", "-x^2-1", "-2"), self.run_main("resultant", "5", "4,0,4", "3"))
+        self.assertEqual(self.run_main("resultant", "13", "Poly(3*x**2 - 1, x, modulus=13)", "Mod(2, 13)*x"), self.run_main("resultant", "13", "12,0,3", "0,2"))
+
+    def test_bad_words(self):
+        """What is wrong with a word is told, with its place; a bad N or too many words are for the engine to refuse."""
+        for words, told in (
+                (("resultant", "12", "1,12", "1"), "F: word 1 is 12, not from 0 to 11"),
+                (("divisor", "12", "1", "1,2,-3"), "G: word 2 is -3, not from 0 to 11"),
+                (("resultant", "12", "-1,2", "1"), "F: word 0 is -1, not from 0 to 11"),
+                (("product", "12", "1,1_0", "1"), "F: word 1 is '1_0', not an integer"),
+                (("product", "12", "1,", "1"), "F: word 1 is '', not an integer"),
+                (("check", "6", "2", "4", "2", "0,6", "2"), "U: word 1 is 6, not from 0 to 5"),
+                (("two", "61", "0,60;1,61", "1"), "F, row 1: word 1 is 61, not from 0 to 60"),
+                (("gcd", "12", "8", "13"), "B is 13, not from 0 to 11"),
+                (("gcd", "12", "-8", "1"), "A is -8, not from 0 to 11"),
+                (("why", "4294967296", "1", "1"), "why: n = 4294967296 is not from 2 to 4294967295; this service has words of 32 bits only"),
+                (("resultant", "1", "1,12", "1"), "refused with 1: " + jingcobu.MEANING[1]),
+                (("resultant", "12", "12" + ",12" * 49, "1"), "refused with 2: " + jingcobu.MEANING[2])):
+            self.assertEqual(self.run_main(*words, status=1), "jingcobu %s: %s\n" % (words[0], told))
+
+    def test_factors(self):
+        self.assertEqual(self.run_main("factors", "12", "4*x + 1", "7=2*x + 3", "8=5", "7="), "2\n10\n5\n")
+        self.assertEqual(self.run_main("factors", "12", "4*x + 1"), "1\n")
+        self.assertEqual(json.loads(self.run_main("factors", "--json", "12", "4*x + 1", "7=2*x + 3", "8=5", "7=")), {"resultant": 5, "steps": [2, 10, 5]})
+        for steps, told in ((["7=x", "7=x"], "step 2: refused with 14: " + jingcobu.MEANING[14]), (["x"], "step 1: NUMBER=F or NUMBER= is expected, not 'x'"),
+                            (["-7=x"], "step 1: NUMBER=F or NUMBER= is expected, not ' -7=x'"), (["7=y"], "step 1: F: character 1 of 'y': a term"),
+                            (["9="], "step 1: refused with 14")):
+            self.assertIn("jingcobu factors: " + told, self.run_main("factors", "12", "4*x + 1", *steps, status=1))
+
+    def test_own_notation(self):
+        self.assertEqual(self.run_main("read", "12", "3*x^3+1*x+5"), "5,1,0,3\n")
+        self.assertEqual(json.loads(self.run_main("read", "--json", "12", "3*x^3+1*x+5")), {"words": [5, 1, 0, 3]})
+        self.assertIn("refused with 17", self.run_main("read", "12", "x - 1", status=1))
+        self.assertEqual(self.run_main("text", "12", "x - 1"), "1*x+11\n")
+
+    def test_help(self):
+        """Every command has a help, with an example that begins with its name, and --json."""
+        for name in __main__.COMMANDS:
+            said = subprocess.run([sys.executable, "-m", "jingcobu", name, "--help"], capture_output=True, text=True)
+            self.assertEqual((said.returncode, said.stderr), (0, ""))
+            self.assertIn("--json", said.stdout)
+            self.assertIn("example: jingcobu %s " % name, said.stdout)
 
     @needs("resultant_cofactors", "why", "check_claim", "resultant_two")
     def test_every_command(self):
@@ -798,8 +1009,8 @@ class CommandLine(unittest.TestCase):
         covered = {"resultant": "resultant", "reduced_resultant": "reduced", "divisor": "divisor", "resultant_cofactors": "cofactors", "why": "why",
                    "resultants": "resultants", "divisors": "divisors",
                    "check_claim": "check", "product": "product", "product_word": "word", "true_degree": "degree", "gcd": "gcd", "resultant_two": "two",
-                   "shares": "shares", "write_text": "text", "read_text": "text"}
-        left = {name for name in _library.SIGNATURES if not name.endswith("64") and not name.startswith("factors_")} - set(covered)
+                   "shares": "shares", "write_text": "text", "read_text": "read", **{"factors_" + x: "factors" for x in ("start", "arrive", "leave", "read")}}
+        left = {name for name in _library.SIGNATURES if not name.endswith("64")} - set(covered)
         self.assertEqual(left, set())
         self.assertEqual(set(covered.values()) | {"frame", "frames", "answers"}, set(__main__.COMMANDS))
         for name, command in __main__.COMMANDS.items():
@@ -827,7 +1038,7 @@ class CommandLine(unittest.TestCase):
             self.assertEqual(said.stdout.split(), [str(x) for x in jingcobu.resultants(2 ** 62, [[3, 2], [5], [1, 2, 0]], [[1, 4], [0, 1], [2 ** 62 - 1, 1]])])
             for text, told in (("x ; 1\nx\n", "line 2: F ; G is expected, two polynomials, not 1"), ("x ; 1 ; 2\n", "line 1: F ; G is expected, two polynomials, not 3"),
                                ("1 ; y\n", "line 1: G: character 1 of 'y': a term is expected: a number, x, or both with * between them"),
-                               ("1;1\n1 ; 1,12\n", "pair 1 refused with 3: " + jingcobu.MEANING[3])):
+                               ("1;1\n1 ; 1,12\n", "line 2: G: word 1 is 12, not from 0 to 11")):
                 file.write_text(text)
                 self.assertEqual(self.run_main("resultants", "12", str(file), status=1), "jingcobu resultants: %s\n" % told)
             file.write_text("")
@@ -898,7 +1109,7 @@ class CommandLine(unittest.TestCase):
             os.close(terminal)
             told = shown.read(4096).decode().replace("\r\n", "\n")
         self.assertEqual((said.returncode, said.stdout.split()), (0, right))
-        self.assertEqual(told, "".join("\r%d of 4 lines" % k for k in range(1, 5)) + "\n")
+        self.assertEqual(told, "".join("\r[%-40s] %d of 4 lines" % ("#" * (10 * k), k) for k in range(1, 5)) + "\n")
         with tempfile.TemporaryDirectory() as folder:
             empty, failing = Path(folder) / "empty", Path(folder) / "desk"
             empty.write_text("")
@@ -935,15 +1146,27 @@ class CommandLine(unittest.TestCase):
     def test_wheels(self):
         """A wheel with the library in it is for its platform, one without it for all; each installs, with the command."""
         with tempfile.TemporaryDirectory() as folder:
-            for held, platform in ((False, "any"), (True, "linux_x86_64")):
-                source, wheels, place = (Path(folder) / ("%s%d" % (name, held)) for name in ("source", "wheels", "place"))
-                shutil.copytree(HERE.parent, source, ignore=shutil.ignore_patterns("tests", "__pycache__"))
+            for number, (held, platform) in enumerate(((None, "any"), ("python/jingcobu", "linux_x86_64"), ("build", "linux_x86_64"))):
+                tree, wheels, place = (Path(folder) / ("%s%d" % (name, number)) for name in ("tree", "wheels", "place"))
+                source = tree / "python"
+                shutil.copytree(HERE.parent, source, ignore=shutil.ignore_patterns("tests", "__pycache__", "build", "*.egg-info", "libjingcobu.so*"))
                 if held:
-                    shutil.copy(_library.library()._name, source / "jingcobu" / "libjingcobu.so")
+                    (tree / held).mkdir(exist_ok=True)
+                    shutil.copy(_library.library()._name, tree / held / "libjingcobu.so")
+                if held == "build":  # sources after make
+                    shutil.copytree(ROOT / "include", tree / "include")
+                    shutil.copy(ROOT / "crates.txt", tree)
                 pip = [sys.executable, "-m", "pip", "-q", "--disable-pip-version-check"]
                 subprocess.run([*pip, "wheel", "--no-build-isolation", "--no-deps", "-w", str(wheels), str(source)], check=True, capture_output=True)
                 (wheel,) = wheels.iterdir()
                 self.assertEqual(wheel.name, "jingcobu-%s-py3-none-%s.whl" % (jingcobu.__version__, platform))
+                with zipfile.ZipFile(wheel) as inside:
+                    names = inside.namelist()
+                    said = inside.read(next(name for name in names if name.endswith("METADATA"))).decode()
+                self.assertEqual("jingcobu/libjingcobu.so" in names, held is not None)
+                self.assertTrue(any(name.endswith("LICENSE") for name in names), names)
+                self.assertIn("License: MIT", said)
+                self.assertIn("Classifier: Programming Language :: Python :: 3", said)
                 subprocess.run([*pip, "install", "--no-deps", "--target", str(place), str(wheel)], check=True, capture_output=True)
                 environment = {**os.environ, "PYTHONPATH": str(place), "JINGCOBU_LIBRARY": _library.library()._name}
                 if held:
@@ -963,6 +1186,36 @@ class CommandLine(unittest.TestCase):
                                   cwd=folder, env={**environment, "PYTHONPATH": str(Path(folder) / "python")})
             self.assertEqual((said.returncode, said.stderr), (0, ""))
             self.assertNotIn(str(Path(folder).resolve() / "build"), said.stdout)
+
+    def test_the_places(self):
+        """What the environment names alone; otherwise the package's own folder, the build folder of its sources, the loader, and nothing else."""
+        environment = {k: x for k, x in os.environ.items() if k != "JINGCOBU_LIBRARY"}
+
+        def places(package, **more):
+            program = "import jingcobu._library as l; print(*l.candidates(), sep='\\n')"
+            said = subprocess.run([sys.executable, "-c", program], capture_output=True, text=True, cwd="/", check=True,
+                                  env={**environment, "PYTHONPATH": str(package.parent), **more})
+            return said.stdout.splitlines()
+
+        with tempfile.TemporaryDirectory() as folder:
+            tree = Path(folder).resolve() / "tree"
+            package = tree / "python" / "jingcobu"
+            shutil.copytree(HERE.parent / "jingcobu", package, ignore=shutil.ignore_patterns("__pycache__", "libjingcobu.so*"))
+            own = [str(package / "libjingcobu.so"), str(package / "libjingcobu.so.1")]
+            self.assertEqual(places(package, JINGCOBU_LIBRARY="/nowhere/x.so"), ["/nowhere/x.so"])
+            self.assertEqual(places(package), own + ["libjingcobu.so.1"])
+            for part in ("include", "build"):
+                (tree / part).mkdir()
+            for part in ("python/pyproject.toml", "include/jingcobu.h", "crates.txt"):
+                self.assertEqual(places(package), own + ["libjingcobu.so.1"])
+                (tree / part).write_text("")
+            sources = own + [str(tree / "build" / "libjingcobu.so"), "libjingcobu.so.1"]
+            self.assertEqual(places(package), sources)
+            if os.getuid() == 0:  # what another user has put around the package is not taken
+                os.chown(tree / "build", 65534, 65534)
+                self.assertEqual(places(package), own + ["libjingcobu.so.1"])
+                os.chown(package, 65534, 65534)
+                self.assertEqual(places(package), sources)
 
 
 if __name__ == "__main__":
