@@ -3,7 +3,7 @@
 --   Mixing                       the invariant of `mix`, with its start, turn and end
 --   second-…, first-…            the length of a cofactor, by which polynomial is the longer
 --   saved-told, merged-told      the cofactors saved, and joined
---   runs                         the rules
+--   runs, by-factors             the rules
 use mathlib.Core.Path.{_≡_, refl, sym, ap, subst, _∙_}
 use mathlib.Core.List.{List}
 use Prim.Native.Nat.{ℕ, _+_, _-_, _*_, _%_, _≤_, _<_}
