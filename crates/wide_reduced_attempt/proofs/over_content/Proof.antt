@@ -8,5 +8,5 @@ over-content-spec =
     tie.close
     (tie.spec
     (λ c κs. search attempts) (λ c. search needs) (λ c. record { fits = search over-word }) (λ c. search needs)
-    (λ c. search needs) (λ c. search needs) (λ c. search needs) (λ c. (search attempts, search attempts)) (λ c. search needs) (λ c. search needs) (λ c. search needs)
-    (λ c. (search attempts, search attempts)))
+    (λ c. search needs) (λ c. search needs) (λ c. search needs) (λ c. (search attempts, search attempts)) (λ c. search needs)
+    (λ c. search needs) (λ c. search needs) (λ c. (search attempts, search attempts)))
