@@ -99,6 +99,10 @@ check-host:
 check-gate:
 	tests/gate.sh
 
+# on a tree whose edits have been tried (rt ci)
+check-edits:
+	tests/edits.sh
+
 check-examples:
 	$(MAKE) -C examples
 
@@ -163,7 +167,7 @@ clean:
 	$(MAKE) -C examples clean
 	$(MAKE) -C bench clean
 
-.PHONY: all frames install uninstall gp check check-gate check-host check-examples check-header check-guard check-threads check-stack \
+.PHONY: all frames install uninstall gp check check-gate check-edits check-host check-examples check-header check-guard check-threads check-stack \
     check-desk check-parts check-install check-python check-gp check-sage check-scaling check-readme check-clauses check-twins check-figures \
     figures dist clean
 include tools/build.mk

@@ -19,7 +19,8 @@ from pathlib import Path
 
 ROOT = Path(__file__).resolve().parent.parent
 SLOW = set()             # names of scripts that take more than a minute on one core
-HELPERS = {"reference.py", "ideal_constants.py", "draw_frames.py", "clauses.py", "twins.py"}   # modules, and scripts whose output is not stored
+# modules, and scripts whose output is not stored
+HELPERS = {"reference.py", "ideal_constants.py", "draw_frames.py", "clauses.py", "twins.py", "edits.py"}
 MADE = re.compile(r"(?:> )?(?:crates/\w+/(?:stdin|stdout)|docs/\w+\.svg)")
 
 

@@ -1,31 +1,32 @@
 #!/usr/bin/env python3
-"""The figures of crates/claims_trial: python3 tools/claims_figures.py > crates/claims_trial/stdout
+"""Writes the cases of the test program `claims_trial` and what it must answer, made outside the engine: crates/claims_trial/stdin, a case
+per line (1 for the engine's multipliers or 2 for sent ones, n, the lengths of f and g, the number claimed, the lengths of u, v and the
+working words, the change of one word, a factor or a step, how many words of u and of v are sent, the words of f, g, u and v), and
+crates/claims_trial/stdout, an answer per line.
+
+For each pair of eighteen moduli and five shapes, and two of higher degree, the engine's own answer: as it is, with other numbers, with
+multiples of it, and with a word of u or v changed. Then multipliers of up to 4097 words, claims that the engine had no part in, and every
+refusal, alone and with all that come after it.
 
 D is that of tools/ideal_constants.py. Which cofactors the engine finds is not determined, and they are not needed: they combine f and g to
 D, so a word more in u at some place adds x times f to that, and multipliers scaled by c combine to c D. A claim with multipliers that are
-known is multiplied out. How often each of the four answers comes is written to standard error."""
-import sys
-from reference import drawn, product, reduced_resultant
+known is multiplied out. Each of the four answers comes more than eighty times, and each refusal."""
+import itertools, math, random
+from collections import Counter
+from reference import MARK, product, put_working, reduced_resultant, write_cases
 
-counts = {}
-
-
-def fill(k, n, x, c):
-    out = []
-    for _ in range(k):
-        x = drawn(x)
-        out.append(c * x % n)
-    return out, x
+SEED = 20261117
+WORKING = 8192
+OWN, SENT = 1, 2
+COFACTOR = 1489                # words of a cofactor that always suffice
+NONE, MORE_U, MORE_V, OTHER_U, OTHER_V = range(5)
+seen = Counter()
 
 
-def show(status, value):
-    counts[status, value] = counts.get((status, value), 0) + 1
-    left = 7 if status else 0
-    print(status, value, left, left)
-
+# ---- what is answered
 
 def named(n, D, claimed, combines):
-    """the first of the three that fails, 0 where none does; D is the true one"""
+    """The first of the three that fails, 0 if none does; D is the true one."""
     if claimed == 0 or n % claimed:
         return 1
     if not combines:
@@ -33,14 +34,21 @@ def named(n, D, claimed, combines):
     return 0 if claimed == D else 3
 
 
+def answered(status, value, working):
+    """The claim in words, and the case told."""
+    seen[status, value] += 1
+    after = put_working([MARK if status else 0] * working)
+    case = ['refused', status] if status else ['fails', value] if value else ['accepted']
+    return ['claim', status, value, after, *case, after]
+
+
 def combination(n, f, g, u, v):
-    a, b = product(n, u, f), product(n, v, g)
-    size = max(len(a), len(b))
-    return [(x + y) % n for x, y in zip(a + [0] * (size - len(a)), b + [0] * (size - len(b)))]
+    a, b = product(n, f, u), product(n, g, v)
+    return [(x + y) % n for x, y in itertools.zip_longest(a, b, fillvalue=0)]
 
 
-def check(n, f, g, claimed, u, v, working=8192):
-    """status and value of a claim whose multipliers are known"""
+def check(n, f, g, claimed, u, v, working):
+    """Status and value of a claim whose multipliers are known."""
     if n < 2:
         return 1, 0
     if not (1 <= len(f) <= 49 and 1 <= len(g) <= 49):
@@ -49,92 +57,126 @@ def check(n, f, g, claimed, u, v, working=8192):
         return 16, 0
     if any(x >= n for w in (f, g, u, v) for x in w):
         return 3, 0
-    if working < 8192:
+    if working < WORKING:
         return 7, 0
     sums = combination(n, f, g, u, v)
     return 0, named(n, reduced_resultant(n, f, g), claimed, sums[0] == claimed % n and not any(sums[1:]))
 
 
-def own(n, seed, a, b, c):
-    f, x = fill(49, n, seed, c)
-    g, x = fill(49, n, x, c)
-    f, g = f[:a], g[:b]
+# ---- the engine's answers
+
+def own(n, a, b, c):
+    """f of a words and g of b, each word c times a drawn one."""
+    f, g = ([c * random.randrange(n) % n for _ in range(k)] for k in (a, b))
     D = reduced_resultant(n, f, g)
-    print(n, a, b, c, D)
-    for claimed in (D, D ^ 1, 0, n, 1, x):
-        show(0, named(n, D, claimed, claimed % n == D % n))
+
+    def case(claimed, status, value, change=(NONE, 0, 0), factor=1):
+        return ([OWN, n, a, b, claimed, COFACTOR, COFACTOR, WORKING, *change, factor, 0, 0, *f, *g],
+                ['reduced', 0, D, *answered(status, value, WORKING)])
+
+    x = random.randrange(2**32)
+    for claimed in (D, D ^ 1, 0, n, 1, x, (D + 1) % 2**32, n // D):
+        yield case(claimed, 0, named(n, D, claimed, claimed % n == D % n))
     for m in (2, 3, 5):
         claimed = m * D % (2**32 - 1)
-        show(0, named(n, D, claimed, claimed % n == m * D % n))
-    for more in (1, n // 2, x):
-        for h in (f, g):
-            show(0, named(n, D, D, not any(more * y % n for y in h)))
-    show(3, 0)
+        yield case(claimed, 0, named(n, D, claimed, claimed % n == m * D % n), factor=m)
+    for place, more in ((0, 1), (COFACTOR - 1, n // 2), (x % COFACTOR, x)):
+        for which, h in ((MORE_U, f), (MORE_V, g)):
+            yield case(D, 0, named(n, D, D, not any(more * y % n for y in h)), (which, place, more % n))
+    for which, h in ((MORE_U, f), (MORE_V, g)):
+        yield case(D, 0, 0, (which, 5, n // math.gcd(n, *h) % n))      # what is more times h is zero
+    yield case(D, 3, 0, (OTHER_U, 700, n))
+    yield case(D, 3, 0, (OTHER_V, 701, n))
 
 
-def own_modulus(n, seed):
-    own(n, seed, 3, 4, 1)
-    for row in ((1, 1, 2), (6, 2, 3), (2, 5, 6), (5, 5, 4)):
-        own(n, drawn(seed), *row)
+def own_cases():
+    for n in (2, 3, 4, 6, 8, 9, 12, 36, 60, 210, 30030, 65536, 223092870, 2**31, 6**12, 2**32 - 5, 2**32 - 2, 2**32 - 1):
+        for shape in ((3, 4, 1), (1, 1, 2), (6, 2, 3), (2, 5, 6), (5, 5, 4)):
+            yield from own(n, *shape)
+    yield from own(36, 49, 49, 1)
+    yield from own(6983776, 20, 33, 2)
 
 
-def long(n, a, m, sent, words, place, x):
-    f, g = [a] + [0] * (sent - 1), [m * a % n] + [0] * (sent - 1)
-    v = fill(4097, n, m, 1)[0]
-    u = [-m * y % n for y in v]
-    u[0] = (u[0] + 1) % n
-    u[place] = (u[place] + x) % n
-    show(*check(n, f, g, a, u[:words], v[:words]))
+# ---- multipliers that are sent
+
+def continued(words, length, step):
+    """The words, and each after them as the one a step before."""
+    out = words[:length]
+    while len(out) < length:
+        out.append(out[len(out) - step])
+    return out
 
 
-def long_claims(n, a, m):
-    for row in ((49, 4096, 0, 0), (1, 4096, 0, 0), (49, 1, 0, 0), (49, 4096, 4095, 1), (1, 4096, 4095, n // 2), (7, 4096, 2000, m),
-                (7, 4096, 2000, n // 3), (2, 1, 0, 1), (2, 4097, 0, 0), (2, 0, 0, 0)):
-        long(n, a, m, *row)
+def sent(n, f, g, claimed, u, v, lu, lv, step=1, change=(NONE, 0, 0), working=WORKING):
+    """A case whose first words of u and v are sent; they have lu and lv."""
+    which, place, x = change
+    long = [continued(u, lu, step), continued(v, lv, step)]
+    if which:
+        w = long[(which - 1) % 2]
+        w[place] = x if which > MORE_V else (w[place] + x) % n
+    u, v = u[:lu], v[:lv]
+    return ([SENT, n, len(f), len(g), claimed, lu, lv, working, *change, step, len(u), len(v), *f, *g, *u, *v],
+            answered(*check(n, f, g, claimed, *long, working), working))
 
 
-def made(n, seed, c, d):
-    f, x = fill(24, n, seed, c)
-    u, y = fill(25, n, x, 1)
-    g = [-z % n for z in product(n, f, u)] + [0]
+def long_claims(n, a, m, steps):
+    """u = 1 - m v and g = m f, f the constant a: u f + v g is a."""
+    for words, length, place, x, step in (
+        (49, 4096, 0, 0, steps), (1, 4096, 0, 0, 97), (49, 1, 0, 0, 97), (49, 4096, 4095, 1, 97), (1, 4096, 4095, n // 2, 97),
+        (7, 4096, 2000, m, 97), (7, 4096, 2000, n // 3, 97), (2, 1, 0, 1, 97), (2, 4097, 0, 0, 97), (2, 0, 0, 0, 97)):
+        v = [random.randrange(n) for _ in range(step)]
+        u = [-m * y % n for y in v + v]
+        u[0] = (u[0] + 1) % n
+        f, g = [a] + [0] * (words - 1), [m * a % n] + [0] * (words - 1)
+        yield sent(n, f, g, a, u, v, length, length, step, (MORE_U, place, x) if length and x else (NONE, 0, 0))
+
+
+def long_cases():
+    for n, a, m, steps in ((2, 1, 1, 997), (12, 3, 5, 4096), (12, 4, 6, 997), (30030, 143, 29, 997), (65536, 1024, 77, 4096),
+                           (2**32 - 1, 771, 2**32 - 2, 997), (2**32 - 5, 1, 1234567, 997)):
+        yield from long_claims(n, a, m, steps)
+
+
+def made(n, c, d):
+    """f of 24 words, c times drawn ones, u of 25, g = d - u f and v = 1; then with x more at the last word of g."""
+    f, u = [c * random.randrange(n) % n for _ in range(24)], [random.randrange(n) for _ in range(25)]
+    g = [-x % n for x in product(n, f, u)] + [0]
     g[0] = (g[0] + d) % n
-    show(*check(n, f, g, d, u, [1]))
-    g[48] = (g[48] + y) % n
-    show(*check(n, f, g, d, u, [1]))
-    print(0)
+    yield sent(n, f, g, d, u, [1], 25, 1)
+    g[48] = random.randrange(n)
+    yield sent(n, f, g, d, u, [1], 25, 1)
 
 
-def made_modulus(n, seed):
-    for c, d in ((1, 1), (2, 2), (2, 4), (3, 3), (3, 6), (6, 12), (0, 5), (0, n), (4, n)):
-        made(n, seed, c, d)
+def made_cases():
+    for n in (12, 24, 72, 30030, 65536, 2**32 - 2, 6**12):
+        for c, d in ((1, 1), (2, 2), (2, 4), (3, 3), (3, 6), (6, 12), (0, 5), (0, n), (4, n)):
+            yield from made(n, c, d)
 
 
-def refused(n, a, b, words, others, over, working):
-    lists = [[1] * a, [1] * b, [0] * words, [0] * others]
-    if over and lists[over - 1]:
-        lists[over - 1][0] = n
-    show(*check(n, lists[0], lists[1], 0, lists[2], lists[3], working))
+# ---- refusals
+
+def with_fault(n, a, b, lu, lv, over, working):
+    """All words of f and g are 1, all of u and v are 0; the first word of the polynomials in `over`, from 1 to 4, is n."""
+    words = [[1] * a, [1] * b, [0, 0], [0, 0]]
+    for k in over:
+        words[k - 1][:1] = [n] * bool(words[k - 1])
+    return sent(n, words[0], words[1], 0, words[2], words[3], lu, lv, working=working)
 
 
-def main():
-    for n, seed in ((2, 1), (3, 2), (4, 3), (6, 4), (8, 5), (9, 6), (12, 7), (36, 8), (60, 9), (210, 10), (30030, 11), (65536, 12),
-                    (223092870, 13), (2147483648, 14), (2176782336, 15), (4294967291, 16), (4294967294, 17), (4294967295, 18)):
-        own_modulus(n, seed)
-    own(36, 19, 49, 49, 1)
-    own(6983776, 20, 20, 33, 2)
-    for row in ((2, 1, 1), (12, 3, 5), (12, 4, 6), (30030, 143, 29), (65536, 1024, 77), (4294967295, 771, 4294967294),
-                (4294967291, 1, 1234567)):
-        long_claims(*row)
-    for row in ((12, 1), (24, 2), (72, 3), (30030, 4), (65536, 5), (4294967294, 6), (2176782336, 7)):
-        made_modulus(*row)
-    for row in ((0, 0, 50, 0, 4097, 1, 0), (1, 50, 0, 4097, 0, 2, 8191), (2, 0, 1, 0, 0, 1, 0), (2, 50, 1, 4097, 0, 1, 0),
-                (2, 1, 0, 1, 4097, 2, 0), (2, 1, 50, 1, 1, 2, 0), (2, 1, 1, 0, 1, 1, 0), (2, 1, 1, 4097, 1, 2, 0),
-                (2, 1, 1, 1, 0, 3, 0), (2, 1, 1, 1, 4097, 4, 0), (2, 49, 49, 4096, 4097, 1, 8191), (9, 49, 49, 4096, 4096, 1, 8191),
-                (9, 49, 49, 4096, 4096, 2, 8191), (9, 49, 49, 4096, 4096, 3, 8191), (9, 49, 49, 4096, 4096, 4, 8191),
-                (9, 49, 49, 4096, 4096, 0, 8191), (9, 1, 1, 1, 1, 0, 0), (9, 49, 49, 4096, 4096, 0, 8192), (9, 1, 1, 1, 1, 0, 8192)):
-        refused(*row)
-    for key in sorted(counts):
-        sys.stderr.write('status %d, value %d: %d\n' % (key + (counts[key],)))
+def refused():
+    answered = dict(n=9, a=49, b=49, lu=4096, lv=4096, over=(), working=WORKING)
+    faults = [dict(n=0), dict(n=1), dict(a=0), dict(a=50), dict(b=0), dict(b=50), dict(lu=0), dict(lu=4097), dict(lv=0), dict(lv=4097),
+              dict(over=(1,)), dict(over=(2,)), dict(over=(3,)), dict(over=(4,)), dict(over=(1, 2, 3, 4)), dict(working=0), dict(working=WORKING - 1)]
+    for least in (dict(), dict(a=1, b=1, lu=1, lv=1)):
+        yield with_fault(**{**answered, **least})
+        for k in range(len(faults)):
+            for chosen in ([faults[k]], faults[k:]):
+                case = {**answered, **least}
+                for fault in reversed(chosen):
+                    case.update(fault)
+                yield with_fault(**case)
 
 
-main()
+random.seed(SEED)
+write_cases('claims_trial', itertools.chain(own_cases(), long_cases(), made_cases(), refused()))
+assert all(seen[key] > 80 for key in ((0, 0), (0, 1), (0, 2), (0, 3), (3, 0))) and {s for s, _ in seen} == {0, 1, 2, 3, 7, 16}

@@ -1,6 +1,5 @@
 """What the scripts of tools/ calculate with, each thing once, outside the engine: residues, polynomials modulo n, determinants, the ideal
-of two polynomials, the rows of the table of S90, the lines that trial programs read and write, and the numbers that some draw and sum
-up.
+of two polynomials, the rows of the table of S90, and the lines that trial programs read and write.
 
 A polynomial is the list of its words, the constant first. Nothing here is taken from the engine. tools/cofactor_figures.py compares both
 determinants with their definition, tools/residue_figures.py and tools/wide_figures.py the least combinations with a search, and
@@ -8,8 +7,8 @@ tools/ideal_constants.py proves the D of each pair and compares it with brute fo
 import functools, math, os
 from ideal_constants import Ideal, cached_constant, gp, prime_powers, reduced_resultant
 
-__all__ = ['Ideal', 'cached_constant', 'gp', 'prime_powers', 'reduced_resultant', 'STARRED', 'UNSTARRED', 'PRIME', 'drawn', 'mix', 'mixed',
-           'MARK', 'write_cases', 'put_digit', 'put_short', 'put_words', 'ending', 'put_lent', 'put_working', 'k_of', 'unit', 'radical',
+__all__ = ['Ideal', 'cached_constant', 'gp', 'prime_powers', 'reduced_resultant', 'STARRED', 'UNSTARRED', 'MARK', 'PRIME',
+           'write_cases', 'put_digit', 'put_short', 'put_words', 'ending', 'put_lent', 'put_working', 'k_of', 'unit', 'radical',
            'lead_place', 'kind', 'least_by_inverses', 'least_by_search', 'product', 'divided', 'sylvester', 'determinant',
            'determinant_modulo', 'resultant']
 
@@ -19,28 +18,10 @@ STARRED = [(7, [1, 1], [2, 1]), (7, [2, 1], [1, 1]), (12, [3, 2], [1, 4]), (4, [
 UNSTARRED = (4294967295, [4294967294], [0, 1])
 
 
-# ---- what a trial program draws, and the one number that it makes of many
-
-PRIME = 4294967291
-
-
-def drawn(x):
-    return (12345 + 1103515245 * x) % PRIME
-
-
-def mix(h, x):
-    return (x + 1000003 * h) % PRIME
-
-
-def mixed(h, words):
-    for x in words:
-        h = mix(h, x)
-    return h
-
-
 # ---- cases and answers, as crates/trial_lines reads and writes them
 
 MARK = 2882400001
+PRIME = 4294967291             # where a program counts on from a drawn number
 
 
 def write_cases(crate, cases):

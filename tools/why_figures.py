@@ -1,17 +1,25 @@
-"""The figures of crates/why_trial: python3 tools/why_figures.py > crates/why_trial/stdout
+#!/usr/bin/env python3
+"""Writes the cases of the test program `why_trial` and what it must answer, made outside the engine: crates/why_trial/stdin, a case per line
+(1 for a pair or 2 for a row, n, the lengths of f and g, those of the divisor and of the working words, two numbers, the words of f, and for a
+pair those of g; a row has the number of its g for the length of the divisor, and the two numbers say which they are), and
+crates/why_trial/stdout, an answer per line.
+
+For six moduli a row for each f and each sent degree of g, with all g; then for four moduli 200 rows of a drawn f of degree 2 with 100 g; the
+pairs of document 01; every refusal, alone and with all that come after it; and the pairs of crates/vectors, with the D stored there.
 
 Which modulus, ground and divisor are named is not determined (S46). This file finds them by the way that docs/changes/W4.md describes, over
 lists of Python's integers, and compares each with what is determined: D is that of tools/ideal_constants.py, which shares nothing with the
 engine; "coprime" is answered exactly if it is 1, the modulus is above 1 and divides n and D, and the divisor is monic of degree 1 or more
-and leaves no remainder. The frames that the trial reads are the first of crates/vectors, with the D stored there."""
-import os
+and leaves no remainder."""
+import itertools, os, random
 from math import gcd, prod
-from reference import cached_constant, divided, drawn, mixed, prime_powers
+from reference import MARK, PRIME, STARRED, UNSTARRED, cached_constant, divided, prime_powers, put_digit, put_lent, put_working, write_cases
 
 HERE = os.path.dirname(os.path.abspath(__file__))
 VECTORS = os.path.join(HERE, '..', 'crates', 'vectors')
-FRAMES = os.path.join(HERE, '..', 'crates', 'why_trial', 'stdin')
-MARK = 2882400001
+SEED = 20261117
+PAIR, ROW = 1, 2
+DIVISOR, WORKING = 49, 8192
 
 
 def reduced(n, f, g):
@@ -68,63 +76,92 @@ def held(n, f, g, D, answer):
     return answer
 
 
-def counted(n, d, t):
-    return [t // n**k % n for k in range(d + 1)]
+# ---- rows
+
+def counted(n, length, t):
+    return [t // n**k % n for k in range(length)]
 
 
-def tally(n, d, e, pairs):
-    counts, total = [0, 0, 0], 0
-    for i, j in pairs:
-        f, g = counted(n, d, i), counted(n, e, j)
-        D = reduced(n, f, g)
-        ground, m, t, h = held(n, f, g, D, why(n, f, g, D))
-        counts[ground] += 1
-        total = mixed(total, [ground, m, t, mixed(0, (h + [0, 0, 0])[:3])])
-    print(n, d, e, *counts, total, 0)
-
-
-def all_pairs(n, top):
-    order = [(0, 0), (0, 1), (1, 0), (1, 1), (0, 2), (2, 0), (1, 2), (2, 1), (2, 2)]
-    for d, e in order:
-        if d + e <= top:
-            tally(n, d, e, ((i, j) for i in range(n ** (d + 1)) for j in range(n ** (e + 1))))
-
-
-def drawn_pairs(n):
-    def draw():
-        for k in range(20000):
-            x = drawn(k)
-            yield x % n**3, drawn(x) % n**3
-    tally(n, 2, 2, draw())
-
-
-def full_line(n, f, g, D=None, status=0):
-    if status:
-        print(n, len(f), len(g), status, 0, 0, 0, mixed(0, [MARK] * 52), mixed(0, [MARK] * 8200))
-        return
-    if D is None:
-        D = reduced(n, f, g)
+def short(n, f, g):
+    D = reduced(n, f, g)
     ground, m, t, h = held(n, f, g, D, why(n, f, g, D))
-    print(n, len(f), len(g), 0, ground, m, t, mixed(0, (h + [0] * 49)[:49] + [MARK] * 3), mixed(0, [0] * 8200), 'holds')
+    return ''.join(map(put_digit, [ground, m, t, *h[:t]][:(1, 2, 3 + t)[ground]]))
+
+
+def row(n, f, length, count, first, step):
+    """f with so many g of that length."""
+    answers = (short(n, f, counted(n, length, (first + step * k) % PRIME)) for k in range(count))
+    return [ROW, n, len(f), length, count, 0, first, step, *f], ['row', ''.join(answers)]
+
+
+def all_rows():
+    for n, top in ((4, 4), (6, 4), (8, 3), (9, 3), (12, 2), (30, 1)):
+        for d, e in itertools.product(range(3), repeat=2):
+            if d + e <= top:
+                for t in range(n ** (d + 1)):
+                    yield row(n, counted(n, d + 1, t), e + 1, n ** (e + 1), 0, 1)
+
+
+def drawn_rows():
+    for n in (8, 9, 12, 30):
+        for _ in range(200):
+            yield row(n, [random.randrange(n) for _ in range(3)], 3, 100, random.randrange(PRIME), random.randrange(PRIME))
+
+
+# ---- pairs
+
+def refusal(n, f, g, lw, working):
+    if n < 2:
+        return 1
+    if not 1 <= len(f) <= 49 or not 1 <= len(g) <= 49:
+        return 2
+    if any(x >= n for x in f + g):
+        return 3
+    return 6 if lw < DIVISOR else 7 if working < WORKING else 0
+
+
+def pair(n, f, g, D=None, lw=DIVISOR + 3, working=WORKING + 8):
+    sent = [PAIR, n, len(f), len(g), lw, working, 0, 0, *f, *g]
+    status = refusal(n, f, g, lw, working)
+    if status:
+        return sent, ['why', status, 0, 0, 0, put_lent([MARK] * lw), put_working([MARK] * working)]
+    D = D or reduced(n, f, g)
+    ground, m, t, h = held(n, f, g, D, why(n, f, g, D))
+    words = h + [0] * (DIVISOR - len(h)) + [MARK] * (lw - DIVISOR)
+    return sent, ['why', 0, ground, m, t, put_lent(words), put_working([0] * working), 'holds']
+
+
+def refused():
+    answered = dict(n=6, f=[2], g=[4], lw=DIVISOR, working=WORKING)
+    faults = [dict(n=0), dict(n=1), dict(f=[]), dict(f=[0] * 50), dict(g=[]), dict(g=[0] * 50), dict(f=[0, 6]), dict(g=[6, 1]),
+              dict(lw=0), dict(lw=DIVISOR - 1), dict(working=0), dict(working=WORKING - 1)]
+    yield pair(**answered)
+    for k in range(len(faults)):
+        for chosen in ([faults[k]], faults[k:]):
+            case = dict(answered)
+            for fault in reversed(chosen):
+                case.update(fault)
+            yield pair(**case)
+
+
+def stored():
+    with open(os.path.join(VECTORS, 'stdin')) as frames, open(os.path.join(VECTORS, 'stdout')) as numbers:
+        for frame, line in zip(frames, numbers):
+            words = [int(frame[i:i + 8], 16) for i in range(14, len(frame.strip()), 8)]
+            n, d, D = int(frame[2:10], 16), int(frame[10:12], 16), int(line.split()[1], 16)
+            yield pair(n, words[:d + 1], words[d + 1:], D)
+
+
+def cases():
+    yield from all_rows()
+    yield from drawn_rows()
+    for n, f, g in STARRED:
+        yield pair(n, f, g)
+    yield pair(*UNSTARRED, 1)
+    yield from refused()
+    yield from stored()
 
 
 if __name__ == '__main__':
-    for n, top in ((4, 4), (6, 4), (8, 3), (9, 3), (12, 2), (30, 1)):
-        all_pairs(n, top)
-    for n in (8, 9, 12, 30):
-        drawn_pairs(n)
-    for n, f, g in ((7, [1, 1], [2, 1]), (12, [3, 2], [1, 4]), (4, [1, 2], [3, 2]), (6, [2], [4]), (9, [3], [1, 0, 1]),
-                    (5, [1, 0], [2, 0]), (10, [0, 0], [0]), (6, [5, 0, 1], [3, 1])):
-        full_line(n, f, g)
-    full_line(4294967295, [4294967294], [0, 1], 1)
-    full_line(1, [0] * 50, [0], status=1)
-    full_line(7, [7], [0] * 50, status=2)
-    full_line(7, [], [7], status=2)
-    full_line(7, [0], [1, 7], status=3)
-    print('6\n7\n0')
-    with open(FRAMES) as frames, open(os.path.join(VECTORS, 'stdin')) as drawn, open(os.path.join(VECTORS, 'stdout')) as numbers:
-        for frame, same, line in zip(frames, drawn, numbers):
-            assert frame == same
-            words = [int(frame[i : i + 8], 16) for i in range(14, len(frame.strip()), 8)]
-            n, d, D = int(frame[2:10], 16), int(frame[10:12], 16), int(line.split()[1], 16)
-            full_line(n, words[: d + 1], words[d + 1 :], D)
+    random.seed(SEED)
+    write_cases('why_trial', cases())

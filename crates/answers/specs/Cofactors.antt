@@ -2,12 +2,12 @@
 --
 --   HoldsCofactor    the buffer after an answer
 --   held             the buffer whose first words were lent as a part, and came back
-use mathlib.Core.Path.{_≡_, sym, ap, ap₂, subst, _∙_}
+use mathlib.Core.Path.{_≡_, sym, ap, subst, _∙_}
 use mathlib.Core.List.{List, _++_}
-use Prim.Native.Nat.{ℕ, _+_, _-_, _≤_}
+use Prim.Native.Nat.{ℕ, _≤_}
 use native.Mathlib.Omega.{arith}
-use lib.ListN.{length, take, drop, length-append, length-drop}
-use lib.Seq.{take-at, drop-at}
+use lib.ListN.{length, take, drop}
+use lib.Seq.{length-front, length-take-le, take-at, drop-at}
 use borrow.Rule.Slice.PartMut.{postOf}
 use Rattle.definitions.specs.Polynomials.{Residues}
 
@@ -23,12 +23,9 @@ pub held : (n m l : ℕ) (b x : List ℕ) → m ≡ l → l ≤ length b → len
     → HoldsCofactor n l b (x ++ postOf 0 m b) × (take l (x ++ postOf 0 m b) ≡ x)
 held n m l b x em fits lx r = (
   record {
-    same = length-append x (postOf 0 m b) ∙ ap₂ _+_ lx (length-drop m b) ∙ back m l (length b) em fits;
+    same = length-front b x m (lx ∙ sym em ∙ sym (length-take-le m b (omega arith)));
     residues = subst (Residues n) (sym (take-at x (postOf 0 m b) l lx)) r;
     beyond = drop-at x (postOf 0 m b) l lx ∙ ap (λ (i : ℕ). drop i b) em;
   },
   take-at x (postOf 0 m b) l lx,
 )
-  where
-    back : (m l k : ℕ) → m ≡ l → l ≤ k → l + (k - m) ≡ k
-    back m l k p q = omega arith

@@ -11,6 +11,7 @@ use mathlib.Core.List.{List, [], _∷_}
 use Prim.Native.Nat.{ℕ, suc, _+_, _-_, _*_, _/_, _%_, _≤_, _<_}
 use native.Mathlib.Decide.{ℕ-discrete}
 use native.Mathlib.Nat.{div-add-mod', mul-div-cancel, mul-mod-left}
+use native.Mathlib.Numerals.{suc-eq-add-one}
 use native.Mathlib.Omega.{arith}
 use lib.Dec.{eqb}
 use lib.ListN.{length}
@@ -29,19 +30,13 @@ within : (d count l : ℕ) → d ≤ 48 → bad-pieces d count l ≡ not (eqb l 
 within d count l h = ap (λ (t : Bool). cond t true (not (eqb l (count * suc d)))) (le-ltb 48 d h)
 
 quotient-of : (d count : ℕ) → count * suc d / (d + 1) ≡ count
-quotient-of d count = ap (λ (x : ℕ). count * x / (d + 1)) (more d) ∙ mul-div-cancel count (pos d)
+quotient-of d count = ap (λ (x : ℕ). count * x / (d + 1)) (suc-eq-add-one d) ∙ mul-div-cancel count (pos d)
   where
-    more : (d : ℕ) → suc d ≡ d + 1
-    more d = omega arith
-
     pos : (d : ℕ) → 0 < d + 1
     pos d = omega arith
 
 remainder-of : (d count : ℕ) → count * suc d % (d + 1) ≡ 0
-remainder-of d count = ap (λ (x : ℕ). count * x % (d + 1)) (more d) ∙ mul-mod-left count (d + 1)
-  where
-    more : (d : ℕ) → suc d ≡ d + 1
-    more d = omega arith
+remainder-of d count = ap (λ (x : ℕ). count * x % (d + 1)) (suc-eq-add-one d) ∙ mul-mod-left count (d + 1)
 
 pub quotient-differs : (d count l : ℕ) → d ≤ 48 → (l / (d + 1) ≡ count → ⊥) → true ≡ bad-pieces d count l
 quotient-differs d count l h n =

@@ -4,18 +4,18 @@
 --   all-served         what is known of an answered batch
 --   pairs-words        the result words after an answer, as one equation
 --   single-served      where a batch is answered, none of the refusals 1, 2, 3 and 7 applies to one of its pairs
-use mathlib.Core.Path.{_≡_, sym, ap, subst, _∙_}
+use mathlib.Core.Path.{_≡_, sym, subst, _∙_}
 use mathlib.Core.List.{List, [], _∷_, _++_}
 use Prim.Native.Nat.{ℕ, suc, _+_, _-_, _*_, _<_, _≤_}
-use native.Mathlib.Decide.{decLt}
 use native.Mathlib.Nat.{mul-le-mul-right}
 use native.Mathlib.Omega.{arith}
-use lib.ListN.{length, getD, drop, length-append, length-drop, List·getD-append}
-use lib.Seq.{ext-getD, getD-append-add, getD-take, getD-drop, length-take-le}
+use lib.ListN.{length, drop, length-drop}
+use lib.Seq.{getD-take, getD-drop, length-take-le}
 use Rattle.definitions.specs.Polynomials.{tabulate, Residues}
 use Rattle.theory.specs.Words.{coef-tabulate, length-tabulate}
 use Rattle.refusals.specs.Refusals.{Width, short, first-refusal, refusals-two}
 use Rattle.refusals.specs.Conditions.{ServedLength, status-zero, conditions-two, modulus-fails, length-fails, words-fail, short-fails}
+use Rattle.refusals.specs.Fronts.{front-is}
 use Rattle.batch_pairs.specs.Batches.{piece, ServedPieces, BatchAnswer, BatchServed, batch-served}
 
 abbrev pub words-of : (List ℕ → List ℕ → ℕ) → List ℕ → ℕ → List ℕ → (e count : ℕ) → List ℕ
@@ -31,35 +31,11 @@ pub pairs-words : (F : List ℕ → List ℕ → ℕ) {W : Width} {n : ℕ} {f :
     {out out' work work' : List ℕ} {value : ℕ} → BatchAnswer (λ x y r. r ≡ F x y) W n f d g e count out out' work work' value 0
     → out' ≡ words-of F f d g e count ++ drop count out
 pairs-words F {W} {n} {f} {d} {g} {e} {count} {out} {out'} t =
-    ext-getD 0 out' (x ++ drop count out)
-    (t .out-is .same ∙ sym (length-append x (drop count out) ∙ whole (length x) (length (drop count out)) long (length-drop count out)
-    (all-served t .out)))
-    (λ i _. go i (decLt i count))
+    front-is count (words-of F f d g e count) out out' (length-tabulate count G) (all-served t .out) (t .out-is .same)
+    (λ i l. t .out-is .each i l ∙ sym (coef-tabulate count G i l)) (t .out-is .beyond)
   where
     G : ℕ → ℕ
     G i = F (piece d i f) (piece e i g)
-
-    x : List ℕ
-    x = words-of F f d g e count
-
-    long : length x ≡ count
-    long = length-tabulate count G
-
-    whole : (a b : ℕ) → a ≡ count → b ≡ length out - count → count ≤ length out → a + b ≡ length out
-    whole a b p q r = omega arith
-
-    back : (i : ℕ) → count ≤ i → count + (i - count) ≡ i
-    back i l = omega arith
-
-    go : (i : ℕ) → Dec (i < count) → getD out' i 0 ≡ getD (x ++ drop count out) i 0
-    go i (yes l) =
-        t .out-is .each i l ∙ sym (coef-tabulate count G i l)
-        ∙ sym (List·getD-append x (drop count out) 0 i (subst (λ (k : ℕ). i < k) (sym long) l))
-    go i (no l) =
-        let h : count ≤ i = omega arith in
-        t .out-is .beyond i h
-        ∙ sym (ap (λ (k : ℕ). getD (x ++ drop count out) k 0) (sym (back i h) ∙ ap (λ (k : ℕ). k + (i - count)) (sym long))
-        ∙ getD-append-add x (drop count out) (i - count) 0 ∙ getD-drop count out (i - count) 0 ∙ ap (λ (k : ℕ). getD out k 0) (back i h))
 
 -- the i-th piece has d + 1 words, and they are words of f
 module _ {d count i : ℕ} (f : List ℕ) (s : ServedPieces d count (length f)) (l : i < count) where

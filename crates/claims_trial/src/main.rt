@@ -1,99 +1,64 @@
-// A trial of the checking of claims. The expected output is made by tools/claims_figures.py, which works D by a way of its own and never
-// sees the engine's cofactors.
+// The checking of claims on cases from outside: tools/claims_figures.py writes them, and what must be answered.
 //
-// A line for each claim: the status, the value, and the first and the last working word afterwards (7 before). First the engine's own
-// answers for drawn pairs, after a line with n, the two lengths, a factor of all words, and D: as they are, and each damaged in one place.
-// Then multipliers of up to 4097 words, claims that the engine had no part in, and the refusals with their order.
+// Each line of the input is a case: the kind, n, the lengths of f and g, the number claimed, the lengths of u, v and the working words,
+// which multiplier is changed in one word (0 none, 1 a number more in u, 2 in v, 3 another word in u, 4 in v), the place, the number, a
+// step, how many words of u and of v are sent, the words of f, of g, of u, of v. If the kind is 1, the multipliers are those of the engine
+// with its D, times the step. If it is 2, they are sent; the words that are not sent repeat those a step before. Each is answered by a
+// line: the engine's D if it was asked, then status and value of the claim in words and what became of the working words, and the same
+// from the case told.
 ghost use Prim.Native.Nat.{_≤_};
+ghost use lib.ListN.{length};
 use claim_service::Claim;
+use refusals::Answer;
+use trial_lines::MARK;
+use trial_lines::put;
+use trial_lines::put_name;
+use trial_lines::put_working;
+use trial_lines::size;
 
-// The number drawn after x.
-fn drawn(x: u32) -> u32 {
-    arithmetic::mul_add_mod(4294967291, 12345, 1103515245, x)
-}
+const OWN: u32 = 1;
 
-fn number(x: u32) {
-    io::print_decimal(1, x as u64);
-}
+// The words of a line before f.
+const HEAD: usize = 14;
 
-fn next_number(x: u32) {
-    io::write_all(1, &[b' ']);
-    number(x);
-}
+// ---- the claim
 
-fn end_line() {
-    io::write_all(1, &[b'\n']);
-}
-
-// The claim in words; so many working words are lent.
-fn line(n: u32, f: &[u32], g: &[u32], d: u32, u: &[u32], v: &[u32], working: usize) {
-    let mut work = [7u32; 8192];
-    if 8192 < working {
-        return;
-    }
-    let a: refusals::Answer = claim_service::check_claim_words(
-        n,
-        f,
-        g,
-        d,
-        u,
-        v,
-        &mut work[0..working],
-    );
-    number(a.status);
-    next_number(a.value);
-    next_number(work[0]);
-    next_number(work[8190]);
-    end_line();
-}
-
-fn case(c: Claim) {
+fn put_case(c: Claim) {
     match c {
         Claim::Accepted => {
-            number(0);
-            next_number(0);
+            put_name(b" accepted");
         }
         Claim::Fails(k) => {
-            number(0);
-            next_number(k);
+            put_name(b" fails");
+            put(k);
         }
         Claim::Refused(s) => {
-            number(s);
-            next_number(0);
+            put_name(b" refused");
+            put(s);
         }
     }
 }
 
-// The same line from the case told.
-fn told(n: u32, f: &[u32], g: &[u32], d: u32, u: &[u32], v: &[u32]) {
-    let mut work = [7u32; 8192];
-    let c = claim_service::check_claim(n, f, g, d, u, v, &mut work);
-    case(c);
-    next_number(work[0]);
-    next_number(work[8190]);
-    end_line();
+fn told(n: u32, f: &[u32], g: &[u32], d: u32, u: &[u32], v: &[u32], work: &mut [u32]) {
+    trial_lines::fill(work, MARK);
+    put_case(claim_service::check_claim(n, f, g, d, u, v, work));
+    put_working(work);
 }
 
-// c times the numbers drawn after x, modulo n. Answers the last number drawn.
-fn fill(w: &mut [u32], n: u32, x: u32, c: u32) -> u32 {
-    let mut y = x;
-    if n < 1 {
-        return y;
-    }
-    let mut i: usize = 0;
-    while i < w.len() {
-        y = drawn(y);
-        w[i] = arithmetic::mul_mod(n, c, y);
-        i += 1;
-    }
-    y
+fn claim(n: u32, f: &[u32], g: &[u32], d: u32, u: &[u32], v: &[u32], work: &mut [u32]) {
+    trial_lines::fill(work, MARK);
+    let a: Answer = claim_service::check_claim_words(n, f, g, d, u, v, work);
+    trial_lines::put_answer(b"claim", a.status, a.value);
+    put_working(work);
+    told(n, f, g, d, u, v, work);
 }
 
-// Each word times c.
-fn scale(w: &mut [u32], n: u32, c: u32) {
-    if n < 1 {
-        return;
-    }
+// ---- the multipliers
+
+// Each word times c, modulo n.
+fn scale(w: &mut [u32], n: u32, c: u32)
+    requires { ⌜ 1 ≤ n ⌝ }
+{
     let mut i: usize = 0;
     while i < w.len() {
         w[i] = arithmetic::mul_mod(n, c, w[i]);
@@ -101,6 +66,7 @@ fn scale(w: &mut [u32], n: u32, c: u32) {
     }
 }
 
+// x more at place i, modulo n.
 fn add_at(w: &mut [u32], n: u32, i: usize, x: u32) {
     if n < 1 {
         return;
@@ -116,324 +82,196 @@ fn put_at(w: &mut [u32], i: usize, x: u32) {
     }
 }
 
-// ---- the engine's answers
-
-// Another number in the place of d.
-fn numbers_damaged(n: u32, f: &[u32], g: &[u32], d: u32, u: &[u32], v: &[u32], x: u32) {
-    line(n, f, g, d, u, v, 8192);
-    line(n, f, g, d ^ 1, u, v, 8192);
-    line(n, f, g, 0, u, v, 8192);
-    line(n, f, g, n, u, v, 8192);
-    line(n, f, g, 1, u, v, 8192);
-    line(n, f, g, x, u, v, 8192);
+// A change of one word.
+struct Change {
+    which: u32,
+    place: u32,
+    x: u32,
 }
 
-// c d modulo 2^32 - 1, with c u and c v.
-fn multiple(n: u32, f: &[u32], g: &[u32], d: u32, u: [u32; 1489], v: [u32; 1489], c: u32) {
-    let mut s = u;
-    let mut t = v;
-    scale(&mut s, n, c);
-    scale(&mut t, n, c);
-    line(n, f, g, arithmetic::mul_mod(4294967295, d, c), &s, &t, 8192);
+fn change_word(n: u32, c: Change, u: &mut [u32], v: &mut [u32]) {
+    let i = c.place as usize;
+    if c.which == 1 {
+        add_at(u, n, i, c.x);
+        return;
+    }
+    if c.which == 2 {
+        add_at(v, n, i, c.x);
+        return;
+    }
+    if c.which == 3 {
+        put_at(u, i, c.x);
+        return;
+    }
+    if c.which == 4 {
+        put_at(v, i, c.x);
+    }
 }
 
-// x more at place i of u, and at place i of v.
-fn words_damaged(
+// Word i of those that are sent and of those that repeat them.
+fn continued(sent: &[u32], w: &[u32], i: usize, step: usize) -> u32 {
+    if i < sent.len() {
+        return sent[i];
+    }
+    if step <= i {
+        if i - step < w.len() {
+            return w[i - step];
+        }
+    }
+    0
+}
+
+fn continue_words(sent: &[u32], w: &mut [u32], step: u32) {
+    let back = step as usize;
+    let mut i: usize = 0;
+    while i < w.len() {
+        w[i] = continued(sent, w, i, back);
+        i += 1;
+    }
+}
+
+// ---- the two kinds
+
+// The engine's D with its multipliers, these times c; whether it answered.
+fn engine(
     n: u32,
     f: &[u32],
     g: &[u32],
-    d: u32,
-    u: [u32; 1489],
-    v: [u32; 1489],
-    i: usize,
-    x: u32,
-) {
-    let mut s = u;
-    let mut t = v;
-    add_at(&mut s, n, i, x);
-    line(n, f, g, d, &s, &v, 8192);
-    add_at(&mut t, n, i, x);
-    line(n, f, g, d, &u, &t, 8192);
-}
-
-// n at place i of u.
-fn word_over(n: u32, f: &[u32], g: &[u32], d: u32, u: [u32; 1489], v: [u32; 1489], i: usize) {
-    let mut s = u;
-    put_at(&mut s, i, n);
-    line(n, f, g, d, &s, &v, 8192);
-}
-
-fn multiples(n: u32, f: &[u32], g: &[u32], d: u32, u: [u32; 1489], v: [u32; 1489]) {
-    multiple(n, f, g, d, u, v, 2);
-    multiple(n, f, g, d, u, v, 3);
-    multiple(n, f, g, d, u, v, 5);
-}
-
-fn multipliers_damaged(
-    n: u32,
-    f: &[u32],
-    g: &[u32],
-    d: u32,
-    u: [u32; 1489],
-    v: [u32; 1489],
-    x: u32,
-) {
-    words_damaged(n, f, g, d, u, v, 0, 1);
-    words_damaged(n, f, g, d, u, v, 1488, n / 2);
-    words_damaged(n, f, g, d, u, v, (x % 1489) as usize, x);
-    word_over(n, f, g, d, u, v, 700);
-}
-
-fn answered(n: u32, f: &[u32], g: &[u32], x: u32) {
-    let mut u = [0u32; 1489];
-    let mut v = [0u32; 1489];
-    let mut work = [0u32; 8192];
-    let a: refusals::Answer = reduced_service::reduced_resultant(
-        n,
-        f,
-        g,
-        &mut u,
-        &mut v,
-        &mut work,
-    );
-    next_number(a.value);
-    end_line();
-    numbers_damaged(n, f, g, a.value, &u, &v, x);
-    multiples(n, f, g, a.value, u, v);
-    multipliers_damaged(n, f, g, a.value, u, v, x);
-}
-
-// f of a words and g of b, each word c times a drawn one.
-fn own(n: u32, seed: u32, a: u32, b: u32, c: u32) {
-    let mut f = [0u32; 49];
-    let mut g = [0u32; 49];
-    let x = fill(&mut f, n, seed, c);
-    let y = fill(&mut g, n, x, c);
-    if 49 < a {
-        return;
-    }
-    if 49 < b {
-        return;
-    }
-    number(n);
-    next_number(a);
-    next_number(b);
-    next_number(c);
-    answered(n, &f[0..a as usize], &g[0..b as usize], y);
-}
-
-fn own_modulus(n: u32, seed: u32) {
-    own(n, seed, 3, 4, 1);
-    own(n, drawn(seed), 1, 1, 2);
-    own(n, drawn(seed), 6, 2, 3);
-    own(n, drawn(seed), 2, 5, 6);
-    own(n, drawn(seed), 5, 5, 4);
-}
-
-// ---- long multipliers
-
-// u = 1 - m v and g = m f, f the constant a: u f + v g is a. With x more at a place of u.
-fn spread(n: u32, f: &[u32], g: &[u32], a: u32, m: u32, words: usize, place: usize, x: u32) {
-    let mut u = [0u32; 4097];
-    let mut v = [0u32; 4097];
-    fill(&mut u, n, m, 1);
-    fill(&mut v, n, m, 1);
-    if n < m {
-        return;
-    }
-    scale(&mut u, n, n - m);
-    add_at(&mut u, n, 0, 1);
-    add_at(&mut u, n, place, x);
-    if 4097 < words {
-        return;
-    }
-    told(n, f, g, a, &u[0..words], &v[0..words]);
-}
-
-// f and g of so many words.
-fn long(n: u32, a: u32, m: u32, sent: usize, words: usize, place: usize, x: u32) {
-    let mut f = [0u32; 49];
-    let mut g = [0u32; 49];
-    f[0] = a;
-    g[0] = a;
-    scale(&mut g, n, m);
-    if 49 < sent {
-        return;
-    }
-    spread(n, &f[0..sent], &g[0..sent], a, m, words, place, x);
-}
-
-fn long_claims(n: u32, a: u32, m: u32) {
-    long(n, a, m, 49, 4096, 0, 0);
-    long(n, a, m, 1, 4096, 0, 0);
-    long(n, a, m, 49, 1, 0, 0);
-    long(n, a, m, 49, 4096, 4095, 1);
-    long(n, a, m, 1, 4096, 4095, n / 2);
-    long(n, a, m, 7, 4096, 2000, m);
-    long(n, a, m, 7, 4096, 2000, n / 3);
-    long(n, a, m, 2, 1, 0, 1);
-    long(n, a, m, 2, 4097, 0, 0);
-    long(n, a, m, 2, 0, 0, 0);
-}
-
-// ---- claims that the engine had no part in
-
-fn status_line(s: u32) {
-    number(s);
-    end_line();
-}
-
-// g = d - u f and v = 1; then with x more at the last word of g. The product's own status comes last.
-fn combined(n: u32, f: &[u32], u: &[u32], d: u32, x: u32) {
-    let mut g = [0u32; 49];
-    let a: refusals::Answer = polynomial_product::product(n, f, u, &mut g);
+    c: u32,
+    u: &mut [u32],
+    v: &mut [u32],
+    work: &mut [u32],
+) -> bool {
+    trial_lines::fill(u, 0);
+    trial_lines::fill(v, 0);
+    let a: Answer = reduced_service::reduced_resultant(n, f, g, u, v, work);
+    trial_lines::put_answer(b"reduced", a.status, a.value);
+    put_name(b" ");
     if n < 1 {
-        return;
+        return false;
     }
-    scale(&mut g, n, n - 1);
-    add_at(&mut g, n, 0, d);
-    told(n, f, &g, d, u, &[1]);
-    add_at(&mut g, n, 48, x);
-    told(n, f, &g, d, u, &[1]);
-    status_line(a.status);
+    scale(u, n, c);
+    scale(v, n, c);
+    a.status == 0
 }
 
-// f of 24 words, c times drawn ones, and u of 25.
-fn made(n: u32, seed: u32, c: u32, d: u32) {
-    let mut f = [0u32; 24];
-    let mut u = [0u32; 25];
-    let x = fill(&mut f, n, seed, c);
-    let y = fill(&mut u, n, x, 1);
-    combined(n, &f, &u, d, y);
+// The multipliers of a line, before one word changes; whether they are there.
+fn multipliers(
+    head: &[u32],
+    f: &[u32],
+    g: &[u32],
+    rest: &[u32],
+    u: &mut [u32],
+    v: &mut [u32],
+    work: &mut [u32],
+) -> bool
+    requires { ⌜ 14 ≤ length (now head) ⌝ }
+{
+    let step = head[11];
+    if head[0] == OWN {
+        return engine(head[1], f, g, step, u, v, work);
+    }
+    let k = size(head[12], rest.len());
+    continue_words(&rest[0..k], u, step);
+    continue_words(&rest[k..rest.len()], v, step);
+    true
 }
 
-fn made_modulus(n: u32, seed: u32) {
-    made(n, seed, 1, 1);
-    made(n, seed, 2, 2);
-    made(n, seed, 2, 4);
-    made(n, seed, 3, 3);
-    made(n, seed, 3, 6);
-    made(n, seed, 6, 12);
-    made(n, seed, 0, 5);
-    made(n, seed, 0, n);
-    made(n, seed, 4, n);
+// The case with the words that are lent.
+fn case(
+    head: &[u32],
+    f: &[u32],
+    g: &[u32],
+    rest: &[u32],
+    u: &mut [u32],
+    v: &mut [u32],
+    work: &mut [u32],
+)
+    requires { ⌜ 14 ≤ length (now head) ⌝ }
+{
+    if !multipliers(head, f, g, rest, u, v, work) {
+        return;
+    }
+    let c = Change {
+        which: head[8],
+        place: head[9],
+        x: head[10],
+    };
+    change_word(head[1], c, u, v);
+    let lw = size(head[7], work.len());
+    claim(head[1], f, g, head[4], u, v, &mut work[0..lw]);
 }
 
-// ---- refusals
-
-// x, or n in the polynomial with number k where `over` is k.
-fn word_of(over: u32, k: u32, n: u32, x: u32) -> u32 {
-    if over == k {
-        return n;
-    }
-    x
+// The case with as much of u and v as it has.
+fn lend(
+    head: &[u32],
+    f: &[u32],
+    g: &[u32],
+    rest: &[u32],
+    u: &mut [u32],
+    v: &mut [u32],
+    work: &mut [u32],
+)
+    requires { ⌜ 14 ≤ length (now head) ⌝ }
+{
+    let lu = size(head[5], u.len());
+    let lv = size(head[6], v.len());
+    case(head, f, g, rest, &mut u[0..lu], &mut v[0..lv], work);
 }
 
-// All words of f and g are 1, all of u and v are 0; the first word of the polynomial with number `over`, from 1 to 4, is n.
-fn refused(n: u32, a: usize, b: usize, words: usize, others: usize, over: u32, working: usize) {
-    let mut f = [1u32; 50];
-    let mut g = [1u32; 50];
-    let mut u = [0u32; 4097];
-    let mut v = [0u32; 4097];
-    f[0] = word_of(over, 1, n, 1);
-    g[0] = word_of(over, 2, n, 1);
-    u[0] = word_of(over, 3, n, 0);
-    v[0] = word_of(over, 4, n, 0);
-    if 50 < a {
-        return;
+// ---- the run
+
+// The words of a line; whether they were all there.
+fn try_words(words: &[u32], u: &mut [u32], v: &mut [u32], work: &mut [u32]) -> bool {
+    if words.len() < HEAD {
+        return false;
     }
-    if 50 < b {
-        return;
+    let l = size(words[2], 64);
+    let m = size(words[3], 64);
+    if words.len() < HEAD + l + m {
+        return false;
     }
-    if 4097 < words {
-        return;
-    }
-    if 4097 < others {
-        return;
-    }
-    line(
-        n,
-        &f[0..a],
-        &g[0..b],
-        0,
-        &u[0..words],
-        &v[0..others],
-        working,
+    lend(
+        &words[0..HEAD],
+        &words[HEAD..HEAD + l],
+        &words[HEAD + l..HEAD + l + m],
+        &words[HEAD + l + m..words.len()],
+        u,
+        v,
+        work,
     );
+    trial_lines::end_line();
+    true
 }
 
-fn refusals_in_order() {
-    refused(0, 0, 50, 0, 4097, 1, 0);
-    refused(1, 50, 0, 4097, 0, 2, 8191);
-    refused(2, 0, 1, 0, 0, 1, 0);
-    refused(2, 50, 1, 4097, 0, 1, 0);
-    refused(2, 1, 0, 1, 4097, 2, 0);
-    refused(2, 1, 50, 1, 1, 2, 0);
-    refused(2, 1, 1, 0, 1, 1, 0);
-    refused(2, 1, 1, 4097, 1, 2, 0);
-    refused(2, 1, 1, 1, 0, 3, 0);
-    refused(2, 1, 1, 1, 4097, 4, 0);
-    refused(2, 49, 49, 4096, 4097, 1, 8191);
-    refused(9, 49, 49, 4096, 4096, 1, 8191);
-    refused(9, 49, 49, 4096, 4096, 2, 8191);
-    refused(9, 49, 49, 4096, 4096, 3, 8191);
-    refused(9, 49, 49, 4096, 4096, 4, 8191);
-    refused(9, 49, 49, 4096, 4096, 0, 8191);
-    refused(9, 1, 1, 1, 1, 0, 0);
-    refused(9, 49, 49, 4096, 4096, 0, 8192);
-    refused(9, 1, 1, 1, 1, 0, 8192);
+// The next line; whether there was one.
+fn try_line(
+    line: &mut [u8],
+    words: &mut [u32],
+    u: &mut [u32],
+    v: &mut [u32],
+    work: &mut [u32],
+) -> bool {
+    let count = trial_lines::read_line(line, words);
+    try_words(&words[0..count], u, v, work)
 }
 
-fn own_answers() {
-    own_modulus(2, 1);
-    own_modulus(3, 2);
-    own_modulus(4, 3);
-    own_modulus(6, 4);
-    own_modulus(8, 5);
-    own_modulus(9, 6);
-    own_modulus(12, 7);
-    own_modulus(36, 8);
-    own_modulus(60, 9);
-    own_modulus(210, 10);
-    own_modulus(30030, 11);
-    own_modulus(65536, 12);
-}
-
-fn large_answers() {
-    own_modulus(223092870, 13);
-    own_modulus(2147483648, 14);
-    own_modulus(2176782336, 15);
-    own_modulus(4294967291, 16);
-    own_modulus(4294967294, 17);
-    own_modulus(4294967295, 18);
-    own(36, 19, 49, 49, 1);
-    own(6983776, 20, 20, 33, 2);
-}
-
-fn long_answers() {
-    long_claims(2, 1, 1);
-    long_claims(12, 3, 5);
-    long_claims(12, 4, 6);
-    long_claims(30030, 143, 29);
-    long_claims(65536, 1024, 77);
-    long_claims(4294967295, 771, 4294967294);
-    long_claims(4294967291, 1, 1234567);
-}
-
-fn made_answers() {
-    made_modulus(12, 1);
-    made_modulus(24, 2);
-    made_modulus(72, 3);
-    made_modulus(30030, 4);
-    made_modulus(65536, 5);
-    made_modulus(4294967294, 6);
-    made_modulus(2176782336, 7);
+// A proved loop has to end, and nothing says that an input does: it counts its turns down from a number that no run uses up.
+fn run(line: &mut [u8], words: &mut [u32], u: &mut [u32], v: &mut [u32], work: &mut [u32]) {
+    let mut turns = u64::MAX;
+    while turns > 0 {
+        if !try_line(line, words, u, v, work) {
+            return;
+        }
+        turns -= 1;
+    }
 }
 
 fn main() {
-    own_answers();
-    large_answers();
-    long_answers();
-    made_answers();
-    refusals_in_order();
+    let mut line = io::large_buffer();
+    let mut words = [0u32; 8320];
+    let mut u = [0u32; 4100];
+    let mut v = [0u32; 4100];
+    let mut work = [0u32; 8200];
+    run(&mut line, &mut words, &mut u, &mut v, &mut work);
 }

@@ -3,7 +3,7 @@
 --   refused-two, both-constant, first-short, second-short, work-short, none-applies     the status, by the test that applies
 --   passed               what is known once no refusal applies
 --   refused, done        the answer
-use mathlib.Core.Path.{_≡_, refl, sym, ap, ap₂, subst, _∙_}
+use mathlib.Core.Path.{_≡_, refl, sym, ap, subst, _∙_}
 use mathlib.Core.List.{List, [], _∷_, _++_}
 use Prim.Native.Nat.{ℕ, zero, suc, _+_, _-_, _≤_, _<_}
 use native.Mathlib.Numerals.{sub-one}
@@ -15,6 +15,7 @@ use Rattle.definitions.specs.Polynomials.{deg}
 use Rattle.definitions.specs.Resultants.{resultant, Combination}
 use Rattle.refusals.specs.Refusals.{narrow, Tested, short, first-refusal, refusals-two, left}
 use Rattle.refusals.specs.Conditions.{Passed, status-zero, accepted-two}
+use Rattle.refusals.proofs.Degrees.{degrees-are}
 use Rattle.refusals.proofs.Statuses.{refused-early, passed-on, too-short, long-enough, refused-value, answered-value, left-refused}
 use Rattle.answers.specs.Cofactors.{held}
 use Rattle.cofactor_band.specs.Bands.{CofactorsAsked, ResultantCofactors}
@@ -108,7 +109,7 @@ module _ (n : ℕ) (f g u v work : List ℕ) (s : ℕ) (e : s ≡ cofactor-statu
           let lu = length-take-le m u (omega (arith, first-fits)) in
           let lv = length-take-le k v (omega (arith, second-fits)) in
           let total : 1 ≤ length f - 1 + (length g - 1) =
-          subst (λ (i : ℕ). 1 ≤ i) (sym (ap₂ _+_ (sub-one (length f)) (sub-one (length g)))) (p .1 .1 .1 .1 .1 .0) in
+          subst (λ (i : ℕ). 1 ≤ i) (sym (degrees-are f g)) (p .1 .1 .1 .1 .1 .0) in
           record {
             modulus = p .0 .least;
             some-f = p .1 .0 .some;

@@ -1,6 +1,8 @@
 -- What an attempt at D asks and promises. f and g are the sent polynomials, whose words may be any numbers; c is their common content.
 --
 --   ArrangeAsked, Padded    both polynomials over c, m words each
+--   WindowsAsked            two polynomials of m words, residues, in one buffer
+--   WindowsAnswer           D of the two; two coprime divisors of n; or no coefficient of the first is more than nilpotent
 --   HalfAsked               of the half of an attempt that factors the first polynomial: what it asks
 --   TrialAnswers            what it promises
 --   Attempted               D, or n as a product of two coprime factors
@@ -11,7 +13,8 @@ use lib.ListN.{length, getD}
 use Rattle.definitions.specs.Residues.{IsUnit}
 use Rattle.definitions.specs.Polynomials.{coef}
 use Rattle.definitions.specs.Resultants.{Reduced}
-use Rattle.window_factor.specs.Factors.{SplitOf}
+use Rattle.windows.specs.Window.{piece, Below}
+use Rattle.window_factor.specs.Factors.{SplitOf, AllNilpotents}
 use Rattle.reduced_units.specs.States.{Splitter}
 use Rattle.residue.specs.declared.Attempt.{Attempt}
 use Rattle.residue.specs.declared.Attempt.the-variants.{Value, Splits}
@@ -35,6 +38,19 @@ pub record Padded (n c m : ℕ) (f g w w' : List ℕ) : Type 0 where
   pub unit : IsUnit n factor
   pub first : (k : ℕ) → k < m → getD w' (m + k) 0 ≡ ((factor * coef f k) % n) / c
   pub second : (k : ℕ) → k < m → getD w' k 0 ≡ ((factor * coef g k) % n) / c
+
+-- m words at 0 and at m, residues, and room for the stages
+pub record WindowsAsked (n m : ℕ) (w : List ℕ) : Type 0 where
+  pub two : 2 ≤ n
+  pub some : 1 ≤ m
+  pub room : 5 * m ≤ length w
+  pub first : Below n m m w
+  pub second : Below n 0 m w
+
+abbrev pub WindowsAnswer : ℕ → ℕ → List ℕ → Trial → Type 0
+WindowsAnswer n m w (Found D) = Reduced n (piece w m m) (piece w 0 m) D
+WindowsAnswer n m w (Divisors p q) = Splitter n p q
+WindowsAnswer n m w Nilpotent = AllNilpotents n (piece w m m)
 
 -- a half is tried where the common content c of f and g is not all of n
 pub record HalfAsked (n c : ℕ) (f g w : List ℕ) : Type 0 where

@@ -7,7 +7,9 @@
 //   longer    the larger of two numbers of words
 //   over      words over a content
 //   arrange   both polynomials over their common content
+//   divided   D of the words in the window, where the polynomial at m gets a leading unit
 //   half      the attempt where the first polynomial gets a leading unit
+//   turned    the attempt where the second one does
 //   general   both halves in turn
 //   attempt   D = 1 where that shows at once; else the general way
 //   joined    D modulo a product of two coprime factors
@@ -17,8 +19,9 @@ ghost use Prim.Native.Nat.{max, _*_, _<_, _≤_};
 ghost use Rattle.definitions.specs.Resultants.{Reduced};
 ghost use lib.ListN.{length};
 ghost use Rattle.windows.specs.Window.{Moved, quotient-by, Scratch};
+ghost use Rattle.reduced_attempt.specs.Attempts.{NilpotentOver};
 ghost use Rattle.divisor.specs.Sizes.{DivisorSizes};
-ghost use Rattle.divisor.specs.Attempts.{ArrangeAsked, Padded, HalfAsked, TrialAnswers, Attempted};
+ghost use Rattle.divisor.specs.Attempts.{ArrangeAsked, Padded, WindowsAsked, WindowsAnswer, HalfAsked, TrialAnswers, Attempted};
 use reduced_attempt::Trial;
 use residue::Attempt;
 
@@ -56,17 +59,16 @@ fn arrange(w: &mut [u32], n: u32, c: u32, f: &[u32], g: &[u32]) -> usize
     m
 }
 
-// D of f and g, c their common content, if f over c has a coefficient that is not nilpotent.
-fn half(w: &mut [u32], n: u32, c: u32, f: &[u32], g: &[u32]) -> Trial
-    requires { ⌜ HalfAsked n c (now f) (now g) (now w) ⌝ }
-    ensures { λ r. ⌜ TrialAnswers n c (now (f .entry)) (now (g .entry)) r ⌝ }
+// D of the m words at m and the m words at 0, if the polynomial at m has a coefficient that is not nilpotent.
+fn divided(w: &mut [u32], n: u32, m: usize) -> Trial
+    requires { ⌜ WindowsAsked n m (now w) ⌝ }
+    ensures { λ r. ⌜ WindowsAnswer n m (now (w .entry)) r ⌝ }
     ensures { λ _. ⌜ Scratch (now (w .entry)) (now (w .exit)) ⌝ }
 {
-    let m = arrange(w, n, c, f, g);
-    match divisor_stages::unit_lead(w, n / c, m, m, 2 * m) {
+    match divisor_stages::unit_lead(w, n, m, m, 2 * m) {
         window_factor::Highest::UnitAt(t, i) => match divisor_stages::division_stage(
             w,
-            n / c,
+            n,
             0,
             m - 1,
             m,
@@ -74,11 +76,38 @@ fn half(w: &mut [u32], n: u32, c: u32, f: &[u32], g: &[u32]) -> Trial
             i,
             2 * m,
         ) {
-            Attempt::Value(d) => Trial::Found(c * d),
+            Attempt::Value(d) => Trial::Found(d),
             Attempt::Splits(p, q) => Trial::Divisors(p, q),
         },
         window_factor::Highest::Splits(p, q) => Trial::Divisors(p, q),
         window_factor::Highest::AllNilpotent => Trial::Nilpotent,
+    }
+}
+
+// D of f and g, c their common content, if f over c has a coefficient that is not nilpotent.
+fn half(w: &mut [u32], n: u32, c: u32, f: &[u32], g: &[u32]) -> Trial
+    requires { ⌜ HalfAsked n c (now f) (now g) (now w) ⌝ }
+    ensures { λ r. ⌜ TrialAnswers n c (now (f .entry)) (now (g .entry)) r ⌝ }
+    ensures { λ _. ⌜ Scratch (now (w .entry)) (now (w .exit)) ⌝ }
+{
+    let m = arrange(w, n, c, f, g);
+    match divided(w, n / c, m) {
+        Trial::Found(d) => Trial::Found(c * d),
+        Trial::Divisors(p, q) => Trial::Divisors(p, q),
+        Trial::Nilpotent => Trial::Nilpotent,
+    }
+}
+
+// D of f and g, or n as a product of two coprime factors, where f over c has no coefficient that is more than nilpotent.
+fn turned(w: &mut [u32], n: u32, c: u32, f: &[u32], g: &[u32]) -> Attempt
+    requires { ⌜ (HalfAsked n c (now f) (now g) (now w)) × (NilpotentOver n c (now f)) ⌝ }
+    ensures { λ r. ⌜ Attempted n (now (f .entry)) (now (g .entry)) r ⌝ }
+    ensures { λ _. ⌜ Scratch (now (w .entry)) (now (w .exit)) ⌝ }
+{
+    match half(w, n, c, g, f) {
+        Trial::Found(d) => Attempt::Value(d),
+        Trial::Divisors(p, q) => reduced_attempt::split(n, p, q),
+        Trial::Nilpotent => Attempt::Value(n),
     }
 }
 
@@ -93,18 +122,9 @@ fn general(w: &mut [u32], n: u32, f: &[u32], g: &[u32]) -> Attempt
         return Attempt::Value(n);
     }
     match half(w, n, c, f, g) {
-        Trial::Found(d) => {
-            return Attempt::Value(d);
-        }
-        Trial::Divisors(p, q) => {
-            return reduced_attempt::split(n, p, q);
-        }
-        Trial::Nilpotent => {}
-    }
-    match half(w, n, c, g, f) {
         Trial::Found(d) => Attempt::Value(d),
         Trial::Divisors(p, q) => reduced_attempt::split(n, p, q),
-        Trial::Nilpotent => Attempt::Value(n),
+        Trial::Nilpotent => turned(w, n, c, f, g),
     }
 }
 

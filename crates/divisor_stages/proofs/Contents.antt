@@ -1,38 +1,37 @@
--- The content c of B is taken out of it and of the modulus: B over c, A modulo n / c, and then a leading unit for B.
-use mathlib.Core.Path.{_≡_, refl, sym, ap, ap₂, subst, _∙_}
+-- The content c of B is taken out of it and of the modulus: B over c, A modulo n / c, and then a leading unit for B. Each rule takes the
+-- facts as the code has them.
+--
+--   nothing-taken, taken                    the content 1, and another
+--   none-reduced                            the content n
+--   content-positive, content-splitter      c, and a coefficient that splits n / c
+--   take-asked, lead-asked                  what is asked of the words before and after
+--   primitive-reduced, content-cleared      what is left has a coefficient that is no nilpotent; D, with a leading unit for it
+--   contents                                the rules
+use mathlib.Core.Path.{_≡_, refl, sym, ap, subst, _∙_}
 use mathlib.Core.List.{List}
 use mathlib.Core.Logic.{⊎-elim}
-use Prim.Native.Nat.{ℕ, zero, suc, _+_, _-_, _*_, _/_, _%_, _≤_, _<_, _∣_}
+use Prim.Native.Nat.{ℕ, zero, suc, _+_, _*_, _/_, _%_, _≤_, _<_, _∣_}
 use native.Mathlib.Omega.{arith}
-use native.Mathlib.Nat.{mod-lt, mod-mod, mod-eq-of-lt, div-one, mul-zero, mul-one, mul-comm, mul-le-mul-left, mul-div-cancel', pos-of-dvd-of-pos, dvd-trans, dvd-mul-left, mul-dvd-mul-left, le-of-dvd, mod-eq-zero-of-dvd, dvd-zero}
-use lib.ListN.{length, getD, take, drop}
-use Rattle.definitions.specs.Residues.{IsUnit, IsNilpotent}
+use native.Mathlib.Nat.{mod-lt, mod-mod, mod-eq-of-lt, div-one, mul-zero, mul-one, mul-le-mul-left, mul-div-cancel'}
+use native.Mathlib.Nat.{pos-of-dvd-of-pos, dvd-trans, dvd-mul-left, mul-dvd-mul-left, le-of-dvd, mod-eq-zero-of-dvd, dvd-zero}
+use lib.ListN.{length, getD}
+use Rattle.definitions.specs.Residues.{IsUnit}
 use Rattle.definitions.specs.Polynomials.{coef}
 use Rattle.definitions.specs.Resultants.{Reduced}
-use Rattle.numbers.specs.Congruence.{Cong, c-refl, c-trans, c-eq, c-mod, c-mul}
 use Rattle.numbers.specs.Nilpotents.{nilpotent-radical}
 use Rattle.numbers.specs.Primes.{prime-of}
-use Rattle.numbers.specs.Units.{unit-of, unit-dvd}
-use Rattle.theory.specs.ReachedSteps.{Times}
 use Rattle.theory.specs.ReducedLaws.{reduced-flip}
-use Rattle.windows.specs.Window.{piece, Moved, quotient-by, reduced-by, Content, Below, Around, Apart}
+use Rattle.windows.specs.Window.{piece, Moved, quotient-by, reduced-by, Content}
 use Rattle.windows.proofs.Leaf.{lt-or-le, piece-at, piece-over, piece-same, piece-length, apart-at}
 use Rattle.windows.proofs.Lift.{moved-around}
-use Rattle.window_factor.specs.Factors.{HighestOf, AllNilpotents}
-use Rattle.window_factor.specs.declared.Highest.{Highest}
+use Rattle.window_factor.specs.Factors.{SplitOf, AllNilpotents}
 use Rattle.reduced_multipliers.specs.Reductions.{UnitLead, reduced-same, reduced-lead, reduced-none}
 use Rattle.reduced_units.specs.States.{Splitter}
-use Rattle.reduced_units.proofs.Regions.{apart-swap, part-piece}
+use Rattle.reduced_units.proofs.Regions.{apart-swap}
 pub use Rattle.reduced_clearing.proofs.UnitSteps.{split-splitter}
 use Rattle.divisor_stages.specs.Leads.{LeadAsked, Leading}
-use Rattle.divisor_stages.specs.Stages.{TakeAsked, ContentTaken, ContentAsked, DivisionAsked, Cleared}
-
--- what is told of a part of the buffer is told of the polynomial there
-pub highest-told : (n b m l : ℕ) (w : List ℕ) (r r' : Highest) → l ≡ m → r ≡ r' → HighestOf n (take l (drop b w)) r → HighestOf n (piece w b m) r'
-highest-told n b m l w r r' e q h = subst (HighestOf n (piece w b m)) q (subst (λ (f : List ℕ). HighestOf n f r) (part-piece w b m l e) h)
-
-pub content-told : (n b m l c : ℕ) (w : List ℕ) → l ≡ m → Content n (take l (drop b w)) c → Content n (piece w b m) c
-content-told n b m l c w e h = subst (λ (f : List ℕ). Content n f c) (part-piece w b m l e) h
+use Rattle.divisor_stages.specs.Stages.{TakeAsked, ContentTaken, ContentAsked, Cleared}
+use Rattle.divisor_stages.proofs.Factors.{part-of, part-is}
 
 -- two coprime divisors of a divisor of n
 pub splitter-dvd : (n m p q : ℕ) → m ∣ n → Splitter m p q → Splitter n p q
@@ -45,22 +44,23 @@ splitter-dvd n m p q d x = record {
 }
 
 -- the content 1, and another
-pub nothing-taken : (n c a d b : ℕ) (w : List ℕ) → TakeAsked n c a d b w → c ≡ 1 → ContentTaken n c a d b w w
-nothing-taken n c a d b w ta e = record {
-  same = refl;
-  first = λ k h. sym (ap (λ (x : ℕ). getD w (a + k) 0 % x) (ap (λ (x : ℕ). n / x) e ∙ div-one n) ∙ mod-eq-of-lt (ta .below .at k h));
-  second = λ k h. sym (ap (λ (x : ℕ). getD w (b + k) 0 / x) e ∙ div-one (getD w (b + k) 0));
-}
+module _ {n c a d b : ℕ} {w : List ℕ} (ta : TakeAsked n c a d b w) where
+  pub nothing-taken : c ≡ 1 → ContentTaken n c a d b w w
+  nothing-taken e = record {
+    same = refl;
+    first = λ k h. sym (ap (λ (x : ℕ). getD w (a + k) 0 % x) (ap (λ (x : ℕ). n / x) e ∙ div-one n) ∙ mod-eq-of-lt (ta .below .at k h));
+    second = λ k h. sym (ap (λ (x : ℕ). getD w (b + k) 0 / x) e ∙ div-one (getD w (b + k) 0));
+  }
 
-pub taken : (n c a d b : ℕ) (w w₁ w₂ : List ℕ) → TakeAsked n c a d b w → Moved (quotient-by c) b b d w w₁
-    → Moved (reduced-by (n / c)) a a (d + 1) w₁ w₂ → ContentTaken n c a d b w w₂
-taken n c a d b w w₁ w₂ ta dv rd = record {
-  same = rd .same ∙ dv .same;
-  first = λ k h. rd .mid k h ∙ ap (λ (x : ℕ). x % (n / c)) (apart-at (ta .apart) (moved-around dv) k h);
-  second = λ k h. apart-at (apart-swap (ta .apart)) (moved-around rd) k h ∙ dv .mid k h;
-}
+  pub taken : {w₁ w₂ : List ℕ} → Moved (quotient-by c) b b d w w₁ → Moved (reduced-by (n / c)) a a (d + 1) w₁ w₂
+      → ContentTaken n c a d b w w₂
+  taken dv rd = record {
+    same = rd .same ∙ dv .same;
+    first = λ k h. rd .mid k h ∙ ap (λ (x : ℕ). x % (n / c)) (apart-at (ta .apart) (moved-around dv) k h);
+    second = λ k h. apart-at (apart-swap (ta .apart)) (moved-around rd) k h ∙ dv .mid k h;
+  }
 
-module _ (n a d b s : ℕ) (w : List ℕ) (st : ContentAsked n a d b s w) where
+module _ {n a d b s : ℕ} {w : List ℕ} (st : ContentAsked n a d b s w) where
   two : 2 ≤ n
   two = st .two
 
@@ -81,28 +81,35 @@ module _ (n a d b s : ℕ) (w : List ℕ) (st : ContentAsked n a d b s w) where
       (λ l. subst (λ (y : ℕ). x ∣ y) (sym (piece-over w b d k l)) (dvd-zero x))
       (lt-or-le k d)
 
-  -- B is 0 modulo n
-  pub none-reduced : Content n (piece w b d) n → Reduced n (piece w a (d + 1)) (piece w b d) n
-  none-reduced ct = reduced-none n d (omega (arith, two)) (st .one) (piece w a (d + 1)) (piece w b d) unit-lead
-      (λ k. mod-eq-zero-of-dvd n (all-coefficients n (ct .divides) k))
+  module _ {c : ℕ} (lent : Content n (part-of b d w) c) where
+    ct : Content n (piece w b d) c
+    ct = subst (λ (f : List ℕ). Content n f c) (part-is b d w) lent
 
-  module _ (c : ℕ) (ct : Content n (piece w b d) c) where
+    -- B is 0 modulo n
+    pub none-reduced : c ≡ n → Reduced n (piece w a (d + 1)) (piece w b d) n
+    none-reduced e = reduced-none n d (omega (arith, two)) (st .one) (piece w a (d + 1)) (piece w b d) unit-lead
+        (λ k. mod-eq-zero-of-dvd n (all-coefficients n (subst (Content n (piece w b d)) e ct .divides) k))
+
     pub content-positive : 0 < c
     content-positive = pos-of-dvd-of-pos (ct .divides-n) (omega (arith, two))
 
-    pub content-whole : n ≡ c * (n / c)
+    content-whole : n ≡ c * (n / c)
     content-whole = sym (mul-div-cancel' c (ct .divides-n))
 
-    pub content-dvd : n / c ∣ n
+    content-dvd : n / c ∣ n
     content-dvd = subst (λ (x : ℕ). n / c ∣ x) (sym content-whole) (dvd-mul-left (n / c) c)
 
-    pub content-above : (c ≡ n → ⊥) → 2 ≤ n / c
+    content-above : (c ≡ n → ⊥) → 2 ≤ n / c
     content-above ne = go (n / c) content-whole
       where
         go : (r : ℕ) → n ≡ c * r → 2 ≤ r
         go zero e = absurd (omega (arith, two, mul-zero c))
         go (suc zero) e = absurd (ne (sym (e ∙ mul-one c)))
         go (suc (suc r)) e = omega arith
+
+    -- a coefficient splits n / c
+    pub content-splitter : {p q : ℕ} → SplitOf (n / c) p q → Splitter n p q
+    content-splitter x = split-splitter n (n / c) _ _ content-dvd x
 
     pub take-asked : (c ≡ n → ⊥) → TakeAsked n c a d b w
     take-asked ne = record {
@@ -114,11 +121,11 @@ module _ (n a d b s : ℕ) (w : List ℕ) (st : ContentAsked n a d b s w) where
       apart = st .apart;
     }
 
-    module _ (ne : c ≡ n → ⊥) (w₂ : List ℕ) (tk : ContentTaken n c a d b w w₂) where
+    module _ {w₂ : List ℕ} (ne : c ≡ n → ⊥) (tk : ContentTaken n c a d b w w₂) where
       above : 2 ≤ n / c
       above = content-above ne
 
-      pub content-length : length w₂ ≡ length w
+      content-length : length w₂ ≡ length w
       content-length = tk .same
 
       -- word k of A and of B
@@ -141,7 +148,8 @@ module _ (n a d b s : ℕ) (w : List ℕ) (st : ContentAsked n a d b s w) where
       -- and A is what it was, modulo n / c
       same-a : (k : ℕ) → coef (piece w a (d + 1)) k % (n / c) ≡ coef (piece w₂ a (d + 1)) k % (n / c)
       same-a k = ⊎-elim
-          (λ h. ap (λ (x : ℕ). x % (n / c)) (piece-at w a (d + 1) k h) ∙ sym (ap (λ (x : ℕ). x % (n / c)) (piece-at w₂ a (d + 1) k h ∙ word-a k h) ∙ mod-mod _ (n / c)))
+          (λ h. ap (λ (x : ℕ). x % (n / c)) (piece-at w a (d + 1) k h)
+          ∙ sym (ap (λ (x : ℕ). x % (n / c)) (piece-at w₂ a (d + 1) k h ∙ word-a k h) ∙ mod-mod _ (n / c)))
           (λ h. ap (λ (x : ℕ). x % (n / c)) (piece-over w a (d + 1) k h ∙ sym (piece-over w₂ a (d + 1) k h)))
           (lt-or-le k (d + 1))
 
@@ -162,18 +170,22 @@ module _ (n a d b s : ℕ) (w : List ℕ) (st : ContentAsked n a d b s w) where
       }
 
       -- nothing is left in common
-      pub content-primitive : AllNilpotents (n / c) (piece w₂ b d) → ⊥
+      content-primitive : AllNilpotents (n / c) (piece w₂ b d) → ⊥
       content-primitive nil =
           let p = prime-of (n / c) (omega (arith, above)) in
           let d : c * p .p ∣ c =
           ct .greatest (c * p .p) (subst (λ (x : ℕ). c * p .p ∣ x) (sym content-whole) (mul-dvd-mul-left (p .p) c (p .divides)))
-          (λ k h. subst (λ (x : ℕ). c * p .p ∣ x) (sym (times-c k)) (mul-dvd-mul-left (p .p) c (nilpotent-radical (nil .at k) .at (p .p) (p .prime) (p .divides)))) in
+          (λ k h. subst (λ (x : ℕ). c * p .p ∣ x) (sym (times-c k))
+          (mul-dvd-mul-left (p .p) c (nilpotent-radical (nil .at k) .at (p .p) (p .prime) (p .divides)))) in
           big c (p .p) content-positive (p .prime .above) (le-of-dvd content-positive d)
         where
           big : (c p : ℕ) → 0 < c → 1 < p → c * p ≤ c → ⊥
           big c p h q l = let z : c * 2 ≤ c * p = mul-le-mul-left c q in omega arith
 
-      module _ (k i : ℕ) (w₃ : List ℕ) (ld : Leading (n / c) b d k i s w₂ w₃) where
+      pub primitive-reduced : {D : ℕ} → AllNilpotents (n / c) (piece w₂ b d) → Reduced n (piece w a (d + 1)) (piece w b d) D
+      primitive-reduced nil = absurd (content-primitive nil)
+
+      module _ {k i : ℕ} {w₃ : List ℕ} (ld : Leading (n / c) b d k i s w₂ w₃) where
         kept-a : (j : ℕ) → j < d + 1 → getD w₃ (a + j) 0 ≡ getD w₂ (a + j) 0
         kept-a j h = ld .beyond .at (a + j) (omega (arith, st .first)) (λ x p e. st .apart .ok j x h p e)
 
@@ -191,7 +203,9 @@ module _ (n a d b s : ℕ) (w : List ℕ) (st : ContentAsked n a d b s w) where
             first = st .first;
             second = omega (arith, ld .shorter, st .second);
             fits = omega (arith, ld .shorter, long, content-length, ld .beyond .same);
-            below-first = record { at = λ j h. subst (λ (x : ℕ). x < n / c) (sym (kept-a j h ∙ word-a j h)) (mod-lt _ (omega (arith, above))) };
+            below-first = record {
+              at = λ j h. subst (λ (x : ℕ). x < n / c) (sym (kept-a j h ∙ word-a j h)) (mod-lt _ (omega (arith, above)));
+            };
             below-second = ld .below;
             apart = record { ok = λ x y p q e. st .apart .ok x y p (omega (arith, ld .shorter)) e };
             inverse = ld .inverse;
@@ -200,9 +214,22 @@ module _ (n a d b s : ℕ) (w : List ℕ) (st : ContentAsked n a d b s w) where
               let positive : 1 ≤ n / c = omega (arith, above) in
               let A = piece w₂ a (d + 1) in
               let y = reduced-flip (n / c) positive (piece w₂ b d) A D
-              (ld .constants A D (reduced-flip (n / c) positive A (piece w₃ b (k + 1)) D (subst (λ (f : List ℕ). Reduced (n / c) f (piece w₃ b (k + 1)) D) same-piece x))) in
+              (ld .constants A D (reduced-flip (n / c) positive A (piece w₃ b (k + 1)) D
+              (subst (λ (f : List ℕ). Reduced (n / c) f (piece w₃ b (k + 1)) D) same-piece x))) in
               subst (λ (z : ℕ). Reduced z (piece w a (d + 1)) (piece w b d) (c * D)) (sym content-whole)
-              (reduced-lead c (n / c) d content-positive positive (st .one) (piece w a (d + 1)) (subst (λ (z : ℕ). UnitLead z d (piece w a (d + 1))) content-whole unit-lead)
+              (reduced-lead c (n / c) d content-positive positive (st .one) (piece w a (d + 1))
+              (subst (λ (z : ℕ). UnitLead z d (piece w a (d + 1))) content-whole unit-lead)
               (piece w b d) (piece w₂ b d) D (record { at = λ j. ap (λ (z : ℕ). z % (c * (n / c))) (times-c j) })
               (reduced-same (n / c) positive (piece w a (d + 1)) A (piece w₂ b d) D same-a y));
         }
+
+pub ruleset contents = (
+  nothing-taken,
+  taken,
+  none-reduced,
+  content-positive,
+  content-splitter,
+  take-asked,
+  lead-asked,
+  primitive-reduced,
+)

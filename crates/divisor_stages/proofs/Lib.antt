@@ -1,3 +1,4 @@
 pub mod Factors
 pub mod Contents
 pub mod Divisions
+pub mod Cases

@@ -1,6 +1,5 @@
 -- The words of Sylvester's matrix, and the resultant as its determinant.
 --
---   degrees                                     d + e, as the code takes it
 --   entry-before, entry-after, entry-within     a row of f: before its words, after them, and within them
 --   sylvester-first, sylvester-second           the rows of f and the rows of g
 --   row-word, row-end, matrix-end               a row and the matrix, once all of their words are written
@@ -10,9 +9,10 @@
 use mathlib.Core.Path.{_≡_, sym, _∙_, ap, ap₂, subst}
 use mathlib.Core.Bool.{Bool, true, false, cond}
 use mathlib.Core.List.{List, []}
-use Prim.Native.Nat.{ℕ, pred, _+_, _-_, _<_, _≤_}
+use Prim.Native.Nat.{ℕ, _+_, _-_, _<_, _≤_}
 use native.Mathlib.Decide.{decLt}
 use native.Mathlib.Nat.{lt-of-lt-of-le}
+use native.Mathlib.Numerals.{sub-one}
 use native.Mathlib.Omega.{arith}
 use borrow.Author.Needs.{needs}
 use borrow.Author.Tests.{lt-ltb, le-ltb, le-leb, lt-leb}
@@ -21,18 +21,12 @@ use lib.IntN.{pos, natAbs}
 use lib.ListN.{length, List·getD-eq-default}
 use Rattle.definitions.specs.Polynomials.{coef, deg, Residues}
 use Rattle.definitions.specs.Resultants.{sylvester, resultant}
+use Rattle.refusals.proofs.Degrees.{degrees-are}
 use Rattle.evaluator.specs.SylvesterRows.{entry}
 use Rattle.evaluator_matrices.specs.Elimination.{cell, ResidueCells}
 use Rattle.evaluator_matrices.specs.LeadingMinors.{leading-minor, minor-sylvester}
 use Rattle.evaluator_matrices.proofs.Arrays.{ArrayWritten, array-none, array-next}
 use Rattle.evaluator.specs.Sylvester.{HoldsSylvester, HoldsSylvesterRow}
-
--- the sent degree, and d + e, as the code takes them
-less-one : (l : ℕ) → l - 1 ≡ pred l
-less-one l = omega arith
-
-pub degrees : (f g : List ℕ) → length f - 1 + (length g - 1) ≡ deg f + deg g
-degrees f g = ap₂ _+_ (less-one (length f)) (less-one (length g))
 
 -- the three places of a column against row i of f, of sent degree d
 pub entry-before : (f : List ℕ) (i j : ℕ) → j < i → pos 0 ≡ entry (deg f) f i j
@@ -42,26 +36,26 @@ entry-before f i j l =
 pub entry-after : (f : List ℕ) (d i j : ℕ) → d ≡ length f - 1 → i ≤ j → i + d < j → pos 0 ≡ entry (deg f) f i j
 entry-after f d i j e l h =
     sym (ap₂ (λ (s t : Bool). cond s (cond t (pos (coef f (i + deg f - j))) (pos 0)) (pos 0)) (le-leb i j l)
-    (lt-leb j (i + deg f) (subst (λ (x : ℕ). i + x < j) (e ∙ less-one (length f)) h)))
+    (lt-leb j (i + deg f) (subst (λ (x : ℕ). i + x < j) (e ∙ sub-one (length f)) h)))
 
 pub entry-within : (f : List ℕ) (d i j : ℕ) → d ≡ length f - 1 → i ≤ j → j ≤ i + d → pos (coef f (i + d - j)) ≡ entry (deg f) f i j
 entry-within f d i j e l h =
-    ap (λ (x : ℕ). pos (coef f (i + x - j))) (e ∙ less-one (length f))
+    ap (λ (x : ℕ). pos (coef f (i + x - j))) (e ∙ sub-one (length f))
     ∙ sym (ap₂ (λ (s t : Bool). cond s (cond t (pos (coef f (i + deg f - j))) (pos 0)) (pos 0)) (le-leb i j l)
-    (le-leb j (i + deg f) (subst (λ (x : ℕ). j ≤ i + x) (e ∙ less-one (length f)) h)))
+    (le-leb j (i + deg f) (subst (λ (x : ℕ). j ≤ i + x) (e ∙ sub-one (length f)) h)))
 
 -- the two blocks of rows, e the sent degree of g
 pub sylvester-first : (f g : List ℕ) (e r c x : ℕ) → pos x ≡ entry (deg f) f r c → e ≡ length g - 1 → r < e → pos x ≡ sylvester f g r c
 sylvester-first f g e r c x p h l =
     p ∙ sym (ap (λ (t : Bool). cond t (entry (deg f) f r c) (entry (deg g) g (r - deg g) c))
-    (lt-ltb r (deg g) (subst (λ (x : ℕ). r < x) (h ∙ less-one (length g)) l)))
+    (lt-ltb r (deg g) (subst (λ (x : ℕ). r < x) (h ∙ sub-one (length g)) l)))
 
 pub sylvester-second : (f g : List ℕ) (e r c x : ℕ) → pos x ≡ entry (deg g) g (r - e) c → e ≡ length g - 1 → e ≤ r
     → pos x ≡ sylvester f g r c
 sylvester-second f g e r c x p h l =
-    p ∙ ap (λ (x : ℕ). entry (deg g) g (r - x) c) (h ∙ less-one (length g))
+    p ∙ ap (λ (x : ℕ). entry (deg g) g (r - x) c) (h ∙ sub-one (length g))
     ∙ sym (ap (λ (t : Bool). cond t (entry (deg f) f r c) (entry (deg g) g (r - deg g) c))
-    (le-ltb r (deg g) (subst (λ (x : ℕ). x ≤ r) (h ∙ less-one (length g)) l)))
+    (le-ltb r (deg g) (subst (λ (x : ℕ). x ≤ r) (h ∙ sub-one (length g)) l)))
 
 -- ---- the matrix, word by word and row by row
 
@@ -99,11 +93,11 @@ filled-residues n f g m one hf hg h = record { at = λ r c p q. either (ltb r (d
 pub evaluated : (n : ℕ) (f g : List ℕ) (m : List (List ℕ)) → length f - 1 + (length g - 1) ≤ 8 → HoldsSylvester f g m
     → leading-minor n (length f - 1 + (length g - 1)) (cell m) ≡ resultant n f g
 evaluated n f g m l h =
-    ap (λ (k : ℕ). leading-minor n k (cell m)) (degrees f g)
+    ap (λ (k : ℕ). leading-minor n k (cell m)) (degrees-are f g)
     ∙ minor-sylvester n f g (cell m) (λ x c u v. h .at x c (inside x u) (inside c v))
   where
     inside : (x : ℕ) → x < deg f + deg g → x < 8
-    inside x u = lt-of-lt-of-le u (subst (λ (k : ℕ). k ≤ 8) (degrees f g) l)
+    inside x u = lt-of-lt-of-le u (subst (λ (k : ℕ). k ≤ 8) (degrees-are f g) l)
 
 pub ruleset entries = (entry-before, entry-after, entry-within, sylvester-first, sylvester-second)
 

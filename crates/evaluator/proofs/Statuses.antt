@@ -2,7 +2,7 @@
 --
 --   grouped                                                        the status by the tests of each number together
 --   first-applies, second-applies, third-applies, none-applies     the status where the tests up to one of them are known
---   some-told, rows-told                                           what is known where no length is refused
+--   rows-told                                                      what is known where no length is refused
 --   one-bad, none-bad, size-tested, first-bad, first-good, tested  the tests of one number together, one after the other
 --   first-some, second-some, rows-served, modulus-told, size-told, cells-told     what is known where the status is 0
 --   evaluator-refused, evaluator-done                              the answers
@@ -22,12 +22,13 @@ use Rattle.evaluator_matrices.specs.Elimination.{cell, ResidueCells}
 use Rattle.evaluator_matrices.specs.LeadingMinors.{leading-minor}
 use Rattle.refusals.specs.Refusals.{Width, bad-length, first-refusal}
 use Rattle.refusals.specs.Conditions.{status-zero, length-fails, short-fails}
-use Rattle.refusals.proofs.Cascade.{told}
+use Rattle.refusals.proofs.Cascade.{told, below-bound}
+use Rattle.refusals.proofs.Degrees.{degrees-are}
 use Rattle.refusals.proofs.Statuses.{refused-value}
 use Rattle.evaluator.specs.Sylvester.{ServedRows, HoldsSylvester}
 use Rattle.evaluator.specs.EvaluatorService.{too-large, bad-lengths, evaluator-refusals, evaluator-status}
 use Rattle.evaluator.specs.EvaluatorService.{evaluator-conditions, evaluator-listed, EvaluatorAnswer}
-use Rattle.evaluator.proofs.Filling.{degrees, filled-residues, evaluated}
+use Rattle.evaluator.proofs.Filling.{filled-residues, evaluated}
 
 module _ (m p q t a b : Bool) where
   abbrev status-of : ℕ
@@ -64,9 +65,6 @@ module _ (m p q t a b : Bool) where
 
 -- ---- the tests of one number together
 
-pub some-told : {l : ℕ} (r : Bool) (f : List ℕ) → r ≡ bad-length f → r ≡ false → l ≡ length f → 1 ≤ l
-some-told r f e h el = omega (arith, length-fails f .passed (sym e ∙ h) .some)
-
 pub one-bad : (b x : Bool) → b ≡ true → true ≡ cond b true x
 one-bad b x e = sym (ap (λ (t : Bool). cond t true x) e)
 
@@ -74,7 +72,7 @@ pub none-bad : (b x y : Bool) → b ≡ false → y ≡ x → y ≡ cond b true 
 none-bad b x y e h = h ∙ sym (ap (λ (t : Bool). cond t true x) e)
 
 pub size-tested : (f g : List ℕ) → ltb 8 (length f - 1 + (length g - 1)) ≡ ltb 8 (deg f + deg g)
-size-tested f g = ap (ltb 8) (degrees f g)
+size-tested f g = ap (ltb 8) (degrees-are f g)
 
 pub first-bad : (r b x : Bool) → r ≡ b → not r ≡ true → true ≡ cond b x true
 first-bad r b x e h = sym (ap (λ (t : Bool). cond t x true) (sym e ∙ not-true r h))
@@ -96,7 +94,7 @@ rows-told f g r e h = go (bad-length f) (bad-length g) (too-large f g) refl refl
         let a = length-fails f .passed ep .some in
         let b = length-fails g .passed eq .some in
         let s : length f - 1 + (length g - 1) ≤ 8 =
-        subst (λ (k : ℕ). k ≤ 8) (sym (degrees f g)) (short-fails 8 (deg f + deg g) .passed et) in
+        subst (λ (k : ℕ). k ≤ 8) (sym (degrees-are f g)) (short-fails 8 (deg f + deg g) .passed et) in
         record { first = record { some = a; few = omega (arith, a, b, s) }; second = record { some = b; few = omega (arith, a, b, s) } }
 
 -- ---- the status
@@ -116,14 +114,10 @@ evaluable W n f g h =
       modulus = p .0 .least;
       first-some = p .1 .0 .some;
       second-some = p .1 .1 .0 .some;
-      small = subst (λ (k : ℕ). k ≤ 8) (sym (degrees f g)) (p .1 .1 .1 .0);
+      small = subst (λ (k : ℕ). k ≤ 8) (sym (degrees-are f g)) (p .1 .1 .1 .0);
       first-residues = p .1 .1 .1 .1 .0;
       second-residues = p .1 .1 .1 .1 .1 .0;
     }
-
--- moduli below B; of a width nothing else is asked here
-abbrev below-bound : ℕ → Width
-below-bound B = record { bound = B; working = 0 }
 
 module _ (B n s : ℕ) (f g : List ℕ) (is : s ≡ evaluator-status (below-bound B) n f g) (z : s ≡ 0) where
   known : Evaluable n f g

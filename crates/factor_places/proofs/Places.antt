@@ -4,12 +4,12 @@
 --   one-more-degree, one-more-resultant     one place more of a sum and of a product, from the last on
 --   no-degree, no-resultant                 before the first place
 --   all-degrees, all-resultants             after the last
-use mathlib.Core.Path.{_≡_, refl, sym, ap, _∙_}
-use mathlib.Core.List.{List, [], _∷_}
+use mathlib.Core.Path.{_≡_, sym, ap, _∙_}
+use mathlib.Core.List.{List}
 use Prim.Native.Nat.{ℕ, zero, suc, _+_, _*_, _-_, _%_, _≤_, _<_}
 use native.Mathlib.Numerals.{add-one}
 use native.Mathlib.Omega.{arith}
-use lib.ListN.{length, getD, drop}
+use lib.ListN.{length, getD, drop, drop-of-length-le}
 use lib.Seq.{drop-cons}
 use borrow.Author.Tests.{eq-eqb, ne-eqb}
 use Rattle.factor_places.specs.Places.{place-of, sum, multiplied}
@@ -30,24 +30,18 @@ module _ (k i : ℕ) (l : List ℕ) where
       next : place-of k (drop i l) ≡ suc (place-of k (drop (i + 1) l))
       next = rw (drop-cons l i 0 h, ne-eqb (getD l i 0) k n, add-one i)
 
-drop-all : (l : List ℕ) (i : ℕ) → length l ≤ i → drop i l ≡ []
-drop-all [] zero h = refl
-drop-all [] (suc i) h = refl
-drop-all (x ∷ l) zero h = absurd (omega arith)
-drop-all (x ∷ l) (suc i) h = drop-all l i (omega arith)
-
 pub none-found : (k i : ℕ) (l : List ℕ) → length l ≡ 16 → 16 ≤ i → i ≤ 16 → place-of k l ≡ i + place-of k (drop i l) → 16 ≡ place-of k l
 unfolding place-of
-none-found k i l e h b p = omega (arith, p, ap (place-of k) (drop-all l i (omega arith)))
+none-found k i l e h b p = omega (arith, p, ap (place-of k) (drop-of-length-le l {i = i} (omega arith)))
 
 module _ (l : List ℕ) (e : length l ≡ 16) where
   pub no-degree : 0 ≡ sum (drop 16 l)
   unfolding sum
-  no-degree = sym (ap sum (drop-all l 16 (omega arith)))
+  no-degree = sym (ap sum (drop-of-length-le l {i = 16} (omega arith)))
 
   pub no-resultant : (n : ℕ) → 1 ≡ multiplied n (drop 16 l)
   unfolding multiplied
-  no-resultant n = sym (ap (multiplied n) (drop-all l 16 (omega arith)))
+  no-resultant n = sym (ap (multiplied n) (drop-of-length-le l {i = 16} (omega arith)))
 
 before : (i : ℕ) → 0 < i → suc (i - 1) ≡ i
 before i h = omega arith

@@ -3,11 +3,11 @@
 --   unheld-by, unheld-zero, leaving   the rules of `unheld` and `leaving_refusal`
 --   full-places, full-sum             the ends of `full`
 --   sent-.., number-taken, places-full, work-short, none-refused      the rules of `arrival_refusal`
---   deg-less                          the sent degree, as the code finds it
 use mathlib.Core.Path.{_≡_, refl, sym, ap, _∙_}
 use mathlib.Core.Bool.{Bool, true, false, not}
-use mathlib.Core.List.{List, [], _∷_, _++_}
-use Prim.Native.Nat.{ℕ, zero, suc, pred, _+_, _-_, _≤_, _<_}
+use mathlib.Core.List.{List, [], _∷_}
+use Prim.Native.Nat.{ℕ, _+_, _-_, _≤_, _<_}
+use native.Mathlib.Numerals.{sub-one}
 use native.Mathlib.Omega.{arith}
 use native.Mathlib.Decide.{decLe}
 use lib.Dec.{ltb, leb}
@@ -52,13 +52,6 @@ module _ (d : ℕ) (number degree : List ℕ) (i : ℕ) (e : i ≡ place-of 0 nu
   pub full-sum : i < 16 → (x : ℕ) → x ≡ sum degree → ltb 48 (x + d) ≡ full d number degree
   full-sum h x p = rw (lt-ltb (place-of 0 number) 16 (omega (arith, e)), p)
 
-pub deg-less : (f : List ℕ) → length f - 1 ≡ deg f
-deg-less f = go (length f)
-  where
-    go : (l : ℕ) → l - 1 ≡ pred l
-    go zero = refl
-    go (suc l) = omega arith
-
 module _ (n : ℕ) (f h : List ℕ) (t : ℕ) (e : t ≡ first-refusal (refusals-two narrow n f h)) where
   pub sent-some : t ≡ 0 → 1 ≤ length f
   sent-some z = accepted-two narrow n f h (sym e ∙ z) .0 .some
@@ -89,7 +82,7 @@ module _ (n : ℕ) (f h : List ℕ) (t : ℕ) (e : t ≡ first-refusal (refusals
         further x r = on x (row-passes 14 (taken k number) full-row x (sym p ∙ q) r)
 
         full-is : c ≡ full (deg f) number degree
-        full-is = g ∙ ap (λ (d : ℕ). full d number degree) (deg-less f)
+        full-is = g ∙ ap (λ (d : ℕ). full d number degree) (sub-one (length f))
 
         pub places-full : c ≡ true → 13 ≡ first-refusal (arrival-tests narrow n number degree k f h l)
         places-full r = further 13 (row-applies 12 (full (deg f) number degree) ((7, short l 8192) ∷ []) (sym full-is ∙ r))

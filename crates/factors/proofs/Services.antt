@@ -8,17 +8,17 @@ use mathlib.Core.Path.{_≡_, refl, sym, ap, _∙_}
 use mathlib.Core.Bool.{true, false}
 use mathlib.Core.List.{List, [], _∷_, _++_}
 use Prim.Native.Nat.{ℕ, zero, suc, _-_, _≤_, _<_}
+use native.Mathlib.Numerals.{sub-one}
 use native.Mathlib.Omega.{arith}
 use lib.ListN.{length, take, replicate}
 use mir.Syntax.{w32}
 use mir.Val.{Fits}
 use Rattle.definitions.specs.Polynomials.{deg}
 use Rattle.definitions.specs.Resultants.{resultant}
-use Rattle.refusals.specs.Refusals.{Tested, narrow, bad-modulus, short, first-of, first-refusal, refusals-one, refusals-two, left}
+use Rattle.refusals.specs.Refusals.{narrow, bad-modulus, short, first-refusal, refusals-one, refusals-two, left}
 use Rattle.refusals.specs.Conditions.{ServedModulus, Passed, modulus-fails, accepted-one, status-zero}
-use Rattle.refusals.proofs.Statuses.{row-applies, row-passes, passed-on, first-append, long-enough, left-refused}
+use Rattle.refusals.proofs.Statuses.{row-applies, row-passes, passed-on, front-passes, long-enough, left-refused}
 use Rattle.resultant_service.specs.ResultantService.{ResultantAnswer}
-use Rattle.factor_places.proofs.Refusing.{deg-less}
 use Rattle.factor_places.specs.Places.{place-of, multiplied, taken, full, arrival-tests, leaving-tests}
 use Rattle.factors.specs.declared.Factors.{Factors}
 use Rattle.factors.specs.FactorsService.{served-length, held-h}
@@ -79,13 +79,6 @@ module _ (n : ℕ) (h : List ℕ) (t : ℕ) (e : t ≡ first-refusal (refusals-o
 
 -- ---- arrival
 
-zero-first : (a b : List Tested) → first-refusal (a ++ b) ≡ 0 → first-refusal a ≡ 0
-zero-first a b z = go (first-refusal a) (sym (first-append a b) ∙ z)
-  where
-    go : (x : ℕ) → first-of x (first-refusal b) ≡ 0 → x ≡ 0
-    go zero e = refl
-    go (suc x) e = e
-
 -- s is the state, h the polynomial that it holds, t what the refusals come to
 module _ (s : Factors) (k : ℕ) (f h work : List ℕ) (t : ℕ) (same : h ≡ held-h s)
     (e : t ≡ first-refusal (arrival-tests narrow (s .n) (s .number) (s .degree) k f h (length work))) where
@@ -118,14 +111,14 @@ module _ (s : Factors) (k : ℕ) (f h work : List ℕ) (t : ℕ) (same : h ≡ h
         → i ≡ place-of 0 (s .number) → r ≡ replaced-at s i k (length f - 1) x → ArriveAnswer narrow s k f work work' r 0
     arrive-answered x y i a p q = record {
       status-is = sym z ∙ tests;
-      factors-is = q ∙ rw (p, deg-less f, value);
+      factors-is = q ∙ rw (p, sub-one (length f), value);
       work-is = a .work-is ∙ ap (λ (j : ℕ). left j work) zero-status;
     }
       where
         zero-status : y ≡ 0
         zero-status = a .status-is
             ∙ sym (passed-on (refusals-two narrow (s .n) f h) ((7, short (length work) 8192) ∷ []) 0 0
-            (sym (zero-first (refusals-two narrow (s .n) f h)
+            (sym (front-passes (refusals-two narrow (s .n) f h)
             ((14, taken k (s .number)) ∷ (13, full (deg f) (s .number) (s .degree)) ∷ (7, short (length work) 8192) ∷ []) (sym e ∙ z)))
             refl (long-enough 7 (length work) 8192 [] 0 (passed .1 .1 .1 .1 .1 .1 .1 .0) refl))
 

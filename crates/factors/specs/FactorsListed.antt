@@ -9,11 +9,10 @@ use mathlib.Core.List.{List, [], _∷_, _++_}
 use Prim.Native.Nat.{ℕ, _+_, _≤_, _<_}
 use native.Mathlib.Omega.{arith}
 use lib.Dec.{ltb}
-use borrow.Author.Tests.{ltb-true, lt-ltb}
 use Rattle.definitions.specs.Polynomials.{deg}
 use Rattle.refusals.specs.Refusals.{Width}
 use Rattle.refusals.specs.Conditions.{Fails, Listed, ServedModulus, conditions-two}
-use Rattle.refusals.specs.Conditions.{fails, either-fails, none-fails, modulus-fails, length-fails, words-fail, short-fails}
+use Rattle.refusals.specs.Conditions.{either-fails, none-fails, below-fails, modulus-fails, length-fails, words-fail, short-fails}
 use Rattle.factor_places.specs.Places.{place-of, sum, unheld, taken, full}
 use Rattle.factors.specs.declared.Factors.{Factors}
 use Rattle.factors.specs.FactorsService.{held-h}
@@ -34,23 +33,20 @@ pub record Room (d : ℕ) (number degree : List ℕ) : Type 0 where
   pub free-place : place-of 0 number < 16
   pub degrees : sum degree + d ≤ 48
 
--- some place has k
-used-fails : (k : ℕ) (l : List ℕ) → Fails (not (ltb (place-of k l) 16)) (place-of k l < 16)
-used-fails k l = fails (ltb (place-of k l) 16) (ltb-true (place-of k l) 16) (lt-ltb (place-of k l) 16)
-
 taken-fails : (k : ℕ) (l : List ℕ) → Fails (taken k l) (NewNumber k l)
 taken-fails k l =
-    either-fails (none-fails k) (short-fails (place-of k l) 16) (λ a b. record { nonzero = a; unused = b }) (λ m. m .nonzero) (λ m. m .unused)
+    either-fails (none-fails k) (short-fails (place-of k l) 16) (λ a b. record { nonzero = a; unused = b }) (λ m. m .nonzero)
+    (λ m. m .unused)
 
 unheld-fails : (k : ℕ) (l : List ℕ) → Fails (unheld k l) (HeldNumber k l)
 unheld-fails k l =
-    either-fails (none-fails k) (used-fails k l) (λ a b. record { nonzero = a; used = b }) (λ m. m .nonzero) (λ m. m .used)
+    either-fails (none-fails k) (below-fails (place-of k l) 16) (λ a b. record { nonzero = a; used = b }) (λ m. m .nonzero) (λ m. m .used)
 
 full-fails : (d : ℕ) (number degree : List ℕ) → Fails (full d number degree) (Room d number degree)
 full-fails d number degree =
     subst (λ (b : Bool). Fails b (Room d number degree)) (turned (ltb (place-of 0 number) 16) (ltb 48 (sum degree + d)))
-    (either-fails (used-fails 0 number) (short-fails 48 (sum degree + d)) (λ a b. record { free-place = a; degrees = b }) (λ m. m .free-place)
-    (λ m. m .degrees))
+    (either-fails (below-fails (place-of 0 number) 16) (short-fails 48 (sum degree + d)) (λ a b. record { free-place = a; degrees = b })
+    (λ m. m .free-place) (λ m. m .degrees))
   where
     turned : (s t : Bool) → cond (not s) true t ≡ cond s t true
     turned true t = refl

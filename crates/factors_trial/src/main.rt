@@ -1,218 +1,134 @@
-// A trial of the product whose factors come and go. The expected output is made by tools/factors_figures.py, which multiplies the
-// factors held and works the Sylvester determinant afresh for each reading.
+// The product whose factors come and go, on histories from outside: tools/factors_figures.py writes them, and what must be answered.
 //
-// A history is a start with h and 120 drawn calls. A line for each call: what was called (0 an arrival, 1 a leaving), the number, the
-// words sent, the status, a working word afterwards, then the status and the value of a reading. Then eighteen factors that arrive and
-// leave in turn, the refusals of a start, and calls on states that no start made.
+// Each line of the input is a call on the state that the line before left: the kind, two numbers, words. If the kind is 1, a start with n
+// and the words of h; if it is 2, the factor of these words arrives, and the numbers are its own and how many working words are lent; if it
+// is 3, the factor with this number leaves; any other kind puts a state that no start made: n and the length of h, then the word of all h,
+// the number, the degree and the resultant of all places. Each is answered by a line: the status, of an arrival what became of the working
+// words, then the status and the value of a reading.
 ghost use Prim.Native.Nat.{_≤_};
+ghost use lib.ListN.{length};
 use factors::Factors;
-use factors::Held;
+use refusals::Answer;
+use trial_lines::MARK;
+use trial_lines::put;
+use trial_lines::put_name;
+use trial_lines::size;
 
-// The number drawn after x.
-fn drawn(x: u32) -> u32 {
-    arithmetic::mul_add_mod(4294967291, 12345, 1103515245, x)
+const START: u32 = 1;
+
+const ARRIVE: u32 = 2;
+
+const LEAVE: u32 = 3;
+
+// ---- the calls
+
+fn start(n: u32, h: &[u32]) -> Factors {
+    let a = factors::start(n, h);
+    put_name(b"start");
+    put(a.status);
+    a.factors
 }
 
-fn number(x: u32) {
-    io::print_decimal(1, x as u64);
+fn arrive(s: Factors, k: u16, f: &[u32], work: &mut [u32]) -> Factors {
+    trial_lines::fill(work, MARK);
+    let a = factors::arrive(s, k, f, work);
+    put_name(b"arrive");
+    put(a.status);
+    trial_lines::put_working(work);
+    a.factors
 }
 
-fn next_number(x: u32) {
-    io::write_all(1, &[b' ']);
-    number(x);
-}
-
-fn end_line() {
-    io::write_all(1, &[b'\n']);
-}
-
-fn next_reading(s: Factors) {
-    let a: refusals::Answer = factors::read(s);
-    next_number(a.status);
-    next_number(a.value);
-    end_line();
-}
-
-// 50 words below n, drawn after x; with `over`, the first is n.
-fn filled(n: u32, x: u32, over: bool) -> [u32; 50] {
-    let mut f = [0u32; 50];
-    if n < 1 {
-        return f;
-    }
-    let mut y = x;
-    for i in 0..50 {
-        y = drawn(y);
-        f[i] = arithmetic::reduce(n, y as u64);
-    }
-    if over {
-        f[0] = n;
-    }
-    f
-}
-
-// The first `length` words of f and the first `working` working words are lent.
-fn sent(s: Factors, k: u16, f: &[u32], length: usize, work: &mut [u32], working: usize) -> Held {
-    if f.len() < length {
-        return factors::arrive(s, k, f, work);
-    }
-    if work.len() < working {
-        return factors::arrive(s, k, f, work);
-    }
-    factors::arrive(s, k, &f[0..length], &mut work[0..working])
-}
-
-// The factor of the first `length` words drawn after x arrives; with `over`, its first word is n. So many working words are lent.
-fn arrival(s: Factors, n: u32, x: u32, k: u16, length: u32, over: bool, working: usize) -> Factors {
-    let f = filled(n, x, over);
-    let mut work = [7u32; 8192];
-    let a = sent(s, k, &f, length as usize, &mut work, working);
-    let r = a.factors;
-    number(0);
-    next_number(k as u32);
-    next_number(length);
-    next_number(a.status);
-    next_number(work[100]);
-    next_reading(r);
-    r
-}
-
-fn leaving(s: Factors, k: u16) -> Factors {
+fn leave(s: Factors, k: u16) -> Factors {
     let a = factors::leave(s, k);
-    let r = a.factors;
-    number(1);
-    next_number(k as u32);
-    next_number(0);
-    next_number(a.status);
-    next_number(0);
-    next_reading(r);
-    r
+    put_name(b"leave");
+    put(a.status);
+    a.factors
 }
 
-fn length_of(x: u32) -> u32 {
-    if x % 32 == 0 {
-        return 50;
+// The state of any words.
+fn state(n: u32, len: u32, words: &[u32]) -> Factors {
+    put_name(b"state");
+    if words.len() < 4 {
+        return factors::start(0, words).factors;
     }
-    if x % 32 == 1 {
-        return 30;
-    }
-    x % 7
-}
-
-// One call drawn after x. Numbers from 0 to 19.
-fn call(s: Factors, n: u32, x: u32, long: bool) -> Factors {
-    let y = drawn(x);
-    let z = drawn(y);
-    let v = drawn(z);
-    let k = (y % 20) as u16;
-    if x % 8 < 3 {
-        return leaving(s, k);
-    }
-    let mut working: usize = 8192;
-    if v % 16 == 0 {
-        working = 8191;
-    }
-    let mut length = length_of(z);
-    if long {
-        length = z % 4;
-    }
-    arrival(s, n, v, k, length, v % 16 == 1, working)
-}
-
-fn first_of(n: u32, h: &[u32], e: usize) -> Held {
-    if h.len() < e {
-        return factors::start(n, h);
-    }
-    factors::start(n, &h[0..e])
-}
-
-// A start with the first e words of h.
-fn begun(n: u32, h: &[u32], e: u32) -> Factors {
-    let a = first_of(n, h, e as usize);
-    let s = a.factors;
-    number(n);
-    next_number(e);
-    next_number(a.status);
-    next_reading(s);
-    s
-}
-
-fn history(n: u32, seed: u32, e: u32, long: bool) {
-    let h = filled(n, seed, false);
-    let mut s = begun(n, &h, e);
-    let mut x = seed;
-    for i in 0usize..120 {
-        x = drawn(drawn(drawn(drawn(x))));
-        s = call(s, n, x, long);
-    }
-}
-
-// Eighteen arrivals of so many words each, one leaving after the seventeenth, and all leave.
-fn crowd(n: u32, seed: u32, e: u32, length: u32) {
-    let h = filled(n, seed, false);
-    let mut s = begun(n, &h, e);
-    let mut x = seed;
-    for k in 1u16..18 {
-        x = drawn(x);
-        s = arrival(s, n, x, k, length, false, 8192);
-    }
-    s = leaving(s, 5);
-    s = arrival(s, n, x, 18, length, false, 8192);
-    for k in 1u16..19 {
-        s = leaving(s, k);
-    }
-}
-
-fn refused_start(n: u32, word: u32, e: u32) {
-    let h = [word; 50];
-    let s = begun(n, &h, e);
-    let b = arrival(s, 2, 5, 1, 2, false, 8192);
-    leaving(b, 1);
-}
-
-// Calls on a state that no start made: all its numbers are k, all its degrees d, all its resultants x, all words of h are w.
-fn any_state(n: u32, len: u32, w: u32, k: u16, d: u32, x: u32) {
-    let s = Factors {
+    Factors {
         n,
         len,
-        h: [w; 49],
-        number: [k; 16],
-        degree: [d; 16],
-        resultant: [x; 16],
-    };
-    number(n);
-    next_number(len);
-    next_reading(s);
-    let a = arrival(s, 7, 5, 3, 3, false, 8192);
-    let b = leaving(a, 3);
-    let c = leaving(b, 4);
-    leaving(c, 0);
+        h: [words[0]; 49],
+        number: [(words[1] % 65536) as u16; 16],
+        degree: [words[2]; 16],
+        resultant: [words[3]; 16],
+    }
+}
+
+fn put_reading(s: Factors) {
+    let a: Answer = factors::read(s);
+    put(a.status);
+    put(a.value);
+}
+
+// ---- the run
+
+// The call of a line.
+fn call(s: Factors, words: &[u32], work: &mut [u32]) -> Factors
+    requires { ⌜ 3 ≤ length (now words) ⌝ }
+{
+    let rest = &words[3..words.len()];
+    if words[0] == START {
+        return start(words[1], rest);
+    }
+    let k = (words[1] % 65536) as u16;
+    if words[0] == ARRIVE {
+        let lw = size(words[2], work.len());
+        return arrive(s, k, rest, &mut work[0..lw]);
+    }
+    if words[0] == LEAVE {
+        return leave(s, k);
+    }
+    state(words[1], words[2], rest)
+}
+
+// A state, and whether there was a line.
+struct Step {
+    factors: Factors,
+    more: bool,
+}
+
+// The next line.
+fn try_line(s: Factors, line: &mut [u8], words: &mut [u32], work: &mut [u32]) -> Step {
+    let count = trial_lines::read_line(line, words);
+    if count < 3 {
+        return Step {
+            factors: s,
+            more: false,
+        };
+    }
+    let r = call(s, &words[0..count], work);
+    put_reading(r);
+    trial_lines::end_line();
+    Step {
+        factors: r,
+        more: true,
+    }
+}
+
+// A proved loop has to end, and nothing says that an input does: it counts its turns down from a number that no run uses up.
+fn run(line: &mut [u8], words: &mut [u32], work: &mut [u32]) {
+    let mut s = factors::start(0, words).factors;
+    let mut turns = u64::MAX;
+    while turns > 0 {
+        let r = try_line(s, line, words, work);
+        if !r.more {
+            return;
+        }
+        s = r.factors;
+        turns -= 1;
+    }
 }
 
 fn main() {
-    history(12, 1, 3, false);
-    history(4294967295, 2, 4, false);
-    history(30030, 3, 6, true);
-    history(65536, 4, 2, true);
-    history(2, 5, 5, true);
-    history(4294836225, 6, 1, true);
-    history(6, 7, 7, true);
-    crowd(12, 8, 3, 4);
-    crowd(4294967295, 9, 5, 3);
-    crowd(10, 10, 4, 49);
-    refused_start(0, 0, 2);
-    refused_start(1, 0, 2);
-    refused_start(9, 0, 0);
-    refused_start(9, 0, 50);
-    refused_start(9, 9, 3);
-    any_state(0, 3, 0, 0, 0, 1);
-    any_state(1, 3, 0, 4, 0, 1);
-    any_state(7, 0, 0, 0, 0, 1);
-    any_state(7, 50, 0, 0, 0, 1);
-    any_state(7, 4294967295, 0, 0, 0, 1);
-    any_state(7, 49, 1, 0, 3, 4294967295);
-    any_state(7, 3, 7, 0, 0, 1);
-    any_state(7, 3, 6, 4, 0, 5);
-    any_state(7, 3, 6, 3, 4294967295, 5);
-    any_state(7, 3, 6, 0, 4294967295, 4294967295);
-    any_state(4294967295, 3, 6, 4, 0, 4294967295);
+    let mut line = io::buffer();
+    let mut words = [0u32; 64];
+    let mut work = [0u32; 8200];
+    run(&mut line, &mut words, &mut work);
 }

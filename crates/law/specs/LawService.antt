@@ -1,7 +1,8 @@
 -- What the function that tries the law of products answers, over any width W: f, g and h are the polynomials sent.
 --
 --   law-refusals                        the refusals of the seven calls in their order
---   ThreeResultants, ThreeReduced       what three calls of one service promise
+--   ThreeResultants, TwoReduced, ThreeReduced     what three calls of one service promise, or two
+--   SixNumbers, SevenAsked              what both promise, and when they are made
 --   LawAnswer                           all that is promised: the seven numbers, and the law of products of them
 use mathlib.Core.Path.{_≡_}
 use mathlib.Core.List.{List, _++_}
@@ -30,20 +31,35 @@ pub record ThreeResultants (W : Width) (n : ℕ) (p f g h work work' : List ℕ)
   pub first : ResultantAnswer W n f h w₁ w₂ rf t₂
   pub second : ResultantAnswer W n g h w₂ work' rg t₃
 
--- and three of the reduced resultant, that of p last
-pub record ThreeReduced (W : Width) (n : ℕ) (p f g h u u' v v' work work' : List ℕ) (D Df Dg : ℕ) : Type 0 where
+-- and of the reduced resultant: two, with f and g, then that of p
+pub record TwoReduced (W : Width) (n : ℕ) (f g h u u' v v' work work' : List ℕ) (Df Dg : ℕ) : Type 0 where
   pub u₁ : List ℕ
-  pub u₂ : List ℕ
   pub v₁ : List ℕ
-  pub v₂ : List ℕ
   pub w₁ : List ℕ
-  pub w₂ : List ℕ
   pub t₁ : ℕ
   pub t₂ : ℕ
-  pub t₃ : ℕ
   pub first : ReducedAnswer W n f h u u₁ v v₁ work w₁ Df t₁
-  pub second : ReducedAnswer W n g h u₁ u₂ v₁ v₂ w₁ w₂ Dg t₂
+  pub second : ReducedAnswer W n g h u₁ u' v₁ v' w₁ work' Dg t₂
+
+pub record ThreeReduced (W : Width) (n : ℕ) (p f g h u u' v v' work work' : List ℕ) (D Df Dg : ℕ) : Type 0 where
+  pub u₂ : List ℕ
+  pub v₂ : List ℕ
+  pub w₂ : List ℕ
+  pub t₃ : ℕ
+  pub factors : TwoReduced W n f g h u u₂ v v₂ work w₂ Df Dg
   pub product : ReducedAnswer W n p h u₂ u' v₂ v' w₂ work' D t₃
+
+-- the one after the other
+pub record SixNumbers (W : Width) (n : ℕ) (p f g h u u' v v' work work' : List ℕ) (r rf rg D Df Dg status : ℕ) : Type 0 where
+  pub between : List ℕ
+  pub resultants : ThreeResultants W n p f g h work between r rf rg
+  pub reduced : ThreeReduced W n p f g h u u' v v' between work' D Df Dg
+  pub status-is : status ≡ 0
+
+-- none of the refusals applies, and m is the length of the product
+pub record SevenAsked (W : Width) (n : ℕ) (f g h : List ℕ) (m : ℕ) (p u v work : List ℕ) : Type 0 where
+  pub none : first-refusal (law-refusals W n f g h (length p) (length u) (length v) (length work)) ≡ 0
+  pub words : m ≡ suc (deg f + deg g)
 
 -- the seven answers, and what then holds between them
 pub record LawHolds (n : ℕ) (f g h u u' v v' : List ℕ) (r rf rg D Df Dg : ℕ) : Type 0 where

@@ -1,21 +1,15 @@
 -- The refusals of what was sent, from the code's own tests. For words of any width.
 --
---   some-told                   a polynomial whose length was accepted has a word
 --   sent-stops, sent-passes     one of the first refusals applies, or none
 --   tests                       the rules of a test that a callee answers
-use mathlib.Core.Path.{_≡_, sym, _∙_}
-use mathlib.Core.Bool.{Bool, false}
+use mathlib.Core.Path.{_≡_}
 use mathlib.Core.List.{List}
-use Prim.Native.Nat.{ℕ, _≤_}
-use lib.ListN.{length}
-use Rattle.refusals.specs.Refusals.{Width, bad-length, first-refusal}
+use Prim.Native.Nat.{ℕ}
+use Rattle.refusals.specs.Refusals.{Width, first-refusal}
 use Rattle.refusals.proofs.Cascade.{hit, miss, told, told-not}
 use Rattle.refusals.proofs.Statuses.{refused-early, passed-on}
-use Rattle.polynomial_product.proofs.Answers.{some-word, degrees-over, degrees-within}
+use Rattle.polynomial_product.proofs.Answers.{degrees-over, degrees-within}
 use Rattle.law_refusals.specs.LawRefusals.{law-sizes, law-words, law-sent}
-
-pub some-told : (r : Bool) (f : List ℕ) → r ≡ bad-length f → r ≡ false → 1 ≤ length f
-some-told r f e h = some-word f (sym e ∙ h)
 
 module _ (W : Width) (n : ℕ) (f g h : List ℕ) (s : ℕ) (e : s ≡ first-refusal (law-sizes W n f g h)) where
   pub sent-stops : (s ≡ 0 → ⊥) → s ≡ first-refusal (law-sent W n f g h)

@@ -20,6 +20,7 @@ use mir.Val.{Fits}
 use Rattle.definitions.specs.Polynomials.{coef, TrueDegree, none, place, extent, true-degree}
 use Rattle.refusals.specs.Refusals.{Width}
 use Rattle.refusals.specs.Conditions.{accepted-one}
+use Rattle.refusals.proofs.Cascade.{below-bound}
 use Rattle.polynomial_tests.specs.Counts.{extent-length, extent-count, HoldsFrom, holds-none, holds-more, holds-all, holds-until}
 use Rattle.polynomial_degree.specs.declared.Degree.{Degree}
 use Rattle.polynomial_degree.specs.declared.Degree.the-variants.{None, At, Refused}
@@ -77,10 +78,6 @@ module _ (W : Width) (n s : ℕ) (f : List ℕ) (is : s ≡ degree-status W n f)
     status-is = sym z ∙ is;
     case-is = subst (λ (x : ℕ). At (k - 1) ≡ told 0 (degree-at x)) e (at-told k h);
   }
-
--- moduli below B; of a width nothing else is asked here
-abbrev below-bound : ℕ → Width
-below-bound B = record { bound = B; working = 0 }
 
 -- a place fits a word of 32 bits
 module _ (B n s : ℕ) (f : List ℕ) (is : s ≡ degree-status (below-bound B) n f) (z : s ≡ 0) (k : ℕ) (e : k ≡ extent f) where

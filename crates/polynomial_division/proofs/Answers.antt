@@ -18,6 +18,7 @@ use Rattle.definitions.specs.Polynomials.{coef, deg, quotient-length, Division}
 use Rattle.numbers.specs.Divisors.{GcdCofactor}
 use Rattle.refusals.specs.Refusals.{Width, Tested, short, first-refusal, refusals-two}
 use Rattle.refusals.specs.Conditions.{Accepted, accepted-two, status-zero, short-fails, equal-fails}
+use Rattle.refusals.proofs.Cascade.{below-bound}
 use Rattle.refusals.proofs.Statuses.{refused-early, passed-on}
 use Rattle.polynomial_tests.specs.Buffers.{deg-is, placed-take, placed-drop}
 use Rattle.polynomial_tests.specs.UnitTests.{is-unit, unit-gcd}
@@ -100,10 +101,6 @@ module _ (W : Width) (n s : ℕ) (f g q r : List ℕ) (is : s ≡ first-refusal 
 -- the inverse of the divisor's top word
 top-inverse : (n u v : ℕ) (g : List ℕ) → GcdCofactor n (getD g (length g - 1) 0) u v → u ≡ 1 → (v * coef g (deg g)) % n ≡ 1 % n
 top-inverse n u v g cf one = ap (λ (e : ℕ). (v * coef g e) % n) (deg-is g) ∙ cf .bezout ∙ ap (λ (y : ℕ). y % n) one
-
--- moduli below B; of a width nothing else is asked here
-abbrev below-bound : ℕ → Width
-below-bound B = record { bound = B; working = 0 }
 
 module _ (B n s : ℕ) (f g : List ℕ) (is : s ≡ first-refusal (refusals-two (below-bound B) n f g)) (z : s ≡ 0) where
   known : Accepted (below-bound B) n f × Accepted (below-bound B) n g

@@ -16,6 +16,7 @@ use lib.Seq.{getD-set-same, getD-set-other, getD-drop, take-all}
 use Rattle.numbers.specs.Congruence.{Cong, c-refl, c-sym, c-trans, c-eq, c-add, c-mul, c-mod, c-sub, ring}
 use Rattle.definitions.specs.Polynomials.{coef, deg, convolve, tabulate, quotient-length, Division}
 use Rattle.theory.specs.Words.{total-cong, coef-out, coef-tabulate, length-tabulate}
+use Rattle.theory.specs.ReachedSteps.{coef-beyond}
 use Rattle.convolution.specs.Sums.{total-none, convolve-shift, convolve-first, zeros-at}
 use Rattle.windows.proofs.Leaf.{lt-or-le}
 use Rattle.reduction.proofs.Reciprocals.{modulo, within}
@@ -31,10 +32,6 @@ pub record Quotienting (n s : ℕ) (f g q₀ q : List ℕ) : Type 0 where
   pub below : (j : ℕ) → coef q j < n
   pub high : (j : ℕ) → length f ≤ deg g + j → coef q j ≡ 0
   pub at : (j : ℕ) → s ≤ j → Cong n (convolve (coef (drop j q)) (coef g) (deg g)) (coef f (deg g + j))
-
--- beyond the words sent
-beyond : (f : List ℕ) (k : ℕ) → length f ≤ k → coef f k ≡ 0
-beyond f k l = List·getD-eq-default f 0 l
 
 -- the loop begins within the quotient
 starts-within : (f g : List ℕ) (l s : ℕ) → 1 ≤ length f → l ≡ quotient-length (deg f) (deg g) → s ≡ length f - (length g - 1) → s ≤ l
@@ -56,7 +53,7 @@ quotienting-start {n} {i} {s} {f} {g} {p} {q} a e es =
       at = λ j l. c-eq
           (total-none (suc (deg g)) _ (λ i b. ap (λ (x : ℕ). x * coef g (deg g - i)) (getD-drop j q i 0 ∙ z (j + i))
           ∙ zero-mul (coef g (deg g - i)))
-          ∙ sym (beyond f (deg g + j) (omega (arith, deg-is g))));
+          ∙ sym (coef-beyond f (deg g + j) (omega (arith, deg-is g))));
     }
 
 -- the slice that is read is all that stands from s on
@@ -216,17 +213,14 @@ remainder-next {k} {k'} {r₀} {r} {r'} n a x y v f g q h l ea ex ey ev er ek =
     rw (er, ek) (filled-step h (omega (arith, h .same))
     (ev ∙ ap (λ (z : ℕ). (y + (z - x)) % z) ea ∙ ap₂ (λ (u w : ℕ). (u + (n - w)) % n) ey (modulo _ ea ex)))
 
-pub remainder-end : {F : ℕ → ℕ} {k : ℕ} {r₀ r : List ℕ} → Filled F k r₀ r → k ≤ length r₀ → length r ≤ k → r ≡ tabulate (length r₀) F
-remainder-end h m l = filled-end h (omega (arith, h .same))
-
 pub residue-within : {b y : ℕ} (a v x : ℕ) → v ≡ x % a → 1 ≤ a → y ≡ v → b ≡ a → y ≤ b
 residue-within a v x h l ey eb = omega (arith, within x l h)
 
 pub beyond-word : (f : List ℕ) (k : ℕ) → length f ≤ k → 0 ≡ coef f k
-beyond-word f k l = sym (beyond f k l)
+beyond-word f k l = sym (coef-beyond f k l)
 
 pub ruleset turns = (quotienting-start, quotienting-next, quotienting-end, quotient-word-is, residue-within)
 
-pub ruleset remains = (beyond-word, filled-none, remainder-next, remainder-end, divided)
+pub ruleset remains = (beyond-word, filled-none, remainder-next, filled-end, divided)
 
 pub ruleset quotients = (needs, turns, remains)

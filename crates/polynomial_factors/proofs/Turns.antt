@@ -7,6 +7,7 @@ use mathlib.Core.Path.{_≡_, refl, sym, ap, _∙_}
 use mathlib.Core.Bool.{Bool, true, false, not}
 use mathlib.Core.List.{List}
 use Prim.Native.Nat.{ℕ, pred, _+_, _-_, _≤_, _<_}
+use native.Mathlib.Numerals.{sub-one}
 use native.Mathlib.Omega.{arith}
 use lib.ListN.{length, set, replicate}
 use borrow.Author.Needs.{needs}
@@ -17,7 +18,7 @@ use Rattle.windows.proofs.Leaf.{piece-at, piece-over}
 use Rattle.window_factor.specs.Factors.{Given, Factored}
 use Rattle.polynomial_tests.specs.UnitTests.{is-nilpotent, lead-place}
 use Rattle.polynomial_tests.specs.Counts.{HoldsFrom, holds-none, holds-more, holds-all, holds-until}
-use Rattle.polynomial_tests.specs.Buffers.{Filled, filled-none, filled-step, filled-end, pred-is}
+use Rattle.polynomial_tests.specs.Buffers.{Filled, filled-none, filled-step, filled-end}
 use Rattle.polynomial_factors.specs.Stages.{FactorsAsked}
 use Rattle.polynomial_factors.proofs.Parts.{given-of, factors-of}
 
@@ -46,7 +47,7 @@ handing-next v h l e ew ek = rw (ew, ek) (record {
 })
 
 pub handing-end : {F : ℕ → ℕ} {k : ℕ} {w₀ w : List ℕ} → Handing F w₀ w k → length w ≤ k → w ≡ tabulate (length w₀) F
-handing-end h l = filled-end (h .done) (omega (arith, h .done .same, h .most))
+handing-end h l = filled-end (h .done) (h .most) l
 
 -- ---- the leading place
 
@@ -59,7 +60,7 @@ trailing-none n f = record { most = omega arith; done = holds-none _ _ }
 
 module _ {n t : ℕ} {f : List ℕ} (h : Trailing n f t) where
   pub trailing-found : (b : Bool) → b ≡ is-nilpotent n (coef f (t - 1)) → not b ≡ true → t - 1 ≡ lead-place n f
-  trailing-found b e v = sym (pred-is t) ∙ ap pred (holds-until (h .done) (h .most) (sym e ∙ not-true _ v))
+  trailing-found b e v = sub-one t ∙ ap pred (holds-until (h .done) (h .most) (sym e ∙ not-true _ v))
 
   pub trailing-next : {t' : ℕ} (b : Bool) → 0 < t → b ≡ is-nilpotent n (coef f (t - 1)) → not b ≡ false → t' ≡ t - 1 → Trailing n f t'
   trailing-next b l e v et = rw et (record { most = omega (arith, h .most); done = holds-more (h .done) l (sym e ∙ not-false _ v) })

@@ -1,14 +1,14 @@
 -- What `product` returns, at each of its ends.
 --
---   degrees-are, degrees-over, degrees-far, degrees-within, product-length     the degrees as the code has them
---   some-told                        a polynomial whose length was accepted has a word
+--   degrees-over, degrees-far, degrees-within, product-length     the degrees as the code has them
+--   product-words                    the length of the product
 --   product-accepted                 what is known once none of the refusals applies
 --   first-some, second-some, room-told, modulus-told              each part of it, as the code asks for it
 --   product-refused, product-done    the answers
---   products, product-next, product-end     the words of the product, and a turn of `product_words`
+--   products, product-next           the words of the product, and a turn of `product_words`
 --   tests, words                     the rules
-use mathlib.Core.Path.{_≡_, refl, sym, ap, ap₂, subst, _∙_}
-use mathlib.Core.Bool.{Bool, true, false}
+use mathlib.Core.Path.{_≡_, refl, sym, ap, subst, _∙_}
+use mathlib.Core.Bool.{true, false}
 use mathlib.Core.List.{List}
 use Prim.Native.Nat.{ℕ, suc, _+_, _-_, _%_, _≤_, _<_}
 use native.Mathlib.Nat.{sub-zero}
@@ -21,19 +21,17 @@ use lib.Dec.{T, ltb, leb, leb→le}
 use lib.ListN.{length, set}
 use Rattle.definitions.specs.Polynomials.{coef, deg, convolve, tabulate, product}
 use Rattle.theory.specs.Words.{length-tabulate}
-use Rattle.refusals.specs.Refusals.{Width, bad-length, short}
-use Rattle.refusals.specs.Conditions.{length-fails, status-zero}
+use Rattle.refusals.specs.Refusals.{Width, short}
+use Rattle.refusals.specs.Conditions.{status-zero}
 use Rattle.refusals.proofs.Statuses.{replaced-refused}
-use Rattle.refusals.proofs.Cascade.{hit, miss, told, told-not}
+use Rattle.refusals.proofs.Cascade.{hit, miss, told, told-not, below-bound}
+use Rattle.refusals.proofs.Degrees.{degrees-are}
 use Rattle.reduction.proofs.Reciprocals.{modulo}
-use Rattle.polynomial_tests.specs.Buffers.{deg-is, placed, Filled, filled-none, filled-step, filled-end}
+use Rattle.polynomial_tests.specs.Buffers.{placed, Filled, filled-none, filled-step, filled-end}
 use Rattle.polynomial_product.specs.ProductService.{product-refusals, product-status, product-conditions, product-listed}
 use Rattle.polynomial_product.specs.ProductService.{ProductAnswer}
 
 -- the sum of the degrees, and the length of the product, as the code has them
-pub degrees-are : (f g : List ℕ) → length f - 1 + (length g - 1) ≡ deg f + deg g
-degrees-are f g = sym (ap₂ (λ (x y : ℕ). x + y) (deg-is f) (deg-is g))
-
 pub degrees-over : (f g : List ℕ) → 48 < length f - 1 + (length g - 1) → ltb 48 (deg f + deg g) ≡ true
 degrees-over f g h = lt-ltb 48 (deg f + deg g) (subst (λ (x : ℕ). 48 < x) (degrees-are f g) h)
 
@@ -43,14 +41,11 @@ degrees-far k f g h t = degrees-over f g (omega (arith, leb→le 48 k t))
 pub degrees-within : (f g : List ℕ) → length f - 1 + (length g - 1) ≤ 48 → ltb 48 (deg f + deg g) ≡ false
 degrees-within f g h = le-ltb 48 (deg f + deg g) (subst (λ (x : ℕ). x ≤ 48) (degrees-are f g) h)
 
-pub some-word : (f : List ℕ) → bad-length f ≡ false → 1 ≤ length f
-some-word f h = length-fails f .passed h .some
-
-pub some-told : {l : ℕ} (r : Bool) (f : List ℕ) → r ≡ bad-length f → r ≡ false → l ≡ length f → 1 ≤ l
-some-told r f e h el = omega (arith, some-word f (sym e ∙ h))
-
 pub product-length : (f g : List ℕ) → length f - 1 + (length g - 1) + 1 ≡ suc (deg f + deg g)
 product-length f g = add-one (length f - 1 + (length g - 1)) ∙ ap suc (degrees-are f g)
+
+pub product-words : (n : ℕ) (f g : List ℕ) → length (product n f g) ≡ suc (deg f + deg g)
+product-words n f g = length-tabulate (suc (deg f + deg g)) (λ (k : ℕ). convolve (coef f) (coef g) k % n)
 
 pub lacks-room : (l : ℕ) (f g : List ℕ) → l < length f - 1 + (length g - 1) + 1 → short l (suc (deg f + deg g)) ≡ true
 lacks-room l f g h = lt-ltb l (suc (deg f + deg g)) (subst (λ (x : ℕ). l < x) (product-length f g) h)
@@ -98,10 +93,6 @@ module _ (W : Width) (n s : ℕ) (f g out : List ℕ) (is : s ≡ product-status
             (length-tabulate (suc (deg f + deg g)) (products n f g) ∙ sym p ∙ sym (sub-zero m));
       })
 
--- moduli below B; of a width nothing else is asked here
-abbrev below-bound : ℕ → Width
-below-bound B = record { bound = B; working = 0 }
-
 module _ (B n s : ℕ) (f g : List ℕ) (l : ℕ) (is : s ≡ product-status (below-bound B) n f g l) (z : s ≡ 0) where
   known : ProductAccepted n f g l
   known = product-accepted (below-bound B) n s f g l is z
@@ -124,9 +115,6 @@ pub product-next : {k k' : ℕ} {w₀ w w' : List ℕ} (n a v : ℕ) (f g : List
     → v ≡ convolve (coef f) (coef g) k % a → a ≡ n → k < length w → w' ≡ set w k v → k' ≡ k + 1 → Filled (products n f g) k' w₀ w'
 product-next n a v f g h ev ea l ew ek = rw (ew, ek) (filled-step h (omega (arith, h .same)) (modulo _ ea ev))
 
-pub product-end : {F : ℕ → ℕ} {k : ℕ} {w₀ w : List ℕ} → Filled F k w₀ w → k ≤ length w₀ → length w ≤ k → w ≡ tabulate (length w₀) F
-product-end h m l = filled-end h (omega (arith, h .same))
-
 pub ruleset tests = (tt, hit, miss, told, told-not, degrees-far, degrees-within, lacks-room, has-room)
 
-pub ruleset words = (needs, filled-none, product-next, product-end)
+pub ruleset words = (needs, filled-none, product-next, filled-end)

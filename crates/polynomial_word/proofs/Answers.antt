@@ -10,10 +10,10 @@ use Prim.Native.Nat.{ℕ, zero, suc, _+_, _-_, _%_, _≤_, _<_}
 use borrow.Author.Tests.{lt-ltb, le-ltb}
 use lib.ListN.{length, set}
 use Rattle.definitions.specs.Polynomials.{coef, deg, convolve, product}
-use Rattle.theory.specs.Words.{coef-tabulate, length-tabulate}
+use Rattle.theory.specs.Words.{coef-tabulate}
 use Rattle.refusals.specs.Refusals.{narrow}
 use Rattle.polynomial_product.specs.ProductService.{product-status}
-use Rattle.polynomial_product.proofs.Answers.{product-length}
+use Rattle.polynomial_product.proofs.Answers.{product-length, product-words}
 use Rattle.polynomial_word.specs.ProductWord.{word-replaced, ProductWordAnswer}
 
 left-refused : (s k : ℕ) (x w : List ℕ) → (s ≡ 0 → ⊥) → w ≡ word-replaced s k x w
@@ -25,7 +25,7 @@ module _ (n s : ℕ) (f g : List ℕ) (k : ℕ) (out : List ℕ) (is : s ≡ pro
   word-refused h = record { status-is = is; value-is = refl; out-is = left-refused s k (product n f g) out h }
 
   words-are : (m : ℕ) → m ≡ length f - 1 + (length g - 1) + 1 → m ≡ length (product n f g)
-  words-are m e = e ∙ product-length f g ∙ sym (length-tabulate (suc (deg f + deg g)) (λ (i : ℕ). convolve (coef f) (coef g) i % n))
+  words-are m e = e ∙ product-length f g ∙ sym (product-words n f g)
 
   pub word-above : s ≡ 0 → (m : ℕ) → m ≡ length f - 1 + (length g - 1) + 1 → m ≤ k → ProductWordAnswer narrow n f g k out out 0 0
   word-above z m e h = record {

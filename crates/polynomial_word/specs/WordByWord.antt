@@ -9,18 +9,19 @@ use mathlib.Core.Path.{_≡_, refl, sym, ap, subst, _∙_}
 use mathlib.Core.Bool.{Bool, true, false, cond}
 use mathlib.Core.Logic.{_⊎_, inl, inr}
 use mathlib.Core.List.{List, [], _∷_, _++_}
-use Prim.Native.Nat.{ℕ, zero, suc, _+_, _%_, _≤_, _<_}
+use Prim.Native.Nat.{ℕ, zero, suc, _+_, _≤_, _<_}
 use native.Mathlib.Omega.{arith}
-use native.Mathlib.Decide.{decLt, ℕ-discrete}
+use native.Mathlib.Decide.{ℕ-discrete}
 use lib.Dec.{T, ltb, ltb→lt}
-use lib.ListN.{length, drop, set, length-set, List·getD-append}
-use lib.Seq.{ext-getD, getD-set-same, getD-set-other}
+use lib.ListN.{length, drop, set, length-set}
+use lib.Seq.{getD-set-same, getD-set-other}
 use borrow.Author.Tests.{lt-ltb}
-use Rattle.definitions.specs.Polynomials.{coef, deg, convolve, tabulate, product}
-use Rattle.theory.specs.Words.{length-tabulate}
+use Rattle.definitions.specs.Polynomials.{coef, deg, tabulate, product}
 use Rattle.refusals.specs.Refusals.{Width, replaced}
 use Rattle.refusals.specs.Conditions.{status-zero}
+use Rattle.refusals.specs.Fronts.{front-is}
 use Rattle.polynomial_product.specs.ProductService.{product-refusals, product-status, product-conditions, product-listed, ProductAnswer}
+use Rattle.polynomial_product.proofs.Answers.{product-words}
 use Rattle.polynomial_word.specs.ProductWord.{word-replaced, ProductWordAnswer}
 
 -- each call takes the buffer as the one before left it
@@ -102,26 +103,11 @@ words-refused s (k ∷ ks) x w = words-refused s ks x w
 
 -- ---- the whole
 
-front-length : (x w : List ℕ) → length x ≤ length w → length (x ++ drop (length x) w) ≡ length w
-front-length [] w r = refl
-front-length (y ∷ x) [] r = absurd (omega arith)
-front-length (y ∷ x) (z ∷ w) r = ap suc (front-length x w (omega arith))
-
-front-beyond : (x w : List ℕ) (i : ℕ) → length x ≤ length w → length x ≤ i → coef (x ++ drop (length x) w) i ≡ coef w i
-front-beyond [] w i r l = refl
-front-beyond (y ∷ x) [] i r l = absurd (omega arith)
-front-beyond (y ∷ x) (z ∷ w) zero r l = absurd (omega arith)
-front-beyond (y ∷ x) (z ∷ w) (suc i) r l = front-beyond x w i (omega arith) (omega arith)
-
 words-whole : (ks x w : List ℕ) → length x ≤ length w → ((i : ℕ) → i < length x → Among i ks)
     → words-replaced 0 ks x w ≡ x ++ drop (length x) w
 words-whole ks x w r all =
-    ext-getD 0 (words-replaced 0 ks x w) (x ++ drop (length x) w) (words-length 0 ks x w ∙ sym (front-length x w r))
-    (λ i _. go i (decLt i (length x)))
-  where
-    go : (i : ℕ) → Dec (i < length x) → coef (words-replaced 0 ks x w) i ≡ coef (x ++ drop (length x) w) i
-    go i (yes l) = words-made ks x w i r l (all i l) ∙ sym (List·getD-append x (drop (length x) w) 0 i l)
-    go i (no l) = words-beyond ks x w i (omega arith) ∙ sym (front-beyond x w i r (omega arith))
+    front-is (length x) x w (words-replaced 0 ks x w) refl r (words-length 0 ks x w) (λ i l. words-made ks x w i r l (all i l))
+    (words-beyond ks x w)
 
 calls-replace : {W : Width} {n : ℕ} {f g ks out out' : List ℕ} → WordCalls W n f g ks out out' → (s : ℕ)
     → s ≡ product-status W n f g (length out) → out' ≡ words-replaced s ks (product n f g) out
@@ -131,9 +117,6 @@ calls-replace {W} {n} {f} {g} (call {k = k} {status = t} {ks = ks} {out = out} {
     let now : mid ≡ word-replaced s k (product n f g) out = a .out-is ∙ ap (λ (u : ℕ). word-replaced u k (product n f g) out) same in
     let long : length mid ≡ length out = ap length now ∙ word-length s k (product n f g) out in
     calls-replace rest s (e ∙ ap (product-status W n f g) (sym long)) ∙ ap (words-replaced s ks (product n f g)) now
-
-product-words : (n : ℕ) (f g : List ℕ) → length (product n f g) ≡ suc (deg f + deg g)
-product-words n f g = length-tabulate (suc (deg f + deg g)) (λ (i : ℕ). convolve (coef f) (coef g) i % n)
 
 -- calls for words that have each k from 0 to d + e among them, on any buffer, leave what the product leaves there, refused or answered
 pub words-make-product : {W : Width} {n value status : ℕ} {f g ks out out' out'' : List ℕ} → ((k : ℕ) → k ≤ deg f + deg g → Among k ks)

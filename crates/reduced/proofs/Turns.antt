@@ -3,7 +3,7 @@
 --   Mixing                       the invariant of `mix`, with its start, turn and end
 --   second-…, first-…            the length of a cofactor, by which polynomial is the longer
 --   saved-told, merged-told      the cofactors saved, and joined
---   runs                         the rules
+--   runs, by-factors             the rules
 use mathlib.Core.Path.{_≡_, refl, sym, ap, subst, _∙_}
 use mathlib.Core.List.{List}
 use Prim.Native.Nat.{ℕ, _+_, _-_, _*_, _%_, _≤_, _<_}
@@ -23,7 +23,7 @@ use Rattle.residue.specs.Moduli.{CoprimeModuli}
 use Rattle.reduced_units.proofs.Regions.{part-piece}
 use Rattle.reduced.specs.Runs.{MixedWords, SaveAsked, Saved, MergeAsked, Merged}
 use Rattle.reduced.proofs.Mixing.{Adding, adding-none, adding-step, mixed-end, saved-of, length-second, length-first}
-use Rattle.reduced.proofs.Joins.{merged-of}
+use Rattle.reduced.proofs.Joins.{merged-of, falls, factors, answers}
 
 -- ---- mix
 
@@ -105,3 +105,5 @@ pub ruleset mixes = (mixing-none, mixing-next, mixing-end, mixing-never)
 pub ruleset sizes = (length-second, length-first, second-product, second-sum, first-product, first-sum)
 
 pub ruleset runs = (needs, mixes, sizes, saved-told, first-idempotent, second-idempotent, merged-told)
+
+pub ruleset by-factors = (needs, falls, factors, answers)

@@ -5,6 +5,8 @@
 --   MergeAsked, Merged       they are joined with those modulo the second
 --   run-room n M             the words that the run needs, M the larger sent degree
 --   RunAsked                 what the run asks
+--   FactorsAsked             what it asks of two coprime factors
+--   SecondAsked              what it asks of the second, after the first
 use mathlib.Core.Path.{_≡_}
 use mathlib.Core.List.{List}
 use Prim.Native.Nat.{ℕ, max, _+_, _-_, _*_, _%_, _<_, _≤_}
@@ -13,6 +15,7 @@ use Rattle.definitions.specs.Residues.{K}
 use Rattle.definitions.specs.Polynomials.{coef, L}
 use Rattle.windows.specs.Window.{piece}
 use Rattle.window_factor.specs.Factors.{SplitOf}
+use Rattle.reduced_cofactors.specs.Cofactors.{Certified}
 use Rattle.reduced_attempt.specs.Attempts.{attempt-room}
 
 -- each word is a times that of s and b times that of u, also above s, where s counts as 0
@@ -67,3 +70,20 @@ pub record RunAsked (n : ℕ) (f g u v w : List ℕ) : Type 0 where
   pub room : run-room n (max (length f - 1) (length g - 1)) ≤ length w
   pub first : L n (length f - 1) (length g - 1) ≤ length u
   pub second : L n (length f - 1) (length g - 1) ≤ length v
+
+-- p and q are coprime, and their product is a word; m is the first number that is no word
+pub record FactorsAsked (m p q : ℕ) (f g u v w : List ℕ) : Type 0 where
+  pub word : p * q < m
+  pub factors : SplitOf (p * q) p q
+  pub asked : RunAsked (p * q) f g u v w
+
+-- a is D modulo p, its cofactors are the first l words of w and the next l, and the words after these are room for the run on q
+pub record SecondAsked (m p q l a : ℕ) (f g u v w : List ℕ) : Type 0 where
+  pub some-f : 1 ≤ length f
+  pub some-g : 1 ≤ length g
+  pub size : l ≡ L p (length f - 1) (length g - 1)
+  pub join : MergeAsked m p q l u v w
+  pub room : 2 * l + run-room q (max (length f - 1) (length g - 1)) ≤ length w
+  pub first : L q (length f - 1) (length g - 1) ≤ length u
+  pub second : L q (length f - 1) (length g - 1) ≤ length v
+  pub saved : Certified p l f g (piece w 0 l) (piece w l l) a

@@ -1,13 +1,21 @@
--- The half of an attempt that factors the first polynomial: words over the common content, and back.
-use mathlib.Core.Path.{_≡_, sym, ap, ap₂, subst, _∙_}
+-- The half of an attempt that factors the first polynomial, for words of any width: words over the common content, and back.
+--
+--   common-of, arranged-of, arranged-plain                                   two polynomials in the buffer
+--   common-positive, common-whole, common-above, common-primitive, common-swap    the common content
+--   positive, above, half-splits, nilpotents-told, over-asked, core-asked    what a half asks of its calls
+--   over-splitter, product-word, leaving, half-certified, plain-certified    what the core says of the polynomials
+--   split-unit, split-nilpotent, split-factors                               two coprime divisors split n
+--   halves                                                                   the rules
+use mathlib.Core.Path.{_≡_, refl, sym, ap, ap₂, subst, _∙_}
 use mathlib.Core.List.{List}
 use mathlib.Core.Logic.{⊎-elim}
 use Prim.Native.Nat.{ℕ, zero, suc, max, _+_, _-_, _*_, _/_, _%_, _^_, _≤_, _<_, _∣_}
 use native.Mathlib.Omega.{arith}
-use native.Mathlib.Nat.{mod-lt, mod-mod, zero-mod, zero-add, zero-div, mul-zero, mul-one, mul-le-mul-left, mul-le-mul-right}
+use native.Mathlib.Nat.{sub-zero, mod-lt, mod-mod, zero-mod, zero-add, zero-div, mul-zero, mul-one, mul-le-mul-left, mul-le-mul-right}
 use native.Mathlib.Nat.{mul-div-cancel', mul-dvd-mul-left, dvd-zero, dvd-trans, dvd-refl, dvd-mul-left, pos-of-dvd-of-pos, le-of-dvd}
 use native.Mathlib.Nat.{dvd-of-mod-eq-zero}
 use lib.ListN.{length, getD}
+use borrow.Rule.Slice.PartMut.{midOf}
 use Rattle.definitions.specs.Residues.{K, Inverse, IsNilpotent, Splitting}
 use Rattle.definitions.specs.Polynomials.{coef, L}
 use Rattle.definitions.specs.Resultants.{Combination, Reduced}
@@ -20,18 +28,21 @@ use Rattle.theory.specs.ReachedSteps.{Times, coef-beyond}
 use Rattle.theory.specs.ReducedLaws.{reduced-content}
 use Rattle.windows.specs.Window.{piece, Moved, quotient-by, Loaded, Content, Below}
 use Rattle.windows.proofs.Leaf.{lt-or-le, piece-at, piece-over, piece-length}
-use Rattle.window_factor.specs.Factors.{SplitOf, AllNilpotents as NilpotentWords}
+use Rattle.window_factor.specs.Factors.{SplitOf, LeadingUnit, AllNilpotents as NilpotentWords}
 use Rattle.reduced_multipliers.specs.Joining.{combination-content}
 use Rattle.reduced_units.specs.States.{Splitter}
-use Rattle.reduced_cofactors.specs.Cofactors.{Certified, core-room}
-use Rattle.reduced_attempt.specs.Attempts.{CommonContent, PairLoaded, Arranged, LeaveAsked, Left, NilpotentOver}
+use Rattle.reduced_units.proofs.Regions.{part-piece}
+use Rattle.reduced_clearing.proofs.UnitSteps.{split-splitter}
+use Rattle.reduced_cofactors.specs.Cofactors.{core-room, Certified, CoreCertified}
+use Rattle.reduced_attempt.specs.Attempts.{CommonContent, PairLoaded, Arranged, BothLeave, Left}
+use Rattle.reduced_attempt.specs.Attempts.{NilpotentOver, HalfAsked, OverAsked, CoreOver}
 use Rattle.reduced_attempt.proofs.Scalings.{scaled, scaled-at, scaled-times, reduced-unscaled, combination-unscaled, divides-scaled}
-use Rattle.reduced_attempt.proofs.Scalings.{nilpotent-unscaled}
+use Rattle.reduced_attempt.proofs.Scalings.{nilpotent-unscaled, pair-plain, left-one}
 
 -- ---- two polynomials in the buffer
 
-module _ (n : ℕ) (f g w w₁ w₂ : List ℕ) (fits : length f + length g ≤ length w) (lf : Loaded n 0 f w w₁) (lg : Loaded n
-    (length f) g w₁ w₂) where
+module _ {n : ℕ} {f g w w₁ w₂ : List ℕ} (fits : length f + length g ≤ length w) (lf : Loaded n 0 f w w₁)
+    (lg : Loaded n (length f) g w₁ w₂) where
   first-loaded : (k : ℕ) → k < length f → getD w₂ k 0 ≡ coef f k % n
   first-loaded k h = lg .low k h ∙ ap (λ (x : ℕ). getD w₁ x 0) (sym (zero-add k)) ∙ lf .mid k h
 
@@ -41,20 +52,25 @@ module _ (n : ℕ) (f g w w₁ w₂ : List ℕ) (fits : length f + length g ≤ 
   long : length w₂ ≡ length w
   long = lg .same ∙ lf .same
 
-  pub common-of : (c : ℕ) → Content n (piece w₂ 0 (length f + length g)) c → CommonContent n f g c
-  common-of c ct = record {
-    divides-n = ct .divides-n;
-    divides-f = λ k. ⊎-elim (λ h. subst (λ (x : ℕ). c ∣ x) (at k (omega arith) ∙ first-loaded k h) (ct .divides k (omega (arith, size))))
-        (λ h. beyond f k h c) (lt-or-le k (length f));
-    divides-g = λ k. ⊎-elim (λ h. subst (λ (x : ℕ). c ∣ x) (at (length f + k) (omega arith) ∙ second-loaded k h) (ct .divides
-        (length f + k) (omega (arith, size)))) (λ h. beyond g k h c) (lt-or-le k (length g));
-    greatest = λ x d p q. ct .greatest x d (λ k h. ⊎-elim
-        (λ b. subst (λ (y : ℕ). x ∣ y) (sym (at k (omega (arith, size)) ∙ first-loaded k b)) (p k))
-        (λ b. subst (λ (y : ℕ). x ∣ y) (sym (at k (omega (arith, size)) ∙ ap (λ (y : ℕ). getD w₂ y 0)
-        (let z : k ≡ length f + (k - length f) = omega arith in z) ∙ second-loaded (k - length f) (omega (arith, size)))) (q
-        (k - length f)))
-        (lt-or-le k (length f)));
-  }
+  pub common-of : {c : ℕ} → Content n (midOf 0 (length f + length g - 0) w₂) c → CommonContent n f g c
+  common-of {c} x =
+      let ct = subst (λ (s : List ℕ). Content n s c) (part-piece w₂ 0 (length f + length g) _ (sub-zero _)) x in
+      record {
+        divides-n = ct .divides-n;
+        divides-f = λ k. ⊎-elim
+            (λ h. subst (λ (x : ℕ). c ∣ x) (at k (omega arith) ∙ first-loaded k h) (ct .divides k (omega (arith, size))))
+            (λ h. beyond f k h c) (lt-or-le k (length f));
+        divides-g = λ k. ⊎-elim
+            (λ h. subst (λ (x : ℕ). c ∣ x) (at (length f + k) (omega arith) ∙ second-loaded k h)
+            (ct .divides (length f + k) (omega (arith, size))))
+            (λ h. beyond g k h c) (lt-or-le k (length g));
+        greatest = λ x d p q. ct .greatest x d (λ k h. ⊎-elim
+            (λ b. subst (λ (y : ℕ). x ∣ y) (sym (at k (omega (arith, size)) ∙ first-loaded k b)) (p k))
+            (λ b. subst (λ (y : ℕ). x ∣ y) (sym (at k (omega (arith, size)) ∙ ap (λ (y : ℕ). getD w₂ y 0)
+            (let z : k ≡ length f + (k - length f) = omega arith in z) ∙ second-loaded (k - length f) (omega (arith, size))))
+            (q (k - length f)))
+            (lt-or-le k (length f)));
+      }
     where
       size : length (piece w₂ 0 (length f + length g)) ≡ length f + length g
       size = piece-length w₂ 0 (length f + length g) (omega (arith, long))
@@ -66,18 +82,23 @@ module _ (n : ℕ) (f g w w₁ w₂ : List ℕ) (fits : length f + length g ≤ 
       beyond f k h c = subst (λ (x : ℕ). c ∣ x) (sym (ap (λ (x : ℕ). x % n) (coef-beyond f k h) ∙ zero-mod n)) (dvd-zero c)
 
 -- each word over c
-pub arranged-of : (n c r : ℕ) (f g w w₂ w₃ : List ℕ) → length f + length g ≤ length w → PairLoaded n r (length f) f g w w₂
-    → Moved (quotient-by c) 0 0 (length f + length g) w₂ w₃ → Arranged n c r g f w w₃
-arranged-of n c r f g w w₂ w₃ fits ld mv = record {
-  unit = ld .unit;
-  form = ld .form;
-  same = mv .same ∙ ld .same;
-  first = λ k h. word (length f + k) (omega arith) ∙ ap (λ (x : ℕ). x / c) (ld .second k h);
-  second = λ k h. word k (omega arith) ∙ ap (λ (x : ℕ). x / c) (ld .first k h);
-}
-  where
-    word : (k : ℕ) → k < length f + length g → getD w₃ k 0 ≡ getD w₂ k 0 / c
-    word k h = ap (λ (x : ℕ). getD w₃ x 0) (sym (zero-add k)) ∙ mv .mid k h ∙ ap (λ (x : ℕ). getD w₂ x 0 / c) (zero-add k)
+module _ {n c r : ℕ} {f g w w₂ w₃ : List ℕ} (fits : length f + length g ≤ length w) (mv : Moved (quotient-by c) 0 0 (length f + length g)
+    w₂ w₃) where
+  pub arranged-of : PairLoaded n r (length f) f g w w₂ → Arranged n c r g f w w₃
+  arranged-of ld = record {
+    unit = ld .unit;
+    form = ld .form;
+    same = mv .same ∙ ld .same;
+    first = λ k h. word (length f + k) (omega arith) ∙ ap (λ (x : ℕ). x / c) (ld .second k h);
+    second = λ k h. word k (omega arith) ∙ ap (λ (x : ℕ). x / c) (ld .first k h);
+  }
+    where
+      word : (k : ℕ) → k < length f + length g → getD w₃ k 0 ≡ getD w₂ k 0 / c
+      word k h = ap (λ (x : ℕ). getD w₃ x 0) (sym (zero-add k)) ∙ mv .mid k h ∙ ap (λ (x : ℕ). getD w₂ x 0 / c) (zero-add k)
+
+pub arranged-plain : {n c : ℕ} {f g w w₁ w₂ w₃ : List ℕ} → 1 ≤ n → length f + length g ≤ length w → Loaded n 0 f w w₁
+    → Loaded n (length f) g w₁ w₂ → Moved (quotient-by c) 0 0 (length f + length g) w₂ w₃ → Arranged n c 1 g f w w₃
+arranged-plain {n} {c} {f} {g} pos fits lf lg mv = arranged-of fits mv (pair-plain n (length f) f g pos (omega arith) lf lg)
 
 -- ---- modulo n / c
 
@@ -106,137 +127,224 @@ module _ (n c : ℕ) (a b : List ℕ) (two : 2 ≤ n) (cm : CommonContent n a b 
   fewer : (ne : c ≡ n → ⊥) → K (n / c) ≤ K n
   fewer ne = K-monotone (n / c) n (omega (arith, common-above ne)) common-most
 
-  pub room-less : (ne : c ≡ n → ⊥) (d e x : ℕ) → core-room n d e ≤ x → core-room (n / c) d e ≤ x
+  room-less : (ne : c ≡ n → ⊥) (d e x : ℕ) → core-room n d e ≤ x → core-room (n / c) d e ≤ x
   room-less ne d e x h = omega (arith, mul-le-mul-right d (fewer ne))
 
-  pub length-less : (ne : c ≡ n → ⊥) (d e x : ℕ) → L n d e ≤ x → L (n / c) d e ≤ x
+  length-less : (ne : c ≡ n → ⊥) (d e x : ℕ) → L n d e ≤ x → L (n / c) d e ≤ x
   length-less ne d e x h = omega (arith, mul-le-mul-right (max d e) (fewer ne))
 
-  module _ (w w₁ : List ℕ) (one-a : 1 ≤ length a) (one-b : 1 ≤ length b) (room : core-room n (length a - 1) (length b - 1) ≤ length w)
-      (ne : c ≡ n → ⊥) (r : ℕ) (ar : Arranged n c r a b w w₁) where
-    more-a : length a - 1 + 1 ≡ length a
-    more-a = omega arith
+-- ---- what a half asks of its calls
 
-    more-b : length b - 1 + 1 ≡ length b
-    more-b = omega arith
+module _ {n c : ℕ} {a b x y w : List ℕ} (ha : HalfAsked n c a b x y w) where
+  two : 2 ≤ n
+  two = ha .modulus
 
-    -- the words as polynomials
-    first-at : (k : ℕ) → coef (piece w₁ (length b - 1 + 1) (length a - 1 + 1)) k ≡ ((r * coef a k) % n) / c
-    first-at k = ⊎-elim
-        (λ h. piece-at w₁ (length b - 1 + 1) (length a - 1 + 1) k (omega arith) ∙ ap (λ (x : ℕ). getD w₁ (x + k) 0) more-b ∙ ar .first k h)
-        (λ h. piece-over w₁ (length b - 1 + 1) (length a - 1 + 1) k (omega arith) ∙ sym (beyond a k h))
-        (lt-or-le k (length a))
+  cm : CommonContent n a b c
+  cm = ha .content
+
+  ne : c ≡ n → ⊥
+  ne = ha .proper
+
+  pub positive : 0 < c
+  positive = common-positive n c a b two cm
+
+  pub above : 2 ≤ n / c
+  above = common-above n c a b two cm ne
+
+  whole : n ≡ c * (n / c)
+  whole = common-whole n c a b two cm
+
+  most : n / c ≤ n
+  most = common-most n c a b two cm
+
+  divides : n / c ∣ n
+  divides = subst (λ (x : ℕ). n / c ∣ x) (sym whole) (dvd-mul-left (n / c) c)
+
+  pub half-splits : {p q : ℕ} → SplitOf (n / c) p q → Splitter n p q
+  half-splits s = split-splitter _ _ _ _ divides s
+
+module _ {n c r : ℕ} {a b x y w w₁ : List ℕ} (ha : HalfAsked n c a b x y w) (ar : Arranged n c r a b w w₁) where
+  more-a : length a - 1 + 1 ≡ length a
+  more-a = omega arith
+
+  more-b : length b - 1 + 1 ≡ length b
+  more-b = omega arith
+
+  -- the words as polynomials
+  first-at : (k : ℕ) → coef (piece w₁ (length b - 1 + 1) (length a - 1 + 1)) k ≡ ((r * coef a k) % n) / c
+  first-at k = ⊎-elim
+      (λ h. piece-at w₁ (length b - 1 + 1) (length a - 1 + 1) k (omega arith) ∙ ap (λ (x : ℕ). getD w₁ (x + k) 0) more-b ∙ ar .first k h)
+      (λ h. piece-over w₁ (length b - 1 + 1) (length a - 1 + 1) k (omega arith) ∙ sym (beyond a k h))
+      (lt-or-le k (length a))
+    where
+      beyond : (a : List ℕ) (k : ℕ) → length a ≤ k → ((r * coef a k) % n) / c ≡ 0
+      beyond a k h = ap (λ (x : ℕ). (r * x) % n / c) (coef-beyond a k h) ∙ ap (λ (x : ℕ). x % n / c) (mul-zero r) ∙ ap (λ (x : ℕ). x / c)
+          (zero-mod n) ∙ zero-div c
+
+  second-at : (k : ℕ) → coef (piece w₁ 0 (length b - 1 + 1)) k ≡ ((r * coef b k) % n) / c
+  second-at k = ⊎-elim
+      (λ h. piece-at w₁ 0 (length b - 1 + 1) k (omega arith) ∙ ap (λ (x : ℕ). getD w₁ x 0) (zero-add k) ∙ ar .second k h)
+      (λ h. piece-over w₁ 0 (length b - 1 + 1) k (omega arith) ∙ sym (beyond b k h))
+      (lt-or-le k (length b))
+    where
+      beyond : (a : List ℕ) (k : ℕ) → length a ≤ k → ((r * coef a k) % n) / c ≡ 0
+      beyond a k h = ap (λ (x : ℕ). (r * x) % n / c) (coef-beyond a k h) ∙ ap (λ (x : ℕ). x % n / c) (mul-zero r) ∙ ap (λ (x : ℕ). x / c)
+          (zero-mod n) ∙ zero-div c
+
+  -- y / c is below n / c
+  small : (y : ℕ) → c ∣ y % n → (y % n) / c < n / c
+  small y d = less c ((y % n) / c) (n / c) (positive ha)
+      (subst (λ (x : ℕ). x < c * (n / c)) (sym (mul-div-cancel' c d)) (subst (λ (x : ℕ). y % n < x) (whole ha)
+      (mod-lt y (omega arith))))
+    where
+      less : (c x y : ℕ) → 0 < c → c * x < c * y → x < y
+      less c x y p q = ⊎-elim (λ h. h) (λ h. absurd (omega (arith, mul-le-mul-left c h))) (lt-or-le x y)
+
+  below-second : Below (n / c) 0 (length b - 1 + 1) w₁
+  below-second = record {
+    at = λ k h. subst (λ (x : ℕ). x < n / c) (sym
+        (ap (λ (x : ℕ). getD w₁ x 0) (zero-add k) ∙ ar .second k (omega arith))) (small (r * coef b k)
+        (divides-scaled n c r (coef b k) (ha .content .divides-n) (ha .content .divides-g k)));
+  }
+
+  below-first : Below (n / c) (length b - 1 + 1) (length a - 1 + 1) w₁
+  below-first = record {
+    at = λ k h. subst (λ (x : ℕ). x < n / c) (sym
+        (ap (λ (x : ℕ). getD w₁ (x + k) 0) more-b ∙ ar .first k (omega arith))) (small (r * coef a k)
+        (divides-scaled n c r (coef a k) (ha .content .divides-n) (ha .content .divides-f k)));
+  }
+
+  part-first : piece w₁ (length b) (length a) ≡ piece w₁ (length b - 1 + 1) (length a - 1 + 1)
+  part-first = ap₂ (λ (x y : ℕ). piece w₁ x y) (sym more-b) (sym more-a)
+
+  abbrev part : List ℕ
+  part = midOf (length b) (length b + length a - length b) w₁
+
+  part-is : part ≡ piece w₁ (length b) (length a)
+  part-is = part-piece w₁ (length b) (length a) _ (let z : length b + length a - length b ≡ length a = omega arith in z)
+
+  pub nilpotents-told : NilpotentWords (n / c) part → NilpotentOver n c a
+  nilpotents-told x = record {
+    at = λ k. nilpotent-unscaled n c (n / c) r (coef a k) (whole ha) (positive ha) (omega (arith, above ha)) (ar .unit)
+        (ha .content .divides-n) (ha .content .divides-f k) (small (coef a k) (ha .content .divides-f k))
+        (subst (IsNilpotent (n / c)) (ap (λ (f : List ℕ). coef f k) (part-is ∙ part-first) ∙ first-at k) (x .at k));
+  }
+
+  pub over-asked : {t i : ℕ} → LeadingUnit (n / c) t i part → OverAsked n c r t i a b x y w₁
+  over-asked {t} {i} l = record {
+    half = record {
+      modulus = ha .modulus;
+      some-a = ha .some-a;
+      some-b = ha .some-b;
+      room = omega (arith, ha .room, ar .same);
+      first = ha .first;
+      second = ha .second;
+      content = ha .content;
+      proper = ha .proper;
+    };
+    words = record { unit = ar .unit; form = ar .form; same = refl; first = ar .first; second = ar .second };
+    lead = subst (LeadingUnit (n / c) t i) part-is l;
+  }
+
+  -- the words, as r a and r b over c
+  times : (a f : List ℕ) → ((k : ℕ) → coef f k ≡ ((r * coef a k) % n) / c) → ((k : ℕ) → c ∣ coef a k % n) → Times (c * (n / c)) c
+      (scaled r a) f
+  times a f at d = record {
+    at = λ k. subst (λ (x : ℕ). coef (scaled r a) k % x ≡ (c * coef f k) % x) (whole ha)
+        (ap (λ (x : ℕ). x % n) (scaled-at r a k) ∙ sym (ap (λ (x : ℕ). (c * x) % n) (at k)
+        ∙ ap (λ (x : ℕ). x % n) (mul-div-cancel' c (divides-scaled n c r (coef a k) (ha .content .divides-n) (d k)))
+        ∙ mod-mod (r * coef a k) n));
+  }
+
+  times-first : Times (c * (n / c)) c (scaled r a) (piece w₁ (length b - 1 + 1) (length a - 1 + 1))
+  times-first = times a (piece w₁ (length b - 1 + 1) (length a - 1 + 1)) first-at (ha .content .divides-f)
+
+  times-second : Times (c * (n / c)) c (scaled r b) (piece w₁ 0 (length b - 1 + 1))
+  times-second = times b (piece w₁ 0 (length b - 1 + 1)) second-at (ha .content .divides-g)
+
+-- ---- words over the content
+
+module _ {n c r t i : ℕ} {a b x y w : List ℕ} (o : OverAsked n c r t i a b x y w) where
+  abbrev d : ℕ
+  d = length a - 1
+
+  abbrev e : ℕ
+  e = length b - 1
+
+  ha : HalfAsked n c a b x y w
+  ha = o .half
+
+  pub core-asked : CoreOver n c t i a b x y w
+  core-asked = record {
+    positive = positive ha;
+    some-a = ha .some-a;
+    some-b = ha .some-b;
+    asked = record {
+      space = record {
+        above = above ha;
+        room = room-less n c a b (ha .modulus) (ha .content) (ha .proper) d e _ (ha .room);
+        long-x = length-less n c a b (ha .modulus) (ha .content) (ha .proper) d e _ (ha .first);
+        long-y = length-less n c a b (ha .modulus) (ha .content) (ha .proper) d e _ (ha .second);
+      };
+      second = below-second ha (o .words);
+      first = below-first ha (o .words);
+      lead = subst (LeadingUnit (n / c) t i) (part-first ha (o .words)) (o .lead);
+    };
+  }
+
+  pub over-splitter : {p q : ℕ} {x₁ y₁ : List ℕ} → Splitter (n / c) p q × ((x₁ ≡ x) × (y₁ ≡ y)) → Splitter n p q × ((x₁ ≡ x) × (y₁ ≡ y))
+  over-splitter (s, same) = (
+    record {
+      divides₁ = dvd-trans _ (s .divides₁) (divides ha);
+      divides₂ = dvd-trans _ (s .divides₂) (divides ha);
+      above₁ = s .above₁;
+      above₂ = s .above₂;
+      coprime = s .coprime;
+    },
+    same,
+  )
+
+  module _ {D : ℕ} {x₁ y₁ : List ℕ} (ce : CoreCertified (n / c) (length a - 1) (length b - 1) w x₁ y₁ D) where
+    pub product-word : {m : ℕ} → n < m → c * D < m
+    product-word h = omega (arith, subst (λ (z : ℕ). c * D ≤ z) (sym (whole ha)) (mul-le-mul-left c (ce .reduced .most)))
+
+    pub leaving : BothLeave n r x₁ y₁
+    leaving = record {
+      first = record { form = o .words .form; below = λ k. omega (arith, ce .below-u k, most ha) };
+      second = record { form = o .words .form; below = λ k. omega (arith, ce .below-v k, most ha) };
+    }
+
+    pub half-certified : {x₂ y₂ : List ℕ} → Left n r x₁ x₂ → Left n r y₁ y₂
+        → Certified n (L n (length a - 1) (length b - 1)) a b x₂ y₂ (c * D)
+    half-certified {x₂} {y₂} lx ly = record {
+      reduced = reduced-unscaled n r (c * D) pos (o .words .unit) a (scaled r a) b (scaled r b) (scaled-times n r a) (scaled-times n r b)
+          (subst (λ (z : ℕ). Reduced z (scaled r a) (scaled r b) (c * D)) (sym (whole ha))
+          (reduced-content c (n / c) D (scaled r a) _ (scaled r b) _ (positive ha) (omega (arith, above ha)) (times-first ha (o .words))
+          (times-second ha (o .words)) (ce .reduced)));
+      combination = combination-unscaled n r (c * D) pos a (scaled r a) b (scaled r b) x₁ y₁ x₂ y₂ (scaled-times n r a) (scaled-times n r b)
+          (lx .at) (ly .at)
+          (subst (λ (z : ℕ). Combination z (scaled r a) (scaled r b) x₁ y₁ (c * D)) (sym (whole ha))
+          (combination-content c (n / c) D (positive ha) (omega (arith, above ha)) (scaled r a) _ (scaled r b) _ x₁ y₁
+          (times-first ha (o .words)) (times-second ha (o .words)) (ce .combination)));
+      below-u = λ k. subst (λ (z : ℕ). z < n) (sym (lx .at k)) (mod-lt _ pos);
+      below-v = λ k. subst (λ (z : ℕ). z < n) (sym (ly .at k)) (mod-lt _ pos);
+      short-u = λ k h. lx .at k ∙ none (ce .short-u k (shorter k h));
+      short-v = λ k h. ly .at k ∙ none (ce .short-v k (shorter k h));
+    }
       where
-        beyond : (a : List ℕ) (k : ℕ) → length a ≤ k → ((r * coef a k) % n) / c ≡ 0
-        beyond a k h = ap (λ (x : ℕ). (r * x) % n / c) (coef-beyond a k h) ∙ ap (λ (x : ℕ). x % n / c) (mul-zero r) ∙ ap (λ (x : ℕ). x / c)
-            (zero-mod n) ∙ zero-div c
+        pos : 1 ≤ n
+        pos = omega (arith, ha .modulus)
 
-    second-at : (k : ℕ) → coef (piece w₁ 0 (length b - 1 + 1)) k ≡ ((r * coef b k) % n) / c
-    second-at k = ⊎-elim
-        (λ h. piece-at w₁ 0 (length b - 1 + 1) k (omega arith) ∙ ap (λ (x : ℕ). getD w₁ x 0) (zero-add k) ∙ ar .second k h)
-        (λ h. piece-over w₁ 0 (length b - 1 + 1) k (omega arith) ∙ sym (beyond b k h))
-        (lt-or-le k (length b))
-      where
-        beyond : (a : List ℕ) (k : ℕ) → length a ≤ k → ((r * coef a k) % n) / c ≡ 0
-        beyond a k h = ap (λ (x : ℕ). (r * x) % n / c) (coef-beyond a k h) ∙ ap (λ (x : ℕ). x % n / c) (mul-zero r) ∙ ap (λ (x : ℕ). x / c)
-            (zero-mod n) ∙ zero-div c
+        shorter : (k : ℕ) → L n d e ≤ k → L (n / c) d e ≤ k
+        shorter = length-less n c a b (ha .modulus) (ha .content) (ha .proper) d e
 
-    -- y / c is below n / c
-    small : (y : ℕ) → c ∣ y % n → (y % n) / c < n / c
-    small y d = less c ((y % n) / c) (n / c) common-positive
-        (subst (λ (x : ℕ). x < c * (n / c)) (sym (mul-div-cancel' c d)) (subst (λ (x : ℕ). y % n < x) common-whole
-        (mod-lt y (omega arith))))
-      where
-        less : (c x y : ℕ) → 0 < c → c * x < c * y → x < y
-        less c x y p q = ⊎-elim (λ h. h) (λ h. absurd (omega (arith, mul-le-mul-left c h))) (lt-or-le x y)
+        none : {z : ℕ} → z ≡ 0 → (r * z) % n ≡ 0
+        none e = ap (λ (z : ℕ). (r * z) % n) e ∙ ap (λ (z : ℕ). z % n) (mul-zero r) ∙ zero-mod n
 
-    pub below-second : Below (n / c) 0 (length b - 1 + 1) w₁
-    below-second = record {
-      at = λ k h. subst (λ (x : ℕ). x < n / c) (sym
-          (ap (λ (x : ℕ). getD w₁ x 0) (zero-add k) ∙ ar .second k (omega arith))) (small (r * coef b k)
-          (divides-scaled n c r (coef b k) (cm .divides-n) (cm .divides-g k)));
-    }
-
-    pub below-first : Below (n / c) (length b - 1 + 1) (length a - 1 + 1) w₁
-    below-first = record {
-      at = λ k h. subst (λ (x : ℕ). x < n / c) (sym
-          (ap (λ (x : ℕ). getD w₁ (x + k) 0) more-b ∙ ar .first k (omega arith))) (small (r * coef a k)
-          (divides-scaled n c r (coef a k) (cm .divides-n) (cm .divides-f k)));
-    }
-
-    pub part-first : piece w₁ (length b) (length a) ≡ piece w₁ (length b - 1 + 1) (length a - 1 + 1)
-    part-first = ap₂ (λ (x y : ℕ). piece w₁ x y) (sym more-b) (sym more-a)
-
-    pub arranged-nilpotents : NilpotentWords (n / c) (piece w₁ (length b) (length a)) → NilpotentOver n c a
-    arranged-nilpotents x = record {
-      at = λ k. nilpotent-unscaled n c (n / c) r (coef a k) common-whole common-positive (omega (arith, common-above ne)) (ar .unit)
-          (cm .divides-n) (cm .divides-f k)
-          (small (coef a k) (cm .divides-f k)) (subst (IsNilpotent (n / c)) (ap (λ (f : List ℕ). coef f k) part-first ∙ first-at k)
-          (x .at k));
-    }
-
-    -- the words, as r a and r b over c
-    times : (a f : List ℕ) → ((k : ℕ) → coef f k ≡ ((r * coef a k) % n) / c) → ((k : ℕ) → c ∣ coef a k % n) → Times (c * (n / c)) c
-        (scaled r a) f
-    times a f at d = record {
-      at = λ k. subst (λ (x : ℕ). coef (scaled r a) k % x ≡ (c * coef f k) % x) common-whole
-          (ap (λ (x : ℕ). x % n) (scaled-at r a k) ∙ sym (ap (λ (x : ℕ). (c * x) % n) (at k)
-          ∙ ap (λ (x : ℕ). x % n) (mul-div-cancel' c (divides-scaled n c r (coef a k) (cm .divides-n) (d k))) ∙ mod-mod (r * coef a k) n));
-    }
-
-    times-first : Times (c * (n / c)) c (scaled r a) (piece w₁ (length b - 1 + 1) (length a - 1 + 1))
-    times-first = times a (piece w₁ (length b - 1 + 1) (length a - 1 + 1)) first-at (cm .divides-f)
-
-    times-second : Times (c * (n / c)) c (scaled r b) (piece w₁ 0 (length b - 1 + 1))
-    times-second = times b (piece w₁ 0 (length b - 1 + 1)) second-at (cm .divides-g)
-
-    module _ (x y : List ℕ) (D : ℕ)
-        (ce : Certified (n / c) (L (n / c) (length a - 1) (length b - 1)) (piece w₁ (length b - 1 + 1) (length a - 1 + 1)) (piece w₁ 0
-        (length b - 1 + 1)) x y D) where
-      pub product-most : c * D ≤ n
-      product-most = subst (λ (z : ℕ). c * D ≤ z) (sym common-whole) (mul-le-mul-left c (ce .reduced .most))
-
-      pub leave-first : LeaveAsked n r x
-      leave-first = record { form = ar .form; below = λ k. omega (arith, ce .below-u k, common-most) }
-
-      pub leave-second : LeaveAsked n r y
-      leave-second = record { form = ar .form; below = λ k. omega (arith, ce .below-v k, common-most) }
-
-      pub half-certified : (x′ y′ : List ℕ) → Left n r x x′ → Left n r y y′ → Certified n (L n (length a - 1) (length b - 1)) a b x′ y′
-          (c * D)
-      half-certified x′ y′ lx ly = record {
-        reduced = reduced-unscaled n r (c * D) (omega arith) (ar .unit) a (scaled r a) b (scaled r b) (scaled-times n r a)
-            (scaled-times n r b)
-            (subst (λ (z : ℕ). Reduced z (scaled r a) (scaled r b) (c * D)) (sym common-whole)
-            (reduced-content c (n / c) D (scaled r a) (piece w₁ (length b - 1 + 1) (length a - 1 + 1)) (scaled r b) (piece w₁ 0
-            (length b - 1 + 1)) common-positive
-            (omega (arith, common-above ne)) times-first times-second (ce .reduced)));
-        combination = combination-unscaled n r (c * D) (omega arith) a (scaled r a) b (scaled r b) x y x′ y′ (scaled-times n r a)
-            (scaled-times n r b) (lx .at) (ly .at)
-            (subst (λ (z : ℕ). Combination z (scaled r a) (scaled r b) x y (c * D)) (sym common-whole)
-            (combination-content c (n / c) D common-positive (omega (arith, common-above ne)) (scaled r a) (piece w₁ (length b - 1 + 1)
-            (length a - 1 + 1)) (scaled r b)
-            (piece w₁ 0 (length b - 1 + 1)) x y times-first times-second (ce .combination)));
-        below-u = λ k. subst (λ (z : ℕ). z < n) (sym (lx .at k)) (mod-lt _ (omega arith));
-        below-v = λ k. subst (λ (z : ℕ). z < n) (sym (ly .at k)) (mod-lt _ (omega arith));
-        short-u = λ k h. lx .at k ∙ none (ce .short-u k (length-less ne (length a - 1) (length b - 1) k h));
-        short-v = λ k h. ly .at k ∙ none (ce .short-v k (length-less ne (length a - 1) (length b - 1) k h));
-      }
-        where
-          none : {z : ℕ} → z ≡ 0 → (r * z) % n ≡ 0
-          none e = ap (λ (z : ℕ). (r * z) % n) e ∙ ap (λ (z : ℕ). z % n) (mul-zero r) ∙ zero-mod n
-
-    pub part-divides : n / c ∣ n
-    part-divides = subst (λ (x : ℕ). n / c ∣ x) (sym common-whole) (dvd-mul-left (n / c) c)
-
-    pub half-splitter : (p q : ℕ) → Splitter (n / c) p q → Splitter n p q
-    half-splitter p q x = record {
-      divides₁ = dvd-trans p (x .divides₁) part-divides;
-      divides₂ = dvd-trans q (x .divides₂) part-divides;
-      above₁ = x .above₁;
-      above₂ = x .above₂;
-      coprime = x .coprime;
-    }
+-- the same where the words are those of a and b
+pub plain-certified : {n c t i D : ℕ} {a b x y w x₁ y₁ : List ℕ} → OverAsked n c 1 t i a b x y w
+    → CoreCertified (n / c) (length a - 1) (length b - 1) w x₁ y₁ D → Certified n (L n (length a - 1) (length b - 1)) a b x₁ y₁ (c * D)
+plain-certified o ce = half-certified o ce (left-one _ 1 _ (leaving o ce .first) refl) (left-one _ 1 _ (leaving o ce .second) refl)
 
 -- not all coefficients of both are nilpotent
 pub common-primitive : (n c : ℕ) (a b : List ℕ) → 2 ≤ n → CommonContent n a b c → (c ≡ n → ⊥) → NilpotentOver n c a → NilpotentOver n c b
@@ -257,20 +365,28 @@ common-primitive n c a b two cm ne na nb =
     big c p h q l = let z : c * 2 ≤ c * p = mul-le-mul-left c q in omega arith
 
 pub common-swap : (n c : ℕ) (a b : List ℕ) → CommonContent n a b c → CommonContent n b a c
-common-swap n c a b x = record { divides-n = x .divides-n; divides-f = x .divides-g; divides-g = x .divides-f; greatest = λ y d p q. x .greatest y d q p }
+common-swap n c a b x = record {
+  divides-n = x .divides-n;
+  divides-f = x .divides-g;
+  divides-g = x .divides-f;
+  greatest = λ y d p q. x .greatest y d q p;
+}
 
 -- ---- two coprime divisors split n
 
-pub split-unit : (n p q i : ℕ) → Splitter n p q → Inverse n p i → ⊥
-split-unit n p q i s u =
-    let one : p ≡ 1 = coprime-of-unit (record { inverse = i; is = u }) .only p (s .divides₁) (dvd-refl p) in
-    omega (arith, s .above₁)
+module _ {n p q : ℕ} (s : Splitter n p q) where
+  pub split-unit : {i : ℕ} → Inverse n p i → ⊥
+  split-unit {i} u =
+      let one : p ≡ 1 = coprime-of-unit (record { inverse = i; is = u }) .only p (s .divides₁) (dvd-refl p) in
+      omega (arith, s .above₁)
 
-pub split-nilpotent : (n p q : ℕ) → Splitter n p q → IsNilpotent n p → ⊥
-split-nilpotent n p q s x =
-    let d : q ∣ p ^ x .exponent = dvd-trans q (s .divides₂) (dvd-of-mod-eq-zero n (x .power)) in
-    let one : q ≡ 1 = coprime-power (omega (arith, s .above₂)) (coprime-sym (s .coprime)) (x .exponent) .only q (dvd-refl q) d in
-    omega (arith, s .above₂)
+  pub split-nilpotent : IsNilpotent n p → ⊥
+  split-nilpotent x =
+      let d : q ∣ p ^ x .exponent = dvd-trans q (s .divides₂) (dvd-of-mod-eq-zero n (x .power)) in
+      let one : q ≡ 1 = coprime-power (omega (arith, s .above₂)) (coprime-sym (s .coprime)) (x .exponent) .only q (dvd-refl q) d in
+      omega (arith, s .above₂)
 
-pub split-factors : (n p a b : ℕ) → Splitting n p a b → SplitOf n a b
-split-factors n p a b s = record { product = s .product; above₁ = s .above₁; above₂ = s .above₂; coprime = s .coprime }
+pub split-factors : {n p a b : ℕ} → Splitting n p a b → SplitOf n a b
+split-factors s = record { product = s .product; above₁ = s .above₁; above₂ = s .above₂; coprime = s .coprime }
+
+pub ruleset halves = (common-of, arranged-of, arranged-plain, positive, above, half-splits, nilpotents-told, over-asked, core-asked)

@@ -1,4 +1,5 @@
 pub mod Scalings
 pub mod Halves
 pub mod Whole
-pub mod Parting
+pub mod Rules
+pub mod Cases

@@ -5,9 +5,12 @@
 --   combination-unscaled   u (r f) + v (r g) = (r u) f + (r v) g
 --   divides-scaled         what divides n and a word divides r times the word
 --   nilpotent-unscaled     r x over c is nilpotent modulo n / c only where x over c is
+--   fits-told              the test of the form
 --   pair-held, pair-plain  words loaded held, or as they are
 --   left-scaled, left-one  words times r
+--   scalings               the rules
 use mathlib.Core.Path.{_≡_, refl, sym, ap, subst, _∙_}
+use mathlib.Core.Bool.{Bool, true}
 use mathlib.Core.List.{List, map}
 use mathlib.Core.Logic.{⊎-elim}
 use Prim.Native.Nat.{ℕ, _+_, _*_, _/_, _%_, _^_, _≤_, _<_, _∣_}
@@ -25,7 +28,7 @@ use Rattle.theory.specs.ReachedSteps.{Times, coef-beyond, convolve-mod, convolv
 use Rattle.theory.specs.ReducedLaws.{reduced-flip}
 use Rattle.windows.specs.Window.{Written, Moved, mulBy, Loaded}
 use Rattle.windows.proofs.Leaf.{lt-or-le}
-use Rattle.montgomery.specs.Held.{held, plain, Fits}
+use Rattle.montgomery.specs.Held.{held, plain, Fits, Fitting}
 use Rattle.montgomery.specs.Turning.{held-below, held-cong, radix-back, leave-enter}
 use Rattle.reduced_multipliers.specs.Reductions.{reduced-scaled}
 use Rattle.reduced_attempt.specs.Attempts.{PairLoaded, LeaveAsked, Left}
@@ -146,6 +149,9 @@ pair-loaded n r j f g F G {w} {w₁} {w₂} u fo le wf wg hf hg = record {
   high = λ k p. wg .high k p ∙ wf .high k (omega arith);
 }
 
+pub fits-told : {n : ℕ} (b : Bool) → Fitting n b → b ≡ true → Fits n
+fits-told {n} b x e = subst (Fitting n) e x
+
 pub pair-held : (n N r j : ℕ) (f g : List ℕ) {w w₁ w₂ : List ℕ} → N ≡ n → Fits N → r ≡ held N 1 → length f ≤ j
     → Written (λ (k : ℕ). held N (getD f k 0)) 0 (length f) w w₁ → Written (λ (k : ℕ). held N (getD g k 0)) j (length g) w₁ w₂
     → PairLoaded n r j f g w w₂
@@ -160,7 +166,17 @@ pair-plain n j f g pos le lf lg =
     pair-loaded n 1 j f g _ _ (unit-one n pos) (λ ne. absurd (ne refl)) le (loaded-written lf) (loaded-written lg)
     (λ k. plain-word n (getD f k 0)) (λ k. plain-word n (getD g k 0))
 
+pub pair-as-is : {n j : ℕ} {f g w w₁ w₂ : List ℕ} → 2 ≤ n → length f ≤ j → Loaded n 0 f w w₁ → Loaded n j g w₁ w₂
+    → PairLoaded n 1 j f g w w₂
+pair-as-is {n} {j} {f} {g} two le lf lg = pair-plain n j f g (omega arith) le lf lg
+
 -- ---- words that leave
+
+pub leave-form : {n r : ℕ} {x : List ℕ} → LeaveAsked n r x → (r ≡ 1 → ⊥) → Fits n
+leave-form a h = a .form h
+
+pub held-most : (N r : ℕ) {c : ℕ} → Fits N → c ≡ held N r → c ≤ N
+held-most N r fits e = omega (arith, e, held-below N (fits .odd) r)
 
 pub left-scaled : (n N r c : ℕ) (x x' : List ℕ) → N ≡ n → Fits N → c ≡ held N r → Moved (mulBy N (plain N c)) 0 0 (length x) x x'
     → Left n r x x'
@@ -182,3 +198,5 @@ left-one n r x k e = record {
   same = refl;
   at = λ i. sym (ap (λ (v : ℕ). (v * coef x i) % n) e ∙ ap (λ (v : ℕ). v % n) (one-mul (coef x i)) ∙ mod-eq-of-lt (k .below i));
 }
+
+pub ruleset scalings = (fits-told, pair-held, pair-as-is, leave-form, held-most, left-scaled, left-one)

@@ -3,9 +3,11 @@
 --   CommonContent n f g c  c is the greatest common divisor of n and of all words of f and g modulo n
 --   PairLoaded n r j f g   the words of f, and from j on those of g, times the unit r
 --   Arranged n c r a b     the words of b and then those of a, times r modulo n and over c
---   LeaveAsked, Left       words times r
+--   LeaveAsked, BothLeave, Left    words times r
 --   HalfAsked              of the half of an attempt that factors the first polynomial: what it asks
---   TrialAnswers           what it promises
+--   OverAsked, CoreOver    the same, once the words stand over the content, and what the core asks of these
+--   OtherAsked             of the second half, after the first: what it asks
+--   TrialAnswers           what a half promises
 --   AttemptAsked           what an attempt asks
 --   Attempted              what it promises: D with cofactors, or n as a product of two coprime factors
 --   attempt-room n M       the words that an attempt needs, M the larger sent degree
@@ -16,11 +18,12 @@ use lib.ListN.{length, getD}
 use Rattle.definitions.specs.Residues.{K, IsUnit, IsNilpotent}
 use Rattle.definitions.specs.Polynomials.{coef, L}
 use Rattle.montgomery.specs.Held.{Fits}
-use Rattle.window_factor.specs.Factors.{SplitOf}
+use Rattle.windows.specs.Window.{piece}
+use Rattle.window_factor.specs.Factors.{SplitOf, LeadingUnit}
 use Rattle.reduced_units.specs.States.{Splitter}
 use Rattle.residue.specs.declared.Attempt.{Attempt}
 use Rattle.residue.specs.declared.Attempt.the-variants.{Value, Splits}
-use Rattle.reduced_cofactors.specs.Cofactors.{Certified, core-room}
+use Rattle.reduced_cofactors.specs.Cofactors.{core-room, CoreAsked, Certified}
 use Rattle.reduced_attempt.specs.declared.Trial.{Trial}
 use Rattle.reduced_attempt.specs.declared.Trial.the-variants.{Found, Divisors, Nilpotent}
 
@@ -55,6 +58,11 @@ pub record LeaveAsked (n r : ℕ) (x : List ℕ) : Type 0 where
   pub form : (r ≡ 1 → ⊥) → Fits n
   pub below : (k : ℕ) → coef x k < n
 
+-- the same of both cofactors
+pub record BothLeave (n r : ℕ) (x y : List ℕ) : Type 0 where
+  pub first : LeaveAsked n r x
+  pub second : LeaveAsked n r y
+
 -- cofactors leave times R: each word times r
 pub record Left (n r : ℕ) (x x' : List ℕ) : Type 0 where
   pub same : length x' ≡ length x
@@ -74,6 +82,24 @@ pub record HalfAsked (n c : ℕ) (a b x y w : List ℕ) : Type 0 where
   pub second : L n (length a - 1) (length b - 1) ≤ length y
   pub content : CommonContent n a b c
   pub proper : c ≡ n → ⊥
+
+-- r a and r b over c stand in w; the coefficient of the first at t has the inverse i modulo n / c, and those above it are nilpotent
+pub record OverAsked (n c r t i : ℕ) (a b x y w : List ℕ) : Type 0 where
+  pub half : HalfAsked n c a b x y w
+  pub words : Arranged n c r a b w w
+  pub lead : LeadingUnit (n / c) t i (piece w (length b) (length a))
+
+-- the second half, once the first found no coefficient of f over c that is more than nilpotent
+pub record OtherAsked (n c : ℕ) (f g u v w : List ℕ) : Type 0 where
+  pub half : HalfAsked n c g f v u w
+  pub nilpotent : NilpotentOver n c f
+
+-- what the core asks of the words of a and b over c
+pub record CoreOver (n c t i : ℕ) (a b x y w : List ℕ) : Type 0 where
+  pub positive : 1 ≤ c
+  pub some-a : 1 ≤ length a
+  pub some-b : 1 ≤ length b
+  pub asked : CoreAsked (n / c) (length a - 1) (length b - 1) t i w x y
 
 -- D with cofactors x' and y'; two coprime divisors of n; or no coefficient of a is more than nilpotent. In the last two, the buffers x
 -- and y are left as found.

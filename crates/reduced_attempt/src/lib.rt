@@ -7,16 +7,18 @@
 //   common_content   the content of both polynomials, which divides D
 //   load_pair        both polynomials, held where n has the form
 //   arrange          the same, over a content
-//   leave            a cofactor times what the polynomials were multiplied by
+//   leave            a cofactor times what the polynomials were multiplied by; leave_both does both
 //   half             the attempt where the first polynomial is the one that is factored
+//   over_content     the same, where the words stand over the content; core_over is the core of the attempt there
 //   split            two coprime divisors of n, made two coprime factors
-//   attempt          both halves in turn
+//   attempt          both_halves in turn, other_half the second
 ghost use Prim.Native.Nat.{_+_, _-_, _*_, _/_, _≤_};
 ghost use lib.ListN.{length};
 ghost use Rattle.windows.specs.Window.{Scratch};
 ghost use Rattle.reduced_units.specs.States.{Splitter};
-ghost use Rattle.reduced_attempt.specs.Attempts.{CommonContent, PairLoaded, Arranged, LeaveAsked, Left, HalfAsked, TrialAnswers};
-ghost use Rattle.reduced_attempt.specs.Attempts.{Parted, AttemptAsked, Attempted};
+ghost use Rattle.reduced_cofactors.specs.Cofactors.{CoreAnswer};
+ghost use Rattle.reduced_attempt.specs.Attempts.{CommonContent, PairLoaded, Arranged, LeaveAsked, BothLeave, Left, HalfAsked};
+ghost use Rattle.reduced_attempt.specs.Attempts.{OverAsked, CoreOver, OtherAsked, TrialAnswers, Parted, AttemptAsked, Attempted};
 use residue::Attempt;
 
 // What the half of an attempt comes to that factors the first polynomial: D; two coprime divisors of n; or all coefficients of that
@@ -82,6 +84,15 @@ fn leave(x: &mut [u32], n: u32, r: u32)
     held_windows::scale(x, form, c, 0, 0, z);
 }
 
+// Both cofactors so.
+fn leave_both(x: &mut [u32], y: &mut [u32], n: u32, r: u32)
+    requires { ⌜ BothLeave n r (now x) (now y) ⌝ }
+    ensures { λ _. ⌜ (Left n r (now (x .entry)) (now (x .exit))) × (Left n r (now (y .entry)) (now (y .exit))) ⌝ }
+{
+    leave(x, n, r);
+    leave(y, n, r);
+}
+
 // The reduced resultant of a and b, c their common content, with the cofactors x of a and y of b, if a can be factored.
 fn half(x: &mut [u32], y: &mut [u32], w: &mut [u32], n: u32, c: u32, a: &[u32], b: &[u32]) -> Trial
     requires { ⌜ HalfAsked n c (now a) (now b) (now x) (now y) (now w) ⌝ }
@@ -93,26 +104,58 @@ fn half(x: &mut [u32], y: &mut [u32], w: &mut [u32], n: u32, c: u32, a: &[u32], 
     let l = b.len();
     let m = l + a.len();
     match window_factor::highest_of(&w[l..m], n / c) {
-        window_factor::Highest::UnitAt(t, i) => match reduced_cofactors::core(
-            x,
-            y,
-            w,
-            n / c,
-            a.len() - 1,
-            l - 1,
-            t,
-            i,
-        ) {
-            Attempt::Value(d) => {
-                leave(x, n, r);
-                leave(y, n, r);
-                Trial::Found(c * d)
-            }
-            Attempt::Splits(p, q) => Trial::Divisors(p, q),
-        },
+        window_factor::Highest::UnitAt(t, i) => over_content(x, y, w, n, c, r, a, b, t, i),
         window_factor::Highest::Splits(p, q) => Trial::Divisors(p, q),
         window_factor::Highest::AllNilpotent => Trial::Nilpotent,
     }
+}
+
+// The same, where the words of r b and r a over c stand in w; coefficient t of the latter has the inverse i modulo n / c, and those above
+// are nilpotent.
+fn over_content(
+    x: &mut [u32],
+    y: &mut [u32],
+    w: &mut [u32],
+    n: u32,
+    c: u32,
+    r: u32,
+    a: &[u32],
+    b: &[u32],
+    t: usize,
+    i: u32,
+) -> Trial
+    requires { ⌜ OverAsked n c r t i (now a) (now b) (now x) (now y) (now w) ⌝ }
+    ensures { λ z. ⌜ TrialAnswers n c (now (a .entry)) (now (b .entry)) (now (x .entry)) (now (y .entry))
+        (now (x .exit)) (now (y .exit)) z ⌝ }
+    ensures { λ _. ⌜ Scratch (now (w .entry)) (now (w .exit)) ⌝ }
+{
+    match core_over(x, y, w, n, c, a, b, t, i) {
+        Attempt::Value(d) => {
+            leave_both(x, y, n, r);
+            Trial::Found(c * d)
+        }
+        Attempt::Splits(p, q) => Trial::Divisors(p, q),
+    }
+}
+
+// What the core comes to there, modulo n / c.
+fn core_over(
+    x: &mut [u32],
+    y: &mut [u32],
+    w: &mut [u32],
+    n: u32,
+    c: u32,
+    a: &[u32],
+    b: &[u32],
+    t: usize,
+    i: u32,
+) -> Attempt
+    requires { ⌜ CoreOver n c t i (now a) (now b) (now x) (now y) (now w) ⌝ }
+    ensures { λ z. ⌜ CoreAnswer (n / c) (length (now (a .entry)) - 1) (length (now (b .entry)) - 1) (now (w .entry)) (now (x .entry))
+        (now (y .entry)) (now (x .exit)) (now (y .exit)) z ⌝ }
+    ensures { λ _. ⌜ Scratch (now (w .entry)) (now (w .exit)) ⌝ }
+{
+    reduced_cofactors::core(x, y, w, n / c, a.len() - 1, b.len() - 1, t, i)
 }
 
 // n as a product of two coprime factors, from two coprime divisors: what n has in common with p, and the rest. The first two cases are
@@ -140,15 +183,44 @@ pub fn attempt(u: &mut [u32], v: &mut [u32], w: &mut [u32], n: u32, f: &[u32], g
         windows::wipe(v);
         return Attempt::Value(n);
     }
+    both_halves(u, v, w, n, c, f, g)
+}
+
+// The same, where the common content c is not all of n.
+fn both_halves(
+    u: &mut [u32],
+    v: &mut [u32],
+    w: &mut [u32],
+    n: u32,
+    c: u32,
+    f: &[u32],
+    g: &[u32],
+) -> Attempt
+    requires { ⌜ (HalfAsked n c (now f) (now g) (now u) (now v) (now w)) × (HalfAsked n c (now g) (now f) (now v) (now u) (now w)) ⌝ }
+    ensures { λ r. ⌜ Attempted n (now (f .entry)) (now (g .entry)) (now (u .entry)) (now (v .entry)) (now (u .exit)) (now (v .exit)) r ⌝ }
+    ensures { λ _. ⌜ Scratch (now (w .entry)) (now (w .exit)) ⌝ }
+{
     match half(u, v, w, n, c, f, g) {
-        Trial::Found(d) => {
-            return Attempt::Value(d);
-        }
-        Trial::Divisors(p, q) => {
-            return split(n, p, q);
-        }
-        Trial::Nilpotent => {}
+        Trial::Found(d) => Attempt::Value(d),
+        Trial::Divisors(p, q) => split(n, p, q),
+        Trial::Nilpotent => other_half(u, v, w, n, c, f, g),
     }
+}
+
+// The same, where no coefficient of f over c is more than nilpotent: g is the one that is factored.
+fn other_half(
+    u: &mut [u32],
+    v: &mut [u32],
+    w: &mut [u32],
+    n: u32,
+    c: u32,
+    f: &[u32],
+    g: &[u32],
+) -> Attempt
+    requires { ⌜ OtherAsked n c (now f) (now g) (now u) (now v) (now w) ⌝ }
+    ensures { λ r. ⌜ Attempted n (now (f .entry)) (now (g .entry)) (now (u .entry)) (now (v .entry)) (now (u .exit)) (now (v .exit)) r ⌝ }
+    ensures { λ _. ⌜ Scratch (now (w .entry)) (now (w .exit)) ⌝ }
+{
     match half(v, u, w, n, c, g, f) {
         Trial::Found(d) => Attempt::Value(d),
         Trial::Divisors(p, q) => split(n, p, q),

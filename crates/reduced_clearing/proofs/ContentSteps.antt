@@ -1,11 +1,19 @@
--- The content c of B is taken out: B over c, the multiplier of A times c, A modulo ν / c.
+-- The content c of B is taken out: B over c, the multiplier of A times c, A modulo ν / c. The facts are those of the code, which reads B
+-- as a
+-- part of the window.
+--
+--   part                         the a words from p on, as the code lends them
+--   none-solved, none-kept       B is 0 modulo ν
+--   content-positive, content-asked, content-stage, content-change, content-kept, content-primitive    it is not
 use mathlib.Core.Path.{_≡_, refl, sym, ap, ap₂, subst, _∙_, fun-ext}
 use mathlib.Core.List.{List, []}
 use mathlib.Core.Logic.{⊎-elim}
 use Prim.Native.Nat.{ℕ, zero, suc, _+_, _-_, _*_, _/_, _%_, _≤_, _<_, _∣_}
 use native.Mathlib.Omega.{arith}
-use native.Mathlib.Nat.{mod-lt, mod-mod, mod-eq-of-lt, mod-self, zero-mod, mul-zero, mul-one, one-mul, mul-comm, mul-assoc, mul-pos, mul-le-mul-left, mul-div-cancel', pos-of-dvd-of-pos, dvd-trans, dvd-mul-left, mul-dvd-mul-left, le-of-dvd, mod-eq-zero-of-dvd, eq-of-mul-eq-mul-left, dvd-zero}
-use lib.ListN.{length, getD}
+use native.Mathlib.Nat.{mod-lt, mod-mod, mod-eq-of-lt, mod-self, zero-mod, mul-zero, mul-one, one-mul, mul-comm, mul-assoc, mul-pos}
+use native.Mathlib.Nat.{mul-le-mul-left, mul-div-cancel', pos-of-dvd-of-pos, dvd-trans, dvd-mul-left, mul-dvd-mul-left, le-of-dvd}
+use native.Mathlib.Nat.{mod-eq-zero-of-dvd, eq-of-mul-eq-mul-left, dvd-zero}
+use lib.ListN.{length, getD, take, drop}
 use Rattle.definitions.specs.Residues.{IsUnit, IsNilpotent, Inverse}
 use Rattle.definitions.specs.Polynomials.{coef, constant}
 use Rattle.definitions.specs.Resultants.{Reduced}
@@ -20,9 +28,17 @@ use Rattle.windows.proofs.Lift.{moved-around}
 use Rattle.reduced_multipliers.specs.Leads.{Leads, Completes, lifted, leads-scaled, completes-none}
 use Rattle.reduced_multipliers.specs.Reductions.{UnitLead, reduced-same, reduced-lead, reduced-none}
 use Rattle.reduced_products.specs.Products.{MonicAtZero}
-use Rattle.reduced_units.specs.States.{Multiplier, Stage, Solved, Change}
-use Rattle.reduced_clearing.specs.Clearings.{ContentTaken}
-use Rattle.reduced_units.proofs.Regions.{apart-low, apart-swap, below-apart, piece-apart, multiplier-apart, monic-apart, kept-around, kept-trans, kept-piece}
+use Rattle.reduced_units.specs.States.{Multiplier, Stage, StageAt, Solved, Change}
+use Rattle.reduced_units.specs.declared.Places.{Places}
+use Rattle.reduced_clearing.specs.Clearings.{ContentAsked, ContentTaken}
+use Rattle.reduced_units.proofs.Regions.{part-piece, apart-low, apart-swap, below-apart, piece-apart, multiplier-apart, monic-apart}
+use Rattle.reduced_units.proofs.Regions.{kept-around, kept-trans, kept-piece}
+
+abbrev pub part : List ℕ → ℕ → ℕ → List ℕ
+part w p a = take (p + a - p) (drop p w)
+
+pub part-is : (w : List ℕ) (p a : ℕ) → part w p a ≡ piece w p a
+part-is w p a = part-piece w p a (p + a - p) (omega arith)
 
 -- A has a leading unit
 pub unit-lead : {n ν t pa a pb c al be l : ℕ} {w : List ℕ} → Stage n ν t pa a pb c al be l w → UnitLead ν a (piece w pa (a + 1))
@@ -32,7 +48,8 @@ unit-lead {ν = ν} {pa = pa} {a = a} {w = w} st = record {
 }
 
 -- every coefficient, where the words do
-all-coefficients : (w : List ℕ) (p l x : ℕ) → p + l ≤ length w → ((k : ℕ) → k < length (piece w p l) → x ∣ coef (piece w p l) k) → (k : ℕ) → x ∣ coef (piece w p l) k
+all-coefficients : (w : List ℕ) (p l x : ℕ) → p + l ≤ length w → ((k : ℕ) → k < length (piece w p l) → x ∣ coef (piece w p l) k) → (k : ℕ)
+    → x ∣ coef (piece w p l) k
 all-coefficients w p l x h d k = ⊎-elim
     (λ b. d k (omega (arith, piece-length w p l h)))
     (λ b. subst (λ (y : ℕ). x ∣ y) (sym (piece-over w p l k b)) (dvd-zero x))
@@ -40,7 +57,12 @@ all-coefficients w p l x h d k = ⊎-elim
 
 -- ---- B is 0 modulo ν
 
-module _ (n ν t pa a pb al be l : ℕ) (w w' : List ℕ) (st : Stage n ν t pa a pb a al be l w) (ct : Content ν (piece w pb a) ν) (mv : Moved zeroed (t + 1) (t + 1) t w w') where
+module _ (n ν t pa a pb al be l c : ℕ) (w w' : List ℕ) (st : Stage n ν t pa a pb a al be l w) (of-part : Content ν (part w pb a) c)
+    (whole : c ≡ ν)
+    (mv : Moved zeroed (t + 1) (t + 1) t w w') where
+  whole-content : Content ν (piece w pb a) ν
+  whole-content = subst (Content ν (piece w pb a)) whole (subst (λ (f : List ℕ). Content ν f c) (part-is w pb a) of-part)
+
   pub none-kept : Kept (t + 1) w w'
   none-kept = kept-around (omega arith) (moved-around mv)
 
@@ -50,25 +72,24 @@ module _ (n ν t pa a pb al be l : ℕ) (w w' : List ℕ) (st : Stage n ν t pa 
   pub none-solved : Solved n ν t pa a pb a al be ν w w'
   none-solved = record {
     reduced = reduced-none ν a (omega (arith, st .above)) (st .degree) (piece w pa (a + 1)) (piece w pb a) (unit-lead st)
-        (λ k. mod-eq-zero-of-dvd ν (all-coefficients w pb a ν (omega (arith, st .room, st .within, st .places .b-high)) (ct .divides) k));
+        (λ k. mod-eq-zero-of-dvd ν (all-coefficients w pb a ν (omega (arith, st .room, st .within, st .places .b-high))
+        (whole-content .divides) k));
     below = record { at = λ k h. subst (λ (x : ℕ). x < n) (sym (mv .mid k h)) (st .positive) };
-    completes = λ g m p e x y. completes-none n (m * ν) (st .positive) (ap (λ (z : ℕ). z % n) (sym e) ∙ mod-self n) (piece w 0 (t + 1)) g (piece w' (t + 1) t) empty;
+    completes = λ g m p e x y. completes-none n (m * ν) (st .positive) (ap (λ (z : ℕ). z % n) (sym e) ∙ mod-self n) (piece w 0 (t + 1)) g
+        (piece w' (t + 1) t) empty;
   }
 
 -- ---- c is not ν
 
-module _ (n ν t pa a pb al be l c : ℕ) (w : List ℕ) (st : Stage n ν t pa a pb a al be l w) (ct : Content ν (piece w pb a) c) where
+module _ (n ν t pa a pb al be l c : ℕ) (w : List ℕ) (st : Stage n ν t pa a pb a al be l w) (of-part : Content ν (part w pb a) c) where
+  ct : Content ν (piece w pb a) c
+  ct = subst (λ (f : List ℕ). Content ν f c) (part-is w pb a) of-part
+
   pub content-positive : 0 < c
   content-positive = pos-of-dvd-of-pos (ct .divides-n) (omega (arith, st .above))
 
   pub content-whole : ν ≡ c * (ν / c)
   content-whole = sym (mul-div-cancel' c (ct .divides-n))
-
-  pub content-below : ν / c ≤ ν
-  content-below = omega (arith, content-whole, more c (ν / c) content-positive)
-    where
-      more : (c x : ℕ) → 0 < c → x ≤ c * x
-      more c x h = omega (arith, mul-le-mul-left x h)
 
   pub content-above : (c ≡ ν → ⊥) → 2 ≤ ν / c
   content-above ne = go (ν / c) content-whole
@@ -141,14 +162,17 @@ module _ (n ν t pa a pb al be l c : ℕ) (w : List ℕ) (st : Stage n ν t pa a
     -- and A is what it was, modulo ν / c
     same-a : (k : ℕ) → coef (piece w pa (a + 1)) k % (ν / c) ≡ coef (piece w' pa (a + 1)) k % (ν / c)
     same-a k = ⊎-elim
-        (λ h. ap (λ (x : ℕ). x % (ν / c)) (piece-at w pa (a + 1) k h) ∙ sym (ap (λ (x : ℕ). x % (ν / c)) (piece-at w' pa (a + 1) k h ∙ word-a k h) ∙ mod-mod _ (ν / c)))
+        (λ h. ap (λ (x : ℕ). x % (ν / c)) (piece-at w pa (a + 1) k h) ∙ sym
+        (ap (λ (x : ℕ). x % (ν / c)) (piece-at w' pa (a + 1) k h ∙ word-a k h) ∙ mod-mod _ (ν / c)))
         (λ h. ap (λ (x : ℕ). x % (ν / c)) (piece-over w pa (a + 1) k h ∙ sym (piece-over w' pa (a + 1) k h)))
         (lt-or-le k (a + 1))
 
     times-al : (k : ℕ) → coef (piece w' al (2 * (t + 1))) k % n ≡ (c * coef (piece w al (2 * (t + 1))) k) % n
     times-al k = ⊎-elim
-        (λ h. ap (λ (x : ℕ). x % n) (piece-at w' al (2 * (t + 1)) k h ∙ word-al k h) ∙ mod-mod _ n ∙ ap (λ (x : ℕ). (c * x) % n) (sym (piece-at w al (2 * (t + 1)) k h)))
-        (λ h. ap (λ (x : ℕ). x % n) (piece-over w' al (2 * (t + 1)) k h ∙ sym (mul-zero c)) ∙ ap (λ (x : ℕ). (c * x) % n) (sym (piece-over w al (2 * (t + 1)) k h)))
+        (λ h. ap (λ (x : ℕ). x % n) (piece-at w' al (2 * (t + 1)) k h ∙ word-al k h) ∙ mod-mod _ n ∙ ap (λ (x : ℕ). (c * x) % n)
+        (sym (piece-at w al (2 * (t + 1)) k h)))
+        (λ h. ap (λ (x : ℕ). x % n) (piece-over w' al (2 * (t + 1)) k h ∙ sym (mul-zero c)) ∙ ap (λ (x : ℕ). (c * x) % n)
+        (sym (piece-over w al (2 * (t + 1)) k h)))
         (lt-or-le k (2 * (t + 1)))
 
     pub content-kept : Kept (t + 1) w w'
@@ -170,7 +194,8 @@ module _ (n ν t pa a pb al be l c : ℕ) (w : List ℕ) (st : Stage n ν t pa a
       most = st .most;
       room = omega (arith, st .room, content-kept .same);
       places = st .places;
-      monic = monic-apart (omega (arith, st .places .a-low)) reduced (monic-apart (omega (arith, st .places .b-low)) divided (monic-apart (omega (arith, st .places .al-low)) scaled (st .monic)));
+      monic = monic-apart (omega (arith, st .places .a-low)) reduced (monic-apart (omega (arith, st .places .b-low)) divided
+          (monic-apart (omega (arith, st .places .al-low)) scaled (st .monic)));
       first = record { at = λ k h. subst (λ (x : ℕ). x < ν / c) (sym (word-a k h)) (mod-lt _ (omega (arith, two))) };
       lead = subst (IsUnit (ν / c)) (sym (word-a a (omega arith))) (unit-mod (getD w (pa + a) 0) (st .lead));
       second = record { at = λ k h. smaller k h };
@@ -203,13 +228,19 @@ module _ (n ν t pa a pb al be l c : ℕ) (w : List ℕ) (st : Stage n ν t pa a
     content-change = record {
       whole = content-whole;
       reduced = λ D x. subst (λ (y : ℕ). Reduced y (piece w pa (a + 1)) (piece w pb a) (c * D)) (sym content-whole)
-          (reduced-lead c (ν / c) a content-positive (omega (arith, two)) (st .degree) (piece w pa (a + 1)) (subst (λ (y : ℕ). UnitLead y a (piece w pa (a + 1))) content-whole (unit-lead st))
-          (piece w pb a) (piece w' pb a) D times (reduced-same (ν / c) (omega (arith, two)) (piece w pa (a + 1)) (piece w' pa (a + 1)) (piece w' pb a) D same-a x));
-      first = λ g m p e x. leads-scaled n c m (m * c) (st .positive) (piece w 0 (t + 1)) g (piece w al (2 * (t + 1))) (piece w' al (2 * (t + 1))) (piece w pa (a + 1)) (piece w' pa (a + 1))
-          times-al (λ k. sym (ap (λ (y : ℕ). y % n) (turn c m (coef (piece w pa (a + 1)) k)) ∙ lifted n (m * c) (ν / c) _ _ (mul-pos p content-positive) (omega (arith, two)) (modulus m e) (same-a k))) x;
-      second = λ g m p e x. leads-scaled n 1 m (m * c) (st .positive) (piece w 0 (t + 1)) g (piece w be (2 * (t + 1))) (piece w' be (2 * (t + 1))) (piece w pb a) (piece w' pb a)
+          (reduced-lead c (ν / c) a content-positive (omega (arith, two)) (st .degree) (piece w pa (a + 1))
+          (subst (λ (y : ℕ). UnitLead y a (piece w pa (a + 1))) content-whole (unit-lead st))
+          (piece w pb a) (piece w' pb a) D times (reduced-same (ν / c) (omega (arith, two)) (piece w pa (a + 1)) (piece w' pa (a + 1))
+          (piece w' pb a) D same-a x));
+      first = λ g m p e x. leads-scaled n c m (m * c) (st .positive) (piece w 0 (t + 1)) g (piece w al (2 * (t + 1)))
+          (piece w' al (2 * (t + 1))) (piece w pa (a + 1)) (piece w' pa (a + 1))
+          times-al (λ k. sym (ap (λ (y : ℕ). y % n) (turn c m (coef (piece w pa (a + 1)) k)) ∙ lifted n (m * c) (ν / c) _ _
+          (mul-pos p content-positive) (omega (arith, two)) (modulus m e) (same-a k))) x;
+      second = λ g m p e x. leads-scaled n 1 m (m * c) (st .positive) (piece w 0 (t + 1)) g (piece w be (2 * (t + 1)))
+          (piece w' be (2 * (t + 1))) (piece w pb a) (piece w' pb a)
           (λ k. ap (λ (y : ℕ). y % n) (ap (λ (f : List ℕ). coef f k) same-be ∙ sym (one-mul (coef (piece w be (2 * (t + 1))) k))))
-          (λ k. ap (λ (y : ℕ). y % n) (mul-assoc m c (coef (piece w' pb a) k) ∙ ap (λ (y : ℕ). m * y) (sym (times-c k)) ∙ sym (one-mul _))) x;
+          (λ k. ap (λ (y : ℕ). y % n) (mul-assoc m c (coef (piece w' pb a) k) ∙ ap (λ (y : ℕ). m * y) (sym (times-c k)) ∙ sym
+          (one-mul _))) x;
     }
       where
         turn : (c m x : ℕ) → c * (m * x) ≡ m * c * x
@@ -221,7 +252,8 @@ module _ (n ν t pa a pb al be l c : ℕ) (w : List ℕ) (st : Stage n ν t pa a
         same-be : piece w' be (2 * (t + 1)) ≡ piece w be (2 * (t + 1))
         same-be =
             piece-apart apart-be-pa reduced (omega (arith, long, st .places .be-high, scaled .same, divided .same))
-            ∙ piece-apart apart-be-pb divided (omega (arith, long, st .places .be-high, scaled .same)) ∙ piece-apart apart-be-al scaled (omega (arith, long, st .places .be-high))
+            ∙ piece-apart apart-be-pb divided (omega (arith, long, st .places .be-high, scaled .same)) ∙ piece-apart apart-be-al scaled
+            (omega (arith, long, st .places .be-high))
 
     -- nothing is left in common
     pub content-primitive : ((k : ℕ) → IsNilpotent (ν / c) (coef (piece w' pb a) k)) → ⊥
@@ -229,8 +261,20 @@ module _ (n ν t pa a pb al be l c : ℕ) (w : List ℕ) (st : Stage n ν t pa a
         let p = prime-of (ν / c) (omega (arith, two)) in
         let d : c * p .p ∣ c =
         ct .greatest (c * p .p) (subst (λ (x : ℕ). c * p .p ∣ x) (sym content-whole) (mul-dvd-mul-left (p .p) c (p .divides)))
-        (λ k h. subst (λ (x : ℕ). c * p .p ∣ x) (sym (times-c k)) (mul-dvd-mul-left (p .p) c (nilpotent-radical (nil k) .at (p .p) (p .prime) (p .divides)))) in
+        (λ k h. subst (λ (x : ℕ). c * p .p ∣ x) (sym (times-c k)) (mul-dvd-mul-left (p .p) c
+        (nilpotent-radical (nil k) .at (p .p) (p .prime) (p .divides)))) in
         big c (p .p) content-positive (p .prime .above) (le-of-dvd content-positive d)
       where
         big : (c p : ℕ) → 0 < c → 1 < p → c * p ≤ c → ⊥
         big c p h q l = let z : c * 2 ≤ c * p = mul-le-mul-left c q in omega arith
+
+pub content-asked : (n ν : ℕ) (p : Places) (a l c : ℕ) (w : List ℕ) → StageAt n ν p a a l w → Content ν (part w (p .pb) a) c → (c ≡ ν → ⊥)
+    → ContentAsked n ν c p a w
+content-asked n ν p a l c w st ct ne = record {
+  positive = st .positive;
+  content = content-positive _ _ _ _ _ _ _ _ _ _ _ st ct;
+  quotient = omega (arith, content-above _ _ _ _ _ _ _ _ _ _ _ st ct ne);
+  multiplier = omega (arith, st .room, st .places .al-high);
+  second = omega (arith, st .room, st .within, st .places .b-high);
+  first = omega (arith, st .room, st .within, st .places .a-high);
+}

@@ -1,6 +1,8 @@
 // The clearing of contents and unit factors in the reduced run, in a stage's window (reduced_units/specs/States has the layout).
 //
 //   take_content      the content of B is taken out of it and of the modulus
+//   take_monic        a monic polynomial in the place of B
+//   clear_unit        the same, where not all is nilpotent
 //   clear_contents    the content, then the unit factor
 //
 //   n, v    the modulus of the multipliers, and that of the polynomials A, of degree a, and B, of a words
@@ -8,7 +10,7 @@
 ghost use Prim.Native.Nat.{_+_};
 ghost use Rattle.windows.specs.Window.{Kept};
 ghost use Rattle.reduced_units.specs.States.{StageAt};
-ghost use Rattle.reduced_clearing.specs.Clearings.{ContentAsked, ContentTaken, Clears};
+ghost use Rattle.reduced_clearing.specs.Clearings.{ContentAsked, ContentTaken, MonicAsked, UnitAsked, UnitClears, Clears};
 use reduced_units::Places;
 
 // What the clearing of contents and unit factors comes to: the reduced resultant; two coprime divisors of the modulus; or the content,
@@ -29,38 +31,57 @@ fn take_content(w: &mut [u32], n: u32, v: u32, c: u32, p: Places, a: usize)
     windows::reduce_words(w, v / c, p.pa, a + 1);
 }
 
+// The unit factor of B is taken out of it: its coefficient at s has the inverse i, and those above it are nilpotent. c is the content
+// that was taken out before.
+fn take_monic(
+    w: &mut [u32],
+    n: u32,
+    v: u32,
+    c: u32,
+    p: Places,
+    a: usize,
+    l: usize,
+    s: usize,
+    i: u32,
+) -> Clearing
+    requires { ⌜ MonicAsked n v p a l s i (now w) ⌝ }
+    ensures { λ r. ⌜ UnitClears n v c p a l (now (w .entry)) (now (w .exit)) r ⌝ }
+    ensures { λ _. ⌜ Kept (p .t + 1) (now (w .entry)) (now (w .exit)) ⌝ }
+{
+    let m = reduced_units::take_unit(w, n, v, p, a, l, s, i);
+    if s == 0 {
+        windows::copy(w, p.be, p.t + 1, p.t);
+        return Clearing::Done(c);
+    }
+    Clearing::Next(c, s, m)
+}
+
+// The same where the coefficients of B are not all nilpotent.
+fn clear_unit(w: &mut [u32], n: u32, v: u32, c: u32, p: Places, a: usize, l: usize) -> Clearing
+    requires { ⌜ UnitAsked n v p a l (now w) ⌝ }
+    ensures { λ r. ⌜ UnitClears n v c p a l (now (w .entry)) (now (w .exit)) r ⌝ }
+    ensures { λ _. ⌜ Kept (p .t + 1) (now (w .entry)) (now (w .exit)) ⌝ }
+{
+    let pb = p.pb;
+    match window_factor::highest_of(&w[pb..pb + a], v) {
+        window_factor::Highest::UnitAt(s, i) => take_monic(w, n, v, c, p, a, l, s, i),
+        window_factor::Highest::Splits(f, g) => Clearing::Parts(f, g),
+        window_factor::Highest::AllNilpotent => Clearing::Done(v),
+    }
+}
+
 // The content of B is taken out of it and of the modulus, then the unit factor of B.
 pub fn clear_contents(w: &mut [u32], n: u32, v: u32, p: Places, a: usize, l: usize) -> Clearing
     requires { ⌜ StageAt n v p a a l (now w) ⌝ }
     ensures { λ r. ⌜ Clears n v p a (now (w .entry)) (now (w .exit)) r ⌝ }
     ensures { λ _. ⌜ Kept (p .t + 1) (now (w .entry)) (now (w .exit)) ⌝ }
 {
-    let t = p.t;
     let pb = p.pb;
     let c = windows::content(&w[pb..pb + a], v);
     if c == v {
-        windows::clear(w, t + 1, t);
+        windows::clear(w, p.t + 1, p.t);
         return Clearing::Done(v);
     }
     take_content(w, n, v, c, p, a);
-    let s;
-    let i;
-    match window_factor::highest_of(&w[pb..pb + a], v / c) {
-        window_factor::Highest::UnitAt(x, y) => {
-            s = x;
-            i = y;
-        }
-        window_factor::Highest::Splits(f, g) => {
-            return Clearing::Parts(f, g);
-        }
-        window_factor::Highest::AllNilpotent => {
-            return Clearing::Done(v);
-        }
-    }
-    let m = reduced_units::take_unit(w, n, v / c, p, a, l, s, i);
-    if s == 0 {
-        windows::copy(w, p.be, t + 1, t);
-        return Clearing::Done(c);
-    }
-    Clearing::Next(c, s, m)
+    clear_unit(w, n, v / c, c, p, a, l)
 }

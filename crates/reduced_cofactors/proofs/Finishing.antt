@@ -1,29 +1,35 @@
--- The cofactors of D: from the multiplier that completes to it, and for a unit polynomial.
+-- The cofactors of D: from the multiplier that completes to it, and for a unit polynomial. The rules take what the calls promise, as the
+-- code hands it over, for words of any width.
+--
+--   divide-asked, finish-…, finished                              what `finish` asks and promises
+--   cofactor-fits, degree-fits                                    lengths
+--   constant-room, constant-unit, constant-certified, constant-length, constant-scratch    the same for `constant`
+--   finishes, constants                                           the rules
 use mathlib.Core.Path.{_≡_, refl, sym, ap, ap₂, subst, _∙_, fun-ext}
 use mathlib.Core.List.{List, [], _∷_}
 use mathlib.Core.Logic.{⊎-elim}
 use Prim.Native.Nat.{ℕ, zero, suc, max, _+_, _-_, _*_, _%_, _≤_, _<_}
 use native.Mathlib.Omega.{arith}
-use native.Mathlib.Nat.{mod-lt, mod-mod, mod-eq-of-lt, zero-mod, zero-add, add-zero, one-mul, mul-le-mul, mul-le-mul-left, le-max-left, le-max-right, le-of-lt}
-use lib.ListN.{length, getD, set, replicate, length-set}
+use native.Mathlib.Nat.{mod-lt, mod-mod, zero-mod, zero-add, add-zero, one-mul, mul-le-mul, mul-le-mul-left, le-max-left, le-max-right}
+use lib.ListN.{length, getD, set, take, drop, replicate, length-set}
 use lib.Seq.{getD-set-same, getD-set-other}
 use Rattle.definitions.specs.Residues.{K}
-use Rattle.definitions.specs.Polynomials.{coef, convolve, constant, L, Monic, Multiplied, Divided, UnitPolynomial}
-use Rattle.definitions.specs.Resultants.{Combination, Reduced}
+use Rattle.definitions.specs.Polynomials.{coef, convolve, constant, L, Monic, Divided, UnitPolynomial}
 use Rattle.numbers.specs.Logarithm.{K-positive}
 use Rattle.theory.specs.ReachedSteps.{coef-beyond}
 use Rattle.theory.specs.ReducedLaws.{reduced-unit, reduced-flip}
 use Rattle.convolution.specs.Sums.{convolve-constant, zeros-at}
 use Rattle.window_division.proofs.Turns.{convolve-none}
-use Rattle.windows.specs.Window.{piece, Moved, second, Loaded, Below, Around, Apart}
+use Rattle.windows.specs.Window.{piece, Moved, second, Loaded, Around, Scratch}
 use Rattle.windows.proofs.Leaf.{lt-or-le, piece-at, piece-over, piece-same, piece-length}
 use Rattle.windows.proofs.Lift.{moved-around, moved-copy}
-use Rattle.reduced_multipliers.specs.Leads.{Completes, NegatedInverse, completed, leads-first, leads-completes, inverse-of-negated}
+use Rattle.reduced_multipliers.specs.Leads.{NegatedInverse, completed, leads-first, leads-completes, inverse-of-negated}
 use Rattle.reduced_multipliers.specs.Joining.{combination-same}
 use Rattle.reduced_multipliers.specs.Reductions.{reduced-unity}
-use Rattle.reduced_units.proofs.Regions.{apart-low, piece-apart}
-use Rattle.reduced_cofactors.specs.Cofactors.{Certified, FinishAsked, Finished, FactoredAt, monic-place, core-room}
-use Rattle.reduced_quotients.specs.Quotients.{OverFirst, ExactQuotient}
+use Rattle.reduced_units.proofs.Regions.{apart-low, piece-apart, part-piece}
+use Rattle.reduced_cofactors.specs.Cofactors.{CoreSpace, CoreCertified, FactoredAt, monic-place}
+use Rattle.reduced_cofactors.specs.Cofactors.{FinishAsked, Finished, DivideAsked, DividedBy}
+use Rattle.reduced_quotients.specs.Quotients.{OverRoom, OverFirst, ExactQuotient}
 
 -- the polynomial of degree t at q, with a leading 1
 pub monic-at : (n q t : ℕ) (w : List ℕ) → 1 ≤ n → getD w (q + t) 0 ≡ 1 → Monic n t (piece w q (t + 1))
@@ -33,14 +39,35 @@ monic-at n q t w pos lead = record {
 }
 
 -- words loaded above zeros
-pub loaded-word : (n : ℕ) (s y₀ y : List ℕ) (l : ℕ) → length s ≡ l → Loaded n 0 s (replicate (length y₀) 0) y → (i : ℕ) → coef y i ≡ coef s i % n
+pub loaded-word : (n : ℕ) (s y₀ y : List ℕ) (l : ℕ) → length s ≡ l → Loaded n 0 s (replicate (length y₀) 0) y → (i : ℕ) → coef y i ≡ coef
+    s i % n
 loaded-word n s y₀ y l is-l ld i = ⊎-elim
     (λ h. ap (λ (x : ℕ). getD y x 0) (sym (zero-add i)) ∙ ld .mid i (omega arith))
     (λ h. ld .high i (omega arith) ∙ zeros-at (length y₀) i ∙ sym (ap (λ (x : ℕ). x % n) (coef-beyond s i (omega arith)) ∙ zero-mod n))
     (lt-or-le i l)
 
-module _ (n e q t k c : ℕ) (w w₁ w₂ x₀ y₀ : List ℕ) (asked : FinishAsked n e q t k w x₀ y₀)
-    (eq : ExactQuotient n e q t c w w₁) (cp : Moved second (e + 1) (q + 2 * (t + 1) + (t + e + 1)) (k + 1) w₁ w₂) where
+-- what `divide` asks
+pub divide-asked : {n e q t k : ℕ} {w x y : List ℕ} → FinishAsked n e q t k w x y → DivideAsked n e q t k w
+divide-asked p = record {
+  above = p .above;
+  degree = p .degree;
+  near = p .near;
+  room = omega arith;
+  below-h = p .below-h;
+  lead = p .lead;
+  multiplier = p .multiplier;
+}
+
+module _ {n e q t k c : ℕ} {w w₂ x₀ y₀ : List ℕ} (asked : FinishAsked n e q t k w x₀ y₀) (dv : DividedBy n e q t k c w w₂) where
+  abbrev w₁ : List ℕ
+  w₁ = dv .w₁
+
+  eq : ExactQuotient n e q t c w (dv .w₁)
+  eq = dv .quotient
+
+  cp : Moved second (e + 1) (q + 2 * (t + 1) + (t + e + 1)) (k + 1) (dv .w₁) w₂
+  cp = dv .unit
+
   copied : Around (q + 2 * (t + 1) + (t + e + 1)) (k + 1) w₁ w₂
   copied = moved-around cp
 
@@ -49,11 +76,25 @@ module _ (n e q t k c : ℕ) (w w₁ w₂ x₀ y₀ : List ℕ) (asked : FinishA
       moved-copy (omega (arith, eq .around .same)) (omega (arith, eq .around .same)) cp
       ∙ piece-apart (apart-low (e + 1) (k + 1) (q + 2 * (t + 1)) (t + e + 1) (omega arith)) (eq .around) (omega arith)
 
-  pub finish-unit : UnitPolynomial n (piece w₂ (q + 2 * (t + 1) + (t + e + 1)) (k + 1))
-  finish-unit = subst (UnitPolynomial n) (sym same-u) (asked .unit)
+  pub finish-unit : {n' : ℕ} {f : List ℕ} → n' ≡ n → f ≡ piece w₂ (q + 2 * (t + 1) + (t + e + 1)) (k + 1) → UnitPolynomial n' f
+  finish-unit en ef = rw (en, ef, same-u) (asked .unit)
 
-  pub finish-room : q + 2 * (t + 1) + (t + e + 1) + (k + 1) + (2 * (K n * k + 1) + (e + 1)) ≤ length w₂
-  finish-room = omega (arith, cp .same, eq .around .same)
+  long : q + 2 * (t + 1) + (t + e + 1) + (k + 1) + (2 * (K n * k + 1) + (e + 1)) ≤ length w₂
+  long = omega (arith, cp .same, eq .around .same)
+
+  pub finish-room : {n' up k' zp lz : ℕ} {v u : List ℕ} → n' ≡ n → up ≡ q + 2 * (t + 1) + (t + e + 1) → k' ≡ k
+      → zp ≡ q + 2 * (t + 1) + t → lz ≡ e + 1 → v ≡ w₂ → u ≡ x₀ → OverRoom n' up k' zp lz v u
+  finish-room en eu ek ez el ev ex =
+      rw (en, eu, ek, ez, el, ev, ex) (record {
+        modulus = asked .above;
+        some = omega arith;
+        lies = omega arith;
+        room = long;
+        quotient = asked .long-x;
+      })
+
+  pub finish-scratch : {w₃ : List ℕ} → Scratch w₂ w₃ → Scratch w w₃
+  finish-scratch sc = record { same = sc .same ∙ cp .same ∙ eq .around .same }
 
   same-v : piece w₂ (q + (t + 1)) t ≡ piece w (q + (t + 1)) t
   same-v =
@@ -61,13 +102,33 @@ module _ (n e q t k c : ℕ) (w w₁ w₂ x₀ y₀ : List ℕ) (asked : FinishA
       ∙ piece-apart (apart-low (q + (t + 1)) t (q + 2 * (t + 1)) (t + e + 1) (omega arith)) (eq .around) (omega arith)
 
   same-z : piece w₂ (q + 2 * (t + 1) + t) (e + 1) ≡ piece w₁ (q + 2 * (t + 1) + t) (e + 1)
-  same-z = piece-apart (apart-low (q + 2 * (t + 1) + t) (e + 1) (q + 2 * (t + 1) + (t + e + 1)) (k + 1) (omega arith)) copied (omega (arith, eq .around .same))
+  same-z = piece-apart (apart-low (q + 2 * (t + 1) + t) (e + 1) (q + 2 * (t + 1) + (t + e + 1)) (k + 1) (omega arith)) copied
+      (omega (arith, eq .around .same))
 
-  module _ (y x : List ℕ) (ld : Loaded n 0 (piece w₂ (q + (t + 1)) t) (replicate (length y₀) 0) y)
+  -- the words of the multiplier, as they are lent
+  abbrev lent : List ℕ
+  lent = take (q + (t + 1) + t - (q + (t + 1))) (drop (q + (t + 1)) w₂)
+
+  is-lent : lent ≡ piece w₂ (q + (t + 1)) t
+  is-lent = part-piece w₂ (q + (t + 1)) t (q + (t + 1) + t - (q + (t + 1))) (omega arith)
+
+  pub finish-part : q + (t + 1) + t ≤ length w₂
+  finish-part = omega (arith, long)
+
+  -- the words of the multiplier, as they are lent, fit in y
+  pub finish-place : length lent ≤ length y₀
+  finish-place =
+      subst (λ (f : List ℕ). length f ≤ length y₀) (sym is-lent)
+      (omega (arith, piece-length w₂ (q + (t + 1)) t (omega (arith, long)), asked .long-y))
+
+  module _ {y x : List ℕ} (ld : Loaded n 0 lent (replicate (length y₀) 0) y)
       (of : OverFirst n (q + 2 * (t + 1) + (t + e + 1)) k (q + 2 * (t + 1) + t) (e + 1) w₂ x) where
+    loaded : Loaded n 0 (piece w₂ (q + (t + 1)) t) (replicate (length y₀) 0) y
+    loaded = subst (λ (f : List ℕ). Loaded n 0 f (replicate (length y₀) 0) y) is-lent ld
+
     word : (i : ℕ) → coef y i ≡ coef (piece w (q + (t + 1)) t) i % n
     word i =
-        loaded-word n (piece w₂ (q + (t + 1)) t) y₀ y t (piece-length w₂ (q + (t + 1)) t (omega (arith, finish-room))) ld i
+        loaded-word n (piece w₂ (q + (t + 1)) t) y₀ y t (piece-length w₂ (q + (t + 1)) t (omega (arith, long))) loaded i
         ∙ ap (λ (f : List ℕ). coef f i % n) same-v
 
     pub finished : Finished n e q t k c w x y
@@ -75,10 +136,13 @@ module _ (n e q t k c : ℕ) (w w₁ w₂ x₀ y₀ : List ℕ) (asked : FinishA
       j = of .j;
       inverse = subst (λ (f : List ℕ). NegatedInverse n f (of .j)) same-u (of .inverse);
       combination = λ f mf cm.
-          combination-same n (omega arith) f f (piece w 0 (e + 1)) (piece w 0 (e + 1)) x x (piece w (q + (t + 1)) t) y c (λ i. refl) (λ i. refl) (λ i. refl)
+          combination-same n (omega arith) f f (piece w 0 (e + 1)) (piece w 0 (e + 1)) x x (piece w (q + (t + 1)) t) y c (λ i. refl)
+          (λ i. refl) (λ i. refl)
           (λ i. sym (ap (λ (z : ℕ). z % n) (word i) ∙ mod-mod _ n))
-          (completed n (omega arith) t c f (piece w 0 (e + 1)) (piece w q (t + 1)) (piece w (e + 1) (k + 1)) (of .j) (piece w (q + (t + 1)) t) (eq .r) (piece w₁ (q + 2 * (t + 1) + t) (e + 1))
-          (piece w₁ (q + 2 * (t + 1)) t) x [] (eq .s) (monic-at n q t w (omega arith) (asked .lead)) cm (eq .start) (eq .product) (eq .divided) (λ i h. piece-over w₁ (q + 2 * (t + 1)) t i h) mf
+          (completed n (omega arith) t c f (piece w 0 (e + 1)) (piece w q (t + 1)) (piece w (e + 1) (k + 1)) (of .j)
+          (piece w (q + (t + 1)) t) (eq .r) (piece w₁ (q + 2 * (t + 1) + t) (e + 1))
+          (piece w₁ (q + 2 * (t + 1)) t) x [] (eq .s) (monic-at n q t w (omega arith) (asked .lead)) cm (eq .start) (eq .product)
+          (eq .divided) (λ i h. piece-over w₁ (q + 2 * (t + 1)) t i h) mf
           (subst (λ (f : List ℕ). NegatedInverse n f (of .j)) same-u (of .inverse)) (λ i. coef-beyond [] i (omega arith))
           (subst (λ (f : List ℕ). Divided n [] f (of .j) x) same-z (of .divided)));
       below-x = of .below;
@@ -118,17 +182,27 @@ degree-fits n d e t two h = omega (arith, le-max-left d e, more (K n) (max d e) 
 
 -- ---- F is a unit polynomial
 
-module _ (n d e : ℕ) (w y₀ x : List ℕ) (two : 2 ≤ n) (room : core-room n d e ≤ length w) (fa : FactoredAt n d e 0 w) where
+module _ {n d e : ℕ} {w x₀ y₀ : List ℕ} (space : CoreSpace n d e w x₀ y₀) (fa : FactoredAt n d e 0 w) where
+  two : 2 ≤ n
+  two = space .above
+
   same-unit : piece (set w 0 1) (monic-place d e + (0 + 1) + 0) (d + 1) ≡ piece w (monic-place d e + (0 + 1) + 0) (d + 1 - 0)
   same-unit =
-      piece-same w (set w 0 1) (monic-place d e + (0 + 1) + 0) (d + 1) (omega arith) (length-set w 0 1) (λ k h. getD-set-other w 0 (monic-place d e + (0 + 1) + 0 + k) 1 0 (omega arith))
+      piece-same w (set w 0 1) (monic-place d e + (0 + 1) + 0) (d + 1) (omega arith) (length-set w 0 1) (λ k h. getD-set-other w 0
+      (monic-place d e + (0 + 1) + 0 + k) 1 0 (omega arith))
       ∙ ap (λ (l : ℕ). piece w (monic-place d e + (0 + 1) + 0) l) (let z : d + 1 ≡ d + 1 - 0 = omega arith in z)
 
   pub constant-unit : UnitPolynomial n (piece (set w 0 1) (monic-place d e + (0 + 1) + 0) (d + 1))
   constant-unit = subst (UnitPolynomial n) (sym same-unit) (fa .unit)
 
-  pub constant-room : monic-place d e + (0 + 1) + 0 + (d + 1) + (2 * (K n * d + 1) + 1) ≤ length (set w 0 1)
-  constant-room = omega (arith, length-set w 0 1)
+  pub constant-room : OverRoom n (monic-place d e + (0 + 1) + 0) d 0 1 (set w 0 1) x₀
+  constant-room = record {
+    modulus = two;
+    some = omega arith;
+    lies = omega arith;
+    room = omega (arith, length-set w 0 1);
+    quotient = omega (arith, space .long-x, cofactor-fits n d e d two (omega arith));
+  }
 
   -- H is 1
   unity : (k : ℕ) → coef (piece w (monic-place d e) (0 + 1)) k ≡ constant 1 k
@@ -136,30 +210,37 @@ module _ (n d e : ℕ) (w y₀ x : List ℕ) (two : 2 ≤ n) (room : core-room n
   unity (suc k) = piece-over w (monic-place d e) (0 + 1) (suc k) (omega arith)
 
   first : (k : ℕ) → coef (piece (set w 0 1) 0 1) k ≡ constant 1 k
-  first zero = piece-at (set w 0 1) 0 1 0 (omega arith) ∙ ap (λ (z : ℕ). getD (set w 0 1) z 0) (zero-add 0) ∙ getD-set-same w 0 1 0 (omega arith)
+  first zero = piece-at (set w 0 1) 0 1 0 (omega arith) ∙ ap (λ (z : ℕ). getD (set w 0 1) z 0) (zero-add 0) ∙ getD-set-same w 0 1 0
+      (omega arith)
   first (suc k) = piece-over (set w 0 1) 0 1 (suc k) (omega arith)
 
-  pub constant-certified : (of : OverFirst n (monic-place d e + (0 + 1) + 0) d 0 1 (set w 0 1) x)
-      → Certified n (L n d e) (piece w (e + 1) (d + 1)) (piece w 0 (e + 1)) x (replicate (length y₀) 0) 1
-  constant-certified of = record {
+  pub constant-certified : {x y : List ℕ} → y ≡ replicate (length y₀) 0
+      → OverFirst n (monic-place d e + (0 + 1) + 0) d 0 1 (set w 0 1) x → CoreCertified n d e w x y 1
+  constant-certified {x} is-y of = rw is-y (record {
     reduced =
         let i = inverse-of-negated n (omega arith) u (of .j) inverse in
         reduced-unit n (omega arith) f u (i .0) (piece w (monic-place d e) (0 + 1)) g 1 (fa .equation) (i .1)
-        (reduced-flip n (omega arith) g (piece w (monic-place d e) (0 + 1)) 1 (reduced-unity n (omega arith) g (piece w (monic-place d e) (0 + 1)) (λ k. ap (λ (z : ℕ). z % n) (unity k))));
+        (reduced-flip n (omega arith) g (piece w (monic-place d e) (0 + 1)) 1 (reduced-unity n (omega arith) g (piece w (monic-place d e)
+        (0 + 1)) (λ k. ap (λ (z : ℕ). z % n) (unity k))));
     combination =
-        completed n (omega arith) 0 1 f g (piece w (monic-place d e) (0 + 1)) u (of .j) (replicate (length y₀) 0) (1 ∷ []) (piece (set w 0 1) 0 1) [] x [] (1 ∷ [])
+        completed n (omega arith) 0 1 f g (piece w (monic-place d e) (0 + 1)) u (of .j) (replicate (length y₀) 0) (1 ∷ [])
+        (piece (set w 0 1) 0 1) [] x [] (1 ∷ [])
         (monic-at n (monic-place d e) 0 w (omega arith) (fa .monic))
-        (leads-completes n 1 n (omega arith) (omega arith) (sym (one-mul n)) (piece w (monic-place d e) (0 + 1)) g (replicate (length y₀) 0) (piece w (monic-place d e) (0 + 1)) (λ k. ap (λ (z : ℕ). z % n) (unity k))
+        (leads-completes n 1 n (omega arith) (omega arith) (sym (one-mul n)) (piece w (monic-place d e) (0 + 1)) g (replicate (length y₀)
+        0) (piece w (monic-place d e) (0 + 1)) (λ k. ap (λ (z : ℕ). z % n) (unity k))
         (leads-first n (omega arith) (piece w (monic-place d e) (0 + 1)) g (replicate (length y₀) 0) (zeros-at (length y₀))))
         (λ k. ap (λ (z : ℕ). z % n) (single k))
         (record { at = λ k. ap (λ (z : ℕ). z % n) (ap (λ (z : ℕ). z + coef (1 ∷ []) k) (nothing (coef g) k) ∙ zero-add _) })
-        (record { at = λ k. ap (λ (z : ℕ). z % n) (ap₂ (λ (F G : ℕ → ℕ). convolve F G k + coef [] k) (fun-ext first) (fun-ext unity) ∙ ap₂ (λ (p q : ℕ). p + q) (ones k) (coef-beyond [] k (omega arith)) ∙ add-zero _ ∙ sym (single k)) })
+        (record {
+          at = λ k. ap (λ (z : ℕ). z % n) (ap₂ (λ (F G : ℕ → ℕ). convolve F G k + coef [] k) (fun-ext first) (fun-ext unity) ∙ ap₂
+              (λ (p q : ℕ). p + q) (ones k) (coef-beyond [] k (omega arith)) ∙ add-zero _ ∙ sym (single k));
+        })
         (λ k h. coef-beyond [] k (omega arith)) (fa .equation) inverse (λ k. coef-beyond [] k (omega arith)) (of .divided);
     below-u = of .below;
     below-v = λ k. subst (λ (z : ℕ). z < n) (sym (zeros-at (length y₀) k)) (omega arith);
     short-u = λ k h. of .short k (omega (arith, cofactor-fits n d e d two le-self));
     short-v = λ k h. zeros-at (length y₀) k;
-  }
+  })
     where
       f : List ℕ
       f = piece w (e + 1) (d + 1)
@@ -185,3 +266,13 @@ module _ (n d e : ℕ) (w y₀ x : List ℕ) (two : 2 ≤ n) (room : core-room n
 
       ones : (k : ℕ) → convolve (constant 1) (constant 1) k ≡ constant 1 k
       ones k = convolve-constant 1 (constant 1) k ∙ one-mul (constant 1 k)
+
+pub constant-length : (w : List ℕ) {w' : List ℕ} → Scratch (set w 0 1) w' → length w' ≡ length w
+constant-length w sc = sc .same ∙ length-set w 0 1
+
+pub constant-scratch : {w w' : List ℕ} → Scratch (set w 0 1) w' → Scratch w w'
+constant-scratch {w} sc = record { same = sc .same ∙ length-set w 0 1 }
+
+pub ruleset finishes = (divide-asked, finish-part, finish-place, finish-room, finish-unit, finished, finish-scratch)
+
+pub ruleset constants = (constant-room, constant-unit, constant-certified, constant-length, constant-scratch)

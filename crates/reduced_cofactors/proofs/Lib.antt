@@ -1,2 +1,3 @@
 pub mod Finishing
 pub mod Solving
+pub mod Cases

@@ -4,7 +4,7 @@
 --   CoreSpace, CoreAsked            room for an attempt; and F and G in the window
 --   Certified n len f g u v D       D is the reduced resultant of f and g, u f + v g = D, the cofactors have at most len words
 --   CoreCertified, CoreAnswer       such a D for F and G; or two coprime divisors of n, with nothing written to the cofactors
---   FactoredAt, FinishAsked, Finished    what the parts of the core ask and promise of the words
+--   FactoredAt, FindAsked, FoundAt, Found, DivideAsked, DividedBy, FinishAsked, Finished    what the parts of the core ask and promise
 use mathlib.Core.Path.{_≡_}
 use mathlib.Core.List.{List}
 use Prim.Native.Nat.{ℕ, _+_, _-_, _*_, _<_, _≤_}
@@ -12,10 +12,11 @@ use lib.ListN.{length, getD}
 use Rattle.definitions.specs.Residues.{K}
 use Rattle.definitions.specs.Polynomials.{coef, L, Multiplied, UnitPolynomial}
 use Rattle.definitions.specs.Resultants.{Combination, Reduced}
-use Rattle.windows.specs.Window.{piece, Below}
+use Rattle.windows.specs.Window.{piece, Below, Moved, second}
 use Rattle.window_factor.specs.Factors.{LeadingUnit}
 use Rattle.reduced_multipliers.specs.Leads.{NegatedInverse, Completes}
 use Rattle.reduced_units.specs.States.{Splitter}
+use Rattle.reduced_quotients.specs.Quotients.{ExactQuotient}
 use Rattle.residue.specs.declared.Attempt.{Attempt}
 use Rattle.residue.specs.declared.Attempt.the-variants.{Value, Splits}
 
@@ -69,6 +70,22 @@ pub record FinishAsked (n e q t k : ℕ) (w x y : List ℕ) : Type 0 where
   pub multiplier : Below n (q + (t + 1)) t w
   pub unit : UnitPolynomial n (piece w (e + 1) (k + 1))
 
+-- the same without the cofactors: room for the quotient by H and a copy of the unit polynomial
+pub record DivideAsked (n e q t k : ℕ) (w : List ℕ) : Type 0 where
+  pub above : 2 ≤ n
+  pub degree : 1 ≤ t
+  pub near : e + 1 + (k + 1) ≤ q
+  pub room : q + 2 * (t + 1) + (t + e + 1) + (k + 1) ≤ length w
+  pub below-h : Below n q (t + 1) w
+  pub lead : getD w (q + t) 0 ≡ 1
+  pub multiplier : Below n (q + (t + 1)) t w
+
+-- the window after the division and after the copy
+pub record DividedBy (n e q t k c : ℕ) (w w' : List ℕ) : Type 0 where
+  pub w₁ : List ℕ
+  pub quotient : ExactQuotient n e q t c w w₁
+  pub unit : Moved second (e + 1) (q + 2 * (t + 1) + (t + e + 1)) (k + 1) w₁ w'
+
 -- x and y are cofactors of c for f = U H and G, where the t words at q + (t + 1) complete to c
 pub record Finished (n e q t k c : ℕ) (w x y : List ℕ) : Type 0 where
   pub j : List ℕ
@@ -93,3 +110,28 @@ pub record FactoredAt (n d e t : ℕ) (w : List ℕ) : Type 0 where
   pub monic : getD w (monic-place d e + t) 0 ≡ 1
   pub below-h : Below n (monic-place d e) (t + 1) w
   pub unit : UnitPolynomial n (piece w (monic-place d e + (t + 1) + t) (d + 1 - t))
+
+-- F = U H in the window, and room
+pub record FindAsked (n d e t : ℕ) (w : List ℕ) : Type 0 where
+  pub above : 2 ≤ n
+  pub degree : 1 ≤ t
+  pub within : t ≤ d
+  pub room : core-room n d e ≤ length w
+  pub factored : FactoredAt n d e t w
+
+-- D is the reduced resultant of H and G, and the t words behind H complete to it; G and H are kept, and U stands at the place of F
+pub record FoundAt (n d e t D : ℕ) (w w' : List ℕ) : Type 0 where
+  pub same : length w' ≡ length w
+  pub second : piece w' 0 (e + 1) ≡ piece w 0 (e + 1)
+  pub first : piece w' (e + 1) (d - t + 1) ≡ piece w (monic-place d e + (t + 1) + t) (d + 1 - t)
+  pub monic : piece w' (monic-place d e) (t + 1) ≡ piece w (monic-place d e) (t + 1)
+  pub below-h : Below n (monic-place d e) (t + 1) w'
+  pub lead : getD w' (monic-place d e + t) 0 ≡ 1
+  pub multiplier : Below n (monic-place d e + (t + 1)) t w'
+  pub reduced : Reduced n (piece w (monic-place d e) (t + 1)) (piece w 0 (e + 1)) D
+  pub completes : Completes n (piece w (monic-place d e) (t + 1)) (piece w 0 (e + 1)) (piece w' (monic-place d e + (t + 1)) t) D
+
+-- such a D; or two coprime divisors of n
+abbrev pub Found : ℕ → ℕ → ℕ → ℕ → List ℕ → List ℕ → Attempt → Type 0
+Found n d e t w w' (Value D) = FoundAt n d e t D w w'
+Found n d e t w w' (Splits p q) = Splitter n p q

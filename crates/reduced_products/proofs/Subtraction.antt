@@ -1,20 +1,27 @@
--- The subtraction of a product: what a turn keeps, two words of the first factor at a time.
+-- The subtraction of a product, at any width: what a turn keeps, two words of the first factor at a time.
+--
+--   Taking          the invariant of the loop
+--   taking-…        its start, turn and ends
+--   pair-asked, first-…, second-…, last-…    what the places in between ask
+--   subtractions    the rules
 use mathlib.Core.Path.{_≡_, refl, sym, ap, ap₂, subst, _∙_, fun-ext}
 use mathlib.Core.List.{List}
 use mathlib.Core.Logic.{⊎-elim}
 use Prim.Native.Nat.{ℕ, zero, suc, _+_, _-_, _*_, _%_, _≤_, _<_}
 use native.Mathlib.Omega.{arith}
-use native.Mathlib.Nat.{mod-lt, zero-add, add-zero, add-assoc, add-comm, mul-zero, eq-or-lt-of-le}
+use native.Mathlib.Nat.{mod-lt, zero-add, add-zero, add-assoc, add-comm, mul-zero, eq-or-lt-of-le, le-of-lt}
 use native.Mathlib.Decide.{ℕ-discrete}
+use borrow.Author.Needs.{needs}
 use lib.ListN.{length, getD, set, length-set}
 use lib.Seq.{getD-set-same, getD-set-other}
 use Rattle.numbers.specs.Congruence.{Cong, c-refl, c-trans, c-eq, c-add}
 use Rattle.definitions.specs.Polynomials.{coef, convolve, Divided}
-use Rattle.windows.specs.Window.{piece, Moved, addMul, Below, Around, Apart, Paired, behind}
+use Rattle.windows.specs.Window.{piece, Moved, addMul, Below, Around, Apart, Clear, PairAsked, Paired, behind}
 use Rattle.windows.proofs.Leaf.{lt-or-le, piece-at, piece-over, apart-at}
-use Rattle.window_division.proofs.Turns.{convolve-none, convolve-add, convolve-spot, spot, spot-off, spot-low, spot-at, risen, risen-at, risen-low, back}
+use Rattle.window_division.proofs.Turns.{convolve-none, convolve-add, convolve-spot, spot, spot-off, spot-low, spot-at, risen, risen-at}
+use Rattle.window_division.proofs.Turns.{risen-low, back}
 use Rattle.window_division.proofs.Double.{back-two}
-use Rattle.reduced_products.specs.Products.{Factors, Subtracted}
+use Rattle.reduced_products.specs.Products.{ProductRoom, Factors, Subtracted}
 
 -- the first j words of the first factor have been taken; l words stand at dst
 pub record Subtracting (n p lp q lq dst l j : ℕ) (w₀ w : List ℕ) : Type 0 where
@@ -25,7 +32,7 @@ pub record Subtracting (n p lp q lq dst l j : ℕ) (w₀ w : List ℕ) : Type 0 
   pub rest : (i : ℕ) → j ≤ i → part i ≡ 0
   pub at : (k : ℕ) → Cong n (convolve part (coef (piece w₀ q lq)) k + coef (piece w dst l) k) (coef (piece w₀ dst l) k)
 
-pub subtracting-start : (n p lp q lq dst l : ℕ) (w : List ℕ) → Below n dst l w → Subtracting n p lp q lq dst l 0 w w
+subtracting-start : (n p lp q lq dst l : ℕ) (w : List ℕ) → Below n dst l w → Subtracting n p lp q lq dst l 0 w w
 subtracting-start n p lp q lq dst l w b = record {
   around = record { same = refl; low = λ k h. refl; high = λ k h. refl };
   below = b;
@@ -35,31 +42,42 @@ subtracting-start n p lp q lq dst l w b = record {
   at = λ k. c-eq (ap (λ (x : ℕ). x + coef (piece w dst l) k) (convolve-none (coef (piece w q lq)) k) ∙ zero-add _);
 }
 
-pub subtracting-end : (n p lp q lq dst l j : ℕ) (w₀ w : List ℕ) → j ≡ lp → l ≡ lp + lq - 1 → Subtracting n p lp q lq dst l j w₀ w → Subtracted n p lp q lq dst w₀ w
+subtracting-end : (n p lp q lq dst l j : ℕ) (w₀ w : List ℕ) → j ≡ lp → l ≡ lp + lq - 1 → Subtracting n p lp q lq dst l j w₀ w
+    → Subtracted n p lp q lq dst w₀ w
 subtracting-end n p lp q lq dst l j w₀ w e el s =
-    subst (λ (x : ℕ). Around dst x w₀ w → Below n dst x w → Divided n (piece w₀ dst x) (piece w₀ q lq) (piece w₀ p lp) (piece w dst x) → Subtracted n p lp q lq dst w₀ w) (sym el)
+    subst (λ (x : ℕ). Around dst x w₀ w → Below n dst x w → Divided n (piece w₀ dst x) (piece w₀ q lq) (piece w₀ p lp) (piece w dst x)
+    → Subtracted n p lp q lq dst w₀ w) (sym el)
     (λ a b d. record { around = a; below = b; divided = d }) (s .around) (s .below)
-    (record { at = λ k. ap (λ (F : ℕ → ℕ). (convolve F (coef (piece w₀ q lq)) k + coef (piece w dst l) k) % n) (fun-ext (λ i. sym (word i))) ∙ s .at k .same })
+    (record {
+      at = λ k. ap (λ (F : ℕ → ℕ). (convolve F (coef (piece w₀ q lq)) k + coef (piece w dst l) k) % n)
+          (fun-ext (λ i. sym (word i))) ∙ s .at k .same;
+    })
   where
     word : (i : ℕ) → s .part i ≡ coef (piece w₀ p lp) i
     word i = ⊎-elim (λ h. s .done i (omega arith)) (λ h. s .rest i (omega arith) ∙ sym (piece-over w₀ p lp i h)) (lt-or-le i lp)
 
 -- a word of the first factor, while the product is taken
-pub first-small : {n p lp q lq dst l j : ℕ} {w₀ w : List ℕ} → Subtracting n p lp q lq dst l j w₀ w → Apart p lp dst l → Below n p lp w₀ → (i : ℕ) → i < lp → getD w (p + i) 0 < n
+first-small : {n p lp q lq dst l j : ℕ} {w₀ w : List ℕ} → Subtracting n p lp q lq dst l j w₀ w → Apart p lp dst l → Below n p lp w₀ →
+    (i : ℕ) → i < lp → getD w (p + i) 0 < n
 first-small {n} s a b i h = subst (λ (x : ℕ). x < n) (sym (apart-at a (s .around) i h)) (b .at i h)
 
 -- the words that a turn changes
-pub turn-below : {n p lp q lq dst l j : ℕ} {w₀ w : List ℕ} → Subtracting n p lp q lq dst l j w₀ w → j + lq ≤ l → Below n (dst + j) lq w
+turn-below : {n p lp q lq dst l j : ℕ} {w₀ w : List ℕ} → Subtracting n p lp q lq dst l j w₀ w → j + lq ≤ l → Below n (dst + j) lq w
 turn-below {n} {p} {lp} {q} {lq} {dst} {l} {j} {w₀} {w} s h =
-    record { at = λ k b. subst (λ (x : ℕ). getD w x 0 < n) (let z : dst + (j + k) ≡ dst + j + k = omega arith in z) (s .below .at (j + k) (omega arith)) }
+    record {
+      at = λ k b. subst (λ (x : ℕ). getD w x 0 < n) (let z : dst + (j + k) ≡ dst + j + k = omega arith in z)
+          (s .below .at (j + k) (omega arith));
+    }
 
-pub turn-apart : {q lq dst l : ℕ} → Apart q lq dst l → (j : ℕ) → j + lq ≤ l → Apart q lq (dst + j) lq
+turn-apart : {q lq dst l : ℕ} → Apart q lq dst l → (j : ℕ) → j + lq ≤ l → Apart q lq (dst + j) lq
 turn-apart a j h = record { ok = λ i k p r e. a .ok i (j + k) p (omega arith) (omega arith) }
 
 -- some words more of the first factor are taken, F of them
-advance : (n p lp q lq dst l j j' : ℕ) (w₀ w w' : List ℕ) (F : ℕ → ℕ) → j ≤ j' → Subtracting n p lp q lq dst l j w₀ w → Around dst l w w' → Below n dst l w'
+advance : (n p lp q lq dst l j j' : ℕ) (w₀ w w' : List ℕ) (F : ℕ → ℕ) → j ≤ j' → Subtracting n p lp q lq dst l j w₀ w → Around dst l w w'
+    → Below n dst l w'
     → ((i : ℕ) → j ≤ i → i < j' → F i ≡ coef (piece w₀ p lp) i) → ((i : ℕ) → i < j → F i ≡ 0) → ((i : ℕ) → j' ≤ i → F i ≡ 0)
-    → ((k : ℕ) → Cong n (convolve F (coef (piece w₀ q lq)) k + coef (piece w' dst l) k) (coef (piece w dst l) k)) → Subtracting n p lp q lq dst l j' w₀ w'
+    → ((k : ℕ) → Cong n (convolve F (coef (piece w₀ q lq)) k + coef (piece w' dst l) k) (coef (piece w dst l) k))
+    → Subtracting n p lp q lq dst l j' w₀ w'
 advance n p lp q lq dst l j j' w₀ w w' F more s around below new old none turn = record {
   around = record {
     same = around .same ∙ s .around .same;
@@ -78,7 +96,8 @@ advance n p lp q lq dst l j j' w₀ w w' F more s around below new old none turn
       (c-trans (c-add c-refl (turn k)) (s .at k));
 }
 
-module _ (n p lp q lq dst l j m : ℕ) (w₀ w : List ℕ) (pos : 0 < n) (some : 1 ≤ lq) (apart-p : Apart p lp dst l) (apart-q : Apart q lq dst l) (small : m < n)
+module _ (n p lp q lq dst l j m : ℕ) (w₀ w : List ℕ) (pos : 0 < n) (some : 1 ≤ lq) (apart-p : Apart p lp dst l)
+    (apart-q : Apart q lq dst l) (small : m < n)
     (is-m : m ≡ getD w (p + j) 0) (s : Subtracting n p lp q lq dst l j w₀ w) where
   Q : ℕ → ℕ
   Q = coef (piece w₀ q lq)
@@ -102,15 +121,18 @@ module _ (n p lp q lq dst l j m : ℕ) (w₀ w : List ℕ) (pos : 0 < n) (some :
     single-turn : (k : ℕ) → Cong n (m * risen j Q k + coef (piece w' dst l) k) (coef (piece w dst l) k)
     single-turn k =
         ⊎-elim
-        (λ h. none k (risen-low j Q k h) (⊎-elim (λ b. piece-at w' dst l k b ∙ mv .low (dst + k) (omega arith) ∙ sym (piece-at w dst l k b)) (λ b. piece-over w' dst l k b ∙ sym (piece-over w dst l k b)) (lt-or-le k l)))
+        (λ h. none k (risen-low j Q k h) (⊎-elim (λ b. piece-at w' dst l k b ∙ mv .low (dst + k) (omega arith) ∙ sym
+        (piece-at w dst l k b)) (λ b. piece-over w' dst l k b ∙ sym (piece-over w dst l k b)) (lt-or-le k l)))
         (λ h. ⊎-elim
         (λ b. middle (k - j) (omega arith) (omega arith))
         (λ b. none k (risen-at j Q k (k - j) (omega arith) ∙ over (k - j) (omega arith))
-        (⊎-elim (λ b'. piece-at w' dst l k b' ∙ mv .high (dst + k) (omega arith) ∙ sym (piece-at w dst l k b')) (λ b'. piece-over w' dst l k b' ∙ sym (piece-over w dst l k b')) (lt-or-le k l)))
+        (⊎-elim (λ b'. piece-at w' dst l k b' ∙ mv .high (dst + k) (omega arith) ∙ sym (piece-at w dst l k b'))
+        (λ b'. piece-over w' dst l k b' ∙ sym (piece-over w dst l k b')) (lt-or-le k l)))
         (lt-or-le k (j + lq)))
         (lt-or-le k j)
       where
-        none : (k : ℕ) → risen j Q k ≡ 0 → coef (piece w' dst l) k ≡ coef (piece w dst l) k → Cong n (m * risen j Q k + coef (piece w' dst l) k) (coef (piece w dst l) k)
+        none : (k : ℕ) → risen j Q k ≡ 0 → coef (piece w' dst l) k ≡ coef (piece w dst l) k → Cong n
+            (m * risen j Q k + coef (piece w' dst l) k) (coef (piece w dst l) k)
         none k e f = c-eq (ap₂ (λ (x y : ℕ). m * x + y) e f ∙ ap (λ (x : ℕ). x + coef (piece w dst l) k) (mul-zero m) ∙ zero-add _)
 
         middle : (i : ℕ) → k ≡ j + i → i < lq → Cong n (m * risen j Q k + coef (piece w' dst l) k) (coef (piece w dst l) k)
@@ -127,35 +149,41 @@ module _ (n p lp q lq dst l j m : ℕ) (w₀ w : List ℕ) (pos : 0 < n) (some :
       at = λ k h. ⊎-elim
           (λ b. subst (λ (x : ℕ). x < n) (sym (mv .low (dst + k) (omega arith))) (s .below .at k h))
           (λ b. ⊎-elim
-          (λ b'. let here : dst + k ≡ dst + j + (k - j) = omega arith in subst (λ (x : ℕ). x < n) (sym (ap (λ (x : ℕ). getD w' x 0) here ∙ mv .mid (k - j) (omega arith))) (mod-lt _ pos))
+          (λ b'. let here : dst + k ≡ dst + j + (k - j) = omega arith in subst (λ (x : ℕ). x < n)
+          (sym (ap (λ (x : ℕ). getD w' x 0) here ∙ mv .mid (k - j) (omega arith))) (mod-lt _ pos))
           (λ b'. subst (λ (x : ℕ). x < n) (sym (mv .high (dst + k) (omega arith))) (s .below .at k h))
           (lt-or-le k (j + lq)))
           (lt-or-le k j);
     }
 
-    pub subtracting-one : Subtracting n p lp q lq dst l (j + 1) w₀ w'
+    subtracting-one : Subtracting n p lp q lq dst l (j + 1) w₀ w'
     unfolding Q
     subtracting-one =
         advance n p lp q lq dst l j (j + 1) w₀ w w' (spot j m) (omega arith) s
         (record { same = mv .same; low = λ k h. mv .low k (omega arith); high = λ k h. mv .high k (omega arith) }) single-below
-        (λ i h b. spot-at j m i (omega arith) ∙ word m i (let z : j ≡ i = omega arith in is-m ∙ ap (λ (x : ℕ). getD w (p + x) 0) z) (omega arith))
+        (λ i h b. spot-at j m i (omega arith) ∙ word m i (let z : j ≡ i = omega arith in is-m ∙ ap (λ (x : ℕ). getD w (p + x) 0) z)
+        (omega arith))
         (λ i h. spot-low j m i h) (λ i h. spot-off j m i (omega arith))
         (λ k. c-trans (c-eq (ap (λ (x : ℕ). x + coef (piece w' dst l) k) (convolve-spot j m (coef (piece w₀ q lq)) k))) (single-turn k))
 
   -- ---- two words
 
-  module _ (c v : ℕ) (w' : List ℕ) (small-c : c < n) (within : j + 1 < lp) (fits : j + 1 + lq ≤ l) (inside : dst + l ≤ length w) (is-c : c ≡ getD w (p + (j + 1)) 0)
-      (mv : Paired n (n - c) (n - m) q (dst + j) lq w w') (is-v : v ≡ (getD w' (dst + (j + lq)) 0 + (n - c) * getD w' (q + (lq - 1)) 0) % n) where
+  module _ (c v : ℕ) (w' : List ℕ) (small-c : c < n) (within : j + 1 < lp) (fits : j + 1 + lq ≤ l) (inside : dst + l ≤ length w)
+      (is-c : c ≡ getD w (p + (j + 1)) 0)
+      (mv : Paired n (n - c) (n - m) q (dst + j) lq w w') (is-v : v ≡ (getD w' (dst + (j + lq)) 0 + (n - c) * getD w'
+      (q + (lq - 1)) 0) % n) where
     W : List ℕ
     W = set w' (dst + (j + lq)) v
 
     Goal : ℕ → Type 0
     Goal k = Cong n (c * risen (suc j) Q k + m * risen j Q k + coef (piece W dst l) k) (coef (piece w dst l) k)
 
-    by : (k x y z u : ℕ) → risen (suc j) Q k ≡ x → risen j Q k ≡ y → coef (piece W dst l) k ≡ z → coef (piece w dst l) k ≡ u → Cong n (c * x + m * y + z) u → Goal k
+    by : (k x y z u : ℕ) → risen (suc j) Q k ≡ x → risen j Q k ≡ y → coef (piece W dst l) k ≡ z → coef (piece w dst l) k ≡ u → Cong n
+        (c * x + m * y + z) u → Goal k
     unfolding Goal
     by k x y z u hx hy hz hu h =
-        c-trans (c-eq (ap₂ (λ (x y : ℕ). c * x + m * y + coef (piece W dst l) k) hx hy ∙ ap (λ (z : ℕ). c * x + m * y + z) hz)) (c-trans h (c-eq (sym hu)))
+        c-trans (c-eq (ap₂ (λ (x y : ℕ). c * x + m * y + coef (piece W dst l) k) hx hy ∙ ap (λ (z : ℕ). c * x + m * y + z) hz))
+        (c-trans h (c-eq (sym hu)))
 
     -- a word of W that is not the top one
     other : (k : ℕ) → k < l → (k ≡ j + lq → ⊥) → coef (piece W dst l) k ≡ getD w' (dst + k) 0
@@ -179,7 +207,8 @@ module _ (n p lp q lq dst l j m : ℕ) (w₀ w : List ℕ) (pos : 0 < n) (some :
         by k (behind Q i) (Q i) ((getD w (dst + k) 0 + (n - c) * behind Q i + (n - m) * Q i) % n) (getD w (dst + k) 0)
         (first i e h) (risen-at j Q k i e)
         (other k (omega arith) (λ d. omega arith) ∙ ap (λ (x : ℕ). getD w' x 0) here ∙ mv .mid i h
-        ∙ ap₂ (λ (x y : ℕ). (x + (n - c) * behind (λ (k : ℕ). getD w (q + k) 0) i + (n - m) * y) % n) (ap (λ (x : ℕ). getD w x 0) (sym here)) (read i h)
+        ∙ ap₂ (λ (x y : ℕ). (x + (n - c) * behind (λ (k : ℕ). getD w (q + k) 0) i + (n - m) * y) % n)
+        (ap (λ (x : ℕ). getD w x 0) (sym here)) (read i h)
         ∙ ap (λ (x : ℕ). (getD w (dst + k) 0 + (n - c) * x + (n - m) * Q i) % n) (seen i h))
         (piece-at w dst l k (omega arith))
         (back-two n (getD w (dst + k) 0) c (behind Q i) m (Q i) small-c small)
@@ -202,9 +231,11 @@ module _ (n p lp q lq dst l j m : ℕ) (w₀ w : List ℕ) (pos : 0 < n) (some :
         (risen-at (suc j) Q k (lq - 1) (omega arith)) (risen-at j Q k lq e ∙ over lq (omega arith))
         (piece-at (set w' (dst + (j + lq)) v) dst l k (omega arith) ∙ ap (λ (x : ℕ). getD (set w' (dst + (j + lq)) v) (dst + x) 0) e
         ∙ getD-set-same w' (dst + (j + lq)) v 0 (omega (arith, mv .same)) ∙ is-v
-        ∙ ap₂ (λ (x y : ℕ). (x + (n - c) * y) % n) (mv .high (dst + (j + lq)) (omega arith) ∙ ap (λ (x : ℕ). getD w (dst + x) 0) (sym e)) (kept ∙ read (lq - 1) (omega arith)))
+        ∙ ap₂ (λ (x y : ℕ). (x + (n - c) * y) % n) (mv .high (dst + (j + lq)) (omega arith) ∙ ap (λ (x : ℕ). getD w (dst + x) 0) (sym e))
+        (kept ∙ read (lq - 1) (omega arith)))
         (piece-at w dst l k (omega arith))
-        (c-trans (c-eq (gap (c * Q (lq - 1)) ((getD w (dst + k) 0 + (n - c) * Q (lq - 1)) % n))) (back n (getD w (dst + k) 0) c (Q (lq - 1)) small-c))
+        (c-trans (c-eq (gap (c * Q (lq - 1)) ((getD w (dst + k) 0 + (n - c) * Q (lq - 1)) % n)))
+        (back n (getD w (dst + k) 0) c (Q (lq - 1)) small-c))
       where
         gap : (x y : ℕ) → x + m * 0 + y ≡ x + y
         gap x y = omega arith
@@ -218,11 +249,13 @@ module _ (n p lp q lq dst l j m : ℕ) (w₀ w : List ℕ) (pos : 0 < n) (some :
     turn : (k : ℕ) → Goal k
     turn k =
         ⊎-elim
-        (λ h. nothing k (risen-low (suc j) Q k (omega arith)) (risen-low j Q k h) (other k (omega arith) (λ e. omega arith) ∙ mv .low (dst + k) (omega arith) ∙ sym (piece-at w dst l k (omega arith))))
+        (λ h. nothing k (risen-low (suc j) Q k (omega arith)) (risen-low j Q k h)
+        (other k (omega arith) (λ e. omega arith) ∙ mv .low (dst + k) (omega arith) ∙ sym (piece-at w dst l k (omega arith))))
         (λ h. ⊎-elim
         (λ b. middle k (k - j) (omega arith) (omega arith))
         (λ b. ⊎-elim (λ e. top k (sym e))
-        (λ e. nothing k (risen-at (suc j) Q k (k - suc j) (omega arith) ∙ over (k - suc j) (omega arith)) (risen-at j Q k (k - j) (omega arith) ∙ over (k - j) (omega arith)) (same k (λ z. omega arith) e))
+        (λ e. nothing k (risen-at (suc j) Q k (k - suc j) (omega arith) ∙ over (k - suc j) (omega arith))
+        (risen-at j Q k (k - j) (omega arith) ∙ over (k - j) (omega arith)) (same k (λ z. omega arith) e))
         (eq-or-lt-of-le b))
         (lt-or-le k (j + lq)))
         (lt-or-le k j)
@@ -243,7 +276,8 @@ module _ (n p lp q lq dst l j m : ℕ) (w₀ w : List ℕ) (pos : 0 < n) (some :
         rest k h d = ⊎-elim
             (λ b. subst (λ (x : ℕ). x < n) (sym (mv .low (dst + k) (omega arith))) (s .below .at k h))
             (λ b. ⊎-elim
-            (λ b'. let here : dst + k ≡ dst + j + (k - j) = omega arith in subst (λ (x : ℕ). x < n) (sym (ap (λ (x : ℕ). getD w' x 0) here ∙ mv .mid (k - j) (omega arith))) (mod-lt _ pos))
+            (λ b'. let here : dst + k ≡ dst + j + (k - j) = omega arith in subst (λ (x : ℕ). x < n)
+            (sym (ap (λ (x : ℕ). getD w' x 0) here ∙ mv .mid (k - j) (omega arith))) (mod-lt _ pos))
             (λ b'. subst (λ (x : ℕ). x < n) (sym (mv .high (dst + k) (omega arith))) (s .below .at k h))
             (lt-or-le k (j + lq)))
             (lt-or-le k j)
@@ -252,19 +286,92 @@ module _ (n p lp q lq dst l j m : ℕ) (w₀ w : List ℕ) (pos : 0 < n) (some :
         go k h (yes e) =
             subst (λ (x : ℕ). getD (set w' (dst + (j + lq)) v) (dst + x) 0 < n) (sym e)
             (subst (λ (x : ℕ). x < n) (sym (getD-set-same w' (dst + (j + lq)) v 0 (omega (arith, mv .same)) ∙ is-v)) (mod-lt _ pos))
-        go k h (no e) = subst (λ (x : ℕ). x < n) (sym (getD-set-other w' (dst + (j + lq)) (dst + k) v 0 (λ d. e (omega arith)))) (rest k h e)
+        go k h (no e) = subst (λ (x : ℕ). x < n) (sym (getD-set-other w' (dst + (j + lq)) (dst + k) v 0 (λ d. e (omega arith))))
+            (rest k h e)
 
-    pub subtracting-two : Subtracting n p lp q lq dst l (j + 2) w₀ (set w' (dst + (j + lq)) v)
+    subtracting-two : Subtracting n p lp q lq dst l (j + 2) w₀ (set w' (dst + (j + lq)) v)
     unfolding W Q Goal
     subtracting-two =
-        advance n p lp q lq dst l j (j + 2) w₀ w (set w' (dst + (j + lq)) v) (λ i. spot (suc j) c i + spot j m i) (omega arith) s around below
+        advance n p lp q lq dst l j (j + 2) w₀ w (set w' (dst + (j + lq)) v) (λ i. spot (suc j) c i + spot j m i)
+        (omega arith) s around below
         (λ i h b. ⊎-elim
-        (λ e. ap₂ (λ (x y : ℕ). x + y) (spot-low (suc j) c i (omega arith)) (spot-at j m i (sym e)) ∙ zero-add m ∙ word m i (is-m ∙ ap (λ (x : ℕ). getD w (p + x) 0) e) (omega arith))
+        (λ e. ap₂ (λ (x y : ℕ). x + y) (spot-low (suc j) c i (omega arith)) (spot-at j m i (sym e)) ∙ zero-add m ∙ word m i
+        (is-m ∙ ap (λ (x : ℕ). getD w (p + x) 0) e) (omega arith))
         (λ e. let z : j + 1 ≡ i = omega arith in
-        ap₂ (λ (x y : ℕ). x + y) (spot-at (suc j) c i (omega arith)) (spot-off j m i e) ∙ add-zero c ∙ word c i (is-c ∙ ap (λ (x : ℕ). getD w (p + x) 0) z) (omega arith))
+        ap₂ (λ (x y : ℕ). x + y) (spot-at (suc j) c i (omega arith)) (spot-off j m i e) ∙ add-zero c ∙ word c i
+        (is-c ∙ ap (λ (x : ℕ). getD w (p + x) 0) z) (omega arith))
         (eq-or-lt-of-le h))
         (λ i h. ap₂ (λ (x y : ℕ). x + y) (spot-low (suc j) c i (omega arith)) (spot-low j m i h))
         (λ i h. ap₂ (λ (x y : ℕ). x + y) (spot-off (suc j) c i (omega arith)) (spot-off j m i (omega arith)))
         (λ k. c-trans (c-eq (ap (λ (x : ℕ). x + coef (piece (set w' (dst + (j + lq)) v) dst l) k)
         (convolve-add (spot (suc j) c) (spot j m) (coef (piece w₀ q lq)) k
-        ∙ ap₂ (λ (x y : ℕ). x + y) (convolve-spot (suc j) c (coef (piece w₀ q lq)) k) (convolve-spot j m (coef (piece w₀ q lq)) k)))) (turn k))
+        ∙ ap₂ (λ (x y : ℕ). x + y) (convolve-spot (suc j) c (coef (piece w₀ q lq)) k) (convolve-spot j m (coef (piece w₀ q lq)) k))))
+        (turn k))
+
+-- ---- as the code has it
+
+pub record Taking (n p lp q lq dst : ℕ) (w₀ w : List ℕ) (j : ℕ) : Type 0 where
+  pub most : j ≤ lp
+  pub done : Subtracting n p lp q lq dst (lp + lq - 1) j w₀ w
+
+pub taking-start : (n p lp q lq dst : ℕ) (w : List ℕ) → Factors n p lp q lq dst w → Taking n p lp q lq dst w w 0
+taking-start n p lp q lq dst w fs = record { most = omega arith; done = subtracting-start _ _ _ _ _ _ _ _ (fs .product) }
+
+pub taking-end : (n p lp q lq dst j : ℕ) (w₀ w : List ℕ) → Taking n p lp q lq dst w₀ w j → j ≡ lp → Subtracted n p lp q lq dst w₀ w
+taking-end n p lp q lq dst j w₀ w x e = subtracting-end _ _ _ _ _ _ _ j _ _ e refl (x .done)
+
+module _ (n p lp q lq dst j : ℕ) (w₀ w : List ℕ) (x : Taking n p lp q lq dst w₀ w j) (room : ProductRoom n p lp q lq dst w₀)
+    (fs : Factors n p lp q lq dst w₀) where
+  small : (i : ℕ) → i < lp → getD w (p + i) 0 < n
+  small = first-small (x .done) (fs .apart-first) (fs .first)
+
+  pub first-most : j + 1 < lp → getD w (p + j) 0 ≤ n
+  first-most h = le-of-lt (small j (omega arith))
+
+  pub second-most : j + 1 < lp → getD w (p + (j + 1)) 0 ≤ n
+  second-most h = le-of-lt (small (j + 1) h)
+
+  pub last-most : (j ≡ lp → ⊥) → getD w (p + j) 0 ≤ n
+  last-most ne = le-of-lt (small j (omega (arith, x .most)))
+
+  pub pair-asked : (m : ℕ) → j + 1 < lp → PairAsked n (n - m) q (dst + j) lq w
+  pair-asked m h = record {
+    modulus = room .modulus;
+    factor = omega arith;
+    source = omega (arith, room .second, x .done .around .same);
+    target = omega (arith, room .product, x .done .around .same);
+    apart = turn-apart (fs .apart-second) j (omega arith);
+    below = turn-below (x .done) (omega arith);
+  }
+
+  pub taking-next : (v j' : ℕ) (w' w'' : List ℕ) → j + 1 < lp
+      → Paired n (n - getD w (p + (j + 1)) 0) (n - getD w (p + j) 0) q (dst + j) lq w w'
+      → v ≡ (getD w' (dst + (j + lq)) 0 + (n - getD w (p + (j + 1)) 0) * getD w' (q + (lq - 1)) 0) % n
+      → w'' ≡ set w' (dst + (j + lq)) v → j' ≡ j + 2 → Taking n p lp q lq dst w₀ w'' j'
+  taking-next v j' w' w'' h mv is ew ej =
+      rw (ew, ej) (record {
+        most = omega arith;
+        done = subtracting-two _ _ _ _ _ _ _ j _ w₀ w (room .modulus) (room .some-second) (fs .apart-first) (fs .apart-second)
+            (small j (omega arith)) refl (x .done) _ v w' (small (j + 1) h) h (omega arith)
+            (omega (arith, room .product, x .done .around .same)) refl mv is;
+      })
+
+  pub last-source : q + lq ≤ length w
+  last-source = omega (arith, room .second, x .done .around .same)
+
+  pub last-target : (j ≡ lp → ⊥) → dst + j + lq ≤ length w
+  last-target ne = omega (arith, room .product, room .some-second, x .most, x .done .around .same)
+
+  pub last-clear : (j ≡ lp → ⊥) → Clear q (dst + j) lq
+  last-clear ne = record { ok = λ i k a b e. fs .apart-second .ok i (j + k) b (omega (arith, x .most)) (omega arith) }
+
+  pub taking-last : (w' : List ℕ) → (j ≡ lp → ⊥) → lp ≤ j + 1 → Moved (addMul n (n - getD w (p + j) 0)) q (dst + j) lq w w'
+      → Subtracted n p lp q lq dst w₀ w'
+  taking-last w' ne h mv =
+      subtracting-end _ _ _ _ _ _ _ (j + 1) _ _ (omega (arith, x .most)) refl
+      (subtracting-one _ _ _ _ _ _ _ j _ w₀ w (room .modulus) (room .some-second) (fs .apart-first) (fs .apart-second)
+      (small j (omega (arith, x .most))) refl (x .done) w' (omega (arith, x .most)) (omega (arith, x .most, room .some-second)) mv)
+
+pub ruleset asked = (first-most, second-most, last-most, pair-asked, last-source, last-target, last-clear)
+
+pub ruleset subtractions = (needs, asked, taking-start, taking-next, taking-end, taking-last)

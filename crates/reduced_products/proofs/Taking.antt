@@ -1,27 +1,34 @@
--- A product taken from a window, modulo the monic polynomial at 0.
+-- A product taken from a window, modulo the monic polynomial at 0, at any width.
+--
+--   taken-short                   t words hold what is left
+--   long-sizes, pair-at, lead-at  what the division asks where they do not
+--   taken-long                    what comes of it
+--   takings                       the rules
 use mathlib.Core.Path.{_≡_, refl, sym, ap, ap₂, subst, _∙_, fun-ext}
 use mathlib.Core.List.{List, []}
 use mathlib.Core.Logic.{⊎-elim}
 use Prim.Native.Nat.{ℕ, zero, suc, _+_, _-_, _*_, _%_, _≤_, _<_}
 use native.Mathlib.Omega.{arith}
 use native.Mathlib.Nat.{mod-lt, zero-add, add-zero, add-assoc, one-mul}
+use borrow.Author.Needs.{needs}
 use lib.ListN.{length, getD}
 use Rattle.numbers.specs.Congruence.{Cong, c-refl, c-trans, c-eq, c-add}
 use Rattle.definitions.specs.Polynomials.{coef, convolve, tabulate, Divided}
 use Rattle.theory.specs.ReachedSteps.{coef-whole, coef-beyond}
 use Rattle.windows.specs.Window.{piece, Moved, zeroed, Below, Around, Apart}
 use Rattle.windows.proofs.Leaf.{lt-or-le, piece-at, piece-over, piece-same}
-use Rattle.window_division.specs.Remainders.{Pair, Remainder}
+use Rattle.window_division.specs.Remainders.{DivisionSizes, Pair, Remainder}
 use Rattle.window_division.proofs.Turns.{convolve-none}
 use Rattle.reduced_multipliers.specs.Leads.{Taken}
-use Rattle.reduced_products.specs.Products.{Factors, Subtracted, MonicAtZero, TakenFrom}
+use Rattle.reduced_products.specs.Products.{ProductRoom, Factors, FactorsModulo, Subtracted, MonicAtZero, TakenFrom}
 
 convolve-empty : (F : ℕ → ℕ) (k : ℕ) → convolve (coef []) F k ≡ 0
 convolve-empty F k = ap (λ (a : ℕ → ℕ). convolve a F k) (fun-ext (λ i. coef-beyond [] i (omega arith))) ∙ convolve-none F k
 
 -- t words hold what is left
-pub taken-short : (n t p lp q lq dst : ℕ) (w w' : List ℕ) → 1 ≤ lp → 1 ≤ lq → lp + lq - 1 ≤ t → Subtracted n p lp q lq dst w w' → TakenFrom n t p lp q lq dst (lp + lq - 1) w w'
-taken-short n t p lp q lq dst w w' a b h s = record {
+pub taken-short : (n t p lp q lq dst : ℕ) (w w' : List ℕ) → ProductRoom n p lp q lq dst w → Subtracted n p lp q lq dst w w'
+    → lp + lq - 1 ≤ t → TakenFrom n t p lp q lq dst (lp + lq - 1) w w'
+taken-short n t p lp q lq dst w w' room s h = record {
   around = s .around;
   below = s .below;
   within = h;
@@ -31,12 +38,14 @@ taken-short n t p lp q lq dst w w' a b h s = record {
   zero = λ k l m. absurd (omega arith);
   taken = record {
     z = [];
-    at = λ k. ap (λ (x : ℕ). (x + convolve (coef (piece w p lp)) (coef (piece w q lq)) k + coef (piece w' dst (lp + lq - 1)) k) % n) (convolve-empty (coef (piece w 0 (t + 1))) k)
+    at = λ k. ap (λ (x : ℕ). (x + convolve (coef (piece w p lp)) (coef (piece w q lq)) k + coef (piece w' dst (lp + lq - 1)) k) % n)
+        (convolve-empty (coef (piece w 0 (t + 1))) k)
         ∙ ap (λ (x : ℕ). (x + coef (piece w' dst (lp + lq - 1)) k) % n) (zero-add _) ∙ s .divided .at k;
   };
 }
 
-module _ (n t p lp q lq dst l : ℕ) (w w₁ w₂ w₃ : List ℕ) (pos : 1 ≤ n) (one : 1 ≤ t) (fits : dst + l ≤ length w) (is-l : l ≡ lp + lq - 1) (over : t < l) (apart : t + 1 ≤ dst)
+module _ (n t p lp q lq dst l : ℕ) (w w₁ w₂ w₃ : List ℕ) (pos : 1 ≤ n) (one : 1 ≤ t) (fits : dst + l ≤ length w) (is-l : l ≡ lp + lq - 1)
+    (over : t < l) (apart : t + 1 ≤ dst)
     (s : Subtracted n p lp q lq dst w w₁) (r : Remainder n 0 t dst (l - 1) w₁ w₂) (z : Moved zeroed (dst + t) (dst + t) (l - t) w₂ w₃) where
   -- the polynomial at 0 is what it was
   kept : piece w₁ 0 (t + 1) ≡ piece w 0 (t + 1)
@@ -66,11 +75,16 @@ module _ (n t p lp q lq dst l : ℕ) (w w₁ w₂ w₃ : List ℕ) (pos : 1 ≤ 
   shorter : l - 1 + 1 ≡ l
   shorter = omega arith
 
-  whole : (k : ℕ) → (convolve (coef Z) (coef (piece w 0 (t + 1))) k + convolve (coef (piece w p lp)) (coef (piece w q lq)) k + coef (piece w₃ dst l) k) % n ≡ coef (piece w dst l) k % n
+  whole : (k : ℕ) → (convolve (coef Z) (coef (piece w 0 (t + 1))) k + convolve (coef (piece w p lp)) (coef (piece w q lq)) k + coef
+      (piece w₃ dst l) k) % n ≡ coef (piece w dst l) k % n
   whole k =
-      c-trans (c-eq (turn (convolve (coef Z) (coef (piece w 0 (t + 1))) k) (convolve (coef (piece w p lp)) (coef (piece w q lq)) k) (coef (piece w₃ dst l) k)))
+      c-trans (c-eq (turn (convolve (coef Z) (coef (piece w 0 (t + 1))) k) (convolve (coef (piece w p lp)) (coef (piece w q lq)) k)
+      (coef (piece w₃ dst l) k)))
       (c-trans (c-add (c-refl {a = convolve (coef (piece w p lp)) (coef (piece w q lq)) k}) rest)
-      (record { same = subst (λ (x : ℕ). (convolve (coef (piece w p lp)) (coef (piece w q lq)) k + coef (piece w₁ dst x) k) % n ≡ coef (piece w dst x) k % n) (sym is-l) (s .divided .at k) })) .same
+      (record {
+        same = subst (λ (x : ℕ). (convolve (coef (piece w p lp)) (coef (piece w q lq)) k + coef (piece w₁ dst x) k) % n ≡ coef
+            (piece w dst x) k % n) (sym is-l) (s .divided .at k);
+      })) .same
     where
       turn : (a b c : ℕ) → a + b + c ≡ b + (a + c)
       turn a b c = omega arith
@@ -98,21 +112,55 @@ module _ (n t p lp q lq dst l : ℕ) (w w₁ w₂ w₃ : List ℕ) (pos : 1 ≤ 
         (lt-or-le k t);
   }
 
-  pub taken-long : TakenFrom n t p lp q lq dst t w w₃
+  long-taken : TakenFrom n t p lp q lq dst t w w₃
   unfolding Z
-  taken-long = subst (λ (x : ℕ). t < x → Around dst x w w₃ → Below n dst x w₃ → ((k : ℕ) → t ≤ k → k < x → getD w₃ (dst + k) 0 ≡ 0)
-      → Taken n (piece w 0 (t + 1)) (piece w q lq) (piece w p lp) (piece w dst x) (piece w₃ dst x) → x ≡ lp + lq - 1 → TakenFrom n t p lp q lq dst t w w₃) (sym is-l)
-      (λ o a b c d e. record { around = a; below = b; within = omega arith; most = omega arith; some = one; full = λ x. absurd (omega arith); zero = c; taken = d })
+  long-taken = subst (λ (x : ℕ). t < x → Around dst x w w₃ → Below n dst x w₃ → ((k : ℕ) → t ≤ k → k < x → getD w₃ (dst + k) 0 ≡ 0)
+      → Taken n (piece w 0 (t + 1)) (piece w q lq) (piece w p lp) (piece w dst x) (piece w₃ dst x) → x ≡ lp + lq - 1
+      → TakenFrom n t p lp q lq dst t w w₃) (sym is-l)
+      (λ o a b c d e. record {
+        around = a;
+        below = b;
+        within = omega arith;
+        most = omega arith;
+        some = one;
+        full = λ x. absurd
+            (omega arith);
+        zero = c;
+        taken = d;
+      })
       over around below nought (record { z = Z; at = whole }) is-l
 
--- the divisor at 0, and what it divides
-pub pair-at : (n t p lp q lq dst l : ℕ) (w w₁ : List ℕ) → l ≡ lp + lq - 1 → t < l → t + 1 ≤ dst → MonicAtZero n t w → Subtracted n p lp q lq dst w w₁ → Pair n 0 t dst (l - 1) w₁
-pair-at n t p lp q lq dst l w w₁ is-l over apart m s = record {
-  first = record { at = λ k h. subst (λ (x : ℕ). x < n) (sym (s .around .low (0 + k) (omega arith))) (m .below .at k h) };
-  second = record { at = λ k h. s .below .at k (omega arith) };
-  apart = record { ok = λ i j a b e. omega arith };
-}
+-- ---- as the code has it
 
-pub unit-at : (n t p lp q lq dst : ℕ) (w w₁ : List ℕ) → t + 1 ≤ dst → MonicAtZero n t w → Subtracted n p lp q lq dst w w₁ → (1 * getD w₁ (0 + t) 0) % n ≡ 1 % n
-unit-at n t p lp q lq dst w w₁ apart m s =
-    ap (λ (x : ℕ). x % n) (one-mul _ ∙ ap (λ (x : ℕ). getD w₁ x 0) (zero-add t) ∙ s .around .low t (omega arith) ∙ m .lead)
+module _ (n t p lp q lq dst : ℕ) (w w₁ : List ℕ) (room : ProductRoom n p lp q lq dst w) (fm : FactorsModulo n t p lp q lq dst w)
+    (s : Subtracted n p lp q lq dst w w₁) where
+  pub long-sizes : t < lp + lq - 1 → DivisionSizes n 0 t dst (lp + lq - 1 - 1) w₁
+  long-sizes h = record {
+    modulus = room .modulus;
+    degree = fm .degree;
+    near = omega arith;
+    divisor = omega (arith, fm .after, room .product, s .around .same);
+    dividend = omega (arith, room .product, s .around .same);
+  }
+
+  -- the divisor at 0, and what it divides
+  pub pair-at : t < lp + lq - 1 → Pair n 0 t dst (lp + lq - 1 - 1) w₁
+  pair-at h = record {
+    first = record {
+      at = λ k b. subst (λ (x : ℕ). x < n) (sym (s .around .low (0 + k) (omega (arith, fm .after)))) (fm .monic .below .at k b);
+    };
+    second = record { at = λ k b. s .below .at k (omega arith) };
+    apart = record { ok = λ i j a b e. omega (arith, fm .after) };
+  }
+
+  pub lead-at : (1 * getD w₁ (0 + t) 0) % n ≡ 1 % n
+  lead-at =
+      ap (λ (x : ℕ). x % n) (one-mul _ ∙ ap (λ (x : ℕ). getD w₁ x 0) (zero-add t) ∙ s .around .low t (omega (arith, fm .after))
+      ∙ fm .monic .lead)
+
+  pub taken-long : (w₂ w₃ : List ℕ) → t < lp + lq - 1 → Remainder n 0 t dst (lp + lq - 1 - 1) w₁ w₂
+      → Moved zeroed (dst + t) (dst + t) (lp + lq - 1 - t) w₂ w₃ → TakenFrom n t p lp q lq dst t w w₃
+  taken-long w₂ w₃ h r z =
+      long-taken n t p lp q lq dst (lp + lq - 1) w w₁ w₂ w₃ (room .modulus) (fm .degree) (room .product) refl h (fm .after) s r z
+
+pub ruleset takings = (needs, taken-short, long-sizes, pair-at, lead-at, taken-long)

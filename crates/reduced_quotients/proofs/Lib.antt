@@ -1,2 +1,3 @@
 pub mod Divisions
 pub mod Preparing
+pub mod Placing

@@ -3,16 +3,18 @@
 --   put-in-front           a buffer of zeros with x in front is the constant x
 --   constants-certified    D is their reduced resultant, and the constants combine them to it
 --   constants-least        they follow the rule
---   other-pair             of other polynomials the rule says nothing
+--   other-first, other-second     of other polynomials the rule says nothing
+--   constants              the rules
 use mathlib.Core.Path.{_≡_, sym, ap, ap₂, subst, fun-ext, _∙_}
 use mathlib.Core.List.{List}
 use Prim.Native.Nat.{ℕ, zero, suc, pred, _+_, _*_, _%_, _<_, _≤_, _∣_}
 use native.Mathlib.Nat.{mul-zero, dvd-add, dvd-mul-left-of-dvd}
 use native.Mathlib.Omega.{arith}
+use borrow.Author.Needs.{needs}
 use lib.ListN.{length, replicate, set, List·getD-eq-default, length-replicate}
 use lib.Seq.{getD-set-same, getD-set-other}
 use Rattle.definitions.specs.Residues.{LeastCofactors}
-use Rattle.definitions.specs.Polynomials.{coef, convolve, constant}
+use Rattle.definitions.specs.Polynomials.{coef, convolve, constant, L}
 use Rattle.definitions.specs.Resultants.{Combination, Reached}
 use Rattle.numbers.specs.Congruence.{Cong, c-trans, c-sym, c-dvd, c-zero, dvd-c}
 use Rattle.theory.specs.Words.{convolve-zero}
@@ -20,16 +22,17 @@ use Rattle.theory.specs.ReachedSteps.{convolve-constant}
 use Rattle.theory.specs.ReachedLaws.{reduced-from}
 use Rattle.convolution.specs.Sums.{zeros-at}
 use Rattle.reduced_cofactors.specs.Cofactors.{Certified}
+use Rattle.reduced.specs.Runs.{RunAsked}
 use Rattle.reduced_service.specs.ReducedService.{LeastConstants}
 use Rattle.reduced_service.specs.Constants.{HoldsConstant, ConstantCofactors}
 
 -- a buffer of zeros with x in front
-pub put-in-front : (l x : ℕ) → 1 ≤ l → HoldsConstant x (set (replicate l 0) 0 x)
-put-in-front l x h = record { at = at }
+pub put-in-front : {x : ℕ} {w' : List ℕ} (u w : List ℕ) → w ≡ replicate (length u) 0 → 1 ≤ length u → w' ≡ set w 0 x → HoldsConstant x w'
+put-in-front {x} u w e h i = rw (i, e) (record { at = at (length u) h })
   where
-    at : (k : ℕ) → coef (set (replicate l 0) 0 x) k ≡ constant x k
-    at zero = getD-set-same (replicate l 0) 0 x 0 (omega (arith, length-replicate {A = ℕ} l 0))
-    at (suc k) = getD-set-other (replicate l 0) 0 (suc k) x 0 (λ e. absurd (omega arith)) ∙ zeros-at l (suc k)
+    at : (l : ℕ) → 1 ≤ l → (k : ℕ) → coef (set (replicate l 0) 0 x) k ≡ constant x k
+    at l h zero = getD-set-same (replicate l 0) 0 x 0 (omega (arith, length-replicate {A = ℕ} l 0))
+    at l h (suc k) = getD-set-other (replicate l 0) 0 (suc k) x 0 (λ e. absurd (omega arith)) ∙ zeros-at l (suc k)
 
 constant-below : {n x : ℕ} {u : List ℕ} → x < n → HoldsConstant x u → (k : ℕ) → coef u k < n
 constant-below {n} {x} {u} l h zero = subst (λ (y : ℕ). y < n) (sym (h .at 0)) l
@@ -45,8 +48,11 @@ side x u s h k = ap (λ (F : ℕ → ℕ). convolve F (coef x) k) (fun-ext (h .a
 none-above : (x : List ℕ) (s k : ℕ) → length x ≡ 1 → s * coef x (suc k) ≡ 0
 none-above x s k e = ap (λ (y : ℕ). s * y) (List·getD-eq-default x 0 {n = suc k} (omega arith)) ∙ mul-zero s
 
-module _ (n : ℕ) (f g u v : List ℕ) (D : ℕ) (pos : 1 ≤ n) (ef : length f ≡ 1) (eg : length g ≡ 1)
+module _ {n D : ℕ} {f g u v : List ℕ} (x y w : List ℕ) (asked : RunAsked n f g x y w) (ef : length f ≡ 1) (eg : length g ≡ 1)
     (c : ConstantCofactors n (coef f 0) (coef g 0) u v D) where
+  pos : 1 ≤ n
+  pos = omega (arith, asked .modulus)
+
   sum-at : (k : ℕ) → (convolve (coef u) (coef f) k + convolve (coef v) (coef g) k) % n ≡ constant D k % n
   sum-at zero = ap₂ (λ (x y : ℕ). (x + y) % n) (side f u (c .s) (c .first) 0) (side g v (c .t) (c .second) 0) ∙ c .cofactors .sum
   sum-at (suc k) =
@@ -66,17 +72,18 @@ module _ (n : ℕ) (f g u v : List ℕ) (D : ℕ) (pos : 1 ≤ n) (ef : length f
             ∙ r .combination .sum 0;
       } in
       dvd-c (c-trans (c-sym (c-dvd (c .cofactors .gcd .divides-n) e))
-      (c-zero (dvd-add D (dvd-mul-left-of-dvd D (c .cofactors .gcd .divides-a) a) (dvd-mul-left-of-dvd D (c .cofactors .gcd .divides-b) b))))
+      (c-zero (dvd-add D (dvd-mul-left-of-dvd D (c .cofactors .gcd .divides-a) a)
+      (dvd-mul-left-of-dvd D (c .cofactors .gcd .divides-b) b))))
 
-  pub constants-certified : (len : ℕ) → 1 ≤ len → Certified n len f g u v D
-  constants-certified len l = record {
+  pub constants-certified : (a b : ℕ) → Certified n (L n a b) f g u v D
+  constants-certified a b = record {
     reduced = reduced-from n D f g pos (c .cofactors .gcd .divides-n) (c .cofactors .least) (c .cofactors .most)
         (record { u = u; v = v; combination = combined }) reached-divides;
     combination = combined;
     below-u = constant-below (c .cofactors .below-s) (c .first);
     below-v = constant-below (c .cofactors .below-t) (c .second);
-    short-u = constant-short l (c .first);
-    short-v = constant-short l (c .second);
+    short-u = constant-short (omega arith) (c .first);
+    short-v = constant-short (omega arith) (c .second);
   }
 
   pub constants-least : LeastConstants n f g u v D
@@ -85,9 +92,14 @@ module _ (n : ℕ) (f g u v : List ℕ) (D : ℕ) (pos : 1 ≤ n) (ef : length f
         (subst (LeastCofactors n (coef f 0) (coef g 0) D (c .s)) (sym (c .second .at 0)) (c .least));
   }
 
-pub other-pair : {n : ℕ} {f g u v : List ℕ} {D : ℕ} → 1 ≤ length f → 1 ≤ length g → (length f ≡ 1 → length g ≡ 1 → ⊥)
-    → LeastConstants n f g u v D
-other-pair {n} {f} {g} lf lg unlike = record { pair = λ p q. absurd (unlike (one (length f) lf p) (one (length g) lg q)) }
-  where
-    one : (l : ℕ) → 1 ≤ l → pred l ≡ 0 → l ≡ 1
-    one l h e = omega arith
+one-word : (l : ℕ) → 1 ≤ l → pred l ≡ 0 → l ≡ 1
+one-word l h e = omega arith
+
+module _ {n D : ℕ} {f g u v : List ℕ} (x y w : List ℕ) (asked : RunAsked n f g x y w) where
+  pub other-first : (length f ≡ 1 → ⊥) → LeastConstants n f g u v D
+  other-first unlike = record { pair = λ p _. absurd (unlike (one-word (length f) (asked .some-f) p)) }
+
+  pub other-second : (length g ≡ 1 → ⊥) → LeastConstants n f g u v D
+  other-second unlike = record { pair = λ _ p. absurd (unlike (one-word (length g) (asked .some-g) p)) }
+
+pub ruleset constants = (needs, put-in-front, constants-certified, constants-least, other-first, other-second)

@@ -1,2 +1,3 @@
 pub mod ReducedService
 pub mod Constants
+pub mod Asked

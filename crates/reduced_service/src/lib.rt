@@ -2,7 +2,7 @@
 //
 //   put_constant, constants    two polynomials of sent degree 0: D with the least cofactors
 //   by_run, worked             D with its cofactors, by the run; of constants or by the run
-//   reduced_resultant          the service
+//   served, reduced_resultant  the answer once none of the refusals applies; the service
 ghost use Prim.Native.Nat.{_-_, _≤_};
 ghost use lib.ListN.{length};
 ghost use Rattle.definitions.specs.Polynomials.{L};
@@ -11,6 +11,7 @@ ghost use Rattle.refusals.specs.Refusals.{narrow};
 ghost use Rattle.reduced_cofactors.specs.Cofactors.{Certified};
 ghost use Rattle.reduced.specs.Runs.{RunAsked};
 ghost use Rattle.reduced_service.specs.ReducedService.{LeastConstants, ReducedAnswer};
+ghost use Rattle.reduced_service.specs.Asked.{ReducedAsked};
 ghost use Rattle.reduced_service.specs.Constants.{HoldsConstant, ConstantsAsked, ConstantCofactors};
 use refusals::Answer;
 
@@ -57,8 +58,27 @@ fn worked(u: &mut [u32], v: &mut [u32], w: &mut [u32], n: u32, f: &[u32], g: &[u
         if g.len() == 1 {
             return constants(u, v, n, f[0], g[0]);
         }
+        return by_run(u, v, w, n, f, g);
     }
     by_run(u, v, w, n, f, g)
+}
+
+// None of the refusals applies, and a cofactor has l words: D, with cofactors in the first l words of u and of v.
+fn served(
+    n: u32,
+    f: &[u32],
+    g: &[u32],
+    l: usize,
+    u: &mut [u32],
+    v: &mut [u32],
+    work: &mut [u32],
+) -> Answer
+    requires { ⌜ ReducedAsked narrow n (now f) (now g) l (now u) (now v) (now work) ⌝ }
+    ensures { λ r. ⌜ ReducedAnswer narrow n (now (f .entry)) (now (g .entry)) (now (u .entry)) (now (u .exit)) (now (v .entry))
+        (now (v .exit)) (now (work .entry)) (now (work .exit)) (r .value) (r .status) ⌝ }
+{
+    let found = worked(&mut u[0..l], &mut v[0..l], work, n, f, g);
+    answers::answered(found, work)
 }
 
 // The reduced resultant D of f and g modulo n, with cofactors in the first L words of u and of v.
@@ -99,6 +119,5 @@ pub fn reduced_resultant(
             status: 7,
         };
     }
-    let found = worked(&mut u[0..l], &mut v[0..l], work, n, f, g);
-    answers::answered(found, work)
+    served(n, f, g, l, u, v, work)
 }

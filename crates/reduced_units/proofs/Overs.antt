@@ -1,9 +1,14 @@
--- A multiplier over a unit polynomial: its product with the negated inverse is taken from zeros, and put in its place.
+-- A multiplier over a unit polynomial, at any width: its product with the negated inverse is taken from zeros, and put in its place.
+--
+--   over-product, over-modulo    what the product asks
+--   over-done                    what comes of it
+--   overs                        the rules
 use mathlib.Core.Path.{_≡_, refl, sym, ap, ap₂, subst, _∙_, fun-ext}
 use mathlib.Core.List.{List, []}
 use mathlib.Core.Logic.{⊎-elim}
 use Prim.Native.Nat.{ℕ, zero, suc, _+_, _-_, _*_, _%_, _≤_, _<_}
 use native.Mathlib.Omega.{arith}
+use borrow.Author.Needs.{needs}
 use lib.ListN.{length, getD}
 use Rattle.definitions.specs.Polynomials.{coef, convolve}
 use Rattle.theory.specs.ReachedSteps.{coef-beyond}
@@ -11,25 +16,39 @@ use Rattle.windows.specs.Window.{piece, Moved, zeroed, second, Below, Around, A
 use Rattle.windows.proofs.Leaf.{lt-or-le, piece-at, piece-over, around-at}
 use Rattle.windows.proofs.Lift.{moved-around}
 use Rattle.reduced_multipliers.specs.Leads.{Taken}
-use Rattle.reduced_products.specs.Products.{Factors, MonicAtZero, TakenFrom}
+use Rattle.reduced_products.specs.Products.{ProductRoom, Factors, FactorsModulo, MonicAtZero, TakenFrom}
 use Rattle.reduced_units.specs.States.{Multiplier}
 use Rattle.reduced_units.specs.Factorings.{OverAsked, OverUnit}
-use Rattle.reduced_units.proofs.Regions.{apart-low, apart-swap, below-apart, piece-apart, multiplier-apart, multiplier-short, monic-apart}
+use Rattle.reduced_units.proofs.Regions.{apart-low, apart-swap, below-apart, piece-apart, multiplier-apart, multiplier-short}
+use Rattle.reduced_units.proofs.Regions.{monic-apart}
 
 module _ (n t x len be l y : ℕ) (w w₁ : List ℕ) (asked : OverAsked n t x len be l y w) (cl : Moved zeroed y y (len + t) w w₁) where
   cleared : Around y (len + t) w w₁
   cleared = moved-around cl
 
-  pub over-monic : MonicAtZero n t w₁
+  over-monic : MonicAtZero n t w₁
   over-monic = monic-apart (omega arith) cleared (asked .monic)
 
-  pub over-factors : Factors n x len be l y w₁
+  over-factors : Factors n x len be l y w₁
   over-factors = record {
     first = below-apart (apart-low x len y (len + t) (asked .last)) cleared (asked .below);
     product = record { at = λ k h. subst (λ (z : ℕ). z < n) (sym (cl .mid k (omega arith))) (asked .positive) };
     apart-first = apart-low x len y (len + l - 1) (asked .last);
     apart-second = apart-low be l y (len + l - 1) (omega arith);
   }
+
+  pub over-product : ProductRoom n x len be l y w₁
+  over-product = record {
+    modulus = asked .positive;
+    some-first = asked .some-inverse;
+    some-second = asked .some;
+    first = omega (arith, cl .same);
+    second = omega (arith, cl .same);
+    product = omega (arith, cl .same);
+  }
+
+  pub over-modulo : FactorsModulo n t x len be l y w₁
+  over-modulo = record { factors = over-factors; degree = asked .degree; after = omega arith; monic = over-monic }
 
   mu₁ : Multiplier n t be l w₁
   mu₁ = multiplier-apart (apart-low be (2 * (t + 1)) y (len + t) (omega arith)) cleared (asked .multiplier)
@@ -102,14 +121,21 @@ module _ (n t x len be l y : ℕ) (w w₁ : List ℕ) (asked : OverAsked n t x l
       longer = ⊎-elim (λ h. omega (arith, tk .full h)) (λ h. omega arith) (lt-or-le r t);
       most = tk .within;
       multiplier = record {
-        below = record { at = λ k h. ⊎-elim (λ b. subst (λ (z : ℕ). z < n) (sym (placed k b)) (P-small k)) (λ b. subst (λ (z : ℕ). z < n) (sym (above k b h)) (asked .positive)) (lt-or-le k t) };
+        below = record {
+          at = λ k h. ⊎-elim (λ b. subst (λ (z : ℕ). z < n) (sym (placed k b)) (P-small k))
+              (λ b. subst (λ (z : ℕ). z < n) (sym (above k b h)) (asked .positive)) (lt-or-le k t);
+        };
         zero = λ k h b. ⊎-elim (λ c. placed k c ∙ P-zero k h) (λ c. above k c b) (lt-or-le k t);
       };
       taken = record {
         z = tk .taken .z;
         at = λ k.
-            ap₂ (λ (h : List ℕ) (F : ℕ → ℕ). (convolve (coef (tk .taken .z)) (coef h) k + convolve (coef (piece w x len)) F k + coef (piece w₃ be (2 * (t + 1))) k) % n) (sym same-h) (fun-ext beta-is)
-            ∙ ap₂ (λ (f : List ℕ) (v : ℕ). (convolve (coef (tk .taken .z)) (coef (piece w₁ 0 (t + 1))) k + convolve (coef f) (coef (piece w₁ be l)) k + v) % n) (sym same-x) (whole k)
+            ap₂ (λ (h : List ℕ) (F : ℕ → ℕ). (convolve (coef (tk .taken .z)) (coef h) k + convolve (coef (piece w x len)) F k + coef
+            (piece w₃ be (2 * (t + 1))) k) % n) (sym same-h) (fun-ext beta-is)
+            ∙ ap₂ (λ (f : List ℕ) (v : ℕ). (convolve (coef (tk .taken .z)) (coef (piece w₁ 0 (t + 1))) k + convolve (coef f)
+            (coef (piece w₁ be l)) k + v) % n) (sym same-x) (whole k)
             ∙ tk .taken .at k ∙ ap (λ (v : ℕ). v % n) (none k);
       };
     }
+
+pub ruleset overs = (needs, over-product, over-modulo, over-done)

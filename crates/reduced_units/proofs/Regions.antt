@@ -35,7 +35,8 @@ below-apart {n} x r h = record { at = λ k p. subst (λ (y : ℕ). y < n) (sym (
 pub piece-apart : {a l b m : ℕ} {w w' : List ℕ} → Apart a l b m → Around b m w w' → a + l ≤ length w → piece w' a l ≡ piece w a l
 piece-apart {a} {l} {b} {m} {w} {w'} x r h = piece-same w w' a l h (r .same) (λ k p. apart-at x r k p)
 
-pub multiplier-apart : {n t p l b m : ℕ} {w w' : List ℕ} → Apart p (2 * (t + 1)) b m → Around b m w w' → Multiplier n t p l w → Multiplier n t p l w'
+pub multiplier-apart : {n t p l b m : ℕ} {w w' : List ℕ} → Apart p (2 * (t + 1)) b m → Around b m w w' → Multiplier n t p l w
+    → Multiplier n t p l w'
 multiplier-apart x r h = record { below = below-apart x r (h .below); zero = λ k a b. apart-at x r k b ∙ h .zero k a b }
 
 pub multiplier-more : {n t p l : ℕ} {w : List ℕ} (l' : ℕ) → l ≤ l' → Multiplier n t p l w → Multiplier n t p l' w
@@ -73,7 +74,8 @@ places-swap p = record {
 
 -- ---- a multiplier is the polynomial of its first words, however many are read
 
-pub multiplier-short : {n t p l : ℕ} {w : List ℕ} → Multiplier n t p l w → (x : ℕ) → l ≤ x → x ≤ 2 * (t + 1) → (k : ℕ) → coef (piece w p (2 * (t + 1))) k ≡ coef (piece w p x) k
+pub multiplier-short : {n t p l : ℕ} {w : List ℕ} → Multiplier n t p l w → (x : ℕ) → l ≤ x → x ≤ 2 * (t + 1) → (k : ℕ) → coef
+    (piece w p (2 * (t + 1))) k ≡ coef (piece w p x) k
 multiplier-short {n} {t} {p} {l} {w} m x a b k =
     ⊎-elim
     (λ h. piece-at w p (2 * (t + 1)) k (omega arith) ∙ sym (piece-at w p x k h))

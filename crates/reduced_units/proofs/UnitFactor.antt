@@ -1,10 +1,18 @@
--- The unit factor of B is split off, inverted, and taken out of the multiplier of B.
+-- The unit factor of B is split off, inverted, and taken out of the multiplier of B, at any width.
+--
+--   unit-room, unit-given    what the inverse asks
+--   over-fits, over-asked    what the multiplier over the unit asks
+--   unit-taken               what comes of it
+--   factorings               the rules
 use mathlib.Core.Path.{_≡_, refl, sym, ap, ap₂, subst, _∙_}
 use mathlib.Core.List.{List, []}
 use mathlib.Core.Logic.{⊎-elim}
-use Prim.Native.Nat.{ℕ, zero, suc, _+_, _-_, _*_, _%_, _≤_, _<_}
+use Prim.Native.Nat.{ℕ, zero, suc, _+_, _-_, _*_, _%_, _^_, _≤_, _<_}
 use native.Mathlib.Omega.{arith}
 use native.Mathlib.Nat.{mul-le-mul, le-of-dvd}
+use mir.Syntax.{w64}
+use mir.Val.{Fits}
+use borrow.Author.Needs.{needs}
 use lib.ListN.{length, getD}
 use Rattle.definitions.specs.Residues.{K}
 use Rattle.definitions.specs.Polynomials.{coef, Multiplied, UnitPolynomial}
@@ -14,17 +22,18 @@ use Rattle.windows.proofs.Leaf.{lt-or-le, piece-same, around-at}
 use Rattle.reduced_multipliers.specs.Leads.{Taken, NegatedInverse}
 use Rattle.reduced_products.specs.Products.{MonicAtZero}
 use Rattle.reduced_units.specs.States.{Multiplier, Stage, stage-room}
-use Rattle.reduced_units.specs.Factorings.{UnitSplit, Negated, OverUnit, UnitTaken, unit-place}
+use Rattle.reduced_units.specs.Factorings.{UnitSplit, Negated, OverAsked, OverUnit, UnitTaken, unit-place}
 use Rattle.reduced_units.proofs.Regions.{apart-low, below-apart, piece-apart, multiplier-apart, monic-apart}
 
 -- the words of an inverse of a unit polynomial of degree below t
-pub inverse-most : (n ν t k : ℕ) → 2 ≤ ν → ν ≤ n → k + 1 ≤ t → K ν * k + 1 ≤ K n * t
+inverse-most : (n ν t k : ℕ) → 2 ≤ ν → ν ≤ n → k + 1 ≤ t → K ν * k + 1 ≤ K n * t
 inverse-most n ν t k a b c =
     let p = K-positive ν a in
     let q : K ν * (k + 1) ≤ K n * t = mul-le-mul (K-monotone ν n (omega arith) b) c in
     omega arith
 
-module _ (n ν t pa pb a al be l s : ℕ) (w w₁ : List ℕ) (stage : Stage n ν t pa a pb a al be l w) (shorter : s < a) (sp : UnitSplit ν t pb a s w w₁) where
+module _ (n ν t pa pb a al be l s : ℕ) (w w₁ : List ℕ) (stage : Stage n ν t pa a pb a al be l w) (shorter : s < a)
+    (sp : UnitSplit ν t pb a s w w₁) where
   small : ν ≤ n
   small = le-of-dvd (stage .positive) (stage .divides)
 
@@ -57,7 +66,10 @@ module _ (n ν t pa pb a al be l s : ℕ) (w w₁ : List ℕ) (stage : Stage n �
   monic₁ : MonicAtZero n t w₁
   monic₁ = record {
     lead = word t (omega arith) (λ i q e. omega arith) ∙ stage .monic .lead;
-    below = record { at = λ k h. subst (λ (x : ℕ). x < n) (sym (word (0 + k) (omega arith) (λ i q e. omega arith))) (stage .monic .below .at k h) };
+    below = record {
+      at = λ k h. subst (λ (x : ℕ). x < n) (sym (word (0 + k) (omega arith) (λ i q e. omega arith)))
+          (stage .monic .below .at k h);
+    };
   }
 
   be-word : (k : ℕ) → k < 2 * (t + 1) → getD w₁ (be + k) 0 ≡ getD w (be + k) 0
@@ -82,25 +94,45 @@ module _ (n ν t pa pb a al be l s : ℕ) (w w₁ : List ℕ) (stage : Stage n �
             le-self : k ≤ k
             le-self = omega arith
 
-    pub over-room : unit-place t a s + (a - 1 - s + 1) + len + (len + t) ≤ length w₂
+    over-room : unit-place t a s + (a - 1 - s + 1) + len + (len + t) ≤ length w₂
     over-room = omega (arith, ng .around .same, sp .outside .same, len-most)
 
-    pub over-length : 1 ≤ len
+    over-length : 1 ≤ len
     over-length = omega (arith, ng .is-len)
 
-    pub over-h : MonicAtZero n t w₂
+    over-h : MonicAtZero n t w₂
     over-h = monic-apart (omega arith) (ng .around) monic₁
 
-    pub over-words : Below n (unit-place t a s + (a - 1 - s + 1)) len w₂
+    over-words : Below n (unit-place t a s + (a - 1 - s + 1)) len w₂
     over-words = record { at = λ k h. lower (ng .below .at k h) }
       where
         lower : {x : ℕ} → x < ν → x < n
         lower h = omega (arith, small)
 
-    pub over-multiplier : Multiplier n t be l w₂
+    over-multiplier : Multiplier n t be l w₂
     over-multiplier = multiplier-apart (apart-low be (2 * (t + 1)) (unit-place t a s + (a - 1 - s + 1)) len (omega arith)) (ng .around) mu₁
 
-    module _ (r : ℕ) (w₃ : List ℕ) (ov : OverUnit n t (unit-place t a s + (a - 1 - s + 1)) len be l (unit-place t a s + (a - 1 - s + 1) + len) r w₂ w₃) where
+    pub over-fits : length w < 2 ^ 64 → Fits w64 (unit-place t a s + (a - 1 - s + 1) + len)
+    over-fits top = record { fits = omega (arith, over-room, ng .around .same, sp .outside .same) }
+
+    pub over-asked : OverAsked n t (unit-place t a s + (a - 1 - s + 1)) len be l (unit-place t a s + (a - 1 - s + 1) + len) w₂
+    over-asked = record {
+      positive = stage .positive;
+      degree = omega (arith, stage .degree);
+      some-inverse = over-length;
+      some = stage .some;
+      most = stage .most;
+      low = omega (arith, stage .places .be-low);
+      next = omega (arith, stage .places .be-high);
+      last = omega arith;
+      room = over-room;
+      monic = over-h;
+      below = over-words;
+      multiplier = over-multiplier;
+    }
+
+    module _ (r : ℕ) (w₃ : List ℕ) (ov : OverUnit n t (unit-place t a s + (a - 1 - s + 1)) len be l
+        (unit-place t a s + (a - 1 - s + 1) + len) r w₂ w₃) where
       -- a word below the room, but for the multiplier
       later : (k : ℕ) → k < 8 * (t + 1) → ((i : ℕ) → i < t → k ≡ be + i → ⊥) → getD w₃ k 0 ≡ getD w₁ k 0
       later k h p = ov .outside .at k p (λ j q e. omega arith) ∙ around-at (ng .around) k (λ j q e. omega arith)
@@ -112,10 +144,12 @@ module _ (n ν t pa pb a al be l s : ℕ) (w w₁ : List ℕ) (stage : Stage n �
       same-pb = piece-same w₁ w₃ pb (s + 1) (omega (arith, sp .outside .same)) (ov .outside .same ∙ ng .around .same) pb-word
 
       same-h₂ : piece w₂ 0 (t + 1) ≡ piece w 0 (t + 1)
-      same-h₂ = piece-apart (apart-low 0 (t + 1) (unit-place t a s + (a - 1 - s + 1)) len (omega arith)) (ng .around) (omega (arith, sp .outside .same)) ∙ same-h₁
+      same-h₂ = piece-apart (apart-low 0 (t + 1) (unit-place t a s + (a - 1 - s + 1)) len (omega arith)) (ng .around)
+          (omega (arith, sp .outside .same)) ∙ same-h₁
 
       same-be₂ : piece w₂ be (2 * (t + 1)) ≡ piece w be (2 * (t + 1))
-      same-be₂ = piece-apart (apart-low be (2 * (t + 1)) (unit-place t a s + (a - 1 - s + 1)) len (omega arith)) (ng .around) (omega (arith, sp .outside .same)) ∙ same-be₁
+      same-be₂ = piece-apart (apart-low be (2 * (t + 1)) (unit-place t a s + (a - 1 - s + 1)) len (omega arith)) (ng .around)
+          (omega (arith, sp .outside .same)) ∙ same-be₁
 
       pub unit-taken : UnitTaken n ν t pb a be s l r w w₃
       unit-taken = record {
@@ -124,12 +158,17 @@ module _ (n ν t pa pb a al be l s : ℕ) (w w₁ : List ℕ) (stage : Stage n �
         u = piece w₁ (unit-place t a s) (a - s);
         j = piece w₂ (unit-place t a s + (a - 1 - s + 1)) len;
         equation = subst (Multiplied ν (piece w pb a) (piece w₁ (unit-place t a s) (a - s))) (sym same-pb) (sp .equation);
-        inverse = subst (λ (x : ℕ). NegatedInverse ν (piece w₁ (unit-place t a s) x) (piece w₂ (unit-place t a s + (a - 1 - s + 1)) len)) degree (ng .inverse);
+        inverse = subst (λ (x : ℕ). NegatedInverse ν (piece w₁ (unit-place t a s) x)
+            (piece w₂ (unit-place t a s + (a - 1 - s + 1)) len)) degree (ng .inverse);
         monic = pb-word s (omega arith) ∙ sp .monic;
         below = record { at = λ k h. subst (λ (x : ℕ). x < ν) (sym (pb-word k h)) (sp .below .at k h) };
         longer = ov .longer;
         most = ov .most;
         multiplier = ov .multiplier;
-        taken = subst (λ (f : List ℕ). Taken n f (piece w be (2 * (t + 1))) (piece w₂ (unit-place t a s + (a - 1 - s + 1)) len) [] (piece w₃ be (2 * (t + 1)))) same-h₂
-            (subst (λ (f : List ℕ). Taken n (piece w₂ 0 (t + 1)) f (piece w₂ (unit-place t a s + (a - 1 - s + 1)) len) [] (piece w₃ be (2 * (t + 1)))) same-be₂ (ov .taken));
+        taken = subst (λ (f : List ℕ). Taken n f (piece w be (2 * (t + 1))) (piece w₂ (unit-place t a s + (a - 1 - s + 1)) len) []
+            (piece w₃ be (2 * (t + 1)))) same-h₂
+            (subst (λ (f : List ℕ). Taken n (piece w₂ 0 (t + 1)) f (piece w₂ (unit-place t a s + (a - 1 - s + 1)) len) []
+            (piece w₃ be (2 * (t + 1)))) same-be₂ (ov .taken));
       }
+
+pub ruleset factorings = (needs, unit-room, unit-given, over-fits, over-asked, unit-taken)

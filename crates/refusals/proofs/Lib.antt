@@ -1,3 +1,4 @@
 pub mod Words
 pub mod Statuses
 pub mod Cascade
+pub mod Degrees

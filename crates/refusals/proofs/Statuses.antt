@@ -2,6 +2,7 @@
 --
 --   row-applies, row-passes       a refusal at the front of the list that applies, or does not
 --   refused-early, passed-on      the same of a part of the list at the front
+--   front-passes                  no refusal of that part applies where none of the list does
 --   refused-value, left-refused, replaced-refused     the value and the lent words after a refusal
 use mathlib.Core.Path.{_≡_, refl, sym, ap, subst, _∙_}
 use mathlib.Core.Bool.{Bool, true, false, cond}
@@ -47,6 +48,13 @@ refused-early a b s e n = first-is (first-refusal a) (first-refusal b) s e n ∙
 
 pub passed-on : (a b : List Tested) (s t : ℕ) → s ≡ first-refusal a → s ≡ 0 → t ≡ first-refusal b → t ≡ first-refusal (a ++ b)
 passed-on a b s t e z h = next-is (first-refusal a) (first-refusal b) t (sym e ∙ z) h ∙ sym (first-append a b)
+
+pub front-passes : (a b : List Tested) → first-refusal (a ++ b) ≡ 0 → first-refusal a ≡ 0
+front-passes a b z = go (first-refusal a) (sym (first-append a b) ∙ z)
+  where
+    go : (x : ℕ) → first-of x (first-refusal b) ≡ 0 → x ≡ 0
+    go zero e = refl
+    go (suc x) e = e
 
 -- ---- what is left
 

@@ -5,7 +5,8 @@
 --   Fails b P                       the test b says that P does not hold
 --   fails, either-fails             a test that is its condition; two tests with one number
 --   modulus-fails, length-fails, words-fail, short-fails     the tests of the refusals 1, 2, 3, and 6 and 7
---   none-fails, equal-fails         the tests of a number that is 0, and of two that differ
+--   none-fails, equal-fails, below-fails     the tests of a number that is 0, of two that differ, and of one that is another or more
+--   residues-of, residues-below     the words of which the test says that they are residues, both ways
 --   Listed t c                      t tests the conditions c, one after the other
 --   Passed c, FirstFailing t c s    all of c hold; s is the number of the first that does not
 --   status-zero, status-is          the status is 0 exactly where all hold, and k exactly where the first that does not has number k
@@ -63,10 +64,12 @@ none-fails (suc l) = record { passed = λ e. omega arith; failed = λ e h. let z
 pub equal-fails : (a b : ℕ) → Fails (not (eqb a b)) (a ≡ b)
 equal-fails a b = fails (eqb a b) (eqb-true a b) (eq-eqb a b)
 
+pub below-fails : (a n : ℕ) → Fails (not (ltb a n)) (a < n)
+below-fails a n = fails (ltb a n) (ltb-true a n) (lt-ltb a n)
+
 pub modulus-fails : (W : Width) (n : ℕ) → Fails (bad-modulus W n) (ServedModulus W n)
 modulus-fails W n =
-    either-fails (short-fails n 2) (fails (ltb n (W .bound)) (ltb-true n (W .bound)) (lt-ltb n (W .bound)))
-    (λ a b. record { least = a; most = b }) (λ m. m .least) (λ m. m .most)
+    either-fails (short-fails n 2) (below-fails n (W .bound)) (λ a b. record { least = a; most = b }) (λ m. m .least) (λ m. m .most)
 
 pub length-fails : (f : List ℕ) → Fails (bad-length f) (ServedLength f)
 length-fails f =
@@ -92,12 +95,11 @@ all-at n (x ∷ f) h =
 pub residues-of : (n : ℕ) (f : List ℕ) → all-below n f ≡ true → Residues n f
 residues-of n f h = record { at = below-at n f h }
 
+pub residues-below : (n : ℕ) (f : List ℕ) → Residues n f → all-below n f ≡ true
+residues-below n f r = all-at n f (r .at)
+
 pub words-fail : (n : ℕ) (f : List ℕ) → Fails (not (all-below n f)) (Residues n f)
-words-fail n f = go (all-below n f) refl
-  where
-    go : (t : Bool) → all-below n f ≡ t → Fails (not t) (Residues n f)
-    go true e = record { passed = λ _. residues-of n f e; failed = λ z. yes-no z refl }
-    go false e = record { passed = λ z. yes-no refl z; failed = λ _ r. yes-no (all-at n f (r .at)) e }
+words-fail n f = fails (all-below n f) (residues-of n f) (residues-below n f)
 
 -- ---- the order
 

@@ -1,2 +1,3 @@
 pub mod Refusals
 pub mod Conditions
+pub mod Fronts

@@ -18,7 +18,7 @@ use lib.Dec.{ltb}
 use Rattle.definitions.specs.Residues.{GcdWithCofactors, LeastCofactors}
 use Rattle.refusals.specs.Refusals.{Width, Tested, bad-modulus, first-refusal}
 use Rattle.refusals.specs.Conditions.{ServedModulus, status-zero}
-use Rattle.refusals.proofs.Cascade.{cascade}
+use Rattle.refusals.proofs.Cascade.{cascade, below-bound}
 use Rattle.refusals.proofs.Statuses.{refused-early, refused-value, answered-value}
 use Rattle.residue.specs.declared.Kind.{Kind}
 use Rattle.residue.specs.declared.Kind.the-variants.{Unit as Unit', Nilpotent, Splits}
@@ -35,10 +35,6 @@ use Rattle.residue_services.specs.Services.{
   residue-listed,
   residues-listed,
 }
-
--- moduli below B; of a width nothing else is asked here
-abbrev below-bound : ℕ → Width
-below-bound B = record { bound = B; working = 0 }
 
 module _ (B n a r : ℕ) (is : r ≡ first-refusal (refusals-residue (below-bound B) n a)) (z : r ≡ 0) where
   modulus : 2 ≤ n

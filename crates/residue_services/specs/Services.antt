@@ -13,11 +13,10 @@ use mathlib.Core.Bool.{not}
 use mathlib.Core.List.{List, [], _∷_}
 use Prim.Native.Nat.{ℕ, zero, suc, _+_, _-_, _*_, _%_, _^_, _≤_, _<_}
 use native.Mathlib.Omega.{arith}
-use borrow.Author.Tests.{ltb-true, lt-ltb}
 use lib.Dec.{ltb}
 use Rattle.definitions.specs.Residues.{Inverse, IsNilpotent, Splitting, GcdWithCofactors, LeastCofactors}
 use Rattle.refusals.specs.Refusals.{Width, Tested, bad-modulus, first-refusal, answered}
-use Rattle.refusals.specs.Conditions.{Fails, Listed, ServedModulus, fails, modulus-fails}
+use Rattle.refusals.specs.Conditions.{Listed, ServedModulus, modulus-fails, below-fails}
 use Rattle.residue.specs.declared.Kind.{Kind}
 use Rattle.residue.specs.declared.Kind.the-variants.{Unit as Unit', Nilpotent, Splits}
 use Rattle.residue.specs.Kinds.{KindOf, kind-unique}
@@ -90,15 +89,12 @@ pub record KindPromised (W : Width) (n a : ℕ) (r : KindAnswer) : Type 0 where
   pub values-are : KindValues (answer-number r) n a (answer-values r)
 
 -- the conditions of an answer: so `status-zero` and `status-is` (refusals/Conditions) say when the status is 0, and when it is k
-residue-fails : (n a : ℕ) → Fails (not (ltb a n)) (a < n)
-residue-fails n a = fails (ltb a n) (ltb-true a n) (lt-ltb a n)
-
 pub residue-listed : (W : Width) (n a : ℕ) → Listed (refusals-residue W n a) (ServedModulus W n ∷ (a < n) ∷ [])
-residue-listed W n a = ((omega arith, modulus-fails W n), ((omega arith, residue-fails n a), tt))
+residue-listed W n a = ((omega arith, modulus-fails W n), ((omega arith, below-fails a n), tt))
 
 pub residues-listed : (W : Width) (n a b : ℕ) → Listed (refusals-residues W n a b) (ServedModulus W n ∷ (a < n) ∷ (b < n) ∷ [])
 residues-listed W n a b =
-    ((omega arith, modulus-fails W n), ((omega arith, residue-fails n a), ((omega arith, residue-fails n b), tt)))
+    ((omega arith, modulus-fails W n), ((omega arith, below-fails a n), ((omega arith, below-fails b n), tt)))
 
 -- The promise fixes the answer: the values that are true of a residue are one list, so is the case.
 values-kind : (n a : ℕ) (v : List ℕ) → TrueValues n a v → (k : Kind) × (KindOf n a k × (kind-values k ≡ v))

@@ -6,7 +6,7 @@
 --   written-read          "Writing a polynomial and reading the text returns it with zero top words dropped"
 --   test-same             the test does not depend on how numbers too large for a word are taken
 use mathlib.Core.Path.{_≡_, refl, sym, ap, ap₂, _∙_, subst}
-use mathlib.Core.Bool.{Bool, true, false, not, cond, _&&_, false≢true}
+use mathlib.Core.Bool.{Bool, true, false, not, cond, _&&_, false≢true, and-eq-true-iff}
 use mathlib.Core.List.{List, [], _∷_}
 use Prim.Native.Nat.{ℕ, zero, suc, _+_, _-_, _≤_, _<_}
 use native.Mathlib.Omega.{arith}
@@ -17,7 +17,7 @@ use lib.Seq.{length-take-le, getD-take, getD-append-add}
 use borrow.Author.Tests.{eqb-true, eq-eqb}
 use Rattle.definitions.specs.Polynomials.{coef, Residues, true-degree}
 use Rattle.refusals.specs.Refusals.{all-below}
-use Rattle.refusals.specs.Conditions.{Fails, residues-of, words-fail}
+use Rattle.refusals.specs.Conditions.{Fails, fails, residues-of, residues-below}
 use Rattle.text_notation.specs.Notation.{text, last-place, dropped, padded, TextOf}
 use Rattle.text_notation.specs.Tops.{text-padded, text-dropped, dropped-within, dropped-length, dropped-above, dropped-dropped}
 use Rattle.text_notation.specs.Candidates.{number-after, coefficient-after, stored, gathered, candidate}
@@ -41,10 +41,6 @@ pub same-self : (s : List ℕ) → same-text s s ≡ true
 unfolding same-text
 same-self [] = refl
 same-self (a ∷ s) = ap (λ (q : Bool). cond q (same-text s s) false) (eq-eqb a a refl) ∙ same-self s
-
-both : (a b : Bool) → (a && b) ≡ true → (a ≡ true) × (b ≡ true)
-both true b h = (refl, h)
-both false b h = absurd (false≢true h)
 
 -- ---- the words that a text comes to
 
@@ -93,7 +89,7 @@ residues-padded n m f h r = record {
 
 pub text-found : (n : ℕ) (s g : List ℕ) → length g ≡ 49 → is-text-of n s g ≡ true → TextOf n s (dropped g)
 text-found n s g l h =
-    let b = both (all-below n g) (same-text s (text g)) h in
+    let b = and-eq-true-iff (all-below n g) (same-text s (text g)) .0 h in
     let m = dropped-length g (omega arith) in
     let w = dropped-within g (omega arith) in
     record {
@@ -103,13 +99,6 @@ text-found n s g l h =
       top = dropped-dropped g (omega arith);
       is = same-true s (text g) (b .1) ∙ sym (text-dropped g (omega arith));
     }
-
-pub residues-below : (n : ℕ) (g : List ℕ) → Residues n g → all-below n g ≡ true
-residues-below n g r = go (all-below n g) (words-fail n g)
-  where
-    go : (t : Bool) → Fails (not t) (Residues n g) → t ≡ true
-    go true x = refl
-    go false x = absurd (x .failed refl r)
 
 pub text-passes : {n : ℕ} {s f : List ℕ} → TextOf n s f → is-text-of n s (padded 49 f) ≡ true
 text-passes {n} {s} {f} h =
@@ -151,17 +140,9 @@ pub candidate-length : (s : List ℕ) → length (candidate s) ≡ 49
 candidate-length s = gathered-length (λ (y : ℕ). y) s 0 0 (replicate 49 0) ∙ zeros-length
 
 pub text-fails : (n : ℕ) (s : List ℕ) → Fails (not (is-text n s)) ((f : List ℕ) × TextOf n s f)
-text-fails n s = go (is-text n s) refl
-  where
-    go : (t : Bool) → is-text n s ≡ t → Fails (not t) ((f : List ℕ) × TextOf n s f)
-    go true e = record {
-      passed = λ _. (dropped (candidate s), text-found n s (candidate s) (candidate-length s) e);
-      failed = λ z. absurd (false≢true z);
-    }
-    go false e = record {
-      passed = λ z. absurd (false≢true (sym z));
-      failed = λ _ p. false≢true (sym e ∙ ap (is-text-of n s) (candidate-is (p .1)) ∙ text-passes (p .1));
-    }
+text-fails n s =
+    fails (is-text n s) (λ e. (dropped (candidate s), text-found n s (candidate s) (candidate-length s) e))
+    (λ p. ap (is-text-of n s) (candidate-is (p .1)) ∙ text-passes (p .1))
 
 -- ---- one polynomial, one text
 

@@ -6,7 +6,7 @@
 --   by-degree                 the rules of `read_words`
 --   by-text                   the rules of `read_text`
 use mathlib.Core.Path.{_≡_, refl, sym, ap, ap₂, _∙_, subst}
-use mathlib.Core.Bool.{Bool, true, false, not, cond, _&&_}
+use mathlib.Core.Bool.{Bool, true, false, not, cond, _&&_, and-true, and-false}
 use mathlib.Core.List.{List, [], _∷_, _++_}
 use Prim.Native.Nat.{ℕ, zero, suc, _+_, _≤_, _<_}
 use native.Mathlib.Omega.{arith}
@@ -18,7 +18,7 @@ use mir.Val.{Fits}
 use Rattle.definitions.specs.Polynomials.{TrueDegree, none, place, true-degree}
 use Rattle.refusals.specs.Refusals.{Tested, narrow, bad-modulus, bad-length, all-below, short, first-refusal, refusals-one}
 use Rattle.refusals.specs.Refusals.{answered, replaced}
-use Rattle.refusals.specs.Conditions.{accepted-one, modulus-fails}
+use Rattle.refusals.specs.Conditions.{accepted-one, modulus-fails, residues-below}
 use Rattle.refusals.proofs.Statuses.{row-applies, row-passes, too-short, long-enough}
 use Rattle.polynomial_degree.specs.declared.Degree.{Degree}
 use Rattle.polynomial_degree.specs.declared.Degree.the-variants.{None, At, Refused}
@@ -27,18 +27,10 @@ use Rattle.text_notation.specs.Notation.{text, last-place, dropped, padded}
 use Rattle.text_notation.specs.Lengths.{long-other}
 use Rattle.text_notation.specs.Tops.{dropped-within, dropped-length, padded-dropped}
 use Rattle.text_notation.specs.Candidates.{gathered, same-text, is-text-of, is-text}
-use Rattle.text_notation.specs.NotationLaws.{gathered-length, text-found, residues-below, test-same}
+use Rattle.text_notation.specs.NotationLaws.{gathered-length, text-found, test-same}
 use Rattle.text_gathering.specs.InWord.{in-word}
 use Rattle.text_gathering.proofs.Gathering.{fits-in-word}
 use Rattle.text_reader.specs.TextReader.{HandedOver, WordsAnswer, ReadAnswer}
-
-and-false : (a : Bool) → (a && false) ≡ false
-and-false true = refl
-and-false false = refl
-
-and-true : (a : Bool) → (a && true) ≡ a
-and-true true = refl
-and-true false = refl
 
 answered-below : (st : ℕ) (a t : Bool) → st ≡ 0 → st ≡ first-refusal ((17, not a) ∷ (6, t) ∷ []) → a ≡ true
 answered-below st true t z e = refl

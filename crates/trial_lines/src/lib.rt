@@ -3,10 +3,13 @@
 //
 //   read_line                                      the numbers of the next line
 //   size                                           a length among them
+//   next_line, spelt, spelt_words                  a line of hexadecimal digits without blanks, such as a frame
 //   put_name, put, put_count, put_words, end_line  a line's parts
 //   put_answer, put_lent, put_working              what a service answered, what became of a result and of a working buffer
 //   put_digit, put_short                           small numbers as one character each, for a line of many answers
+//   put_hexadecimal                                a number in so many digits
 //   MARK, fill, ending                             what stands in lent words before a call, and how many at the end are one number
+//   wide_X                                         the same for words of 64 bits
 use libc::STDIN_FILENO;
 use libc::STDOUT_FILENO;
 ghost use Prim.Native.Nat.{_+_, _≤_, _<_, min};
@@ -16,6 +19,8 @@ ghost use Rattle.trial_lines.specs.Lines.{Ending, FrontWritten};
 
 // What stands in the lent words before a call.
 pub const MARK: u32 = 2882400001;
+
+pub const WIDE_MARK: u64 = 12379813738877118345;
 
 // ---- what is read
 
@@ -27,8 +32,8 @@ fn read_to(line: &mut [u8], k: usize) -> bool
     got > 0
 }
 
-// The characters up to the next newline, the input's end or the end of the room; how many they are.
-fn next_line(line: &mut [u8]) -> usize
+// The characters up to the next newline, the input's end or the end of the room; how many they are. What stands after them is any.
+pub fn next_line(line: &mut [u8]) -> usize
     ensures { λ r. ⌜ r ≤ length (now (line .exit)) ⌝ }
 {
     let mut k: usize = 0;
@@ -119,6 +124,91 @@ pub fn size(x: u32, most: usize) -> usize
     x as usize
 }
 
+// ---- hexadecimal lines
+
+// The value of a digit, 0 for any other character.
+fn digit(c: u8) -> u64
+    ensures { λ r. ⌜ r ≤ 15 ⌝ }
+{
+    if c < b'0' {
+        return 0;
+    }
+    if c <= b'9' {
+        return (c - b'0') as u64;
+    }
+    if c < b'a' {
+        return 0;
+    }
+    if c <= b'f' {
+        return (c - b'a') as u64 + 10;
+    }
+    0
+}
+
+// The number with one hexadecimal digit more, modulo 2^64.
+fn with_hexadecimal(x: u64, c: u8) -> u64 {
+    x % 1152921504606846976 * 16 + digit(c)
+}
+
+// The number that the characters from place `at` to place `end` spell, modulo 2^64.
+pub fn wide_spelt(text: &[u8], at: usize, end: usize) -> u64 {
+    let mut x: u64 = 0;
+    let mut i = at;
+    while i < end {
+        if text.len() <= i {
+            return x;
+        }
+        x = with_hexadecimal(x, text[i]);
+        i += 1;
+    }
+    x
+}
+
+// The same modulo 2^32.
+pub fn spelt(text: &[u8], at: usize, end: usize) -> u32 {
+    (wide_spelt(text, at, end) % 4294967296) as u32
+}
+
+// The words that eight characters each spell from place `at` on, as many as there is room for; how many they are.
+pub fn spelt_words(text: &[u8], at: usize, words: &mut [u32]) -> usize
+    ensures { λ r. ⌜ FrontWritten (now (words .entry)) (now (words .exit)) r ⌝ }
+{
+    let mut k: usize = 0;
+    let mut i = at;
+    while k < words.len() {
+        if text.len() <= i {
+            return k;
+        }
+        if text.len() - i < 8 {
+            return k;
+        }
+        words[k] = spelt(text, i, i + 8);
+        i += 8;
+        k += 1;
+    }
+    k
+}
+
+// The same of sixteen characters each.
+pub fn wide_spelt_words(text: &[u8], at: usize, words: &mut [u64]) -> usize
+    ensures { λ r. ⌜ FrontWritten (now (words .entry)) (now (words .exit)) r ⌝ }
+{
+    let mut k: usize = 0;
+    let mut i = at;
+    while k < words.len() {
+        if text.len() <= i {
+            return k;
+        }
+        if text.len() - i < 16 {
+            return k;
+        }
+        words[k] = wide_spelt(text, i, i + 16);
+        i += 16;
+        k += 1;
+    }
+    k
+}
+
 // ---- what is written
 
 // The name with which a line begins.
@@ -168,6 +258,11 @@ pub fn put_working(w: &[u32]) {
 pub fn put_count(x: usize) {
     io::write_all(STDOUT_FILENO, b" ");
     io::print_decimal(STDOUT_FILENO, x as u64);
+}
+
+// A number in so many hexadecimal digits, with no blank before it.
+pub fn put_hexadecimal(x: u64, digits: usize) {
+    io::print_hex(STDOUT_FILENO, x, digits);
 }
 
 // A number below 62 as a digit or a letter, small letters before capitals, and 62, 63 and 64 as + / =; a question mark for any other.
@@ -244,4 +339,29 @@ pub fn ending(w: &[u32], x: u32) -> usize
         i -= 1;
     }
     l
+}
+
+// The same for words of 64 bits.
+pub fn wide_fill(w: &mut [u64], x: u64)
+    ensures { λ _. ⌜ now (w .exit) ≡ replicate (length (now (w .entry))) x ⌝ }
+{
+    let mut k: usize = 0;
+    while k < w.len() {
+        w[k] = x;
+        k += 1;
+    }
+}
+
+pub fn wide_ending(w: &[u64], x: u64) -> usize
+    ensures { λ r. ⌜ Ending x (now (w .entry)) r ⌝ }
+{
+    let all = w.len();
+    let mut i = all;
+    while 0 < i {
+        if w[i - 1] != x {
+            return all - i;
+        }
+        i -= 1;
+    }
+    all
 }

@@ -7,20 +7,20 @@
 use mathlib.Core.Path.{_≡_, refl, sym, ap, subst, _∙_}
 use mathlib.Core.Bool.{Bool, true, false, not, cond}
 use mathlib.Core.List.{List, [], _∷_, _++_}
-use Prim.Native.Nat.{ℕ, zero, suc, _+_, _-_, _*_, _≤_, _<_}
-use native.Mathlib.Decide.{decLt}
-use native.Mathlib.Nat.{mul-le-mul}
+use Prim.Native.Nat.{ℕ, suc, _+_, _-_, _*_, _≤_, _<_}
+use native.Mathlib.Nat.{mul-le-mul, zero-add}
+use native.Mathlib.Numerals.{add-one}
 use native.Mathlib.Omega.{arith}
 use lib.Dec.{ltb, eqb}
 use borrow.Author.Tests.{lt-ltb, le-ltb}
-use lib.ListN.{length, getD, drop, replicate, List·getD-append}
-use lib.Seq.{ext-getD}
+use lib.ListN.{length, drop, replicate}
 use Rattle.definitions.specs.Polynomials.{coef, tabulate, Residues}
 use Rattle.definitions.specs.TwoVariables.{resultant-two, degree-two}
 use Rattle.numbers.specs.PrimeTable.{NoSmallPrime, none-differences}
 use Rattle.theory.specs.Words.{coef-tabulate, length-tabulate}
 use Rattle.refusals.specs.Refusals.{narrow, short, first-refusal, replaced}
 use Rattle.refusals.specs.Conditions.{ServedModulus, status-zero, modulus-fails, words-fail, short-fails}
+use Rattle.refusals.specs.Fronts.{front-is}
 use Rattle.refusals.proofs.Statuses.{refused-early, passed-on, left-refused, replaced-refused}
 use Rattle.windows.specs.Window.{Written}
 use Rattle.two_variables.specs.PairSizes.{Prepared}
@@ -29,36 +29,15 @@ use Rattle.two_service.specs.TwoService.{bad-shape, two-sent, two-room, 
 -- the first words written: the list is replaced
 written-front : (F : ℕ → ℕ) (l : ℕ) (w w' : List ℕ) → l ≤ length w → Written F 0 l w w' → w' ≡ replaced 0 (tabulate l F) w
 written-front F l w w' r h =
-    ext-getD 0 w' (x ++ drop (length x) w) (h .same ∙ sym (front-length x w (subst (λ (k : ℕ). k ≤ length w) (sym long) r)))
-    (λ i _. go i (decLt i l))
+    front-is l x w w' long r (h .same) (λ i q. ap (coef w') (sym (zero-add i)) ∙ h .mid i q ∙ sym (coef-tabulate l F i q))
+    (λ i q. h .high i (omega arith))
+    ∙ ap (λ (k : ℕ). x ++ drop k w) (sym long)
   where
     x : List ℕ
     x = tabulate l F
 
     long : length x ≡ l
     long = length-tabulate l F
-
-    plus : (k : ℕ) → 0 + k ≡ k
-    plus k = omega arith
-
-    front-length : (x w : List ℕ) → length x ≤ length w → length (x ++ drop (length x) w) ≡ length w
-    front-length [] w r = refl
-    front-length (y ∷ x) [] r = absurd (omega arith)
-    front-length (y ∷ x) (z ∷ w) r = ap suc (front-length x w (omega arith))
-
-    front-beyond : (x w : List ℕ) (i : ℕ) → length x ≤ length w → length x ≤ i → coef (x ++ drop (length x) w) i ≡ coef w i
-    front-beyond [] w i r l = refl
-    front-beyond (y ∷ x) [] i r l = absurd (omega arith)
-    front-beyond (y ∷ x) (z ∷ w) zero r l = absurd (omega arith)
-    front-beyond (y ∷ x) (z ∷ w) (suc i) r l = front-beyond x w i (omega arith) (omega arith)
-
-    go : (i : ℕ) → Dec (i < l) → getD w' i 0 ≡ getD (x ++ drop (length x) w) i 0
-    go i (yes q) =
-        ap (λ (k : ℕ). getD w' k 0) (sym (plus i)) ∙ h .mid i q ∙ sym (coef-tabulate l F i q)
-        ∙ sym (List·getD-append x (drop (length x) w) 0 i (subst (λ (k : ℕ). i < k) (sym long) q))
-    go i (no q) =
-        h .high i (omega arith)
-        ∙ sym (front-beyond x w i (subst (λ (k : ℕ). k ≤ length w) (sym long) r) (subst (λ (k : ℕ). k ≤ i) (sym long) (omega arith)))
 
 -- n, f and g are served
 pub record TwoAccepted (n : ℕ) (f : List ℕ) (d a : ℕ) (g : List ℕ) (e b : ℕ) : Type 0 where
@@ -209,9 +188,6 @@ module _ (n : ℕ) (f : List ℕ) (d a : ℕ) (g : List ℕ) (e b : ℕ) (out wo
       value-is = refl;
       out-is = written-front (resultant-two n d a e b f g) (suc (degree-two d a e b)) out out'
           (room-accepted n (degree-two d a e b) (length out) (length work) t it y .out)
-          (subst (λ (l : ℕ). Written (resultant-two n d a e b f g) 0 l out out') (more (degree-two d a e b)) h);
+          (subst (λ (l : ℕ). Written (resultant-two n d a e b f g) 0 l out out') (add-one (degree-two d a e b)) h);
       work-is = k;
     }
-      where
-        more : (x : ℕ) → x + 1 ≡ suc x
-        more x = omega arith

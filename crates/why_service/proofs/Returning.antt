@@ -4,13 +4,13 @@
 --   modulus-two, sizes                   what the run for D asks
 --   ground-asked                         what the search for a ground asks
 --   done                                 an answer
-use mathlib.Core.Path.{_≡_, refl, sym, ap, ap₂, subst, _∙_}
+use mathlib.Core.Path.{_≡_, refl, sym, subst, _∙_}
 use mathlib.Core.List.{List, [], _∷_, _++_}
-use Prim.Native.Nat.{ℕ, zero, suc, _+_, _-_, _≤_, _<_, _∣_}
+use Prim.Native.Nat.{ℕ, zero, suc, _≤_, _<_, _∣_}
 use native.Mathlib.Nat.{dvd-trans}
 use native.Mathlib.Omega.{arith}
-use lib.ListN.{length, take, drop, replicate, length-append, length-drop}
-use lib.Seq.{length-take-le, take-append-seam, drop-append-seam}
+use lib.ListN.{length, take, replicate}
+use lib.Seq.{length-front, length-take-le, take-at, drop-at}
 use borrow.Rule.Slice.PartMut.{postOf}
 use Rattle.definitions.specs.Resultants.{Reduced}
 use Rattle.windows.specs.Window.{Scratch}
@@ -103,16 +103,13 @@ module _ (n : ℕ) (f g w work : List ℕ) (s : ℕ) (e : s ≡ first-refusal (r
       result = record {
         D = D;
         reduced = r;
-        same = length-append x (postOf 0 49 w) ∙ ap₂ _+_ is (length-drop 49 w) ∙ back (length w) a;
-        beyond = ap (λ (i : ℕ). drop i (x ++ postOf 0 49 w)) (sym is) ∙ drop-append-seam x (postOf 0 49 w);
+        same = length-front w x 49 lx;
+        beyond = drop-at x (postOf 0 49 w) 49 is;
         holds = ground-up k n D f g _ m t (r .divides) (subst (λ (o : List ℕ). GroundHolds k D D f g o m t)
-            (sym (ap (λ (i : ℕ). take i (x ++ postOf 0 49 w)) (sym is) ∙ take-append-seam x (postOf 0 49 w))) gr);
+            (sym (take-at x (postOf 0 49 w) 49 is)) gr);
       };
       work-is = ew;
     })
       where
         is : length x ≡ 49
         is = lx ∙ length-take-le 49 w a
-
-        back : (k : ℕ) → 49 ≤ k → 49 + (k - 49) ≡ k
-        back k q = omega arith

@@ -1,9 +1,10 @@
--- What the resultant shows of D, and the sizes that a run asks for.
+-- What the resultant shows of D, and what a run asks for a factor of the modulus.
 --
---   shown       what the resultant shows
---   sizes-of    the sizes that the 32-bit twin asks for
---   asked-of    what the run asks, for a factor of the modulus
-use mathlib.Core.Path.{_≡_, refl, subst}
+--   shown                         what the resultant shows
+--   loaded                        two polynomials in the window
+--   first-factor, second-factor   what the run asks, for a factor of the modulus
+--   ways                          the rules
+use mathlib.Core.Path.{_≡_, refl, subst, _∙_}
 use mathlib.Core.Bool.{Bool, true, false}
 use mathlib.Core.List.{List}
 use Prim.Native.Nat.{ℕ, zero, suc, pred, _+_, _≤_, _<_}
@@ -11,13 +12,17 @@ use native.Mathlib.Omega.{arith}
 use native.Mathlib.Nat.{one-dvd}
 use lib.Dec.{eqb}
 use lib.ListN.{length}
+use borrow.Author.Needs.{needs}
 use borrow.Author.Tests.{eqb-true}
 use Rattle.definitions.specs.Resultants.{resultant, Reached, Reduced}
 use Rattle.numbers.specs.Divisors.{IsGcd}
 use Rattle.numbers.specs.Units.{unit-of-coprime, coprime-of-gcd, inverse-times}
 use Rattle.theory.specs.ReachedLaws.{resultant-reached, reached-same, reached-multiple, reduced-from}
-use Rattle.windows.specs.Window.{Scratch}
-use Rattle.divisor.specs.Sizes.{DivisorSizes}
+use Rattle.windows.specs.Window.{Scratch, Loaded}
+use Rattle.wide_window_factor.specs.Factors.{SplitOf}
+use Rattle.reduced_attempt.specs.Attempts.{PairLoaded}
+use Rattle.reduced_attempt.proofs.Scalings.{pair-plain}
+use Rattle.divisor.proofs.Halves.{split-first, split-second}
 use Rattle.wide_divisor.specs.Shown.{DivisorAsked, Shown}
 
 module _ {n : ℕ} {f g w : List ℕ} (a : DivisorAsked n f g w) where
@@ -47,9 +52,10 @@ module _ {n : ℕ} {f g w : List ℕ} (a : DivisorAsked n f g w) where
       is i = rw i refl
   shown false e h l i = tt
 
-  -- for the laws of divisor, whose run asks for fewer working words
-  pub sizes-of : DivisorSizes f g w
-  sizes-of = record {
+  asked-of : {w' : List ℕ} (p : ℕ) → length w' ≡ length w → 2 ≤ p → p < n → DivisorAsked p f g w'
+  asked-of p same two less = record {
+    two = two;
+    bounded = omega (arith, a .bounded);
     least-f = a .least-f;
     most-f = a .most-f;
     least-g = a .least-g;
@@ -57,14 +63,15 @@ module _ {n : ℕ} {f g w : List ℕ} (a : DivisorAsked n f g w) where
     working = omega (arith, a .working);
   }
 
-  -- a factor p of the modulus, after a run that loses the working words
-  pub asked-of : {w' : List ℕ} (p : ℕ) → Scratch w w' → 2 ≤ p → p < n → DivisorAsked p f g w'
-  asked-of p h two less = record {
-    two = two;
-    bounded = omega (arith, a .bounded);
-    least-f = a .least-f;
-    most-f = a .most-f;
-    least-g = a .least-g;
-    most-g = a .most-g;
-    working = omega (arith, h .same, a .working);
-  }
+  -- a factor of the modulus, after runs that lose the working words
+  module _ {p q : ℕ} (s : SplitOf n p q) {w₁ : List ℕ} (h : Scratch w w₁) where
+    pub first-factor : DivisorAsked p f g w₁
+    first-factor = asked-of p (h .same) (s .above₁) (split-first s n refl)
+
+    pub second-factor : {w₂ : List ℕ} → Scratch w₁ w₂ → DivisorAsked q f g w₂
+    second-factor i = asked-of q (i .same ∙ h .same) (s .above₂) (split-second s n refl)
+
+pub loaded : {n j : ℕ} {f g w w₁ w₂ : List ℕ} → 2 ≤ n → length f ≤ j → Loaded n 0 f w w₁ → Loaded n j g w₁ w₂ → PairLoaded n 1 j f g w w₂
+loaded {n} {j} {f} {g} two l = pair-plain n j f g (omega arith) l
+
+pub ruleset ways = (needs, loaded, shown)

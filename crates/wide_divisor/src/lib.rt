@@ -8,19 +8,23 @@
 //   shows_coprime    whether the resultant shows that D is 1
 //   longer           the larger of two numbers of words
 //   over             words over a content
+//   load_pair        two polynomials in the window
 //   arrange          both polynomials over their common content
+//   divided          D of the words in the window, where the polynomial at m gets a leading unit
 //   half             the attempt where the first polynomial gets a leading unit
+//   turned           the attempt where the second one does
 //   general          both halves in turn
 //   attempt          D = 1 where the resultant shows it; else the general way
 //   joined           D modulo a product of two coprime factors
 //   run              D; a split of n is worked on each factor, and the answers are multiplied
 ghost use mathlib.Core.Path.{_≡_};
-ghost use Prim.Native.Nat.{max, _*_, _<_, _≤_};
+ghost use Prim.Native.Nat.{max, _+_, _*_, _<_, _≤_};
 ghost use Rattle.definitions.specs.Resultants.{Reduced};
 ghost use lib.ListN.{length};
 ghost use Rattle.windows.specs.Window.{Moved, quotient-by, Scratch};
+ghost use Rattle.reduced_attempt.specs.Attempts.{PairLoaded, NilpotentOver};
 ghost use Rattle.wide_divisor.specs.Shown.{DivisorAsked, Shown};
-ghost use Rattle.wide_divisor.specs.Attempts.{ArrangeAsked, Padded, HalfAsked, TrialAnswers, Attempted};
+ghost use Rattle.wide_divisor.specs.Attempts.{ArrangeAsked, Padded, WindowsAsked, WindowsAnswer, HalfAsked, TrialAnswers, Attempted};
 use wide_reduced_attempt::Trial;
 use wide_residue::Attempt;
 
@@ -58,6 +62,15 @@ fn over(w: &mut [u64], c: u64, len: usize)
     wide_windows::divide_words(w, c, 0, len);
 }
 
+// The words of f from 0 on and those of g from j on, modulo n.
+fn load_pair(w: &mut [u64], n: u64, f: &[u64], j: usize, g: &[u64])
+    requires { ⌜ (2 ≤ n) × ((length (now f) ≤ j) × (j + length (now g) ≤ length (now w))) ⌝ }
+    ensures { λ _. ⌜ PairLoaded n 1 j (now (f .entry)) (now (g .entry)) (now (w .entry)) (now (w .exit)) ⌝ }
+{
+    wide_windows::load(w, 0, f, n);
+    wide_windows::load(w, j, g, n);
+}
+
 // The words of g over c, and then those of f, each followed by zeros up to as many as the longer one has. Answers how many.
 fn arrange(w: &mut [u64], n: u64, c: u64, f: &[u64], g: &[u64]) -> usize
     requires { ⌜ ArrangeAsked n c (now f) (now g) (now w) ⌝ }
@@ -65,10 +78,34 @@ fn arrange(w: &mut [u64], n: u64, c: u64, f: &[u64], g: &[u64]) -> usize
 {
     let m = longer(f.len(), g.len());
     wide_windows::clear(w, 0, 2 * m);
-    wide_windows::load(w, 0, g, n);
-    wide_windows::load(w, m, f, n);
+    load_pair(w, n, g, m, f);
     over(w, c, 2 * m);
     m
+}
+
+// D of the m words at m and the m words at 0, if the polynomial at m has a coefficient that is not nilpotent.
+fn divided(w: &mut [u64], n: u64, m: usize) -> Trial
+    requires { ⌜ WindowsAsked n m (now w) ⌝ }
+    ensures { λ r. ⌜ WindowsAnswer n m (now (w .entry)) r ⌝ }
+    ensures { λ _. ⌜ Scratch (now (w .entry)) (now (w .exit)) ⌝ }
+{
+    match wide_divisor_stages::unit_lead(w, n, m, m, 2 * m) {
+        wide_window_factor::Highest::UnitAt(t, i) => match wide_divisor_stages::division_stage(
+            w,
+            n,
+            0,
+            m - 1,
+            m,
+            t,
+            i,
+            2 * m,
+        ) {
+            Attempt::Value(d) => Trial::Found(d),
+            Attempt::Splits(p, q) => Trial::Divisors(p, q),
+        },
+        wide_window_factor::Highest::Splits(p, q) => Trial::Divisors(p, q),
+        wide_window_factor::Highest::AllNilpotent => Trial::Nilpotent,
+    }
 }
 
 // D of f and g, c their common content, if f over c has a coefficient that is not nilpotent.
@@ -78,22 +115,23 @@ fn half(w: &mut [u64], n: u64, c: u64, f: &[u64], g: &[u64]) -> Trial
     ensures { λ _. ⌜ Scratch (now (w .entry)) (now (w .exit)) ⌝ }
 {
     let m = arrange(w, n, c, f, g);
-    match wide_divisor_stages::unit_lead(w, n / c, m, m, 2 * m) {
-        wide_window_factor::Highest::UnitAt(t, i) => match wide_divisor_stages::division_stage(
-            w,
-            n / c,
-            0,
-            m - 1,
-            m,
-            t,
-            i,
-            2 * m,
-        ) {
-            Attempt::Value(d) => Trial::Found(c * d),
-            Attempt::Splits(p, q) => Trial::Divisors(p, q),
-        },
-        wide_window_factor::Highest::Splits(p, q) => Trial::Divisors(p, q),
-        wide_window_factor::Highest::AllNilpotent => Trial::Nilpotent,
+    match divided(w, n / c, m) {
+        Trial::Found(d) => Trial::Found(c * d),
+        Trial::Divisors(p, q) => Trial::Divisors(p, q),
+        Trial::Nilpotent => Trial::Nilpotent,
+    }
+}
+
+// D of f and g, or n as a product of two coprime factors, where f over c has no coefficient that is more than nilpotent.
+fn turned(w: &mut [u64], n: u64, c: u64, f: &[u64], g: &[u64]) -> Attempt
+    requires { ⌜ (HalfAsked n c (now f) (now g) (now w)) × (NilpotentOver n c (now f)) ⌝ }
+    ensures { λ r. ⌜ Attempted n (now (f .entry)) (now (g .entry)) r ⌝ }
+    ensures { λ _. ⌜ Scratch (now (w .entry)) (now (w .exit)) ⌝ }
+{
+    match half(w, n, c, g, f) {
+        Trial::Found(d) => Attempt::Value(d),
+        Trial::Divisors(p, q) => wide_reduced_attempt::split(n, p, q),
+        Trial::Nilpotent => Attempt::Value(n),
     }
 }
 
@@ -108,18 +146,9 @@ fn general(w: &mut [u64], n: u64, f: &[u64], g: &[u64]) -> Attempt
         return Attempt::Value(n);
     }
     match half(w, n, c, f, g) {
-        Trial::Found(d) => {
-            return Attempt::Value(d);
-        }
-        Trial::Divisors(p, q) => {
-            return wide_reduced_attempt::split(n, p, q);
-        }
-        Trial::Nilpotent => {}
-    }
-    match half(w, n, c, g, f) {
         Trial::Found(d) => Attempt::Value(d),
         Trial::Divisors(p, q) => wide_reduced_attempt::split(n, p, q),
-        Trial::Nilpotent => Attempt::Value(n),
+        Trial::Nilpotent => turned(w, n, c, f, g),
     }
 }
 

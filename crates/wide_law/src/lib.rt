@@ -2,10 +2,11 @@
 //
 //   how_far            the numbers of two calls
 //   law_of_products    the numbers of seven calls
-//   resultants, divisors    three calls each
+//   resultants, divisors, six_numbers, seven_numbers    three calls each, both, and the product before them
+//   factor_divisors    two of the calls of divisors
 ghost use Rattle.wide_refusals.specs.Wide.{wide};
 ghost use Rattle.law.specs.HowFar.{HowFarAnswer};
-ghost use Rattle.law.specs.LawService.{ThreeResultants, ThreeReduced, LawAnswer};
+ghost use Rattle.law.specs.LawService.{ThreeResultants, TwoReduced, ThreeReduced, SixNumbers, SevenAsked, LawAnswer};
 
 // The resultant, the reduced resultant D as `divisor`, and 0 or the number of the refusal.
 pub struct Differing {
@@ -61,6 +62,12 @@ struct Three {
     second: u64,
 }
 
+// Two numbers: of f and of g, each with h.
+struct Two {
+    first: u64,
+    second: u64,
+}
+
 // The resultants of p, f and g with h, one after the other.
 fn resultants(n: u64, p: &[u64], f: &[u64], g: &[u64], h: &[u64], work: &mut [u64]) -> Three
     ensures { λ r. ⌜ ThreeResultants wide n (now (p .entry)) (now (f .entry)) (now (g .entry)) (now (h .entry)) (now (work .entry))
@@ -73,6 +80,27 @@ fn resultants(n: u64, p: &[u64], f: &[u64], g: &[u64], h: &[u64], work: &mut [u6
         product: a.value,
         first: b.value,
         second: c.value,
+    }
+}
+
+// The reduced resultants of f and g with h, one after the other.
+fn factor_divisors(
+    n: u64,
+    f: &[u64],
+    g: &[u64],
+    h: &[u64],
+    u: &mut [u64],
+    v: &mut [u64],
+    work: &mut [u64],
+) -> Two
+    ensures { λ r. ⌜ TwoReduced wide n (now (f .entry)) (now (g .entry)) (now (h .entry)) (now (u .entry)) (now (u .exit))
+        (now (v .entry)) (now (v .exit)) (now (work .entry)) (now (work .exit)) (r .first) (r .second) ⌝ }
+{
+    let a = wide_reduced_service::reduced_resultant(n, f, h, u, v, work);
+    let b = wide_reduced_service::reduced_resultant(n, g, h, u, v, work);
+    Two {
+        first: a.value,
+        second: b.value,
     }
 }
 
@@ -90,14 +118,62 @@ fn divisors(
     ensures { λ r. ⌜ ThreeReduced wide n (now (p .entry)) (now (f .entry)) (now (g .entry)) (now (h .entry)) (now (u .entry))
         (now (u .exit)) (now (v .entry)) (now (v .exit)) (now (work .entry)) (now (work .exit)) (r .product) (r .first) (r .second) ⌝ }
 {
-    let a = wide_reduced_service::reduced_resultant(n, f, h, u, v, work);
-    let b = wide_reduced_service::reduced_resultant(n, g, h, u, v, work);
+    let a = factor_divisors(n, f, g, h, u, v, work);
     let c = wide_reduced_service::reduced_resultant(n, p, h, u, v, work);
     Three {
         product: c.value,
-        first: a.value,
-        second: b.value,
+        first: a.first,
+        second: a.second,
     }
+}
+
+// The resultants of p, f and g with h, then their reduced resultants.
+fn six_numbers(
+    n: u64,
+    p: &[u64],
+    f: &[u64],
+    g: &[u64],
+    h: &[u64],
+    u: &mut [u64],
+    v: &mut [u64],
+    work: &mut [u64],
+) -> Numbers
+    ensures { λ a. ⌜ SixNumbers wide n (now (p .entry)) (now (f .entry)) (now (g .entry)) (now (h .entry)) (now (u .entry))
+        (now (u .exit)) (now (v .entry)) (now (v .exit)) (now (work .entry)) (now (work .exit))
+        (a .r) (a .rf) (a .rg) (a .d) (a .df) (a .dg) (a .status) ⌝ }
+{
+    let r = resultants(n, p, f, g, h, work);
+    let d = divisors(n, p, f, g, h, u, v, work);
+    Numbers {
+        r: r.product,
+        rf: r.first,
+        rg: r.second,
+        d: d.product,
+        df: d.first,
+        dg: d.second,
+        status: 0,
+    }
+}
+
+// None of the refusals applies, and the product has m words: p takes it, and its front is handed on.
+fn seven_numbers(
+    n: u64,
+    f: &[u64],
+    g: &[u64],
+    h: &[u64],
+    m: usize,
+    p: &mut [u64],
+    u: &mut [u64],
+    v: &mut [u64],
+    work: &mut [u64],
+) -> Numbers
+    requires { ⌜ SevenAsked wide n (now f) (now g) (now h) m (now p) (now u) (now v) (now work) ⌝ }
+    ensures { λ a. ⌜ LawAnswer wide n (now (f .entry)) (now (g .entry)) (now (h .entry)) (now (p .entry)) (now (p .exit))
+        (now (u .entry)) (now (u .exit)) (now (v .entry)) (now (v .exit)) (now (work .entry)) (now (work .exit))
+        (a .r) (a .rf) (a .rg) (a .d) (a .df) (a .dg) (a .status) ⌝ }
+{
+    wide_polynomial_product::product(n, f, g, p);
+    six_numbers(n, &p[0..m], f, g, h, u, v, work)
 }
 
 // p takes the product of f and g, u and v the cofactors of its D with h.
@@ -141,16 +217,5 @@ pub fn law_of_products(
             status: room,
         };
     }
-    wide_polynomial_product::product(n, f, g, p);
-    let r = resultants(n, &p[0..m], f, g, h, work);
-    let d = divisors(n, &p[0..m], f, g, h, u, v, work);
-    Numbers {
-        r: r.product,
-        rf: r.first,
-        rg: r.second,
-        d: d.product,
-        df: d.first,
-        dg: d.second,
-        status: 0,
-    }
+    seven_numbers(n, f, g, h, m, p, u, v, work)
 }

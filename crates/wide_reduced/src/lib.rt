@@ -2,14 +2,14 @@
 // description and the laws.
 //
 //   cofactor_length    L, the words of a cofactor
-//   run                D and the cofactors
+//   run                D and the cofactors; by_factors and second_factor are the run on the two factors of n
 ghost use mathlib.Core.Path.{_≡_};
 ghost use Prim.Native.Nat.{_+_, _-_, _*_, _<_, _≤_};
 ghost use lib.ListN.{length};
 ghost use Rattle.definitions.specs.Polynomials.{L};
 ghost use Rattle.windows.specs.Window.{Scratch};
 ghost use Rattle.wide_reduced_cofactors.specs.Cofactors.{Certified};
-ghost use Rattle.reduced.specs.Runs.{MixedWords, SaveAsked, Saved, MergeAsked, Merged, RunAsked};
+ghost use Rattle.reduced.specs.Runs.{MixedWords, SaveAsked, Saved, MergeAsked, Merged, RunAsked, FactorsAsked, SecondAsked};
 use wide_residue::Attempt;
 
 // u[j] = a * s[j] + b * u[j]; s ends before u does, or with it. The test of a residue against n fails always: it keeps the back end
@@ -78,13 +78,48 @@ pub fn run(u: &mut [u64], v: &mut [u64], w: &mut [u64], n: u64, f: &[u64], g: &[
 {
     match wide_reduced_quick::attempt(u, v, w, n, f, g) {
         Attempt::Value(d) => d,
-        Attempt::Splits(p, q) => {
-            let a = run(u, v, w, p, f, g);
-            let l = save(w, u, v, p, f.len(), g.len());
-            let z = w.len();
-            let b = run(u, v, &mut w[2 * l..z], q, f, g);
-            merge(u, v, w, p, q, l, a, b);
-            a * b
-        }
+        Attempt::Splits(p, q) => by_factors(u, v, w, p, q, f, g),
     }
+}
+
+// The same modulo p q, the factors coprime: the run on p, whose cofactors are saved, and then on q.
+fn by_factors(
+    u: &mut [u64],
+    v: &mut [u64],
+    w: &mut [u64],
+    p: u64,
+    q: u64,
+    f: &[u64],
+    g: &[u64],
+) -> u64
+    requires { ⌜ FactorsAsked 18446744073709551616 p q (now f) (now g) (now u) (now v) (now w) ⌝ }
+    ensures { λ r. ⌜ Certified (p * q) (L (p * q) (length (now (f .entry)) - 1) (length (now (g .entry)) - 1)) (now (f .entry))
+        (now (g .entry)) (now (u .exit)) (now (v .exit)) r ⌝ }
+    ensures { λ _. ⌜ Scratch (now (w .entry)) (now (w .exit)) ⌝ }
+{
+    let a = run(u, v, w, p, f, g);
+    let l = save(w, u, v, p, f.len(), g.len());
+    second_factor(u, v, w, p, q, l, a, f, g)
+}
+
+// The same, where a is D modulo p and l words of each of its cofactors are saved in front of w: the run on q in the rest of w.
+fn second_factor(
+    u: &mut [u64],
+    v: &mut [u64],
+    w: &mut [u64],
+    p: u64,
+    q: u64,
+    l: usize,
+    a: u64,
+    f: &[u64],
+    g: &[u64],
+) -> u64
+    requires { ⌜ SecondAsked 18446744073709551616 p q l a (now f) (now g) (now u) (now v) (now w) ⌝ }
+    ensures { λ r. ⌜ Certified (p * q) (L (p * q) (length (now (f .entry)) - 1) (length (now (g .entry)) - 1)) (now (f .entry))
+        (now (g .entry)) (now (u .exit)) (now (v .exit)) r ⌝ }
+    ensures { λ _. ⌜ Scratch (now (w .entry)) (now (w .exit)) ⌝ }
+{
+    let b = run(u, v, &mut w[2 * l..], q, f, g);
+    merge(u, v, w, p, q, l, a, b);
+    a * b
 }

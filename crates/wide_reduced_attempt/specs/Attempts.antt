@@ -6,7 +6,8 @@
 --   Attempted       D with cofactors, or n as a product of two coprime factors
 use mathlib.Core.List.{List}
 use Prim.Native.Nat.{ℕ}
-pub use Rattle.reduced_attempt.specs.Attempts.{CommonContent, Arranged, NilpotentOver, HalfAsked, attempt-room, AttemptAsked}
+pub use Rattle.reduced_attempt.specs.Attempts.{CommonContent, Arranged, NilpotentOver, HalfAsked, OverAsked, CoreOver, OtherAsked}
+pub use Rattle.reduced_attempt.specs.Attempts.{attempt-room, AttemptAsked}
 use Rattle.reduced_attempt.specs.Attempts.{TrialAnswers as NarrowTrialAnswers, Parted as NarrowParted, Attempted as NarrowAttempted}
 use Rattle.reduced_attempt.specs.declared.Trial.{Trial as NarrowTrial}
 use Rattle.reduced_attempt.specs.declared.Trial.the-variants.{Found as NarrowFound, Divisors as NarrowDivisors}

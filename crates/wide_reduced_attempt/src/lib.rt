@@ -8,8 +8,9 @@ ghost use Prim.Native.Nat.{_+_, _-_, _*_, _/_, _≤_};
 ghost use lib.ListN.{length};
 ghost use Rattle.windows.specs.Window.{Scratch};
 ghost use Rattle.reduced_units.specs.States.{Splitter};
-ghost use Rattle.wide_reduced_attempt.specs.Attempts.{CommonContent, Arranged, HalfAsked, TrialAnswers};
-ghost use Rattle.wide_reduced_attempt.specs.Attempts.{Parted, AttemptAsked, Attempted};
+ghost use Rattle.wide_reduced_cofactors.specs.Cofactors.{CoreAnswer};
+ghost use Rattle.wide_reduced_attempt.specs.Attempts.{CommonContent, Arranged, HalfAsked, OverAsked, CoreOver, OtherAsked};
+ghost use Rattle.wide_reduced_attempt.specs.Attempts.{TrialAnswers, Parted, AttemptAsked, Attempted};
 use wide_residue::Attempt;
 
 // What the half of an attempt comes to that factors the first polynomial: D; two coprime divisors of n; or all coefficients of that
@@ -56,22 +57,54 @@ fn half(x: &mut [u64], y: &mut [u64], w: &mut [u64], n: u64, c: u64, a: &[u64], 
     let l = b.len();
     let m = l + a.len();
     match wide_window_factor::highest_of(&w[l..m], n / c) {
-        wide_window_factor::Highest::UnitAt(t, i) => match wide_reduced_cofactors::core(
-            x,
-            y,
-            w,
-            n / c,
-            a.len() - 1,
-            l - 1,
-            t,
-            i,
-        ) {
-            Attempt::Value(d) => Trial::Found(c * d),
-            Attempt::Splits(p, q) => Trial::Divisors(p, q),
-        },
+        wide_window_factor::Highest::UnitAt(t, i) => over_content(x, y, w, n, c, a, b, t, i),
         wide_window_factor::Highest::Splits(p, q) => Trial::Divisors(p, q),
         wide_window_factor::Highest::AllNilpotent => Trial::Nilpotent,
     }
+}
+
+// The same, where the words of b and a over c stand in w; coefficient t of the latter has the inverse i modulo n / c, and those above are
+// nilpotent.
+fn over_content(
+    x: &mut [u64],
+    y: &mut [u64],
+    w: &mut [u64],
+    n: u64,
+    c: u64,
+    a: &[u64],
+    b: &[u64],
+    t: usize,
+    i: u64,
+) -> Trial
+    requires { ⌜ OverAsked n c 1 t i (now a) (now b) (now x) (now y) (now w) ⌝ }
+    ensures { λ r. ⌜ TrialAnswers n c (now (a .entry)) (now (b .entry)) (now (x .entry)) (now (y .entry))
+        (now (x .exit)) (now (y .exit)) r ⌝ }
+    ensures { λ _. ⌜ Scratch (now (w .entry)) (now (w .exit)) ⌝ }
+{
+    match core_over(x, y, w, n, c, a, b, t, i) {
+        Attempt::Value(d) => Trial::Found(c * d),
+        Attempt::Splits(p, q) => Trial::Divisors(p, q),
+    }
+}
+
+// What the core comes to there, modulo n / c.
+fn core_over(
+    x: &mut [u64],
+    y: &mut [u64],
+    w: &mut [u64],
+    n: u64,
+    c: u64,
+    a: &[u64],
+    b: &[u64],
+    t: usize,
+    i: u64,
+) -> Attempt
+    requires { ⌜ CoreOver n c t i (now a) (now b) (now x) (now y) (now w) ⌝ }
+    ensures { λ z. ⌜ CoreAnswer (n / c) (length (now (a .entry)) - 1) (length (now (b .entry)) - 1) (now (w .entry)) (now (x .entry))
+        (now (y .entry)) (now (x .exit)) (now (y .exit)) z ⌝ }
+    ensures { λ _. ⌜ Scratch (now (w .entry)) (now (w .exit)) ⌝ }
+{
+    wide_reduced_cofactors::core(x, y, w, n / c, a.len() - 1, b.len() - 1, t, i)
 }
 
 // n as a product of two coprime factors, from two coprime divisors: what n has in common with p, and the rest. The first two cases are
@@ -99,15 +132,44 @@ pub fn attempt(u: &mut [u64], v: &mut [u64], w: &mut [u64], n: u64, f: &[u64], g
         wide_windows::wipe(v);
         return Attempt::Value(n);
     }
+    both_halves(u, v, w, n, c, f, g)
+}
+
+// The same, where the common content c is not all of n.
+fn both_halves(
+    u: &mut [u64],
+    v: &mut [u64],
+    w: &mut [u64],
+    n: u64,
+    c: u64,
+    f: &[u64],
+    g: &[u64],
+) -> Attempt
+    requires { ⌜ (HalfAsked n c (now f) (now g) (now u) (now v) (now w)) × (HalfAsked n c (now g) (now f) (now v) (now u) (now w)) ⌝ }
+    ensures { λ r. ⌜ Attempted n (now (f .entry)) (now (g .entry)) (now (u .entry)) (now (v .entry)) (now (u .exit)) (now (v .exit)) r ⌝ }
+    ensures { λ _. ⌜ Scratch (now (w .entry)) (now (w .exit)) ⌝ }
+{
     match half(u, v, w, n, c, f, g) {
-        Trial::Found(d) => {
-            return Attempt::Value(d);
-        }
-        Trial::Divisors(p, q) => {
-            return split(n, p, q);
-        }
-        Trial::Nilpotent => {}
+        Trial::Found(d) => Attempt::Value(d),
+        Trial::Divisors(p, q) => split(n, p, q),
+        Trial::Nilpotent => other_half(u, v, w, n, c, f, g),
     }
+}
+
+// The same, where no coefficient of f over c is more than nilpotent: g is the one that is factored.
+fn other_half(
+    u: &mut [u64],
+    v: &mut [u64],
+    w: &mut [u64],
+    n: u64,
+    c: u64,
+    f: &[u64],
+    g: &[u64],
+) -> Attempt
+    requires { ⌜ OtherAsked n c (now f) (now g) (now u) (now v) (now w) ⌝ }
+    ensures { λ r. ⌜ Attempted n (now (f .entry)) (now (g .entry)) (now (u .entry)) (now (v .entry)) (now (u .exit)) (now (v .exit)) r ⌝ }
+    ensures { λ _. ⌜ Scratch (now (w .entry)) (now (w .exit)) ⌝ }
+{
     match half(v, u, w, n, c, g, f) {
         Trial::Found(d) => Attempt::Value(d),
         Trial::Divisors(p, q) => split(n, p, q),

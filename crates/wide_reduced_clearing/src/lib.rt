@@ -6,7 +6,7 @@
 ghost use Prim.Native.Nat.{_+_};
 ghost use Rattle.windows.specs.Window.{Kept};
 ghost use Rattle.reduced_units.specs.States.{StageAt};
-ghost use Rattle.wide_reduced_clearing.specs.Clearings.{ContentAsked, ContentTaken, Clears};
+ghost use Rattle.wide_reduced_clearing.specs.Clearings.{ContentAsked, ContentTaken, MonicAsked, UnitAsked, UnitClears, Clears};
 use reduced_units::Places;
 
 // What the clearing of contents and unit factors comes to: the reduced resultant; two coprime divisors of the modulus; or the content,
@@ -27,38 +27,57 @@ fn take_content(w: &mut [u64], n: u64, v: u64, c: u64, p: Places, a: usize)
     wide_windows::reduce_words(w, v / c, p.pa, a + 1);
 }
 
+// The unit factor of B is taken out of it: its coefficient at s has the inverse i, and those above it are nilpotent. c is the content
+// that was taken out before.
+fn take_monic(
+    w: &mut [u64],
+    n: u64,
+    v: u64,
+    c: u64,
+    p: Places,
+    a: usize,
+    l: usize,
+    s: usize,
+    i: u64,
+) -> Clearing
+    requires { ⌜ MonicAsked n v p a l s i (now w) ⌝ }
+    ensures { λ r. ⌜ UnitClears n v c p a l (now (w .entry)) (now (w .exit)) r ⌝ }
+    ensures { λ _. ⌜ Kept (p .t + 1) (now (w .entry)) (now (w .exit)) ⌝ }
+{
+    let m = wide_reduced_units::take_unit(w, n, v, p, a, l, s, i);
+    if s == 0 {
+        wide_windows::copy(w, p.be, p.t + 1, p.t);
+        return Clearing::Done(c);
+    }
+    Clearing::Next(c, s, m)
+}
+
+// The same where the coefficients of B are not all nilpotent.
+fn clear_unit(w: &mut [u64], n: u64, v: u64, c: u64, p: Places, a: usize, l: usize) -> Clearing
+    requires { ⌜ UnitAsked n v p a l (now w) ⌝ }
+    ensures { λ r. ⌜ UnitClears n v c p a l (now (w .entry)) (now (w .exit)) r ⌝ }
+    ensures { λ _. ⌜ Kept (p .t + 1) (now (w .entry)) (now (w .exit)) ⌝ }
+{
+    let pb = p.pb;
+    match wide_window_factor::highest_of(&w[pb..pb + a], v) {
+        wide_window_factor::Highest::UnitAt(s, i) => take_monic(w, n, v, c, p, a, l, s, i),
+        wide_window_factor::Highest::Splits(f, g) => Clearing::Parts(f, g),
+        wide_window_factor::Highest::AllNilpotent => Clearing::Done(v),
+    }
+}
+
 // The content of B is taken out of it and of the modulus, then the unit factor of B.
 pub fn clear_contents(w: &mut [u64], n: u64, v: u64, p: Places, a: usize, l: usize) -> Clearing
     requires { ⌜ StageAt n v p a a l (now w) ⌝ }
     ensures { λ r. ⌜ Clears n v p a (now (w .entry)) (now (w .exit)) r ⌝ }
     ensures { λ _. ⌜ Kept (p .t + 1) (now (w .entry)) (now (w .exit)) ⌝ }
 {
-    let t = p.t;
     let pb = p.pb;
     let c = wide_windows::content(&w[pb..pb + a], v);
     if c == v {
-        wide_windows::clear(w, t + 1, t);
+        wide_windows::clear(w, p.t + 1, p.t);
         return Clearing::Done(v);
     }
     take_content(w, n, v, c, p, a);
-    let s;
-    let i;
-    match wide_window_factor::highest_of(&w[pb..pb + a], v / c) {
-        wide_window_factor::Highest::UnitAt(x, y) => {
-            s = x;
-            i = y;
-        }
-        wide_window_factor::Highest::Splits(f, g) => {
-            return Clearing::Parts(f, g);
-        }
-        wide_window_factor::Highest::AllNilpotent => {
-            return Clearing::Done(v);
-        }
-    }
-    let m = wide_reduced_units::take_unit(w, n, v / c, p, a, l, s, i);
-    if s == 0 {
-        wide_windows::copy(w, p.be, t + 1, t);
-        return Clearing::Done(c);
-    }
-    Clearing::Next(c, s, m)
+    clear_unit(w, n, v / c, c, p, a, l)
 }

@@ -5,9 +5,22 @@
 ghost use Prim.Native.Nat.{_-_, _≤_};
 ghost use Rattle.windows.specs.Window.{Scratch};
 ghost use Rattle.wide_reduced_cofactors.specs.Cofactors.{CoreSpace, CoreAsked, CoreCertified, CoreAnswer};
-ghost use Rattle.wide_reduced_cofactors.specs.Cofactors.{FactoredAt, FinishAsked, Finished, monic-place};
+ghost use Rattle.wide_reduced_cofactors.specs.Cofactors.{FactoredAt, FindAsked, Found, monic-place};
+ghost use Rattle.wide_reduced_cofactors.specs.Cofactors.{FinishAsked, Finished, DivideAsked, DividedBy};
 use reduced_units::Places;
 use wide_residue::Attempt;
+
+// c less the product of G and the multiplier at q + (t + 1), over H, and behind it a copy of the unit polynomial of k + 1 words at e + 1.
+fn divide(w: &mut [u64], n: u64, d: usize, e: usize, t: usize, c: u64)
+    requires { ⌜ (t ≤ d) × (DivideAsked n e (monic-place d e) t (d - t) (now w)) ⌝ }
+    ensures { λ _. ⌜ DividedBy n e (monic-place d e) t (d - t) c (now (w .entry)) (now (w .exit)) ⌝ }
+{
+    let q = e + 1 + (d + 1);
+    let k = d - t;
+    wide_reduced_quotients::exact_quotient(w, n, e, q, t, c);
+    let up = q + 2 * (t + 1) + (t + e + 1);
+    wide_windows::copy(w, e + 1, up, k + 1);
+}
 
 // The cofactors of c, from the multiplier at q + (t + 1): y is that multiplier, and x is the exact quotient over the unit polynomial of
 // k + 1 words at e + 1.
@@ -16,15 +29,12 @@ fn finish(x: &mut [u64], y: &mut [u64], w: &mut [u64], n: u64, d: usize, e: usiz
     ensures { λ _. ⌜ Finished n e (monic-place d e) t (d - t) c (now (w .entry)) (now (x .exit)) (now (y .exit)) ⌝ }
     ensures { λ _. ⌜ Scratch (now (w .entry)) (now (w .exit)) ⌝ }
 {
+    divide(w, n, d, e, t, c);
     let q = e + 1 + (d + 1);
-    let k = d - t;
-    wide_reduced_quotients::exact_quotient(w, n, e, q, t, c);
     let a = q + (t + 1);
+    wide_reduced_quotients::place(y, &w[a..a + t], n);
     let up = q + 2 * (t + 1) + (t + e + 1);
-    wide_windows::copy(w, e + 1, up, k + 1);
-    wide_windows::wipe(y);
-    wide_windows::load(y, 0, &w[a..a + t], n);
-    wide_reduced_quotients::over_first(x, w, n, up, k, q + 2 * (t + 1) + t, e + 1);
+    wide_reduced_quotients::over_first(x, w, n, up, d - t, q + 2 * (t + 1) + t, e + 1);
 }
 
 // F is a unit polynomial: its inverse and 0.
@@ -38,7 +48,27 @@ fn constant(x: &mut [u64], y: &mut [u64], w: &mut [u64], n: u64, d: usize, e: us
     wide_reduced_quotients::over_first(x, w, n, e + 1 + (d + 1) + (0 + 1) + 0, d, 0, 1);
 }
 
-// H has degree t above 0: the stages find D and the multiplier of G.
+// H has degree t above 0: the stages find D and the multiplier of G, which is left behind H; U is moved to the place of F.
+fn find(w: &mut [u64], n: u64, d: usize, e: usize, t: usize) -> Attempt
+    requires { ⌜ FindAsked n d e t (now w) ⌝ }
+    ensures { λ r. ⌜ Found n d e t (now (w .entry)) (now (w .exit)) r ⌝ }
+    ensures { λ _. ⌜ Scratch (now (w .entry)) (now (w .exit)) ⌝ }
+{
+    let q = e + 1 + (d + 1);
+    wide_windows::copy(w, q + (t + 1) + t, e + 1, d - t + 1);
+    wide_reduced_quotients::prepare(w, n, e, q, t);
+    let z = w.len();
+    let p = Places {
+        t,
+        pa: 2 * (t + 1),
+        pb: 3 * (t + 1),
+        al: 4 * (t + 1),
+        be: 6 * (t + 1),
+    };
+    wide_reduced_stages::content_stage(&mut w[q..z], n, n, p, t, 1)
+}
+
+// H has degree t above 0: D is found, and the cofactors from the multiplier of G.
 fn solve(
     x: &mut [u64],
     y: &mut [u64],
@@ -53,18 +83,7 @@ fn solve(
     ensures { λ r. ⌜ CoreAnswer n d e (now (w .entry)) (now (x .entry)) (now (y .entry)) (now (x .exit)) (now (y .exit)) r ⌝ }
     ensures { λ _. ⌜ Scratch (now (w .entry)) (now (w .exit)) ⌝ }
 {
-    let q = e + 1 + (d + 1);
-    wide_windows::copy(w, q + (t + 1) + t, e + 1, d - t + 1);
-    wide_reduced_quotients::prepare(w, n, e, q, t);
-    let z = w.len();
-    let p = Places {
-        t,
-        pa: 2 * (t + 1),
-        pb: 3 * (t + 1),
-        al: 4 * (t + 1),
-        be: 6 * (t + 1),
-    };
-    match wide_reduced_stages::content_stage(&mut w[q..z], n, n, p, t, 1) {
+    match find(w, n, d, e, t) {
         Attempt::Value(c) => {
             finish(x, y, w, n, d, e, t, c);
             Attempt::Value(c)

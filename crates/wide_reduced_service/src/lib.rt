@@ -10,6 +10,7 @@ ghost use Rattle.wide_refusals.specs.Wide.{wide};
 ghost use Rattle.wide_reduced_cofactors.specs.Cofactors.{Certified};
 ghost use Rattle.reduced.specs.Runs.{RunAsked};
 ghost use Rattle.reduced_service.specs.ReducedService.{LeastConstants, ReducedAnswer};
+ghost use Rattle.reduced_service.specs.Asked.{ReducedAsked};
 ghost use Rattle.reduced_service.specs.Constants.{HoldsConstant, ConstantsAsked, ConstantCofactors};
 use wide_refusals::Answer;
 
@@ -56,8 +57,27 @@ fn worked(u: &mut [u64], v: &mut [u64], w: &mut [u64], n: u64, f: &[u64], g: &[u
         if g.len() == 1 {
             return constants(u, v, n, f[0], g[0]);
         }
+        return by_run(u, v, w, n, f, g);
     }
     by_run(u, v, w, n, f, g)
+}
+
+// None of the refusals applies, and a cofactor has l words: D, with cofactors in the first l words of u and of v.
+fn served(
+    n: u64,
+    f: &[u64],
+    g: &[u64],
+    l: usize,
+    u: &mut [u64],
+    v: &mut [u64],
+    work: &mut [u64],
+) -> Answer
+    requires { ⌜ ReducedAsked wide n (now f) (now g) l (now u) (now v) (now work) ⌝ }
+    ensures { λ r. ⌜ ReducedAnswer wide n (now (f .entry)) (now (g .entry)) (now (u .entry)) (now (u .exit)) (now (v .entry))
+        (now (v .exit)) (now (work .entry)) (now (work .exit)) (r .value) (r .status) ⌝ }
+{
+    let found = worked(&mut u[0..l], &mut v[0..l], work, n, f, g);
+    wide_answers::answered(found, work)
 }
 
 // The reduced resultant D of f and g modulo n, with cofactors in the first L words of u and of v.
@@ -98,6 +118,5 @@ pub fn reduced_resultant(
             status: 7,
         };
     }
-    let found = worked(&mut u[0..l], &mut v[0..l], work, n, f, g);
-    wide_answers::answered(found, work)
+    served(n, f, g, l, u, v, work)
 }

@@ -4,7 +4,7 @@
 use mathlib.Core.List.{List}
 use Prim.Native.Nat.{ℕ}
 use Rattle.window_factor.specs.Factors.{HighestOf as NarrowHighestOf}
-pub use Rattle.window_factor.specs.Factors.{LeadingUnit, SplitOf, AllNilpotents, Given, Factored, RoundGiven, Round}
+pub use Rattle.window_factor.specs.Factors.{LeadingUnit, SplitOf, AllNilpotents, Given, Factored, RoundGiven, Round, RoundLeft}
 pub use Rattle.window_factor.specs.Factors.{next-word, SeriesGiven, Series}
 use Rattle.wide_window_factor.specs.declared.Highest.{Highest}
 use Rattle.wide_window_factor.specs.Readings.{highest-of}

@@ -29,7 +29,8 @@ back-two n x c y m z hc hm =
         last : x + (n * y + n * z) ≡ x + n * (y + z)
         last = omega arith
 
-module _ (n a d b e s i c t m : ℕ) (w₀ w w' : List ℕ) (pos : 0 < n) (one : 1 ≤ d) (within : d + s + 1 ≤ e) (apart : Apart a (d + 1) b (e + 1))
+module _ (n a d b e s i c t m : ℕ) (w₀ w w' : List ℕ) (pos : 0 < n) (one : 1 ≤ d) (within : d + s + 1 ≤ e)
+    (apart : Apart a (d + 1) b (e + 1))
     (unit : (i * getD w₀ (a + d) 0) % n ≡ 1 % n) (ic : c ≡ (i * getD w (b + (d + s + 1)) 0) % n)
     (it : t ≡ (getD w (b + (d + s)) 0 + (n - c) * getD w (a + (d - 1)) 0) % n) (im : m ≡ (i * t) % n)
     (mv : Paired n (n - c) (n - m) a (b + s) d w w') (dv : Dividing n a d b e (s + 2) w₀ w) where
@@ -65,16 +66,19 @@ module _ (n a d b e s i c t m : ℕ) (w₀ w w' : List ℕ) (pos : 0 < n) (one :
   Goal k = Cong n (c * risen (suc s) F k + m * risen s F k + coef (piece w' b (d + s)) k) (coef (piece w b (d + (s + 2))) k)
 
   -- by the three terms on the left and that on the right
-  by : (k x y z v : ℕ) → risen (suc s) F k ≡ x → risen s F k ≡ y → coef (piece w' b (d + s)) k ≡ z → coef (piece w b (d + (s + 2))) k ≡ v → Cong n (c * x + m * y + z) v → Goal k
+  by : (k x y z v : ℕ) → risen (suc s) F k ≡ x → risen s F k ≡ y → coef (piece w' b (d + s)) k ≡ z → coef (piece w b (d + (s + 2))) k ≡ v
+      → Cong n (c * x + m * y + z) v → Goal k
   unfolding Goal
-  by k x y z v hx hy hz hv h = c-trans (c-eq (ap₂ (λ (x y : ℕ). c * x + m * y + coef (piece w' b (d + s)) k) hx hy ∙ ap (λ (z : ℕ). c * x + m * y + z) hz)) (c-trans h (c-eq (sym hv)))
+  by k x y z v hx hy hz hv h = c-trans (c-eq (ap₂ (λ (x y : ℕ). c * x + m * y + coef (piece w' b (d + s)) k) hx hy ∙ ap
+      (λ (z : ℕ). c * x + m * y + z) hz)) (c-trans h (c-eq (sym hv)))
 
   middle : (k j : ℕ) → k ≡ s + j → j < d → Goal k
   middle k j q l =
       by k (behind F j) (F j) ((getD w (b + k) 0 + (n - c) * behind F j + (n - m) * F j) % n) (getD w (b + k) 0)
       (first j q l) (risen-at s F k j q)
       (piece-at w' b (d + s) k (omega arith) ∙ ap (λ (x : ℕ). getD w' x 0) (let z : b + k ≡ b + s + j = omega arith in z) ∙ mv .mid j l
-      ∙ ap₂ (λ (x y : ℕ). (x + (n - c) * behind (λ (k : ℕ). getD w (a + k) 0) j + (n - m) * y) % n) (ap (λ (x : ℕ). getD w x 0) (let z : b + s + j ≡ b + k = omega arith in z)) (read j (omega arith))
+      ∙ ap₂ (λ (x y : ℕ). (x + (n - c) * behind (λ (k : ℕ). getD w (a + k) 0) j + (n - m) * y) % n)
+      (ap (λ (x : ℕ). getD w x 0) (let z : b + s + j ≡ b + k = omega arith in z)) (read j (omega arith))
       ∙ ap (λ (x : ℕ). (getD w (b + k) 0 + (n - c) * x + (n - m) * F j) % n) (seen j l))
       (piece-at w b (d + (s + 2)) k (omega arith))
       (back-two n (getD w (b + k) 0) c (behind F j) m (F j) c-small m-small)
@@ -95,8 +99,10 @@ module _ (n a d b e s i c t m : ℕ) (w₀ w w' : List ℕ) (pos : 0 < n) (one :
       (piece-at w b (d + (s + 2)) k (omega arith) ∙ ap (λ (x : ℕ). getD w (b + x) 0) q)
       (c-trans (c-eq (add-zero _))
       (c-trans (c-add (c-refl {a = c * F (d - 1)}) (undo m t im))
-      (c-trans (c-eq (ap (λ (x : ℕ). c * F (d - 1) + x) (it ∙ ap (λ (x : ℕ). (getD w (b + (d + s)) 0 + (n - c) * x) % n) (read (d - 1) (omega arith)))))
-      (c-trans (c-eq (none _ _ ∙ ap (λ (x : ℕ). c * F (d - 1) + m * 0 + x % n) (more _))) (back-two n (getD w (b + (d + s)) 0) c (F (d - 1)) m 0 c-small m-small)))))
+      (c-trans (c-eq (ap (λ (x : ℕ). c * F (d - 1) + x) (it ∙ ap (λ (x : ℕ). (getD w (b + (d + s)) 0 + (n - c) * x) % n)
+      (read (d - 1) (omega arith)))))
+      (c-trans (c-eq (none _ _ ∙ ap (λ (x : ℕ). c * F (d - 1) + m * 0 + x % n) (more _)))
+      (back-two n (getD w (b + (d + s)) 0) c (F (d - 1)) m 0 c-small m-small)))))
     where
       none : (x y : ℕ) → x + y ≡ x + m * 0 + y
       none x y = omega arith
@@ -108,14 +114,16 @@ module _ (n a d b e s i c t m : ℕ) (w₀ w w' : List ℕ) (pos : 0 < n) (one :
   head : (k : ℕ) → k ≡ d + s + 1 → Goal k
   head k q =
       by k (F d) 0 0 (getD w (b + (d + s + 1)) 0)
-      (risen-at (suc s) F k d (omega arith)) (risen-at s F k (d + 1) (omega arith) ∙ over (d + 1) (omega arith)) (piece-over w' b (d + s) k (omega arith))
+      (risen-at (suc s) F k d (omega arith)) (risen-at s F k (d + 1) (omega arith) ∙ over (d + 1) (omega arith))
+      (piece-over w' b (d + s) k (omega arith))
       (piece-at w b (d + (s + 2)) k (omega arith) ∙ ap (λ (x : ℕ). getD w (b + x) 0) q)
       (c-trans (c-eq (zeros (c * F d))) (undo c (getD w (b + (d + s + 1)) 0) ic))
     where
       zeros : (x : ℕ) → x + m * 0 + 0 ≡ x
       zeros x = omega arith
 
-  nothing : (k v : ℕ) → risen (suc s) F k ≡ 0 → risen s F k ≡ 0 → coef (piece w' b (d + s)) k ≡ v → coef (piece w b (d + (s + 2))) k ≡ v → Goal k
+  nothing : (k v : ℕ) → risen (suc s) F k ≡ 0 → risen s F k ≡ 0 → coef (piece w' b (d + s)) k ≡ v → coef (piece w b (d + (s + 2))) k ≡ v
+      → Goal k
   nothing k v hx hy hz hv = by k 0 0 v v hx hy hz hv (c-eq (zeros v))
     where
       zeros : (v : ℕ) → c * 0 + m * 0 + v ≡ v
@@ -124,12 +132,15 @@ module _ (n a d b e s i c t m : ℕ) (w₀ w w' : List ℕ) (pos : 0 < n) (one :
   turn : (k : ℕ) → Goal k
   turn k =
       ⊎-elim
-      (λ l. nothing k (getD w (b + k) 0) (risen-low (suc s) F k (omega arith)) (risen-low s F k l) (piece-at w' b (d + s) k (omega arith) ∙ mv .low (b + k) (omega arith)) (piece-at w b (d + (s + 2)) k (omega arith)))
+      (λ l. nothing k (getD w (b + k) 0) (risen-low (suc s) F k (omega arith)) (risen-low s F k l)
+      (piece-at w' b (d + s) k (omega arith) ∙ mv .low (b + k) (omega arith)) (piece-at w b (d + (s + 2)) k (omega arith)))
       (λ l. ⊎-elim
       (λ h. middle k (k - s) (omega arith) (omega arith))
       (λ h. ⊎-elim (λ q. second k (sym q))
       (λ h. ⊎-elim (λ q. head k (q' q))
-      (λ q. nothing k 0 (risen-at (suc s) F k (k - suc s) (omega arith) ∙ over (k - suc s) (omega arith)) (risen-at s F k (k - s) (omega arith) ∙ over (k - s) (omega arith)) (piece-over w' b (d + s) k (omega arith)) (piece-over w b (d + (s + 2)) k (omega arith)))
+      (λ q. nothing k 0 (risen-at (suc s) F k (k - suc s) (omega arith) ∙ over (k - suc s) (omega arith))
+      (risen-at s F k (k - s) (omega arith) ∙ over (k - s) (omega arith)) (piece-over w' b (d + s) k (omega arith))
+      (piece-over w b (d + (s + 2)) k (omega arith)))
       (eq-or-lt-of-le h))
       (eq-or-lt-of-le h))
       (lt-or-le k (d + s)))
@@ -157,11 +168,13 @@ module _ (n a d b e s i c t m : ℕ) (w₀ w w' : List ℕ) (pos : 0 < n) (one :
           (lt-or-le k s);
     };
     q = λ j. dv .q j + (spot (suc s) c j + spot s m j);
-    top = λ j l. ap₂ (λ (x y : ℕ). x + y) (dv .top j l) (ap₂ (λ (x y : ℕ). x + y) (spot-off (suc s) c j (omega arith)) (spot-off s m j (omega arith)));
+    top = λ j l. ap₂ (λ (x y : ℕ). x + y) (dv .top j l) (ap₂ (λ (x y : ℕ). x + y) (spot-off (suc s) c j (omega arith))
+        (spot-off s m j (omega arith)));
     at = λ k.
         c-trans (c-eq (ap (λ (x : ℕ). x + coef (piece w' b (d + s)) k)
         (convolve-add (dv .q) (λ (j : ℕ). spot (suc s) c j + spot s m j) F k
-        ∙ ap (λ (x : ℕ). convolve (dv .q) F k + x) (convolve-add (spot (suc s) c) (spot s m) F k ∙ ap₂ (λ (x y : ℕ). x + y) (convolve-spot (suc s) c F k) (convolve-spot s m F k))) ∙ add-assoc _ _ _))
+        ∙ ap (λ (x : ℕ). convolve (dv .q) F k + x) (convolve-add (spot (suc s) c) (spot s m) F k ∙ ap₂ (λ (x y : ℕ). x + y)
+        (convolve-spot (suc s) c F k) (convolve-spot s m F k))) ∙ add-assoc _ _ _))
         (c-trans (c-add c-refl (turn k)) (dv .at k));
   }
 

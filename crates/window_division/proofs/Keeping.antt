@@ -13,7 +13,8 @@ use Rattle.definitions.specs.Polynomials.{coef, convolve}
 use Rattle.windows.specs.Window.{piece, Moved, addMul, Below, Apart, Paired}
 use Rattle.windows.proofs.Leaf.{lt-or-le, piece-at, piece-over, piece-same}
 use Rattle.window_division.specs.Remainders.{Quotient}
-use Rattle.window_division.proofs.Turns.{Dividing, dividing-start, start-quotient, dividing-step, dividing-quotient, spot, spot-off, spot-low, spot-at}
+use Rattle.window_division.proofs.Turns.{Dividing, dividing-start, start-quotient, dividing-step, dividing-quotient, spot}
+use Rattle.window_division.proofs.Turns.{spot-off, spot-low, spot-at}
 use Rattle.window_division.proofs.Double.{double-step, double-quotient}
 
 -- s quotient words are still to come, and those that have come stand where they were found
@@ -23,7 +24,8 @@ pub record Keeping (n a d b e s : ℕ) (w₀ w : List ℕ) : Type 0 where
   pub kept : (j : ℕ) → s ≤ j → d + j < e + 1 → getD w (b + (d + j)) 0 ≡ dividing .q j
 
 -- a word above the remainder, at x, is replaced by v
-module _ (n a d b e s j x v : ℕ) (w₀ w : List ℕ) (place : x ≡ b + (d + j)) (hv : v < n) (above : s ≤ j) (within : d + j < e + 1) (fits : b + e < length w) (dv : Dividing n a d b e s w₀ w) where
+module _ (n a d b e s j x v : ℕ) (w₀ w : List ℕ) (place : x ≡ b + (d + j)) (hv : v < n) (above : s ≤ j) (within : d + j < e + 1)
+    (fits : b + e < length w) (dv : Dividing n a d b e s w₀ w) where
   same-rest : piece (set w x v) b (d + s) ≡ piece w b (d + s)
   same-rest = piece-same w (set w x v) b (d + s) (omega arith) (length-set w x v) (λ k l. getD-set-other w x (b + k) v 0 (omega arith))
 
@@ -43,7 +45,8 @@ module _ (n a d b e s j x v : ℕ) (w₀ w : List ℕ) (place : x ≡ b + (d + j
     below = record { at = λ k h. small k h (ℕ-discrete (d + j) k) };
     q = dv .q;
     top = dv .top;
-    at = λ k. subst (λ (p : List ℕ). Cong n (convolve (dv .q) (coef (piece w₀ a (d + 1))) k + coef p k) (coef (piece w₀ b (e + 1)) k)) (sym same-rest) (dv .at k);
+    at = λ k. subst (λ (p : List ℕ). Cong n (convolve (dv .q) (coef (piece w₀ a (d + 1))) k + coef p k) (coef (piece w₀ b (e + 1)) k))
+        (sym same-rest) (dv .at k);
   }
 
   store-quotient : (k : ℕ) → store .q k ≡ dv .q k
@@ -51,13 +54,18 @@ module _ (n a d b e s j x v : ℕ) (w₀ w : List ℕ) (place : x ≡ b + (d + j
   store-quotient k = refl
 
 pub keeping-start : (n a d b e s : ℕ) (w : List ℕ) → d + s ≡ e + 1 → Below n b (e + 1) w → Keeping n a d b e s w w
-keeping-start n a d b e s w h p = record { dividing = dividing-start n a d b e s w h p; low = λ j l. start-quotient n a d b e s w h p j; kept = λ j l m. absurd (omega arith) }
+keeping-start n a d b e s w h p = record {
+  dividing = dividing-start n a d b e s w h p;
+  low = λ j l. start-quotient n a d b e s w h p j;
+  kept = λ j l m. absurd (omega arith);
+}
 
 -- the words at the two places, and the others
 two-at : (x y u v : ℕ) (w : List ℕ) → x < length w → y < x → getD (set (set w x u) y v) x 0 ≡ u
 two-at x y u v w l h = getD-set-other (set w x u) y x v 0 (omega arith) ∙ getD-set-same w x u 0 l
 
-module _ (n a d b e s i c t m : ℕ) (w₀ w w' : List ℕ) (pos : 0 < n) (one : 1 ≤ d) (within : d + s + 1 ≤ e) (apart : Apart a (d + 1) b (e + 1)) (fits : b + e < length w₀)
+module _ (n a d b e s i c t m : ℕ) (w₀ w w' : List ℕ) (pos : 0 < n) (one : 1 ≤ d) (within : d + s + 1 ≤ e)
+    (apart : Apart a (d + 1) b (e + 1)) (fits : b + e < length w₀)
     (unit : (i * getD w₀ (a + d) 0) % n ≡ 1 % n) (ic : c ≡ (i * getD w (b + (d + s + 1)) 0) % n)
     (it : t ≡ (getD w (b + (d + s)) 0 + (n - c) * getD w (a + (d - 1)) 0) % n) (im : m ≡ (i * t) % n)
     (mv : Paired n (n - c) (n - m) a (b + s) d w w') (kp : Keeping n a d b e (s + 2) w₀ w) where
@@ -85,24 +93,31 @@ module _ (n a d b e s i c t m : ℕ) (w₀ w w' : List ℕ) (pos : 0 < n) (one :
   quotient-is : (j : ℕ) → second .q j ≡ kp .dividing .q j + (spot (suc s) c j + spot s m j)
   unfolding second first paired
   quotient-is j =
-      store-quotient n a d b e s s (b + (d + s)) m w₀ (set w' (b + (d + s + 1)) c) refl m-small (omega arith) (omega arith) long-next first j
+      store-quotient n a d b e s s (b + (d + s)) m w₀ (set w' (b + (d + s + 1)) c) refl m-small (omega arith)
+      (omega arith) long-next first j
       ∙ store-quotient n a d b e s (s + 1) (b + (d + s + 1)) c w₀ w' (omega arith) c-small (omega arith) (omega arith) long paired j
       ∙ double-quotient n a d b e s i c t m w₀ w w' pos one within apart unit ic it im mv (kp .dividing) j
 
-  stands : (j : ℕ) → s ≤ j → d + j < e + 1 → getD (set (set w' (b + (d + s + 1)) c) (b + (d + s)) m) (b + (d + j)) 0 ≡ kp .dividing .q j + (spot (suc s) c j + spot s m j)
+  stands : (j : ℕ) → s ≤ j → d + j < e + 1 → getD (set (set w' (b + (d + s + 1)) c) (b + (d + s)) m) (b + (d + j)) 0 ≡ kp .dividing .q j +
+      (spot (suc s) c j + spot s m j)
   stands j l h =
       ⊎-elim
       (λ p. let here : b + (d + s) ≡ b + (d + j) = omega arith in
-      subst (λ (y : ℕ). getD (set (set w' (b + (d + s + 1)) c) (b + (d + s)) m) y 0 ≡ kp .dividing .q j + (spot (suc s) c j + spot s m j)) here
+      subst (λ (y : ℕ). getD (set (set w' (b + (d + s + 1)) c) (b + (d + s)) m) y 0 ≡ kp .dividing .q j +
+      (spot (suc s) c j + spot s m j)) here
       (getD-set-same (set w' (b + (d + s + 1)) c) (b + (d + s)) m 0 (omega (arith, long-next))
-      ∙ lower (kp .dividing .q j) (spot (suc s) c j) (spot s m j) (kp .low j (omega arith)) (spot-low (suc s) c j (omega arith)) (spot-at s m j (sym p))))
+      ∙ lower (kp .dividing .q j) (spot (suc s) c j) (spot s m j) (kp .low j (omega arith)) (spot-low (suc s) c j (omega arith))
+      (spot-at s m j (sym p))))
       (λ p. ⊎-elim
       (λ r. let here : b + (d + s + 1) ≡ b + (d + j) = omega arith in
-      subst (λ (y : ℕ). getD (set (set w' (b + (d + s + 1)) c) (b + (d + s)) m) y 0 ≡ kp .dividing .q j + (spot (suc s) c j + spot s m j)) here
+      subst (λ (y : ℕ). getD (set (set w' (b + (d + s + 1)) c) (b + (d + s)) m) y 0 ≡ kp .dividing .q j +
+      (spot (suc s) c j + spot s m j)) here
       (two-at (b + (d + s + 1)) (b + (d + s)) c m w' (omega (arith, long)) (omega arith)
-      ∙ upper (kp .dividing .q j) (spot (suc s) c j) (spot s m j) (kp .low j (omega arith)) (spot-at (suc s) c j (sym r)) (spot-off s m j p)))
+      ∙ upper (kp .dividing .q j) (spot (suc s) c j) (spot s m j) (kp .low j (omega arith)) (spot-at (suc s) c j (sym r))
+      (spot-off s m j p)))
       (λ r. getD-set-other (set w' (b + (d + s + 1)) c) (b + (d + s)) (b + (d + j)) m 0 (omega arith)
-      ∙ getD-set-other w' (b + (d + s + 1)) (b + (d + j)) c 0 (omega arith) ∙ mv .high (b + (d + j)) (omega arith) ∙ kp .kept j (omega arith) h
+      ∙ getD-set-other w' (b + (d + s + 1)) (b + (d + j)) c 0 (omega arith) ∙ mv .high (b + (d + j)) (omega arith) ∙ kp .kept j
+      (omega arith) h
       ∙ rest (kp .dividing .q j) (spot (suc s) c j) (spot s m j) (spot-off (suc s) c j r) (spot-off s m j (omega arith)))
       (eq-or-lt-of-le p))
       (eq-or-lt-of-le l)
@@ -119,14 +134,16 @@ module _ (n a d b e s i c t m : ℕ) (w₀ w w' : List ℕ) (pos : 0 < n) (one :
   pub keeping-double : Keeping n a d b e s w₀ (set (set w' (b + (d + s + 1)) c) (b + (d + s)) m)
   keeping-double = record {
     dividing = second;
-    low = λ j l. quotient-is j ∙ none (kp .dividing .q j) (spot (suc s) c j) (spot s m j) (kp .low j (omega arith)) (spot-low (suc s) c j (omega arith)) (spot-low s m j l);
+    low = λ j l. quotient-is j ∙ none (kp .dividing .q j) (spot (suc s) c j) (spot s m j) (kp .low j (omega arith))
+        (spot-low (suc s) c j (omega arith)) (spot-low s m j l);
     kept = λ j l h. stands j l h ∙ sym (quotient-is j);
   }
     where
       none : (q x y : ℕ) → q ≡ 0 → x ≡ 0 → y ≡ 0 → q + (x + y) ≡ 0
       none q x y hq hx hy = omega arith
 
-module _ (n a d b e i c : ℕ) (w₀ w w' : List ℕ) (pos : 0 < n) (within : d + 0 ≤ e) (apart : Apart a (d + 1) b (e + 1)) (fits : b + e < length w₀)
+module _ (n a d b e i c : ℕ) (w₀ w w' : List ℕ) (pos : 0 < n) (within : d + 0 ≤ e) (apart : Apart a (d + 1) b (e + 1))
+    (fits : b + e < length w₀)
     (unit : (i * getD w₀ (a + d) 0) % n ≡ 1 % n) (is : c ≡ (i * getD w (b + (d + 0)) 0) % n)
     (mv : Moved (addMul n (n - c)) a (b + 0) d w w') (kp : Keeping n a d b e (0 + 1) w₀ w) where
   single-small : c < n
@@ -154,21 +171,25 @@ module _ (n a d b e i c : ℕ) (w₀ w w' : List ℕ) (pos : 0 < n) (within : d 
     kept = λ j l h. ⊎-elim
         (λ p. let here : b + (d + 0) ≡ b + (d + j) = omega arith in
         subst (λ (y : ℕ). getD (set w' (b + (d + 0)) c) y 0 ≡ last .q j) here
-        (getD-set-same w' (b + (d + 0)) c 0 (omega (arith, single-long)) ∙ sym (single-quotient j ∙ ap₂ (λ (x y : ℕ). x + y) (kp .low j (omega arith)) (spot-at 0 c j (sym p)) ∙ zero-add c)))
-        (λ p. getD-set-other w' (b + (d + 0)) (b + (d + j)) c 0 (omega arith) ∙ mv .high (b + (d + j)) (omega arith) ∙ kp .kept j (omega arith) h
+        (getD-set-same w' (b + (d + 0)) c 0 (omega (arith, single-long)) ∙ sym
+        (single-quotient j ∙ ap₂ (λ (x y : ℕ). x + y) (kp .low j (omega arith)) (spot-at 0 c j (sym p)) ∙ zero-add c)))
+        (λ p. getD-set-other w' (b + (d + 0)) (b + (d + j)) c 0 (omega arith) ∙ mv .high (b + (d + j)) (omega arith) ∙ kp .kept j
+        (omega arith) h
         ∙ sym (single-quotient j ∙ ap (λ (x : ℕ). kp .dividing .q j + x) (spot-off 0 c j p) ∙ add-zero _))
         (eq-or-lt-of-le l);
   }
 
 -- no quotient word is to come
-pub keeping-end : (n a d b e s : ℕ) (w₀ w : List ℕ) → s ≡ 0 → d ≤ e + 1 → b + e < length w₀ → Keeping n a d b e s w₀ w → Quotient n a d b e w₀ w
+pub keeping-end : (n a d b e s : ℕ) (w₀ w : List ℕ) → s ≡ 0 → d ≤ e + 1 → b + e < length w₀ → Keeping n a d b e s w₀ w
+    → Quotient n a d b e w₀ w
 keeping-end n a d b e s w₀ w z near fits kp = record {
   around = kp .dividing .around;
   below = kp .dividing .below;
   divided = record {
     at = λ k.
         ap (λ (F : ℕ → ℕ). (convolve F (coef (piece w₀ a (d + 1))) k + coef (piece w b d) k) % n) (fun-ext word)
-        ∙ subst (λ (x : ℕ). (convolve (kp .dividing .q) (coef (piece w₀ a (d + 1))) k + coef (piece w b x) k) % n ≡ coef (piece w₀ b (e + 1)) k % n) here (kp .dividing .at k .same);
+        ∙ subst (λ (x : ℕ). (convolve (kp .dividing .q) (coef (piece w₀ a (d + 1))) k + coef (piece w b x) k) % n ≡ coef
+        (piece w₀ b (e + 1)) k % n) here (kp .dividing .at k .same);
   };
 }
   where

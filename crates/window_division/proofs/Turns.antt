@@ -4,7 +4,8 @@ use mathlib.Core.List.{List}
 use mathlib.Core.Logic.{⊎-elim}
 use Prim.Native.Nat.{ℕ, zero, suc, _+_, _-_, _*_, _%_, _≤_, _<_}
 use native.Mathlib.Omega.{arith}
-use native.Mathlib.Nat.{mod-lt, mul-mod-right, zero-mod, add-zero, zero-add, add-assoc, zero-mul, mul-zero, mul-one, add-mul, eq-or-lt-of-le}
+use native.Mathlib.Nat.{mod-lt, mul-mod-right, zero-mod, add-zero, zero-add, add-assoc, zero-mul, mul-zero, mul-one, add-mul}
+use native.Mathlib.Nat.{eq-or-lt-of-le}
 use lib.ListN.{getD}
 use Rattle.numbers.specs.Congruence.{Cong, c-refl, c-trans, c-eq, c-add, c-mul, c-mod, ring}
 use Rattle.definitions.specs.Polynomials.{coef, convolve}
@@ -20,9 +21,11 @@ convolve-none F zero = convolve-zero (λ (_ : ℕ). 0) F ∙ zero-mul (F 0)
 convolve-none F (suc k) = convolve-suc (λ (_ : ℕ). 0) F k ∙ ap₂ (λ (x y : ℕ). x + y) (zero-mul (F (suc k))) (convolve-none F k)
 
 pub convolve-add : (p q F : ℕ → ℕ) (k : ℕ) → convolve (λ (i : ℕ). p i + q i) F k ≡ convolve p F k + convolve q F k
-convolve-add p q F zero = convolve-zero (λ (i : ℕ). p i + q i) F ∙ add-mul (p 0) (q 0) (F 0) ∙ sym (ap₂ (λ (x y : ℕ). x + y) (convolve-zero p F) (convolve-zero q F))
+convolve-add p q F zero = convolve-zero (λ (i : ℕ). p i + q i) F ∙ add-mul (p 0) (q 0) (F 0) ∙ sym
+    (ap₂ (λ (x y : ℕ). x + y) (convolve-zero p F) (convolve-zero q F))
 convolve-add p q F (suc k) =
-    convolve-suc (λ (i : ℕ). p i + q i) F k ∙ ap₂ (λ (x y : ℕ). x + y) (add-mul (p 0) (q 0) (F (suc k))) (convolve-add (λ i. p (suc i)) (λ i. q (suc i)) F k)
+    convolve-suc (λ (i : ℕ). p i + q i) F k ∙ ap₂ (λ (x y : ℕ). x + y) (add-mul (p 0) (q 0) (F (suc k)))
+    (convolve-add (λ i. p (suc i)) (λ i. q (suc i)) F k)
     ∙ four (p 0 * F (suc k)) (q 0 * F (suc k)) (convolve (λ i. p (suc i)) F k) (convolve (λ i. q (suc i)) F k)
     ∙ sym (ap₂ (λ (x y : ℕ). x + y) (convolve-suc p F k) (convolve-suc q F k))
   where
@@ -77,7 +80,8 @@ risen-low (suc s) F (suc k) l = risen-low s F k (omega arith)
 pub convolve-spot : (s m : ℕ) (F : ℕ → ℕ) (k : ℕ) → convolve (spot s m) F k ≡ m * risen s F k
 unfolding spot risen
 convolve-spot zero m F zero = convolve-zero (spot 0 m) F
-convolve-spot zero m F (suc k) = convolve-suc (spot 0 m) F k ∙ ap (λ (x : ℕ). m * F (suc k) + x) (convolve-none F k) ∙ add-zero (m * F (suc k))
+convolve-spot zero m F (suc k) = convolve-suc (spot 0 m) F k ∙ ap (λ (x : ℕ). m * F (suc k) + x) (convolve-none F k) ∙ add-zero
+    (m * F (suc k))
 convolve-spot (suc s) m F zero = convolve-zero (spot (suc s) m) F ∙ zero-mul (F 0) ∙ sym (mul-zero m)
 convolve-spot (suc s) m F (suc k) =
     convolve-suc (spot (suc s) m) F k ∙ ap₂ (λ (x y : ℕ). x + y) (zero-mul (F (suc k))) (convolve-spot s m F k) ∙ zero-add (m * risen s F k)
@@ -110,7 +114,8 @@ dividing-start n a d b e s w h p = record {
   at = λ k. c-eq (ap₂ (λ (x y : ℕ). x + coef (piece w b y) k) (convolve-none (coef (piece w a (d + 1))) k) h ∙ zero-add _);
 }
 
-pub start-quotient : (n a d b e s : ℕ) (w : List ℕ) (h : d + s ≡ e + 1) (p : Below n b (e + 1) w) (j : ℕ) → dividing-start n a d b e s w h p .q j ≡ 0
+pub start-quotient : (n a d b e s : ℕ) (w : List ℕ) (h : d + s ≡ e + 1) (p : Below n b (e + 1) w) (j : ℕ)
+    → dividing-start n a d b e s w h p .q j ≡ 0
 unfolding dividing-start
 start-quotient n a d b e s w h p j = refl
 
@@ -132,11 +137,13 @@ module _ (n a d b e s i c : ℕ) (w₀ w w' : List ℕ) (pos : 0 < n) (within : 
   unfolding F
   turn k =
       ⊎-elim
-      (λ l. c-eq (ap₂ (λ (x y : ℕ). c * x + y) (risen-low s F k l) (piece-at w' b (d + s) k (omega arith) ∙ mv .low (b + k) (omega arith) ∙ sym (piece-at w b (d + (s + 1)) k (omega arith)))
+      (λ l. c-eq (ap₂ (λ (x y : ℕ). c * x + y) (risen-low s F k l) (piece-at w' b (d + s) k (omega arith) ∙ mv .low (b + k) (omega arith)
+      ∙ sym (piece-at w b (d + (s + 1)) k (omega arith)))
       ∙ ap (λ (x : ℕ). x + coef (piece w b (d + (s + 1))) k) (mul-zero c) ∙ zero-add _))
       (λ l. ⊎-elim
       (λ h. middle (k - s) (omega arith) (omega arith))
-      (λ h. ⊎-elim (λ q. head (sym q)) (λ q. c-eq (ap₂ (λ (x y : ℕ). c * x + y) (risen-at s F k (k - s) (omega arith) ∙ piece-over w₀ a (d + 1) (k - s) (omega arith)) (piece-over w' b (d + s) k (omega arith))
+      (λ h. ⊎-elim (λ q. head (sym q)) (λ q. c-eq (ap₂ (λ (x y : ℕ). c * x + y)
+      (risen-at s F k (k - s) (omega arith) ∙ piece-over w₀ a (d + 1) (k - s) (omega arith)) (piece-over w' b (d + s) k (omega arith))
       ∙ ap (λ (x : ℕ). x + 0) (mul-zero c) ∙ sym (piece-over w b (d + (s + 1)) k (omega arith)))) (eq-or-lt-of-le h))
       (lt-or-le k (d + s)))
       (lt-or-le k s)
@@ -145,13 +152,15 @@ module _ (n a d b e s i c : ℕ) (w₀ w w' : List ℕ) (pos : 0 < n) (within : 
       middle j q l =
           c-trans (c-eq (ap₂ (λ (x y : ℕ). c * x + y) (risen-at s F k j q)
           (piece-at w' b (d + s) k (omega arith) ∙ ap (λ (x : ℕ). getD w' x 0) (let z : b + k ≡ b + s + j = omega arith in z) ∙ mv .mid j l
-          ∙ ap₂ (λ (x y : ℕ). (x + (n - c) * y) % n) (ap (λ (x : ℕ). getD w x 0) (let z : b + s + j ≡ b + k = omega arith in z)) (read j (omega arith)))))
+          ∙ ap₂ (λ (x y : ℕ). (x + (n - c) * y) % n) (ap (λ (x : ℕ). getD w x 0) (let z : b + s + j ≡ b + k = omega arith in z))
+          (read j (omega arith)))))
           (c-trans (back n (getD w (b + k) 0) c (F j) small) (c-eq (sym (piece-at w b (d + (s + 1)) k (omega arith)))))
 
       head : k ≡ d + s → Cong n (c * risen s F k + coef (piece w' b (d + s)) k) (coef (piece w b (d + (s + 1))) k)
       head q =
           let x : ℕ = getD w (b + (d + s)) 0 in
-          c-trans (c-eq (ap₂ (λ (x y : ℕ). c * x + y) (risen-at s F k d (omega arith) ∙ piece-at w₀ a (d + 1) d (omega arith)) (piece-over w' b (d + s) k (omega arith)) ∙ add-zero _))
+          c-trans (c-eq (ap₂ (λ (x y : ℕ). c * x + y) (risen-at s F k d (omega arith) ∙ piece-at w₀ a (d + 1) d (omega arith))
+          (piece-over w' b (d + s) k (omega arith)) ∙ add-zero _))
           (c-trans (c-mul (c-trans (c-eq is) (c-mod (i * x))) (c-refl {a = getD w₀ (a + d) 0}))
           (c-trans (c-eq {b = x * (i * getD w₀ (a + d) 0)} (simp ring))
           (c-trans (c-mul (c-refl {a = x}) (record { same = unit }))
@@ -178,7 +187,10 @@ module _ (n a d b e s i c : ℕ) (w₀ w w' : List ℕ) (pos : 0 < n) (within : 
     q = λ j. dv .q j + spot s c j;
     top = λ j l. ap₂ (λ (x y : ℕ). x + y) (dv .top j l) (spot-off s c j (omega arith));
     at = λ k.
-        c-trans (c-eq (ap (λ (x : ℕ). x + coef (piece w' b (d + s)) k) (convolve-add (dv .q) (spot s c) (coef (piece w₀ a (d + 1))) k ∙ ap (λ (x : ℕ). convolve (dv .q) (coef (piece w₀ a (d + 1))) k + x) (convolve-spot s c (coef (piece w₀ a (d + 1))) k)) ∙ add-assoc _ _ _))
+        c-trans (c-eq (ap (λ (x : ℕ). x + coef (piece w' b (d + s)) k)
+        (convolve-add (dv .q) (spot s c) (coef (piece w₀ a (d + 1))) k ∙ ap
+        (λ (x : ℕ). convolve (dv .q) (coef (piece w₀ a (d + 1))) k + x) (convolve-spot s c (coef (piece w₀ a (d + 1))) k))
+        ∙ add-assoc _ _ _))
         (c-trans (c-add c-refl (turn k)) (dv .at k));
   }
 

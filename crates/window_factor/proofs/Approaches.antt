@@ -10,7 +10,8 @@
 use mathlib.Core.Path.{_≡_, refl, sym, ap, subst, _∙_}
 use mathlib.Core.Logic.{⊎-elim}
 use Prim.Native.Nat.{ℕ, zero, suc, _+_, _-_, _*_, _≤_, _<_, _∣_}
-use native.Mathlib.Nat.{add-zero, mul-zero, zero-mul, one-mul, mul-comm, mul-assoc, mod-eq-zero-of-dvd, dvd-trans, dvd-mul-right, one-dvd, pos-of-dvd-of-pos, mod-eq-of-lt, dvd-one}
+use native.Mathlib.Nat.{add-zero, mul-zero, zero-mul, one-mul, mul-comm, mul-assoc, mod-eq-zero-of-dvd, dvd-trans, dvd-mul-right, one-dvd}
+use native.Mathlib.Nat.{pos-of-dvd-of-pos, mod-eq-of-lt, dvd-one}
 use native.Mathlib.Decide.{ℕ-discrete}
 use native.Mathlib.Omega.{arith}
 use Rattle.numbers.specs.Congruence.{Cong, c-refl, c-sym, c-trans, c-eq, c-add, c-mul, c-dvd, c-zero, dvd-c, c-times, ring}

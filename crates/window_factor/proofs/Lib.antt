@@ -1,4 +1,5 @@
 pub mod Approaches
+pub mod Cases
 pub mod Leads
 pub mod Rounds
 pub mod SeriesLaws

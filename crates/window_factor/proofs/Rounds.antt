@@ -1,14 +1,20 @@
--- The rounds of `unit_times_monic`, on the words of its buffer: f at 0, H at d + 1, the room at d + 1 + (t + 1).
+-- The rounds of `unit_times_monic`, at any width, on the words of its buffer: f at 0, H at d + 1, the room at d + 1 + (t + 1).
 --
---   ready, round, round-one what `divide_copy` asks of the division, and what comes of it
---   RoundHolds                    what the loop keeps of the buffer
---   enter, again, leave     the loop's first turn, a turn, and its end
+--   round-sizes, round-pair, round-lead    what `divide_copy` asks of the division
+--   round, round-one, round-left           what comes of it
+--   RoundHolds, Nearing                    what the loop keeps of the buffer
+--   enter, again, leave                    the loop's first turn, a turn, and its end
+--   rounds, turns                          the rules of `divide_copy` and of the loop
 use mathlib.Core.Path.{_≡_, sym, ap, ap₂, subst, fun-ext, _∙_}
 use mathlib.Core.List.{List}
 use mathlib.Core.Logic.{_⊎_, inl, inr, ⊎-elim}
 use Prim.Native.Nat.{ℕ, zero, suc, _+_, _-_, _*_, _%_, _≤_, _<_}
 use native.Mathlib.Omega.{arith}
 use native.Mathlib.Nat.{mod-lt, mod-eq-of-lt, add-zero, one-mul, mul-zero, le-of-dvd, eq-or-lt-of-le}
+use mir.Facts.{fits-le}
+use mir.Syntax.{Width}
+use mir.Val.{Fits}
+use borrow.Author.Needs.{needs}
 use lib.ListN.{length, getD, drop, length-drop}
 use lib.Seq.{length-take-le}
 use borrow.Rule.Slice.PartMut.{midOf}
@@ -20,15 +26,14 @@ use Rattle.windows.specs.Window.{piece, Moved, addMul, mulBy, second, Below, Ar
 use Rattle.windows.proofs.Leaf.{lt-or-le, piece-at, piece-over}
 use Rattle.windows.proofs.Lift.{piece-low, piece-equal, around-none, around-trans, around-wide, moved-around, moved-copy, below-is}
 use Rattle.windows.proofs.Parts.{mid-at}
-use Rattle.window_division.specs.Remainders.{Pair, Quotient}
-use Rattle.window_factor.specs.Factors.{Given, Round, Factored}
+use Rattle.window_division.specs.Remainders.{DivisionSizes, Pair, Quotient}
+use Rattle.window_factor.specs.Factors.{Given, RoundGiven, Round, RoundLeft, Factored}
 use Rattle.window_factor.proofs.Uniqueness.{MonicAt, DividedBy}
 use Rattle.window_factor.proofs.Approaches.{Near, near-start, near-next, done, quotient-nilpotent, quotient-unit}
 
 -- ---- a round: f copied, and divided by H
 
-module _ (n d t : ℕ) (w w2 : List ℕ) (td : t ≤ d) (fits : d + 1 + (t + 1 + (d + 1)) ≤ length w)
-    (mv : Moved second 0 (d + 1 + (t + 1)) (d + 1) w w2) where
+module _ (n d t : ℕ) (w w2 : List ℕ) (g : RoundGiven n d t w) (mv : Moved second 0 (d + 1 + (t + 1)) (d + 1) w w2) where
   same-h : piece w2 (d + 1) (t + 1) ≡ piece w (d + 1) (t + 1)
   same-h = piece-low (moved-around mv) (d + 1) (t + 1) (omega arith) (omega arith)
 
@@ -36,16 +41,24 @@ module _ (n d t : ℕ) (w w2 : List ℕ) (td : t ≤ d) (fits : d + 1 + (t + 1 +
   copied = moved-copy (omega arith) (omega arith) mv
 
   -- what the division asks
-  pub ready : Below n 0 (d + 1) w → Below n (d + 1) (t + 1) w → getD w (d + 1 + t) 0 ≡ 1
-      → Pair n (d + 1) t (d + 1 + (t + 1)) d w2 × ((1 * getD w2 (d + 1 + t) 0) % n ≡ 1 % n)
-  ready b h lead = (
-    record {
-      first = below-is n (d + 1) (d + 1) (t + 1) w w2 (λ k l. mv .low (d + 1 + k) (omega arith)) h;
-      second = below-is n 0 (d + 1 + (t + 1)) (d + 1) w w2 (λ k l. mv .mid k l) b;
-      apart = record { ok = λ i j p q e. omega arith };
-    },
-    ap (λ (x : ℕ). x % n) (one-mul (getD w2 (d + 1 + t) 0) ∙ mv .low (d + 1 + t) (omega arith) ∙ lead),
-  )
+  pub round-sizes : (t ≡ 0 → ⊥) → DivisionSizes n (d + 1) t (d + 1 + (t + 1)) d w2
+  round-sizes ne = record {
+    modulus = g .positive;
+    degree = omega (arith, ne);
+    near = omega (arith, g .within);
+    divisor = omega (arith, g .fits, mv .same);
+    dividend = omega (arith, g .fits, mv .same);
+  }
+
+  pub round-pair : Pair n (d + 1) t (d + 1 + (t + 1)) d w2
+  round-pair = record {
+    first = below-is n (d + 1) (d + 1) (t + 1) w w2 (λ k l. mv .low (d + 1 + k) (omega arith)) (g .below-h);
+    second = below-is n 0 (d + 1 + (t + 1)) (d + 1) w w2 (λ k l. mv .mid k l) (g .below-f);
+    apart = record { ok = λ i j p q e. omega arith };
+  }
+
+  pub round-lead : (1 * getD w2 (d + 1 + t) 0) % n ≡ 1 % n
+  round-lead = ap (λ (x : ℕ). x % n) (one-mul (getD w2 (d + 1 + t) 0) ∙ mv .low (d + 1 + t) (omega arith) ∙ g .monic)
 
   pub round : (w3 : List ℕ) → Quotient n (d + 1) t (d + 1 + (t + 1)) d w2 w3 → Round n d t w w3
   round w3 dv = record {
@@ -60,10 +73,10 @@ module _ (n d t : ℕ) (w w2 : List ℕ) (td : t ≤ d) (fits : d + 1 + (t + 1 +
   }
 
   -- H = 1: the copy is the quotient
-  pub round-one : t ≡ 0 → Below n 0 (d + 1) w → getD w (d + 1 + t) 0 ≡ 1 → Round n d t w w2
-  round-one z b lead = record {
+  pub round-one : t ≡ 0 → Round n d t w w2
+  round-one z = record {
     around = moved-around mv;
-    below = below-is n 0 (d + 1 + (t + 1)) (d + 1) w w2 (λ k l. mv .mid k l) b;
+    below = below-is n 0 (d + 1 + (t + 1)) (d + 1) w w2 (λ k l. mv .mid k l) (g .below-f);
     equation = record {
       at = λ k.
           ap (λ (x : ℕ). x % n) (ap₂ _+_ (convolve-comm (coef (piece w2 (d + 1 + (t + 1) + t) (d + 1 - t)))
@@ -76,7 +89,7 @@ module _ (n d t : ℕ) (w w2 : List ℕ) (td : t ≤ d) (fits : d + 1 + (t + 1 +
   }
     where
       one : (j : ℕ) → coef (piece w (d + 1) (t + 1)) j ≡ constant 1 j
-      one zero = piece-at w (d + 1) (t + 1) 0 (omega arith) ∙ ap (λ (x : ℕ). getD w (d + 1 + x) 0) (sym z) ∙ lead
+      one zero = piece-at w (d + 1) (t + 1) 0 (omega arith) ∙ ap (λ (x : ℕ). getD w (d + 1 + x) 0) (sym z) ∙ g .monic
       one (suc j) = piece-over w (d + 1) (t + 1) (suc j) (omega arith)
 
       whole : piece w2 (d + 1 + (t + 1) + t) (d + 1 - t) ≡ piece w 0 (d + 1)
@@ -92,7 +105,7 @@ pub record RoundHolds (n d t k i : ℕ) (F w : List ℕ) : Type 0 where
   pub below : Below n (d + 1) (t + 1) w
   pub near : Near n d t k i (coef F) (coef (piece w (d + 1) (t + 1)))
 
-pub held-less : {n d t k i : ℕ} {F w : List ℕ} → 0 < n → RoundHolds n d t k i F w → k < n
+held-less : {n d t k i : ℕ} {F w : List ℕ} → 0 < n → RoundHolds n d t k i F w → k < n
 held-less pos x = let a = x .near .more in let b = le-of-dvd pos (x .near .divides) in omega arith
 
 monic-piece : (n a t : ℕ) (w : List ℕ) → getD w (a + t) 0 ≡ 1 → MonicAt n t (coef (piece w a (t + 1)))
@@ -102,7 +115,7 @@ monic-piece n a t w e = record {
       (omega arith);
 }
 
-pub held-start : (n d t i : ℕ) (w w' : List ℕ) → 2 ≤ n → t ≤ d → d + 1 + (t + 1 + (d + 1)) ≤ length w → Given n d t i w
+held-start : (n d t i : ℕ) (w w' : List ℕ) → 2 ≤ n → t ≤ d → d + 1 + (t + 1 + (d + 1)) ≤ length w → Given n d t i w
     → Moved (mulBy n i) 0 (d + 1) (t + 1) w w'
     → RoundHolds n d t 0 i (piece w 0 (d + 1)) w'
 held-start n d t i w w' two td fits g mv =
@@ -178,7 +191,7 @@ module _ (n d t k i : ℕ) (F w w' : List ℕ) (two : 2 ≤ n) (td : t ≤ d) (f
     ];
   }
 
-  pub held-end : (w₀ : List ℕ) → piece w₀ 0 (d + 1) ≡ F → Around (d + 1) (t + 1 + (d + 1)) w₀ w'
+  held-end : (w₀ : List ℕ) → piece w₀ 0 (d + 1) ≡ F → Around (d + 1) (t + 1 + (d + 1)) w₀ w'
       → ((j : ℕ) → j < t → getD w' (d + 1 + (t + 1) + j) 0 ≡ 0) → Factored n d t w₀ w'
   unfolding H Q
   held-end w₀ e around zeros = record {
@@ -193,7 +206,7 @@ module _ (n d t k i : ℕ) (F w w' : List ℕ) (two : 2 ≤ n) (td : t ≤ d) (f
     };
   }
 
-  pub held-next : (z : ℕ) (w4 : List ℕ) → z < t → (getD w' (d + 1 + (t + 1) + z) 0 ≡ 0 → ⊥)
+  held-next : (z : ℕ) (w4 : List ℕ) → z < t → (getD w' (d + 1 + (t + 1) + z) 0 ≡ 0 → ⊥)
       → Moved (addMul n i) (d + 1 + (t + 1)) (d + 1) t w' w4 → RoundHolds n d t (k + 1) i F w4
   unfolding H R
   held-next z w4 zt nz mv =
@@ -235,53 +248,91 @@ module _ (n d t k i : ℕ) (F w w' : List ℕ) (two : 2 ≤ n) (td : t ≤ d) (f
       update j lead (inr l) = c-eq (kept j lead l ∙ sym (ap (λ (y : ℕ). coef H j + i * y) (short j l)
           ∙ ap (λ (y : ℕ). coef H j + y) (mul-zero i) ∙ add-zero _))
 
--- ---- the loop, between the lists that its calls leave
+-- the zeros of the remainder
+pub round-left : (n d t z : ℕ) (w w' : List ℕ) → RoundGiven n d t w → Round n d t w w'
+    → Zeros (midOf (d + 1 + (t + 1)) (d + 1 + (t + 1) + t - (d + 1 + (t + 1))) w') z → RoundLeft n d t z w w'
+round-left n d t z w w' g r zs = record {
+  round = r;
+  most = omega (arith, zs .most, count);
+  zero = λ k l. sym (mid-at (d + 1 + (t + 1)) (d + 1 + (t + 1) + t - (d + 1 + (t + 1))) w' k (omega (arith, zs .most, count)))
+      ∙ zs .zero k l;
+  next = λ l e. zs .next (omega (arith, count)) (mid-at (d + 1 + (t + 1)) (d + 1 + (t + 1) + t - (d + 1 + (t + 1))) w' z (omega arith) ∙ e);
+}
+  where
+    count : length (midOf (d + 1 + (t + 1)) (d + 1 + (t + 1) + t - (d + 1 + (t + 1))) w') ≡ t
+    count = length-take-le (d + 1 + (t + 1) + t - (d + 1 + (t + 1))) (drop (d + 1 + (t + 1)) w')
+        (simp length-drop (omega (arith, r .around .same, g .fits, g .within))) ∙
+        (let e : d + 1 + (t + 1) + t - (d + 1 + (t + 1)) ≡ t = omega arith in e)
 
--- what `zeros` says of t words from v on
-module _ (v m t r : ℕ) (w : List ℕ) (em : m ≡ t) (fits : v + t ≤ length w) (z : Zeros (midOf v m w) r) where
-  pub all-zero : r ≡ t → (j : ℕ) → j < t → getD w (v + j) 0 ≡ 0
-  all-zero e j l = sym (mid-at v m w j (omega arith)) ∙ z .zero j (omega arith)
+-- ---- the loop, as the code has it: w₀ is the buffer after the first scaling, w what it is now
 
-  count : length (midOf v m w) ≡ m
-  count = length-take-le m (drop v w) (simp length-drop (omega arith))
+pub record Nearing (n d t i : ℕ) (w₀ : List ℕ) (k : ℕ) (w : List ℕ) : Type 0 where
+  pub two : 2 ≤ n
+  pub within : t ≤ d
+  pub fits : d + 1 + (t + 1 + (d + 1)) ≤ length w
+  pub unit : (i * coef (piece w₀ 0 (d + 1)) t) % n ≡ 1 % n
+  pub radical : (j : ℕ) → t < j → InRadical n (coef (piece w₀ 0 (d + 1)) j)
+  pub around : Around (d + 1) (t + 1 + (d + 1)) w₀ w
+  pub holds : RoundHolds n d t k i (piece w₀ 0 (d + 1)) w
 
-  pub not-zero : (r ≡ t → ⊥) → (r < t) × (getD w (v + r) 0 ≡ 0 → ⊥)
-  not-zero ne =
-      let most = z .most in
-      let c = count in
-      (omega arith, λ e. z .next (omega arith) (mid-at v m w r (omega arith) ∙ e))
+pub enter : (n d t i : ℕ) (w w₀ : List ℕ) → Given n d t i w → Moved (mulBy n i) 0 (d + 1) (t + 1) w w₀ → 2 ≤ n → t ≤ d
+    → d + 1 + (t + 1 + (d + 1)) ≤ length w → Nearing n d t i w₀ 0 w₀
+enter n d t i w w₀ g sc two td fits = record {
+  two = two;
+  within = td;
+  fits = omega (arith, sc .same);
+  unit = ap (λ (F : List ℕ). (i * coef F t) % n) (begun .poly) ∙ g .unit;
+  radical = λ j l. subst (λ (F : List ℕ). InRadical n (coef F j)) (sym (begun .poly)) (nilpotent-radical (g .nilpotent j l));
+  around = around-none _ _ w₀;
+  holds = subst (λ (F : List ℕ). RoundHolds n d t 0 i F w₀) (sym (begun .poly)) begun;
+}
+  where
+    begun : RoundHolds n d t 0 i (piece w 0 (d + 1)) w₀
+    begun = held-start n d t i w w₀ two td fits g sc
 
-module _ (n d t i : ℕ) (w w0 : List ℕ) (two : 2 ≤ n) (td : t ≤ d) (fits : d + 1 + (t + 1 + (d + 1)) ≤ length w) (g : Given n d t i w)
-    (sc : Moved (mulBy n i) 0 (d + 1) (t + 1) w w0) where
-  begun : RoundHolds n d t 0 i (piece w 0 (d + 1)) w0
-  begun = held-start n d t i w w0 two td fits g sc
+module _ (n d t i k : ℕ) (w₀ w : List ℕ) (x : Nearing n d t i w₀ k w) where
+  pub turn-asked : (n' d' t' : ℕ) (w' : List ℕ) → n' ≡ n → d' ≡ d → t' ≡ t → w' ≡ w → RoundGiven n' d' t' w'
+  turn-asked n' d' t' w' en ed et ew = rw (en, ed, et, ew) (record {
+    positive = omega (arith, x .two);
+    within = x .within;
+    fits = x .fits;
+    below-f = x .holds .small;
+    below-h = x .holds .below;
+    monic = x .holds .lead;
+  })
 
-  same-given : piece w0 0 (d + 1) ≡ piece w 0 (d + 1)
-  same-given = begun .poly
+  pub turn-less : n - (k + 1) < n - k
+  turn-less = omega (arith, held-less (omega (arith, x .two)) (x .holds))
 
-  abbrev pub Loop : ℕ → List ℕ → Type 0
-  Loop k w1 = Around (d + 1) (t + 1 + (d + 1)) w0 w1 × RoundHolds n d t k i (piece w0 0 (d + 1)) w1
+  pub turn-fits : (B : Width) → Fits B n → Fits B (k + 1)
+  turn-fits B h = fits-le (let l = held-less (omega (arith, x .two)) (x .holds) in omega arith) h
 
-  pub enter : Loop 0 w0
-  enter = (around-none _ _ w0, subst (λ (F : List ℕ). RoundHolds n d t 0 i F w0) (sym same-given) begun)
+  module _ (z : ℕ) (w₃ : List ℕ) (r : RoundLeft n d t z w w₃) where
+    pub again : (k' : ℕ) (w₄ : List ℕ) → (z ≡ t → ⊥) → Moved (addMul n i) (d + 1 + (t + 1)) (d + 1) t w₃ w₄ → k' ≡ k + 1
+        → Nearing n d t i w₀ k' w₄
+    again k' w₄ ne mv e = rw e (record {
+      two = x .two;
+      within = x .within;
+      fits = omega (arith, mv .same, r .round .around .same, x .fits);
+      unit = x .unit;
+      radical = x .radical;
+      around = around-trans (x .around)
+          (around-trans (around-wide (d + 1) (t + 1 + (d + 1)) (omega arith) (omega arith) (r .round .around))
+          (around-wide (d + 1) (t + 1 + (d + 1)) (omega arith) (omega arith) (moved-around mv)));
+      holds = held-next n d t k i _ w w₃ (x .two) (x .within) (x .fits) (x .unit) (x .radical) (x .holds) (r .round) z w₄
+          (omega (arith, r .most)) (r .next (omega (arith, r .most))) mv;
+    })
 
-  unit : (i * coef (piece w0 0 (d + 1)) t) % n ≡ 1 % n
-  unit = ap (λ (F : List ℕ). (i * coef F t) % n) same-given ∙ g .unit
+    pub leave : (w' : List ℕ) → Moved (mulBy n i) 0 (d + 1) (t + 1) w' w₀ → z ≡ t → Factored n d t w' w₃
+    leave w' sc e =
+        held-end n d t k i _ w w₃ (x .two) (x .within) (x .fits) (x .unit) (x .radical) (x .holds) (r .round) w' same
+        (around-trans (around-wide (d + 1) (t + 1 + (d + 1)) (omega arith) (omega arith) (moved-around sc))
+        (around-trans (x .around) (around-wide (d + 1) (t + 1 + (d + 1)) (omega arith) (omega arith) (r .round .around))))
+        (λ j l. r .zero j (omega arith))
+      where
+        same : piece w' 0 (d + 1) ≡ piece w₀ 0 (d + 1)
+        same = sym (piece-low (moved-around sc) 0 (d + 1) (omega arith) (omega (arith, x .fits, x .around .same, sc .same)))
 
-  radical : (j : ℕ) → t < j → InRadical n (coef (piece w0 0 (d + 1)) j)
-  radical j l = subst (λ (F : List ℕ). InRadical n (coef F j)) (sym same-given) (nilpotent-radical (g .nilpotent j l))
+pub ruleset rounds = (needs, round-sizes, round-pair, round-lead, round, round-one, round-left)
 
-  pub again : (k z : ℕ) (w1 w3 w4 : List ℕ) → Loop k w1 → Round n d t w1 w3 → (z < t) × (getD w3 (d + 1 + (t + 1) + z) 0 ≡ 0 → ⊥)
-      → Moved (addMul n i) (d + 1 + (t + 1)) (d + 1) t w3 w4 → Loop (k + 1) w4
-  again k z w1 w3 w4 x r nz mv = (
-    around-trans (x .0) (around-trans (around-wide (d + 1) (t + 1 + (d + 1)) (omega arith) (omega arith) (r .around))
-        (around-wide (d + 1) (t + 1 + (d + 1)) (omega arith) (omega arith) (moved-around mv))),
-    held-next n d t k i _ w1 w3 two td (omega (arith, x .0 .same, sc .same)) unit radical (x .1) r z w4 (nz .0) (nz .1) mv,
-  )
-
-  pub leave : (k : ℕ) (w1 w3 : List ℕ) → Loop k w1 → Round n d t w1 w3 → ((j : ℕ) → j < t → getD w3 (d + 1 + (t + 1) + j) 0 ≡ 0)
-      → Factored n d t w w3
-  leave k w1 w3 x r zs =
-      held-end n d t k i _ w1 w3 two td (omega (arith, x .0 .same, sc .same)) unit radical (x .1) r w (sym same-given)
-      (around-trans (around-wide (d + 1) (t + 1 + (d + 1)) (omega arith) (omega arith) (moved-around sc))
-      (around-trans (x .0) (around-wide (d + 1) (t + 1 + (d + 1)) (omega arith) (omega arith) (r .around)))) zs
+pub ruleset turns = (tt, enter, turn-asked, turn-less, turn-fits, leave, again)

@@ -10,7 +10,8 @@ use mathlib.Core.Logic.{inl, inr, ⊎-elim}
 use Prim.Native.Nat.{ℕ, zero, suc, _+_, _-_, _*_, _/_, _%_, _^_, _≤_, _<_, _∣_}
 use native.Mathlib.Omega.{arith}
 use native.Mathlib.Decide.{decLt}
-use native.Mathlib.Nat.{mod-eq-of-lt, mul-zero, zero-mul, one-mul, add-zero, zero-add, pow-zero, pow-suc, mul-comm, zero-mod, dvd-trans, dvd-mul-right, mul-div-cancel'}
+use native.Mathlib.Nat.{mod-eq-of-lt, mul-zero, zero-mul, one-mul, add-zero, zero-add, pow-zero, pow-suc, mul-comm, zero-mod, dvd-trans}
+use native.Mathlib.Nat.{dvd-mul-right, mul-div-cancel'}
 use Rattle.numbers.specs.Congruence.{Cong, c-refl, c-sym, c-trans, c-eq, c-add, c-mul, c-zero, ring}
 use Rattle.numbers.specs.Divisors.{gcd-exists}
 use Rattle.numbers.specs.Nilpotents.{InRadical, nilpotent-radical, radical-power}

@@ -1,10 +1,15 @@
--- What a turn of `series_inverse` keeps: the product of the words so far is s U_0 so far.
+-- What a turn of `series_inverse` keeps, at any width: the product of the words so far is s U_0 so far.
+--
+--   word-is    the word that `series_word` makes
+--   Growing    the invariant, with its start, turn and end
+--   series     the rules
 use mathlib.Core.Path.{_≡_, refl, sym, ap, ap₂, subst, _∙_}
 use mathlib.Core.List.{List}
 use mathlib.Core.Logic.{⊎-elim}
 use Prim.Native.Nat.{ℕ, zero, suc, _+_, _-_, _*_, _%_, _≤_, _<_}
 use native.Mathlib.Omega.{arith}
 use native.Mathlib.Nat.{mod-lt, mul-mod-right, zero-mod, one-mul, eq-or-lt-of-le}
+use borrow.Author.Needs.{needs}
 use lib.ListN.{length, getD, set, take, drop, length-set}
 use lib.Seq.{getD-set-same, getD-set-other}
 use Rattle.numbers.specs.Congruence.{Cong, c-refl, c-sym, c-trans, c-eq, c-add, c-mul, c-mod}
@@ -14,12 +19,12 @@ use Rattle.convolution.specs.Sums.{convolve-comm}
 use Rattle.windows.specs.Window.{piece, Below}
 use Rattle.windows.proofs.Leaf.{lt-or-le, piece-at, piece-over}
 use Rattle.windows.proofs.Lift.{piece-low}
-use Rattle.window_factor.specs.Factors.{next-word, Series}
+use Rattle.window_factor.specs.Factors.{next-word, SeriesGiven, Series}
 
 -- ---- the words that `series_word` reads
 
 -- the slice after the constant of U
-pub tail-words : (w : List ℕ) (k m : ℕ) → m ≡ k → (x : ℕ) → coef (take m (drop 1 w)) x ≡ coef (piece w 0 (k + 1)) (suc x)
+tail-words : (w : List ℕ) (k m : ℕ) → m ≡ k → (x : ℕ) → coef (take m (drop 1 w)) x ≡ coef (piece w 0 (k + 1)) (suc x)
 unfolding piece
 tail-words w k m e x =
     ⊎-elim
@@ -28,25 +33,26 @@ tail-words w k m e x =
     (λ l. piece-over w 1 m x (omega arith) ∙ sym (piece-over w 0 (k + 1) (suc x) (omega arith)))
     (lt-or-le x k)
 
-pub series-words : (w : List ℕ) (k j m : ℕ) → m ≡ j → take m (drop (k + 1) w) ≡ piece w (k + 1) j
+series-words : (w : List ℕ) (k j m : ℕ) → m ≡ j → take m (drop (k + 1) w) ≡ piece w (k + 1) j
 unfolding piece
 series-words w k j m e = ap (λ (y : ℕ). take y (drop (k + 1) w)) e
 
 -- the word, as `product_word` and `mul_mod` make it
-pub word-is : (n i s k j m : ℕ) (w f : List ℕ) (x r : ℕ) → 0 < j → m ≡ j → f ≡ take k (drop 1 w)
-    → x ≡ convolve (coef f) (coef (take m (drop (k + 1) w))) (j - 1) % n → r ≡ ((n - i) * x) % n
-    → r ≡ next-word n i s (coef (piece w 0 (k + 1))) (coef (piece w (k + 1) j)) j
-word-is n i s k zero m w f x r l e ef ex er = absurd (omega arith)
-word-is n i s k (suc j) m w f x r l e ef ex er =
+pub word-is : (n i s k j : ℕ) (w : List ℕ) (x r : ℕ)
+    → x ≡ convolve (coef (take (k + 1 - 1) (drop 1 w))) (coef (take (k + 1 + j - (k + 1)) (drop (k + 1) w))) (j - 1) % n
+    → r ≡ ((n - i) * x) % n → (j ≡ 0 → ⊥) → r ≡ next-word n i s (coef (piece w 0 (k + 1))) (coef (piece w (k + 1) j)) j
+word-is n i s k zero w x r ex er ne = absurd (ne refl)
+word-is n i s k (suc j) w x r ex er ne =
     let z : suc j - 1 ≡ j = omega arith in
     er ∙ ap (λ (y : ℕ). ((n - i) * y) % n) (ex
-    ∙ ap₂ (λ (y : List ℕ) (v : ℕ). convolve (coef f) (coef y) v % n) (series-words w k (suc j) m e) z
+    ∙ ap₂ (λ (y : List ℕ) (v : ℕ). convolve (coef (take (k + 1 - 1) (drop 1 w))) (coef y) v % n)
+    (series-words w k (suc j) (k + 1 + suc j - (k + 1)) (omega arith)) z
     ∙ ap (λ (y : ℕ). y % n) (total-cong (suc j) _ _ (λ y b. ap (λ (v : ℕ). v * coef (piece w (k + 1) (suc j)) (j - y))
-    (ap (λ (v : List ℕ). coef v y) ef ∙ tail-words w k k refl y))))
+    (tail-words w k (k + 1 - 1) (omega arith) y))))
 
 -- ---- the turn
 
-pub series-start : (n k s : ℕ) (w : List ℕ) → Series n k s 0 w w
+series-start : (n k s : ℕ) (w : List ℕ) → Series n k s 0 w w
 series-start n k s w = record {
   around = record { same = refl; low = λ x l. refl; high = λ x l. refl };
   below = record { at = λ x l. absurd (omega arith) };
@@ -117,7 +123,7 @@ module _ (n k i s j v : ℕ) (w₀ w : List ℕ) (pos : 0 < n) (less : s < n) (l
       (λ l. subst (λ (y : ℕ). y < n) (sym (value (suc (j - 1)) (omega arith))) (mod-lt _ pos))
       (eq-or-lt-of-le (let z : 0 ≤ j = omega arith in z))
 
-  pub series-step : Series n k s (j + 1) w₀ (set w (k + 1 + j) v)
+  series-step : Series n k s (j + 1) w₀ (set w (k + 1 + j) v)
   unfolding U Y Y' w'
   series-step = record {
     around = record {
@@ -138,3 +144,29 @@ module _ (n k i s j v : ℕ) (w₀ w : List ℕ) (pos : 0 < n) (less : s < n) (l
         (λ b. now-at h (omega arith))
         (lt-or-le h j);
   }
+
+-- ---- as the code has it
+
+pub record Growing (n k s len : ℕ) (w₀ w : List ℕ) (j : ℕ) : Type 0 where
+  pub most : j ≤ len
+  pub done : Series n k s j w₀ w
+
+pub growing-start : (n k s len : ℕ) (w : List ℕ) → Growing n k s len w w 0
+growing-start n k s len w = record { most = omega arith; done = series-start n k s w }
+
+module _ (n k i s len j : ℕ) (w₀ w : List ℕ) (x : Growing n k s len w₀ w j) (less : s < n) (li : i ≤ n)
+    (fits : k + 1 + len ≤ length w₀) (l : j < len) where
+  pub word-asked : SeriesGiven n k i j w
+  word-asked = record { positive = omega arith; inverse = li; fits = omega (arith, x .done .around .same) }
+
+  pub growing-next : (v j' : ℕ) (w' : List ℕ) → (i * coef (piece w₀ 0 (k + 1)) 0) % n ≡ 1 % n
+      → v ≡ next-word n i s (coef (piece w 0 (k + 1))) (coef (piece w (k + 1) j)) j → w' ≡ set w (k + 1 + j) v → j' ≡ j + 1
+      → Growing n k s len w₀ w' j'
+  growing-next v j' w' unit is ew ej =
+      rw (ew, ej)
+      (record { most = omega arith; done = series-step n k i s j v w₀ w (omega arith) less li unit (omega arith) (x .done) is })
+
+pub growing-end : (n k s len j : ℕ) (w₀ w : List ℕ) → Growing n k s len w₀ w j → len ≤ j → Series n k s len w₀ w
+growing-end n k s len j w₀ w x h = let e : j ≡ len = omega (arith, x .most) in rw e at (x .done)
+
+pub ruleset series = (needs, word-is, growing-start, word-asked, growing-next, growing-end)

@@ -6,6 +6,7 @@
 --   AllNilpotents n f     every coefficient of f is nilpotent
 --   Given, Factored       unit times monic: what is asked of f, and what then stands in the buffer
 --   RoundGiven, Round     one division of f by H: what is asked, and what it leaves
+--   RoundLeft             the same, and the number of zeros that the remainder begins with
 --   SeriesGiven, Series   the words of a power series with a given product: what the next word asks, and what stands at the end
 use mathlib.Core.Path.{_≡_}
 use mathlib.Core.List.{List}
@@ -62,6 +63,13 @@ pub record Round (n d t : ℕ) (w w' : List ℕ) : Type 0 where
   pub below : Below n (d + 1 + (t + 1)) (d + 1) w'
   pub equation : Divided n (piece w 0 (d + 1)) (piece w (d + 1) (t + 1)) (piece w' (d + 1 + (t + 1) + t) (d + 1 - t))
       (piece w' (d + 1 + (t + 1)) t)
+
+-- and the t words of the remainder begin with z zeros
+pub record RoundLeft (n d t z : ℕ) (w w' : List ℕ) : Type 0 where
+  pub round : Round n d t w w'
+  pub most : z ≤ t
+  pub zero : (k : ℕ) → k < z → getD w' (d + 1 + (t + 1) + k) 0 ≡ 0
+  pub next : z < t → getD w' (d + 1 + (t + 1) + z) 0 ≡ 0 → ⊥
 
 -- f is U H: H after f, U in the upper d + 1 - t words of the room
 pub record Factored (n d t : ℕ) (w w' : List ℕ) : Type 0 where

@@ -8,6 +8,7 @@
 //
 //   highest_of          the highest coefficient that is not nilpotent
 //   divide_copy         a copy of f divided by H
+//   divide_round        the same, and the zeros of the remainder counted
 //   unit_times_monic    f = U H, U a unit polynomial, H monic
 //   series_word         one word of s U_0 / U as a power series
 //   series_inverse      all of them: the inverse of U where s is that of U_0
@@ -16,7 +17,7 @@ ghost use Prim.Native.Nat.{_+_, _*_, _%_, _<_, _≤_};
 ghost use lib.ListN.{length};
 ghost use Rattle.definitions.specs.Polynomials.{coef};
 ghost use Rattle.windows.specs.Window.{piece};
-ghost use Rattle.window_factor.specs.Factors.{HighestOf, RoundGiven, Round, Given, Factored, SeriesGiven, next-word, Series};
+ghost use Rattle.window_factor.specs.Factors.{HighestOf, RoundGiven, Round, RoundLeft, Given, Factored, SeriesGiven, next-word, Series};
 
 // A unit with its place and its inverse; a coefficient that splits n into two factors; or neither.
 pub enum Highest {
@@ -60,6 +61,16 @@ fn divide_copy(w: &mut [u32], n: u32, d: usize, t: usize)
     window_division::divide_keeping(w, n, h, t, v, d, 1);
 }
 
+// A round: a copy of f divided by H, as in `divide_copy`. Answers the number of zeros that the t words of the remainder begin with.
+fn divide_round(w: &mut [u32], n: u32, d: usize, t: usize) -> usize
+    requires { ⌜ RoundGiven n d t (now w) ⌝ }
+    ensures { λ z. ⌜ RoundLeft n d t z (now (w .entry)) (now (w .exit)) ⌝ }
+{
+    let v = d + 1 + (t + 1);
+    divide_copy(w, n, d, t);
+    windows::zeros(&w[v..v + t])
+}
+
 // f = U H, where coefficient t of f has the inverse i and those above it are nilpotent: f at 0, H after it, U in the upper words of
 // the room after H. H is f_t^-1 (f_0 .. f_t) at first, and gains f_t^-1 times the remainder of f by H until that is 0.
 pub fn unit_times_monic(w: &mut [u32], n: u32, d: usize, t: usize, i: u32)
@@ -72,8 +83,7 @@ pub fn unit_times_monic(w: &mut [u32], n: u32, d: usize, t: usize, i: u32)
     windows::scale(w, n, i, 0, h, t + 1);
     let mut k: u32 = 0;
     loop {
-        divide_copy(w, n, d, t);
-        if windows::zeros(&w[v..v + t]) == t {
+        if divide_round(w, n, d, t) == t {
             return;
         }
         windows::add_scaled(w, n, i, v, h, t);

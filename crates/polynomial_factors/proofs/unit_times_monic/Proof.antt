@@ -1,8 +1,8 @@
 use borrow.Author.Needs.{needs}
 use Rattle.refusals.specs.Refusals.{narrow}
-use Rattle.polynomial_factors.proofs.Answers.{factors-refused}
+use Rattle.polynomial_factors.proofs.Answers.{factors-refused, late-told, done-told}
 use Rattle.polynomial_factors.proofs.Ends.{modulus-told, modulus-one, place-told, place-scaled, place-word}
-use Rattle.polynomial_factors.proofs.Ends.{room-first, room-second, words-asked, late-told, done-told}
+use Rattle.polynomial_factors.proofs.Ends.{room-first, room-second, words-asked}
 use Rattle.polynomial_factors.proofs.unit_times_monic.Statement.{statement}
 use Rattle.polynomial_factors.proofs.unit_times_monic.Tie as tie
 

@@ -1,31 +1,16 @@
-use borrow.Author.Needs.{needs}
-use lib.ListN.{length}
 use mathlib.Core.Path.{_≡_}
+use lib.ListN.{length}
+use borrow.Author.Needs.{needs}
 use Rattle.why_trial.proofs.run.Statement.{statement}
 use Rattle.why_trial.proofs.run.Tie as tie
-
-abbrev Inv-loop : tie.InvT-loop
-Inv-loop line₀ words₀ work₀ turns₀ line words work turns = (length line ≡ length line₀) × ((length words ≡ length words₀) × (length work ≡ length work₀))
-
-abbrev μ-loop : tie.MeasureT-loop
-μ-loop line₀ words₀ work₀ turns₀ line words work turns = turns
 
 pub run-spec : {M : Type 1} → statement M
 run-spec =
     tie.close
     (tie.spec
-    Inv-loop
-    μ-loop
-    (λ c. search needs)
-    (λ c κs. search needs)
-    (λ c. search needs)
-    (λ c. search needs)
-    (λ c. search needs)
-    (λ c. search needs)
-    (λ c. search needs)
-    (λ c. search needs)
-    (λ c. search needs)
-    (λ c. search needs)
-    (λ c. search needs)
-    (λ c. search needs)
-    (λ c. search needs))
+    (λ line₀ words₀ w₀ work₀ turns₀ line words w work turns. (length line ≡ length line₀) × ((length words ≡ length words₀)
+    × ((length w ≡ length w₀) × (length work ≡ length work₀))))
+    (λ line₀ words₀ w₀ work₀ turns₀ line words w work turns. turns)
+    (λ c. search needs) (λ c κs. search needs) (λ c. search needs) (λ c. search needs) (λ c. search needs) (λ c. search needs)
+    (λ c. search needs) (λ c. search needs) (λ c. search needs) (λ c. search needs) (λ c. search needs) (λ c. search needs)
+    (λ c. search needs) (λ c. search needs) (λ c. search needs))

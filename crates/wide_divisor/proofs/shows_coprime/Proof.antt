@@ -1,5 +1,5 @@
 use borrow.Author.Needs.{needs}
-use Rattle.wide_divisor.proofs.Ways.{shown}
+use Rattle.wide_divisor.proofs.Ways.{ways}
 use Rattle.wide_divisor.proofs.shows_coprime.Statement.{statement}
 use Rattle.wide_divisor.proofs.shows_coprime.Tie as tie
 
@@ -8,4 +8,4 @@ shows-coprime-spec =
     tie.close
     (tie.spec
     (λ c. search needs) (λ c. search needs) (λ c κs. search needs) (λ c κs. search needs) (λ c. search needs)
-    (λ c. (search shown, search needs)))
+    (λ c. (search ways, search needs)))

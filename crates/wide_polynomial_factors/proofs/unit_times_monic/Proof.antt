@@ -1,8 +1,8 @@
 use borrow.Author.Needs.{needs}
 use Rattle.wide_refusals.specs.Wide.{wide}
-use Rattle.polynomial_factors.proofs.Answers.{factors-refused}
+use Rattle.polynomial_factors.proofs.Answers.{factors-refused, late-told, done-told}
 use Rattle.polynomial_factors.proofs.Ends.{modulus-told, modulus-one, place-told, place-scaled}
-use Rattle.polynomial_factors.proofs.Ends.{room-first, room-second, words-asked, late-told, done-told}
+use Rattle.polynomial_factors.proofs.Ends.{room-first, room-second, words-asked}
 use Rattle.wide_polynomial_factors.proofs.unit_times_monic.Statement.{statement}
 use Rattle.wide_polynomial_factors.proofs.unit_times_monic.Tie as tie
 

@@ -1,5 +1,6 @@
 use borrow.Author.Needs.{needs}
-use Rattle.polynomial_product.proofs.Answers.{some-told, tests}
+use Rattle.refusals.proofs.Cascade.{some-told}
+use Rattle.polynomial_product.proofs.Answers.{tests}
 use Rattle.wide_polynomial_product.proofs.refusal_product.Statement.{statement}
 use Rattle.wide_polynomial_product.proofs.refusal_product.Tie as tie
 

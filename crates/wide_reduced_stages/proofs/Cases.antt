@@ -1,0 +1,58 @@
+-- The answers of the two enums of this width, taken apart by the arm that the code is in.
+--
+--   done-at, parts-at       of the clearing: the stage ends
+--   next-…                  of the clearing: the division stage goes on, and what its answer comes to
+--   stages                  the rules, with those of both widths
+use mathlib.Core.Path.{_≡_, subst}
+use mathlib.Core.List.{List}
+use Prim.Native.Nat.{ℕ, _+_, _*_, _/_, _≤_, _<_}
+use mir.Syntax.{Width}
+use mir.Val.{Fits}
+use mir.Facts.{fits-le}
+use borrow.Author.Needs.{needs}
+use Rattle.windows.specs.Window.{Kept}
+use Rattle.wide_residue.specs.declared.Attempt.{Attempt}
+use Rattle.wide_residue.specs.declared.Attempt.the-variants.{Value, Splits}
+use Rattle.reduced_units.specs.States.{StageAt, Splitter, UnitCleared}
+use Rattle.reduced_units.specs.declared.Places.{Places}
+use Rattle.wide_reduced_clearing.specs.declared.Clearing.{Clearing}
+use Rattle.wide_reduced_clearing.specs.declared.Clearing.the-variants.{Done, Parts, Next}
+use Rattle.wide_reduced_clearing.specs.Clearings.{Clears}
+use Rattle.wide_reduced_stages.specs.StageAnswers.{DivisionAsked, StageAnswer}
+use Rattle.reduced_stages.proofs.Steps.{steps}
+use Rattle.reduced_stages.proofs.Endings.{cleared-falls, cleared-asked, cleared-splitter, product-most, cleared-solved, endings}
+
+module _ (n ν a : ℕ) (p : Places) (w w₁ : List ℕ) (r : Clearing) (x : Clears n ν p a w w₁ r) where
+  pub done-at : (D : ℕ) → r ≡ Done D → StageAnswer n ν p a a w w₁ (Value D)
+  done-at D e = subst (Clears n ν p a w w₁) e x
+
+  pub parts-at : (f g : ℕ) → r ≡ Parts f g → Splitter ν f g
+  parts-at f g e = subst (Clears n ν p a w w₁) e x
+
+  module _ {c s l : ℕ} (e : r ≡ Next c s l) where
+    cleared : UnitCleared n ν (p .t) (p .pa) a (p .pb) (p .al) (p .be) c s l w w₁
+    cleared = subst (Clears n ν p a w w₁) e x
+
+    pub next-positive : 1 ≤ c
+    next-positive = cleared .positive
+
+    pub next-falls : {m : ℕ} → 2 * (a + ν) ≡ m → 2 * (s + ν / c) + 1 < m
+    next-falls = cleared-falls cleared
+
+    pub next-asked : {n' ν' a' s' i' l' : ℕ} {p' : Places} {v : List ℕ} → n' ≡ n → ν' ≡ ν / c → p' ≡ p → a' ≡ a → s' ≡ s → i' ≡ 1
+        → l' ≡ l → v ≡ w₁ → DivisionAsked n' ν' p' a' s' i' l' v
+    next-asked en eν ep ea es ei el ev = rw (en, eν, ep, ea, es, ei, el, ev) (cleared-asked p cleared)
+
+    module _ (w' : List ℕ) (q : Attempt) (y : StageAnswer n (ν / c) p a (s + 1) w₁ w' q) where
+      pub next-fits : {u : Width} {D x : ℕ} → q ≡ Value D → Fits u ν → x ≡ c * D → Fits u x
+      next-fits h v ex = rw ex (fits-le (product-most cleared (subst (StageAnswer n (ν / c) p a (s + 1) w₁ w') h y)) v)
+
+      pub next-solved : {k D : ℕ} → q ≡ Value D → StageAt n ν p a a k w → Kept (p .t + 1) w w₁ → StageAnswer n ν p a a w w' (Value (c * D))
+      next-solved h st kept = cleared-solved cleared (subst (StageAnswer n (ν / c) p a (s + 1) w₁ w') h y) st kept
+
+      pub next-splitter : {f g : ℕ} → q ≡ Splits f g → Splitter ν f g
+      next-splitter h = cleared-splitter cleared (subst (StageAnswer n (ν / c) p a (s + 1) w₁ w') h y)
+
+pub ruleset nexts = (next-positive, next-falls, next-asked, next-fits, next-solved, next-splitter)
+
+pub ruleset stages = (needs, steps, endings, done-at, parts-at, nexts)
