@@ -10,7 +10,7 @@ come after it.
 The resultants of degrees up to 2 come from the formulas of their determinants, which are compared with determinants of Sylvester's matrix
 by permutations; so are the two determinants of tools/reference.py, from which the others come."""
 import itertools, random
-from reference import MARK, determinant, determinant_modulo, put_short, put_working, sylvester, write_cases
+from reference import MARK, determinant, determinant_modulo, put_short, put_working, refused_pair, sylvester, write_cases
 
 SEED = 20261116
 WORKING = 8192
@@ -75,15 +75,8 @@ def rows():
 # ---- pairs
 
 def refusal(n, f, g, lu, lv, lw):
-    if n < 2:
-        return 1
-    if not 1 <= len(f) <= 49 or not 1 <= len(g) <= 49:
-        return 2
-    if any(x >= n for x in f + g):
-        return 3
-    if len(f) + len(g) == 2:
-        return 9
-    return 6 if lu < len(g) - 1 or lv < len(f) - 1 else 7 if lw < WORKING else 0
+    room = 9 if len(f) + len(g) == 2 else 6 if lu < len(g) - 1 or lv < len(f) - 1 else 7 if lw < WORKING else 0
+    return refused_pair(n, f, g) or room
 
 
 def pair(n, f, g, lu, lv, lw):

@@ -10,7 +10,7 @@ from ideal_constants import Ideal, cached_constant, gp, prime_powers, reduced_re
 __all__ = ['Ideal', 'cached_constant', 'gp', 'prime_powers', 'reduced_resultant', 'STARRED', 'UNSTARRED', 'MARK', 'PRIME',
            'write_cases', 'put_digit', 'put_short', 'put_words', 'ending', 'put_lent', 'put_working', 'k_of', 'unit', 'radical',
            'lead_place', 'kind', 'least_by_inverses', 'least_by_search', 'product', 'divided', 'sylvester', 'determinant',
-           'determinant_modulo', 'resultant']
+           'determinant_modulo', 'resultant', 'refused_pair']
 
 # the table of document 01: the starred rows, and the one without a star
 STARRED = [(7, [1, 1], [2, 1]), (7, [2, 1], [1, 1]), (12, [3, 2], [1, 4]), (4, [1, 2], [3, 2]), (6, [2], [4]), (9, [3], [1, 0, 1]),
@@ -172,3 +172,14 @@ def determinant_modulo(n, m):
 
 def resultant(n, f, g):
     return determinant(sylvester(f, g)) % n
+
+
+# ---- refusals
+
+def refused_pair(n, f, g):
+    """1, 2 or 3, the refusals that all services of a pair of polynomials begin with; 0 if none of them applies."""
+    if n < 2:
+        return 1
+    if not 1 <= len(f) <= 49 or not 1 <= len(g) <= 49:
+        return 2
+    return 3 if any(x >= n for x in f + g) else 0

@@ -13,7 +13,8 @@ engine; "coprime" is answered exactly if it is 1, the modulus is above 1 and div
 and leaves no remainder."""
 import itertools, os, random
 from math import gcd, prod
-from reference import MARK, PRIME, STARRED, UNSTARRED, cached_constant, divided, prime_powers, put_digit, put_lent, put_working, write_cases
+from reference import (MARK, PRIME, STARRED, UNSTARRED, cached_constant, divided, prime_powers, put_digit, put_lent, put_working,
+                       refused_pair, write_cases)
 
 HERE = os.path.dirname(os.path.abspath(__file__))
 VECTORS = os.path.join(HERE, '..', 'crates', 'vectors')
@@ -111,13 +112,7 @@ def drawn_rows():
 # ---- pairs
 
 def refusal(n, f, g, lw, working):
-    if n < 2:
-        return 1
-    if not 1 <= len(f) <= 49 or not 1 <= len(g) <= 49:
-        return 2
-    if any(x >= n for x in f + g):
-        return 3
-    return 6 if lw < DIVISOR else 7 if working < WORKING else 0
+    return refused_pair(n, f, g) or (6 if lw < DIVISOR else 7 if working < WORKING else 0)
 
 
 def pair(n, f, g, D=None, lw=DIVISOR + 3, working=WORKING + 8):
