@@ -3,7 +3,8 @@
 
 An edit holds one wrong version, named by its file, or several, each after a line `version: NAME`, of functions none of which calls
 another, so that each is refused by itself. rt applies all of a file at once and asks only that something is refused; this script asks it
-of each version: that in the proof of the function that it changes a fact fails.
+of each version: that in the proof of the function that it changes something is not proved. Whether that is false, or only not found
+by a search that has limits, it does not say: the log does.
 
   tools/edits.py check            reads the logs of the edits under target/must-fail (rt ci, rt must-fail); a line for each version that
                                   was not refused where it should be, and the counts. No logs: SKIPPED, or a failure if CI is set.
@@ -90,7 +91,7 @@ def proof(crate, function):
 
 
 def refusals(log):
-    """Where facts fail in what the prover said: names of proof folders, or of files of specs."""
+    """What is not proved, by what the prover said: names of proof folders, or of files of specs."""
     places = {}
     for where, need, words in ERROR.findall(log):
         if ECHO.search(words):
@@ -149,7 +150,7 @@ def check():
                     refused = any(proof(crate, function) in places for function in changed)
                 if not refused:
                     wrong += 1
-                    print('%s/%s (%s): no fact fails in the proof of %s, but in: %s' %
+                    print('%s/%s (%s): nothing is refused in the proof of %s, but in: %s' %
                           (crate, name, label, ', '.join(sorted(map(str, changed))), ', '.join(sorted(places))))
     total = sum(len(versions(path)) for folder in crates() for path in files(os.path.basename(folder)))
     if tried < count:
