@@ -26,7 +26,7 @@ ROOT = os.path.dirname(os.path.dirname(os.path.abspath(__file__)))
 FUNCTION = re.compile(r'^[ \t]*(?:pub )?(?:extern "C" )?fn (\w+)', re.M)
 ERROR = re.compile(r'^(?:\./|/\S*?/)?((?:proofs|specs|src)/\S+?):\d+:\d+: error: (?:`([^`]*)`: )?(.*)$', re.M)
 # An error that only says that something else was refused, or that the text of a proof does not fit.
-ECHO = re.compile(r'was not admitted|is not proved|this cannot be checked|that can be named')
+ECHO = re.compile(r'was not admitted|(is|are) not proved|this cannot be checked|that can be named')
 
 
 def versions(path):
@@ -100,9 +100,10 @@ def refusals(log):
         part = where.split('/')
         place = part[1] if part[0] == 'proofs' and len(part) > 2 else where
         places.setdefault(place, (need + ': ' if need else '') + words)
-    # a function without a file of its own: the prover names it, and the fact that it does not find
+    # a function without a file of its own: the prover names it, and the fact that it does not find, or what it calls that is refused
     for name, words in re.findall(r'^fn \w+::(\w+): no proof: expected .*?; (.*)$', log, re.M):
-        places.setdefault(name, words)
+        if not ECHO.search(words):
+            places.setdefault(name, words)
     return places
 
 
