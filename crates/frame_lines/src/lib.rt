@@ -41,7 +41,7 @@ pub fn read_head(s: &[u8]) -> Head
     if kind > 2 {
         return Head::Other;
     }
-    let Reading::Number(n) = hexadecimal::number(s, 2, 8) else {
+    let Reading::Number(n) = hexadecimal::word(s, 2) else {
         return Head::Other;
     };
     let Reading::Number(d) = hexadecimal::number(s, 10, 2) else {
@@ -69,7 +69,7 @@ pub fn read_words(s: &[u8], words: &mut [u32], count: usize) -> bool
 {
     let mut i: usize = 0;
     while i < count {
-        let Reading::Number(x) = hexadecimal::number(s, 14 + 8 * i, 8) else {
+        let Reading::Number(x) = hexadecimal::word(s, 14 + 8 * i) else {
             return false;
         };
         words[i] = x;

@@ -2,6 +2,7 @@
 -- newline is 10.
 --
 --   has-newline t             whether a newline stands in t
+--   Clear p a r               no newline stands in p from place a to place r
 --   NewlineAt p a r           r is the place of the first newline of p from place a on, or the length of p
 --   Held s h b                the unfinished line s is held: h counts its characters, up to 799, and they stand at the front of b
 --   LineAfter h b b'          what becomes of the buffer's words
@@ -16,6 +17,12 @@ use lib.Dec.{eqb}
 unfoldable pub has-newline : List ℕ → Bool
 has-newline [] = false
 has-newline (c ∷ t) = eqb c 10 || has-newline t
+
+-- no newline stands in p from place a to place r
+pub record Clear (p : List ℕ) (a r : ℕ) : Type 0 where
+  pub least : a ≤ r
+  pub most : r ≤ length p
+  pub before : has-newline (take (r - a) (drop a p)) ≡ false
 
 -- r is the place of the first newline of p from place a on, or the length of p
 pub record NewlineAt (p : List ℕ) (a r : ℕ) : Type 0 where

@@ -84,7 +84,7 @@ eight-joined s at x y r h kx ky e =
 
 -- ---- what is done to each byte
 
-pub each : (ℕ → ℕ) → List ℕ → ℕ
+unfoldable pub each : (ℕ → ℕ) → List ℕ → ℕ
 each f [] = 0
 each f (c ∷ t) = each f t * 256 + f c
 
@@ -312,7 +312,7 @@ abbrev tens-of : ℕ → ℕ
 tens-of x = bitAnd (values-of x + 0x0606060606060606) 0x1010101010101010 / 16
 
 module _ {t : List ℕ} {x : ℕ} (l : length t ≡ 8) (j : Joined t x) where
-  masked : (m : ℕ) → m < 256 → bitAnd x (m * 72340172838076673) ≡ each (λ (c : ℕ). bitAnd c m) t
+  pub masked : (m : ℕ) → m < 256 → bitAnd x (m * 72340172838076673) ≡ each (λ (c : ℕ). bitAnd c m) t
   masked m h = ap₂ bitAnd (j .is ∙ each-own t) (sym (mask m t l)) ∙ and-each own m t (λ c k. k) h (j .bytes)
 
   letters-are : letters-of x ≡ each letter t
