@@ -15,6 +15,7 @@ use mathlib.Core.Bool.{Bool, true, false, cond, not, _&&_, and-false}
 use mathlib.Core.List.{List, [], _∷_, _++_}
 use Prim.Native.Nat.{ℕ, zero, suc, _+_, _-_, _*_, _/_, _%_, _^_, _<_, _≤_}
 use native.Mathlib.Omega.{arith}
+use native.Mathlib.Nat.{mul-le-mul}
 use native.Mathlib.Decide.{ℕ-discrete}
 use lib.ListN.{length, getD, take, drop, length-drop}
 use lib.Seq.{drop-cons, drop-drop, take-add, length-take-le}
@@ -137,7 +138,7 @@ upto-at : (k : ℕ) (p : ℕ → Bool) → upto k p ≡ true → (c : ℕ) → c
 unfolding upto
 upto-at zero p h c l = absurd (omega arith)
 upto-at (suc k) p h c l = elim (ℕ-discrete c k) [
-  yes e ↦ ap p e ∙ and-both (p k) (upto k p) h .0
+  | yes e ↦ ap p e ∙ and-both (p k) (upto k p) h .0
   | no n ↦ upto-at k p (and-both (p k) (upto k p) h .1) c (omega arith)
 ]
 
@@ -218,7 +219,7 @@ pub digits-not : (t : List ℕ) → Bytes t → (each tested t ≡ each wanted t
 unfolding each all-digits
 digits-not [] b n = absurd (n refl)
 digits-not (c ∷ t) b n = elim (ℕ-discrete (tested c) (wanted c)) [
-  yes e ↦ ap (λ (x : Bool). ltb (digit-of c) 16 && x) (digits-not t (b .1) (λ m. n (ap₂ (λ (p q : ℕ). p * 256 + q) m e))) ∙ and-false (ltb (digit-of c) 16)
+  | yes e ↦ ap (λ (x : Bool). ltb (digit-of c) 16 && x) (digits-not t (b .1) (λ m. n (ap₂ (λ (p q : ℕ). p * 256 + q) m e))) ∙ and-false (ltb (digit-of c) 16)
   | no m ↦ ap (λ (x : Bool). x && all-digits t) (digit-wrong c (b .0) m)
 ]
 
@@ -244,29 +245,29 @@ pairs-known : (x y a : ℕ) → a < 16 → x ≡ y * 256 + a → x * 16 + x / 25
 pairs-known x y a h e = omega arith
 
 module _ {a b c d e f g h : ℕ} (ha : a < 16) (hb : b < 16) (hc : c < 16) (hd : d < 16) (he : e < 16) (hf : f < 16) (hg : g < 16) (hh : h < 16)
-    where
-  packed-eight : (x₀ x₁ x₂ x₃ x₄ x₅ x₆ : ℕ) → x₀ ≡ x₁ * 256 + a → x₁ ≡ x₂ * 256 + b → x₂ ≡ x₃ * 256 + c → x₃ ≡ x₄ * 256 + d
-      → x₄ ≡ x₅ * 256 + e → x₅ ≡ x₆ * 256 + f → x₆ ≡ h * 256 + g
-      → packed-of x₀ ≡ (a * 16 + b) * 16777216 + (c * 16 + d) * 65536 + (e * 16 + f) * 256 + (g * 16 + h)
-  packed-eight x₀ x₁ x₂ x₃ x₄ x₅ x₆ e₀ e₁ e₂ e₃ e₄ e₅ e₆ =
-      let q = x₀ * 16 + x₁ in
-      let o₀ = over q (x₁ * 16 + x₂) (x₂ * 16 + x₃) (a * 16 + b) (b * 16 + c) (two-below ha hb) (two-below hb hc)
-      (pair-of x₀ x₁ x₂ a b e₀ e₁) (pair-of x₁ x₂ x₃ b c e₁ e₂) in
-      let o₂ = over (x₂ * 16 + x₃) (x₃ * 16 + x₄) (x₄ * 16 + x₅) (c * 16 + d) (d * 16 + e) (two-below hc hd) (two-below hd he)
-      (pair-of x₂ x₃ x₄ c d e₂ e₃) (pair-of x₃ x₄ x₅ d e e₃ e₄) in
-      let o₄ = over (x₄ * 16 + x₅) (x₅ * 16 + x₆) (x₆ * 16 + h) (e * 16 + f) (f * 16 + g) (two-below he hf) (two-below hf hg)
-      (pair-of x₄ x₅ x₆ e f e₄ e₅) (pair-of x₅ x₆ h f g e₅ e₆) in
-      let d₄ = twice q (x₂ * 16 + x₃) (x₄ * 16 + x₅) (o₀ .1) (o₂ .1) in
-      let d₆ = thrice q (x₄ * 16 + x₅) (x₆ * 16 + h) d₄ (o₄ .1) in
-      ap (λ (z : ℕ). z % 256 * 16777216 + z / 65536 % 256 * 65536 + z / 4294967296 % 256 * 256 + z / 281474976710656 % 256)
-      (pairs-known x₀ x₁ a ha e₀)
-      ∙ ap₂ (λ (y z : ℕ). y * 16777216 + z % 256 * 65536 + q / 4294967296 % 256 * 256 + q / 281474976710656 % 256) (o₀ .0) (o₀ .1)
-      ∙ ap₂ (λ (y z : ℕ). (a * 16 + b) * 16777216 + y * 65536 + z % 256 * 256 + q / 281474976710656 % 256) (o₂ .0) d₄
-      ∙ ap₂ (λ (y z : ℕ). (a * 16 + b) * 16777216 + (c * 16 + d) * 65536 + y * 256 + z % 256) (o₄ .0) d₆
-      ∙ ap (λ (y : ℕ). (a * 16 + b) * 16777216 + (c * 16 + d) * 65536 + (e * 16 + f) * 256 + y) (last x₆ g h hg hh e₆)
-    where
-      last : (x g h : ℕ) → g < 16 → h < 16 → x ≡ h * 256 + g → (x * 16 + h) % 256 ≡ g * 16 + h
-      last x g h hg hh e = omega arith
+  where
+    packed-eight : (x₀ x₁ x₂ x₃ x₄ x₅ x₆ : ℕ) → x₀ ≡ x₁ * 256 + a → x₁ ≡ x₂ * 256 + b → x₂ ≡ x₃ * 256 + c → x₃ ≡ x₄ * 256 + d
+        → x₄ ≡ x₅ * 256 + e → x₅ ≡ x₆ * 256 + f → x₆ ≡ h * 256 + g
+        → packed-of x₀ ≡ (a * 16 + b) * 16777216 + (c * 16 + d) * 65536 + (e * 16 + f) * 256 + (g * 16 + h)
+    packed-eight x₀ x₁ x₂ x₃ x₄ x₅ x₆ e₀ e₁ e₂ e₃ e₄ e₅ e₆ =
+        let q = x₀ * 16 + x₁ in
+        let o₀ = over q (x₁ * 16 + x₂) (x₂ * 16 + x₃) (a * 16 + b) (b * 16 + c) (two-below ha hb) (two-below hb hc)
+        (pair-of x₀ x₁ x₂ a b e₀ e₁) (pair-of x₁ x₂ x₃ b c e₁ e₂) in
+        let o₂ = over (x₂ * 16 + x₃) (x₃ * 16 + x₄) (x₄ * 16 + x₅) (c * 16 + d) (d * 16 + e) (two-below hc hd) (two-below hd he)
+        (pair-of x₂ x₃ x₄ c d e₂ e₃) (pair-of x₃ x₄ x₅ d e e₃ e₄) in
+        let o₄ = over (x₄ * 16 + x₅) (x₅ * 16 + x₆) (x₆ * 16 + h) (e * 16 + f) (f * 16 + g) (two-below he hf) (two-below hf hg)
+        (pair-of x₄ x₅ x₆ e f e₄ e₅) (pair-of x₅ x₆ h f g e₅ e₆) in
+        let d₄ = twice q (x₂ * 16 + x₃) (x₄ * 16 + x₅) (o₀ .1) (o₂ .1) in
+        let d₆ = thrice q (x₄ * 16 + x₅) (x₆ * 16 + h) d₄ (o₄ .1) in
+        ap (λ (z : ℕ). z % 256 * 16777216 + z / 65536 % 256 * 65536 + z / 4294967296 % 256 * 256 + z / 281474976710656 % 256)
+        (pairs-known x₀ x₁ a ha e₀)
+        ∙ ap₂ (λ (y z : ℕ). y * 16777216 + z % 256 * 65536 + q / 4294967296 % 256 * 256 + q / 281474976710656 % 256) (o₀ .0) (o₀ .1)
+        ∙ ap₂ (λ (y z : ℕ). (a * 16 + b) * 16777216 + y * 65536 + z % 256 * 256 + q / 281474976710656 % 256) (o₂ .0) d₄
+        ∙ ap₂ (λ (y z : ℕ). (a * 16 + b) * 16777216 + (c * 16 + d) * 65536 + y * 256 + z % 256) (o₄ .0) d₆
+        ∙ ap (λ (y : ℕ). (a * 16 + b) * 16777216 + (c * 16 + d) * 65536 + (e * 16 + f) * 256 + y) (last x₆ g h hg hh e₆)
+      where
+        last : (x g h : ℕ) → g < 16 → h < 16 → x ≡ h * 256 + g → (x * 16 + h) % 256 ≡ g * 16 + h
+        last x g h hg hh e = omega arith
 
 abbrev Below : List ℕ → Type 0
 Below [] = Unit
@@ -363,23 +364,23 @@ module _ {t : List ℕ} {x : ℕ} (l : length t ≡ 8) (j : Joined t x) where
 
 -- ---- the rules
 
-pub nine-fit : (x : ℕ) → Fits w64 (letters-of x * 9)
-nine-fit x = record { fits = omega (arith, and-le-r x 0x4040404040404040) }
+letters-most : (x k : ℕ) → k ≤ 49 → letters-of x * k ≤ 72340172838076673 * 49
+letters-most x k h = mul-le-mul {n₁ = letters-of x} {m₁ = k} {n₂ = 72340172838076673} {m₂ = 49} (omega (arith, and-le-r x 0x4040404040404040)) h
 
-pub units-fit : (x : ℕ) → Fits w64 (bitAnd x 0x0f0f0f0f0f0f0f0f + letters-of x * 9)
-units-fit x = record { fits = omega (arith, and-le-r x 0x4040404040404040, and-le-r x 0x0f0f0f0f0f0f0f0f) }
+pub letters-fit : (x k : ℕ) → k ≤ 49 → Fits w64 (letters-of x * k)
+letters-fit x k h = record { fits = omega (arith, letters-most x k h) }
 
-pub raised-fit : (y : ℕ) → Fits w64 (bitAnd y 0x0f0f0f0f0f0f0f0f + 0x0606060606060606)
-raised-fit y = record { fits = omega (arith, and-le-r y 0x0f0f0f0f0f0f0f0f) }
+pub units-fit : (x k : ℕ) → k ≤ 49 → Fits w64 (bitAnd x 0x0f0f0f0f0f0f0f0f + letters-of x * k)
+units-fit x k h = record { fits = omega (arith, letters-most x k h, and-le-r x 0x0f0f0f0f0f0f0f0f) }
 
-pub tested-fit : (x y : ℕ) → Fits w64 (bitAnd x 0xf0f0f0f0f0f0f0f0 + bitAnd y 0x1010101010101010 / 16)
-tested-fit x y = record { fits = omega (arith, and-le-r x 0xf0f0f0f0f0f0f0f0, and-le-r y 0x1010101010101010) }
+pub raised-fit : (y m : ℕ) → m ≤ 0x0606060606060606 → Fits w64 (bitAnd y 0x0f0f0f0f0f0f0f0f + m)
+raised-fit y m h = record { fits = omega (arith, and-le-r y 0x0f0f0f0f0f0f0f0f) }
 
-pub letters-fit : (x : ℕ) → Fits w64 (letters-of x * 49)
-letters-fit x = record { fits = omega (arith, and-le-r x 0x4040404040404040) }
+pub tested-fit : (x y m : ℕ) → m ≤ 0xf0f0f0f0f0f0f0f0 → Fits w64 (bitAnd x m + bitAnd y 0x1010101010101010 / 16)
+tested-fit x y m h = record { fits = omega (arith, and-le-r x m, and-le-r y 0x1010101010101010) }
 
-pub wanted-fit : (x : ℕ) → Fits w64 (0x3030303030303030 + letters-of x * 49)
-wanted-fit x = record { fits = omega (arith, and-le-r x 0x4040404040404040) }
+pub wanted-fit : (x m k : ℕ) → m ≤ 0x3030303030303030 → k ≤ 49 → Fits w64 (m + letters-of x * k)
+wanted-fit x m k h l = record { fits = omega (arith, letters-most x k l) }
 
 pub values-asked : (y : ℕ) → bitAnd y 0x0f0f0f0f0f0f0f0f ≤ 1085102592571150095
 values-asked y = and-le-r y 0x0f0f0f0f0f0f0f0f
@@ -398,6 +399,6 @@ word-number s at x r h j e k = number-read (part-length s at h) j r e k
 
 pub ruleset joins = (four-joined, eight-joined)
 
-pub ruleset words = (nine-fit, units-fit, raised-fit, tested-fit, letters-fit, wanted-fit, values-asked, word-other, word-number)
+pub ruleset words = (letters-fit, units-fit, raised-fit, tested-fit, wanted-fit, values-asked, word-other, word-number)
 
 pub ruleset eights = (needs, joins, words)

@@ -82,7 +82,10 @@ fn packed(x: u64) -> u32
     ensures { λ r. ⌜ r ≡ packed-of x ⌝ }
 {
     let p = x * 16 + x / 256;
-    (p % 256 * 16777216 + p / 65536 % 256 * 65536 + p / 4294967296 % 256 * 256 + p / 281474976710656 % 256) as u32
+    (p % 256 * 16777216
+        + p / 65536 % 256 * 65536
+        + p / 4294967296 % 256 * 256
+        + p / 281474976710656 % 256) as u32
 }
 
 // What the eight characters of s from place `at` on spell, all at once: a byte of `letters` is 1 where the character has the bit 64,
