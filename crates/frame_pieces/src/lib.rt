@@ -5,12 +5,10 @@
 //   find_newline          the end of a line
 //   hold                  an unfinished line
 ghost use mathlib.Core.Path.{_≡_};
-ghost use mathlib.Core.Bool.{false};
-ghost use mathlib.Core.List.{List, _++_};
-ghost use Prim.Native.Nat.{ℕ, _≤_};
+ghost use Prim.Native.Nat.{_≤_};
 ghost use lib.ListN.{length};
 ghost use Rattle.frame_pieces.specs.Inputs.{input-of};
-ghost use Rattle.frame_pieces.specs.Newlines.{has-newline, Clear, NewlineAt, Held, LineAfter};
+ghost use Rattle.frame_pieces.specs.Newlines.{Clear, NewlineAt, Holds, LineAfter};
 
 // What the count of a read means: that many characters came, or the input has ended.
 pub enum Input {
@@ -61,8 +59,7 @@ pub fn find_newline(piece: &[u8], from: usize) -> usize
 // Holds part after what is held of an unfinished line. No more than the first 798 words of the buffer are used.
 pub fn hold(held: usize, line: &mut [u8], part: &[u8]) -> usize
     requires { ⌜ 798 ≤ length (now line) ⌝ }
-    ensures { λ r. ⌜ ((s : List ℕ) → Held s held (now (line .entry)) → has-newline (now (part .entry)) ≡ false
-        → Held (s ++ now (part .entry)) r (now (line .exit))) ⌝ }
+    ensures { λ r. ⌜ Holds held (now (line .entry)) (now (part .entry)) r (now (line .exit)) ⌝ }
     ensures { λ r. ⌜ LineAfter r (now (line .entry)) (now (line .exit)) ⌝ }
 {
     if held > 798 {
