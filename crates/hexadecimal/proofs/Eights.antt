@@ -102,7 +102,8 @@ pub and-each : (f : ℕ → ℕ) (m : ℕ) (t : List ℕ) → ((c : ℕ) → c <
 unfolding each
 and-each f m [] h l b = refl
 and-each f m (c ∷ t) h l b =
-    and-block 8 (each f t) (each (λ (c : ℕ). m) t) (f c) m (h c (b .0)) l ∙ ap (λ (x : ℕ). x * 256 + bitAnd (f c) m) (and-each f m t h l (b .1))
+    and-block 8 (each f t) (each (λ (c : ℕ). m) t) (f c) m (h c (b .0)) l
+    ∙ ap (λ (x : ℕ). x * 256 + bitAnd (f c) m) (and-each f m t h l (b .1))
 
 pub add-each : (f g : ℕ → ℕ) (k : ℕ) (t : List ℕ) → each f t + each g t * k ≡ each (λ (c : ℕ). f c + g c * k) t
 unfolding each
@@ -218,10 +219,14 @@ digits-all (c ∷ t) b e =
 pub digits-not : (t : List ℕ) → Bytes t → (each tested t ≡ each wanted t → ⊥) → all-digits t ≡ false
 unfolding each all-digits
 digits-not [] b n = absurd (n refl)
-digits-not (c ∷ t) b n = elim (ℕ-discrete (tested c) (wanted c)) [
-  | yes e ↦ ap (λ (x : Bool). ltb (digit-of c) 16 && x) (digits-not t (b .1) (λ m. n (ap₂ (λ (p q : ℕ). p * 256 + q) m e))) ∙ and-false (ltb (digit-of c) 16)
-  | no m ↦ ap (λ (x : Bool). x && all-digits t) (digit-wrong c (b .0) m)
-]
+digits-not (c ∷ t) b n =
+    let d = ltb (digit-of c) 16 in
+    let more : tested c ≡ wanted c → all-digits t ≡ false =
+    λ e. digits-not t (b .1) (λ m. n (ap₂ (λ (p q : ℕ). p * 256 + q) m e)) in
+    elim (ℕ-discrete (tested c) (wanted c)) [
+      | yes e ↦ ap (λ (x : Bool). d && x) (more e) ∙ and-false d
+      | no m ↦ ap (λ (x : Bool). x && all-digits t) (digit-wrong c (b .0) m)
+    ]
 
 -- ---- the values of eight digits as one number
 
@@ -244,30 +249,29 @@ thrice q q₄ q₆ h k = omega arith
 pairs-known : (x y a : ℕ) → a < 16 → x ≡ y * 256 + a → x * 16 + x / 256 ≡ x * 16 + y
 pairs-known x y a h e = omega arith
 
-module _ {a b c d e f g h : ℕ} (ha : a < 16) (hb : b < 16) (hc : c < 16) (hd : d < 16) (he : e < 16) (hf : f < 16) (hg : g < 16) (hh : h < 16)
-  where
-    packed-eight : (x₀ x₁ x₂ x₃ x₄ x₅ x₆ : ℕ) → x₀ ≡ x₁ * 256 + a → x₁ ≡ x₂ * 256 + b → x₂ ≡ x₃ * 256 + c → x₃ ≡ x₄ * 256 + d
-        → x₄ ≡ x₅ * 256 + e → x₅ ≡ x₆ * 256 + f → x₆ ≡ h * 256 + g
-        → packed-of x₀ ≡ (a * 16 + b) * 16777216 + (c * 16 + d) * 65536 + (e * 16 + f) * 256 + (g * 16 + h)
-    packed-eight x₀ x₁ x₂ x₃ x₄ x₅ x₆ e₀ e₁ e₂ e₃ e₄ e₅ e₆ =
-        let q = x₀ * 16 + x₁ in
-        let o₀ = over q (x₁ * 16 + x₂) (x₂ * 16 + x₃) (a * 16 + b) (b * 16 + c) (two-below ha hb) (two-below hb hc)
-        (pair-of x₀ x₁ x₂ a b e₀ e₁) (pair-of x₁ x₂ x₃ b c e₁ e₂) in
-        let o₂ = over (x₂ * 16 + x₃) (x₃ * 16 + x₄) (x₄ * 16 + x₅) (c * 16 + d) (d * 16 + e) (two-below hc hd) (two-below hd he)
-        (pair-of x₂ x₃ x₄ c d e₂ e₃) (pair-of x₃ x₄ x₅ d e e₃ e₄) in
-        let o₄ = over (x₄ * 16 + x₅) (x₅ * 16 + x₆) (x₆ * 16 + h) (e * 16 + f) (f * 16 + g) (two-below he hf) (two-below hf hg)
-        (pair-of x₄ x₅ x₆ e f e₄ e₅) (pair-of x₅ x₆ h f g e₅ e₆) in
-        let d₄ = twice q (x₂ * 16 + x₃) (x₄ * 16 + x₅) (o₀ .1) (o₂ .1) in
-        let d₆ = thrice q (x₄ * 16 + x₅) (x₆ * 16 + h) d₄ (o₄ .1) in
-        ap (λ (z : ℕ). z % 256 * 16777216 + z / 65536 % 256 * 65536 + z / 4294967296 % 256 * 256 + z / 281474976710656 % 256)
-        (pairs-known x₀ x₁ a ha e₀)
-        ∙ ap₂ (λ (y z : ℕ). y * 16777216 + z % 256 * 65536 + q / 4294967296 % 256 * 256 + q / 281474976710656 % 256) (o₀ .0) (o₀ .1)
-        ∙ ap₂ (λ (y z : ℕ). (a * 16 + b) * 16777216 + y * 65536 + z % 256 * 256 + q / 281474976710656 % 256) (o₂ .0) d₄
-        ∙ ap₂ (λ (y z : ℕ). (a * 16 + b) * 16777216 + (c * 16 + d) * 65536 + y * 256 + z % 256) (o₄ .0) d₆
-        ∙ ap (λ (y : ℕ). (a * 16 + b) * 16777216 + (c * 16 + d) * 65536 + (e * 16 + f) * 256 + y) (last x₆ g h hg hh e₆)
-      where
-        last : (x g h : ℕ) → g < 16 → h < 16 → x ≡ h * 256 + g → (x * 16 + h) % 256 ≡ g * 16 + h
-        last x g h hg hh e = omega arith
+module _ {a b c d e f g h : ℕ} (ha : a < 16) (hb : b < 16) (hc : c < 16) (hd : d < 16) (he : e < 16) (hf : f < 16) (hg : g < 16) where
+  packed-eight : h < 16 → (x₀ x₁ x₂ x₃ x₄ x₅ x₆ : ℕ) → x₀ ≡ x₁ * 256 + a → x₁ ≡ x₂ * 256 + b → x₂ ≡ x₃ * 256 + c → x₃ ≡ x₄ * 256 + d
+      → x₄ ≡ x₅ * 256 + e → x₅ ≡ x₆ * 256 + f → x₆ ≡ h * 256 + g
+      → packed-of x₀ ≡ (a * 16 + b) * 16777216 + (c * 16 + d) * 65536 + (e * 16 + f) * 256 + (g * 16 + h)
+  packed-eight hh x₀ x₁ x₂ x₃ x₄ x₅ x₆ e₀ e₁ e₂ e₃ e₄ e₅ e₆ =
+      let q = x₀ * 16 + x₁ in
+      let o₀ = over q (x₁ * 16 + x₂) (x₂ * 16 + x₃) (a * 16 + b) (b * 16 + c) (two-below ha hb) (two-below hb hc)
+      (pair-of x₀ x₁ x₂ a b e₀ e₁) (pair-of x₁ x₂ x₃ b c e₁ e₂) in
+      let o₂ = over (x₂ * 16 + x₃) (x₃ * 16 + x₄) (x₄ * 16 + x₅) (c * 16 + d) (d * 16 + e) (two-below hc hd) (two-below hd he)
+      (pair-of x₂ x₃ x₄ c d e₂ e₃) (pair-of x₃ x₄ x₅ d e e₃ e₄) in
+      let o₄ = over (x₄ * 16 + x₅) (x₅ * 16 + x₆) (x₆ * 16 + h) (e * 16 + f) (f * 16 + g) (two-below he hf) (two-below hf hg)
+      (pair-of x₄ x₅ x₆ e f e₄ e₅) (pair-of x₅ x₆ h f g e₅ e₆) in
+      let d₄ = twice q (x₂ * 16 + x₃) (x₄ * 16 + x₅) (o₀ .1) (o₂ .1) in
+      let d₆ = thrice q (x₄ * 16 + x₅) (x₆ * 16 + h) d₄ (o₄ .1) in
+      ap (λ (z : ℕ). z % 256 * 16777216 + z / 65536 % 256 * 65536 + z / 4294967296 % 256 * 256 + z / 281474976710656 % 256)
+      (pairs-known x₀ x₁ a ha e₀)
+      ∙ ap₂ (λ (y z : ℕ). y * 16777216 + z % 256 * 65536 + q / 4294967296 % 256 * 256 + q / 281474976710656 % 256) (o₀ .0) (o₀ .1)
+      ∙ ap₂ (λ (y z : ℕ). (a * 16 + b) * 16777216 + y * 65536 + z % 256 * 256 + q / 281474976710656 % 256) (o₂ .0) d₄
+      ∙ ap₂ (λ (y z : ℕ). (a * 16 + b) * 16777216 + (c * 16 + d) * 65536 + y * 256 + z % 256) (o₄ .0) d₆
+      ∙ ap (λ (y : ℕ). (a * 16 + b) * 16777216 + (c * 16 + d) * 65536 + (e * 16 + f) * 256 + y) (last x₆ g h hg hh e₆)
+    where
+      last : (x g h : ℕ) → g < 16 → h < 16 → x ≡ h * 256 + g → (x * 16 + h) % 256 ≡ g * 16 + h
+      last x g h hg hh e = omega arith
 
 abbrev Below : List ℕ → Type 0
 Below [] = Unit
@@ -365,7 +369,8 @@ module _ {t : List ℕ} {x : ℕ} (l : length t ≡ 8) (j : Joined t x) where
 -- ---- the rules
 
 letters-most : (x k : ℕ) → k ≤ 49 → letters-of x * k ≤ 72340172838076673 * 49
-letters-most x k h = mul-le-mul {n₁ = letters-of x} {m₁ = k} {n₂ = 72340172838076673} {m₂ = 49} (omega (arith, and-le-r x 0x4040404040404040)) h
+letters-most x k h =
+    mul-le-mul {n₁ = letters-of x} {m₁ = k} {n₂ = 72340172838076673} {m₂ = 49} (omega (arith, and-le-r x 0x4040404040404040)) h
 
 pub letters-fit : (x k : ℕ) → k ≤ 49 → Fits w64 (letters-of x * k)
 letters-fit x k h = record { fits = omega (arith, letters-most x k h) }
