@@ -81,9 +81,10 @@ module _ (n : ℕ) (f h : List ℕ) (t : ℕ) (e : t ≡ first-refusal (refusals
         places-full r = further 13 (row-applies 12 (full (deg f) number degree) ((7, short l 8192) ∷ []) (sym full-is ∙ r))
 
         module _ (r : c ≡ false) where
-          pub work-short : l < 8192 → 7 ≡ first-refusal (arrival-tests narrow n number degree k f h l)
-          work-short m =
-              further 7 (row-passes 13 (full (deg f) number degree) ((7, short l 8192) ∷ []) 7 (sym full-is ∙ r) (too-short 6 l 8192 [] m))
+          pub work-short : (m : ℕ) → l < m → T (leb m 8192) → 7 ≡ first-refusal (arrival-tests narrow n number degree k f h l)
+          work-short m h t =
+              further 7 (row-passes 13 (full (deg f) number degree) ((7, short l 8192) ∷ []) 7 (sym full-is ∙ r)
+              (too-short 6 l 8192 [] (omega (arith, leb→le m 8192 t))))
 
           pub none-refused : 8192 ≤ l → 0 ≡ first-refusal (arrival-tests narrow n number degree k f h l)
           none-refused m =

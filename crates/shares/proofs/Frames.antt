@@ -12,7 +12,7 @@ use native.Mathlib.Omega.{arith}
 use mir.Syntax.{w32}
 use mir.Val.{Fits}
 use borrow.Author.Needs.{needs}
-use lib.Dec.{ltb}
+use lib.Dec.{T, ltb, leb, leb→le, ltb→lt}
 use lib.ListN.{getD}
 use borrow.Author.Tests.{lt-ltb, le-ltb}
 use Rattle.refusals.proofs.Statuses.{row-applies, row-passes}
@@ -65,8 +65,8 @@ answered-shares {n} {t} {i} {w} h l m z =
 pub too-few : (n : ℕ) → n < 1 → bad-frames n ≡ true
 too-few n l = rw (lt-ltb n 1 l)
 
-pub too-many : (n : ℕ) → 1 ≤ n → ltb 1024 n ≡ true → bad-frames n ≡ true
-too-many n l m = rw (le-ltb n 1 l) m
+pub too-many : (k n : ℕ) → T (leb 1024 k) → 1 ≤ n → ltb k n ≡ true → bad-frames n ≡ true
+too-many k n t l m = rw (le-ltb n 1 l) (lt-ltb 1024 n (omega (arith, leb→le 1024 k t, ltb→lt k n (subst T (sym m) tt))))
 
 pub refused-shares : (n : ℕ) (w : List ℕ) → bad-frames n ≡ true → SharesAnswer n w (0 ∷ 0 ∷ 0 ∷ 0 ∷ []) 15
 refused-shares n w e = record { status-is = row-applies 14 (bad-frames n) [] e; share-is = refl }

@@ -14,5 +14,5 @@ shares-spec =
     (λ frames waiting1 waiting2 waiting3 waiting4 s₀ i₀ s i. Handed frames (waiting1 ∷ waiting2 ∷ waiting3 ∷ waiting4 ∷ [])
     (giving (s .turn) (s .waiting) (s .given)) i)
     (λ frames waiting1 waiting2 waiting3 waiting4 s₀ i₀ s i. frames - i)
-    (λ c. refused-shares _ _ (⊎-elim (λ u. too-few _ (u .taken)) (λ u. too-many _ (u .0 .left) (u .1 .taken)) (c .if1 .came)))
+    (λ c. refused-shares _ _ (⊎-elim (λ u. too-few _ (u .taken)) (λ u. too-many _ _ tt (u .0 .left) (u .1 .taken)) (c .if1 .came)))
     (λ c. search framing) (λ c κs. search framing) (λ c. search framing) (λ c. search framing) (λ c. search framing) (λ c. search framing))
