@@ -23,7 +23,7 @@ use Rattle.band_clearing.specs.Bands.{cell, window, Shape, Band, HeadsBe
 use Rattle.band_clearing.proofs.Cells.{window-at, window-over}
 
 -- the first word of a row, and word 0 of the row
-head-cell : (w : List ℕ) (r : ℕ) → getD w (145 * r) 0 ≡ cell w r 0
+pub head-cell : (w : List ℕ) (r : ℕ) → getD w (145 * r) 0 ≡ cell w r 0
 head-cell w r = ap (λ (z : ℕ). getD w z 0) (omega arith)
 
 -- one of the three windows of a row

@@ -53,7 +53,8 @@ found {n} {b} {i} h l e q r = go (small-factor n b) (prime-fails n b .passed)
   where
     go : (x : Bool) → (x ≡ false → NoSmallPrime n b) → true ≡ x
     go true f = refl
-    go false f = absurd (none-passed (f refl) .at i l (omega arith) (dvd-of-mod-eq-zero (getD table i 0) (ap (λ (x : ℕ). n % x) (sym e) ∙ r)))
+    go false f =
+        absurd (none-passed (f refl) .at i l (omega arith) (dvd-of-mod-eq-zero (getD table i 0) (ap (λ (x : ℕ). n % x) (sym e) ∙ r)))
 
 pub prime-positive : (p i : ℕ) → p ≡ getD table i 0 → i < 17 → 0 < p
 prime-positive p i e l = omega (arith, table-above i l)
