@@ -68,8 +68,11 @@ power-found n pos small e = record {
 pub mask-is : {n : ℕ} → PowerOfTwo n → (t : ℕ) → bitAnd t (n - 1) ≡ t % n
 mask-is p t = rw (p .is) (and-mask t (p .exponent))
 
-pub mask-fits : (n t : ℕ) → n < 2 ^ 32 → bitAnd t (n - 1) < 2 ^ 32
-mask-fits n t h = omega (arith, and-le-r t (n - 1))
+pub mask-fits : (n t k : ℕ) → PowerOfTwo n → n < 2 ^ 32 → k ≤ n → bitAnd t k < 2 ^ 32
+mask-fits n t k p h l = omega (arith, and-le-r t k)
+
+pub less-most : (n j : ℕ) → n - j ≤ n
+less-most n j = omega arith
 
 -- the low words of two products, and a number
 pub masked-is : (n x p q r : ℕ) → PowerOfTwo n → r ≡ bitAnd (x + p % 4294967296 + q % 4294967296) (n - 1) → r ≡ (x + p + q) % n
@@ -78,4 +81,4 @@ masked-is n x p q r pow e = e ∙ mask-is pow _ ∙ c-add (c-add (c-refl {a = x}
     low : (y : ℕ) → Cong n (y % 4294967296) y
     low y = record { same = mod-mod-of-dvd n y (pow .divides) }
 
-pub ruleset masks = (needs, product-fits, power-found, mask-fits, masked-is)
+pub ruleset masks = (needs, product-fits, power-found, mask-fits, less-most, masked-is)
