@@ -109,8 +109,12 @@ high-room B n hi lo p half l = let h = high-less B n hi lo p l in omega arith
 
 pub two-products : {B n c y e z : ℕ} → 0 < n → n + n < B → c ≤ n → y < n → e ≤ n → z < n → c * y + e * z < n * B
 two-products {B} {n} {c} {y} {e} {z} pos half lc ly le lz =
-    omega (arith, mul-le-mul-left n half, mul-le-mul {n₁ = c} {m₁ = y} {n₂ = n} {m₂ = n} lc (omega arith),
-    mul-le-mul {n₁ = e} {m₁ = z} {n₂ = n} {m₂ = n} le (omega arith))
+    omega (
+      arith,
+      mul-le-mul-left n half,
+      mul-le-mul {n₁ = c} {m₁ = y} {n₂ = n} {m₂ = n} lc (omega arith),
+      mul-le-mul {n₁ = e} {m₁ = z} {n₂ = n} {m₂ = n} le (omega arith),
+    )
 
 pub product-most : {B n c y : ℕ} → c ≤ n → y < B → c * y ≤ n * B
 product-most {B} {n} {c} {y} l h = mul-le-mul {n₁ = c} {m₁ = y} {n₂ = n} {m₂ = B} l (omega arith)

@@ -7,10 +7,11 @@
 --   sum-less, sum-is           the sum of two residues
 --   factor-residue, times-residue     a factor may be reduced first
 --   Digit, digits-…            a digit of a quotient in the base b, and two of them
---   Less, less-…               n taken off once, where something stays left
+--   Less                       n taken off once, where something stays left
 --   digit-…                    a digit in the base 2^32 by the upper half of n, for n of 2^63 and more
 --   multiple-…, reciprocal-is    the fraction of n is that of n v₁, which is at least half of the base
 --   IsReciprocal B n r v₁ v₀   B² / n, rounded so that something is left, has the digits v₁ and v₀; r is B less v₁ n
+--   square-is                  what the second digit leaves is B² modulo n
 --   two-words                  two words are a sum of two words modulo n
 --   multiplier-…               the fraction of a factor, from the reciprocal
 use mathlib.Core.Path.{_≡_, refl, sym, ap, ap₂, _∙_}
@@ -21,6 +22,7 @@ use native.Mathlib.Nat.{lt-div-mul-add, div-add-mod'}
 use native.Mathlib.Omega.{arith}
 use native.Mathlib.Decide.{decLt}
 use Rattle.numbers.specs.Congruence.{Cong, c-refl, c-sym, c-trans, c-eq, c-add, c-mul, c-mod, c-cancel}
+use Rattle.wide_words.specs.Montgomery.{IsSquare}
 use Rattle.words.specs.Fractions.{Fraction, scaled-least, scaled-most}
 
 pub remainder : (n N q r : ℕ) → r + q * n ≡ N → r < n → r ≡ N % n
@@ -100,53 +102,60 @@ pub record Less (n q s q' x : ℕ) : Type 0 where
   pub some : 1 ≤ s → 1 ≤ x
   pub most : x ≤ n
 
-pub less-none : (n q a c : ℕ) → c ≤ n → a ≤ n - c → Less n q (a + c) q (a + c)
-less-none n q a c l h = record { sum = refl; some = λ s. s; most = omega arith }
-
-pub less-once : (n q a c : ℕ) → c ≤ n → a + c ≤ n + n → n - c < a → Less n q (a + c) (q + 1) (a - (n - c))
-less-once n q a c l h g = record { sum = omega arith; some = λ s. omega arith; most = omega arith }
-
--- a digit from the upper half of n alone, one more: q is at most two too small, and a + c is left
-module _ {n x h q a c : ℕ} (large : 2 ^ 63 ≤ n) (word : n < 2 ^ 64) (least : 1 ≤ x) (most : x ≤ n) (eh : h ≡ n / 4294967296 + 1) (eq : q ≡ x / h)
-    (ea : a ≡ x % h * 4294967296) (ec : c ≡ q * (4294967296 - n % 4294967296)) where
-  whole : q * h + x % h ≡ x
-  whole = rw eq (div-add-mod' x h)
-
-  rest : x % h < h
+-- a digit in the base 2^32 by the upper half of n, one more: it is at most two too small, and a + c is left
+module _ {n x : ℕ} (large : 2 ^ 63 ≤ n) (word : n < 2 ^ 64) (least : 1 ≤ x) (most : x ≤ n) where
+  rest : x % (n / 4294967296 + 1) < n / 4294967296 + 1
   rest = mod-lt x (omega arith)
 
-  pub digit-word : q < 4294967296
-  digit-word = lt-of-mul-lt-mul-right h (let e = whole in omega arith)
-
-  pub digit-first : a ≤ n
+  pub digit-first : x % (n / 4294967296 + 1) * 4294967296 ≤ n
   digit-first = let r = rest in omega arith
 
-  pub digit-second : c + 0 ≤ n + n
-  digit-second =
-      omega (arith, mul-le-mul {n₁ = q} {m₁ = 4294967296 - n % 4294967296} {n₂ = 4294967295} {m₂ = 4294967296} (let l = digit-word in omega arith) (omega arith))
+  quotient-less : x / (n / 4294967296 + 1) < 4294967296
+  quotient-less =
+      lt-of-mul-lt-mul-right (n / 4294967296 + 1) (let e = div-add-mod' x (n / 4294967296 + 1) in omega arith)
 
-  digit-left : q * n + (a + c) ≡ x * 4294967296
-  digit-left = go (n / 4294967296) (n % 4294967296) (4294967296 - n % 4294967296) (x % h) (omega arith) (omega arith) eh ea ec whole
-    where
-      go : (u v k r : ℕ) → n ≡ u * 4294967296 + v → v + k ≡ 4294967296 → h ≡ u + 1 → a ≡ r * 4294967296 → c ≡ q * k → q * h + r ≡ x
-          → q * n + (a + c) ≡ x * 4294967296
-      go u v k r en ek eh' ea' ec' ex =
-          let f = ap (λ (z : ℕ). q * z) ek in
-          rw (en, ea', ec', ← ex, eh') (omega arith)
+  pub digit-word : x / (n / 4294967296 + 1) < 2 ^ 63
+  digit-word = let l = quotient-less in omega arith
 
-  pub digit-is : (q₁ c₁ q₂ x₂ : ℕ) → Less n q (c + 0) q₁ c₁ → Less n q₁ (a + c₁) q₂ x₂ → Digit 4294967296 n x q₂ x₂
-  digit-is q₁ c₁ q₂ x₂ f g = record {
-    sum = let e = digit-left in omega (arith, f .sum, g .sum);
-    some = g .some (some (decLt 0 c));
-    most = g .most;
-  }
-    where
-      some : Dec (0 < c) → 1 ≤ a + c₁
-      some (yes l) = omega (arith, f .some (omega arith))
-      some (no l) =
-          let f : q * 1 ≤ q * (4294967296 - n % 4294967296) = mul-le-mul-left q (omega arith) in
-          let z : q ≡ 0 = omega arith in
-          let e : 0 * h + x % h ≡ x = rw (← z) whole in omega arith
+  pub digit-second : x / (n / 4294967296 + 1) * (4294967296 - n % 4294967296) < 2 ^ 64
+  digit-second = let l = quotient-less in
+      omega (
+        arith,
+        mul-le-mul {n₁ = x / (n / 4294967296 + 1)} {m₁ = 4294967296 - n % 4294967296} {n₂ = 4294967295} {m₂ = 4294967296}
+            (omega arith) (omega arith),
+      )
+
+  module _ {q c q₁ c₁ : ℕ} (f : Less n q (c + 0) q₁ c₁) (eq : q ≡ x / (n / 4294967296 + 1))
+      (ec : c ≡ q * (4294967296 - n % 4294967296)) where
+    pub digit-next : q₁ < 2 ^ 63
+    digit-next = lt-of-mul-lt-mul-right n (let l = quotient-less in let m : c < 2 ^ 64 = rw (ec, eq) digit-second in
+        let e = f .sum in omega (arith, mul-le-mul-right n (let h : q ≤ 4294967295 = omega arith in h)))
+
+    pub digit-is : {a q₂ x₂ : ℕ} → Less n q₁ (a + c₁) q₂ x₂ → a ≡ x % (n / 4294967296 + 1) * 4294967296 → Digit 4294967296 n x q₂ x₂
+    digit-is {a} {q₂} {x₂} g ea = record {
+      sum = let e = left in omega (arith, f .sum, g .sum);
+      some = g .some (some (decLt 0 c));
+      most = g .most;
+    }
+      where
+        whole : q * (n / 4294967296 + 1) + x % (n / 4294967296 + 1) ≡ x
+        whole = rw eq (div-add-mod' x (n / 4294967296 + 1))
+
+        left : q * n + (a + c) ≡ x * 4294967296
+        left = go (n / 4294967296) (n % 4294967296) (4294967296 - n % 4294967296) (x % (n / 4294967296 + 1)) (omega arith) (omega arith)
+            ea ec whole
+          where
+            go : (u v k r : ℕ) → n ≡ u * 4294967296 + v → v + k ≡ 4294967296 → a ≡ r * 4294967296 → c ≡ q * k → q * (u + 1) + r ≡ x
+                → q * n + (a + c) ≡ x * 4294967296
+            go u v k r en ek ea' ec' ex = let f = ap (λ (z : ℕ). q * z) ek in rw (en, ea', ec', ← ex) (omega arith)
+
+        some : Dec (0 < c) → 1 ≤ a + c₁
+        some (yes l) = omega (arith, f .some (omega arith))
+        some (no l) =
+            let f : q * 1 ≤ q * (4294967296 - n % 4294967296) = mul-le-mul-left q (omega arith) in
+            let z : q ≡ 0 = omega arith in
+            let e : 0 * (n / 4294967296 + 1) + x % (n / 4294967296 + 1) ≡ x = rw (← z) whole in
+            omega arith
 
 pub record IsReciprocal (B n r v₁ v₀ : ℕ) : Type 0 where
   pub pos : 1 ≤ n
@@ -201,6 +210,17 @@ module _ {B n r v₁ v₀ : ℕ} (m : IsReciprocal B n r v₁ v₀) where
   -- the base is r modulo n
   pub base : Cong n B r
   base = record { same = ap (λ (x : ℕ). x % n) (sym (m .rest) ∙ (omega arith)) ∙ add-mul-mod-self-right r v₁ n }
+
+  -- what the second digit leaves is B² modulo n
+  pub square-is : {s : ℕ} (w : ℕ) → w ≡ (v₀ * n) % B → (s + w) % B ≡ 0 → s < B → IsSquare B n s
+  square-is {s} w ew es l = record {
+    most = let e = left in let o = m .over in omega arith;
+    is = c-trans (c-trans (record { same = sym (add-mul-mod-self-right s v₀ n) }) (c-eq left)) (c-mul (c-sym base) c-refl);
+  }
+    where
+      left : s + v₀ * n ≡ r * B
+      left = let u = m .under in let o = m .over in let b = m .half in
+          wrapped B (r * B) (v₀ * n) s (omega arith) (omega arith) l (ap (λ (x : ℕ). (s + x) % B) (sym ew) ∙ es ∙ sym (mul-mod-left r B))
 
   -- the base is r modulo n, so two words are a sum of two words
   pub two-words : (hi lo : ℕ) → (r * hi + 1 * lo) % n ≡ (hi * B + lo) % n
