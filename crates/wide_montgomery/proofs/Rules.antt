@@ -17,7 +17,7 @@ use Rattle.words.specs.Digits.{low-low, high-low, low-high}
 use Rattle.wide_words.specs.Halves.{low-is}
 use Rattle.wide_words.specs.Reciprocals.{remainder}
 use Rattle.wide_words.specs.Montgomery.{IsForm, Refined, refined, multiple-below, multiple-reduced, held-is}
-use Rattle.wide_words.specs.Montgomery.{high-less, high-room, two-products, product-most}
+use Rattle.wide_words.specs.Montgomery.{high-less, high-room, high-most, two-products, product-most}
 use Rattle.wide_montgomery.specs.Forms.{Formed, Squared, Held, Reduced, Inverse, Carried, Factors}
 use Rattle.wide_montgomery.specs.Forms.{open-form, open-square, open-reduced, shut-held, shut-reduced, shut-inverse}
 
@@ -114,6 +114,9 @@ low-half a b r e = e ∙ low-is a b
 
 -- ---- the reduction
 
+pub multiple-most : (n q x g : ℕ) → g ≡ q * x / 2 ^ 64 → q < 2 ^ 64 → x ≤ n → g ≤ n
+multiple-most n q x g e l h = let k = high-most (2 ^ 64) q x g l e in omega arith
+
 module _ {n k : ℕ} (f : Formed n k) where
   pub form-small : n < 2 ^ 63
   form-small = let h = open-form f .half in omega arith
@@ -121,15 +124,12 @@ module _ {n k : ℕ} (f : Formed n k) where
   pub residue-less : (h x g : ℕ) → h ≡ x % n → h < n + g
   residue-less h x g e = let l = mod-lt x (open-form f .pos) in omega arith
 
-  pub multiple-most : (lo q g : ℕ) → lo < 2 ^ 64 → q ≡ (lo * k) % 2 ^ 64 → g ≡ q * n / 2 ^ 64 → g ≤ n
-  multiple-most lo q g l eq eg = let h = multiple-below (open-form f) lo q g l eq eg in omega arith
-
   pub redc-is : (hi lo h q g r : ℕ) → lo < 2 ^ 64 → h ≡ (hi + (n - n)) % n → q ≡ (lo * k) % 2 ^ 64 → g ≡ q * n / 2 ^ 64
       → r ≡ (h + (n - g)) % n → Reduced n (hi * 2 ^ 64 + lo) r
   redc-is hi lo h q g r l eh eq eg er =
       shut-reduced (multiple-reduced (open-form f) lo q g l eq eg hi r (rw er (mod-lt _ (open-form f .pos)))
       (c-trans (c-add (c-trans (c-eq er) (c-mod (h + (n - g)))) (c-refl {a = g}))
-      (c-trans (c-eq {b = h + n} (let m = multiple-most lo q g l eq eg in omega arith))
+      (c-trans (c-eq {b = h + n} (let m = multiple-below (open-form f) lo q g l eq eg in omega arith))
       (c-trans (c-add (c-trans (c-eq eh) (c-mod (hi + (n - n)))) (record { same = mod-self n ∙ sym (zero-mod n) }))
       (c-eq (omega arith))))))
 

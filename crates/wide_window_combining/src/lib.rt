@@ -67,9 +67,9 @@ fn combine_held(
     let mut j: usize = 0;
     let mut y: u64 = 0;
     while j < len {
-        let z = w[src + j];
-        w[dst + j] = wide_montgomery::sum_three(n, k, hl, w[dst + j], hc, y, hm, z);
-        y = z;
+        let x = w[src + j];
+        w[dst + j] = wide_montgomery::sum_three(n, k, hl, w[dst + j], hc, y, hm, x);
+        y = x;
         j += 1;
     }
 }

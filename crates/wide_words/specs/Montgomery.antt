@@ -9,12 +9,12 @@
 --   multiple-below, multiple-reduced    the multiple of n whose low word is that of t, and what is left of t without it
 --   held-is               a product with B², reduced, is a multiplier held
 --   three-held, two-held  sums of words with held multipliers, reduced, are the sums with the multipliers
---   high-less, high-room, two-products, product-most    what the high word of a sum of products is below
+--   high-less, high-room, high-most, two-products, product-most    what the high word of a sum of products is below
 --   Refined, refined      Newton's step: an inverse modulo the square of what m is an inverse modulo
 use mathlib.Core.Path.{_≡_, sym, ap, _∙_}
 use Prim.Native.Nat.{ℕ, _+_, _*_, _/_, _%_, _<_, _≤_, _∣_}
 use native.Mathlib.Nat.{mod-lt, mod-eq-of-lt, mul-one, zero-add, div-add-mod', dvd-mul-right, dvd-trans}
-use native.Mathlib.Nat.{lt-of-mul-lt-mul-right, div-mul-le-self, mul-le-mul, mul-le-mul-left, mul-le-mul-right}
+use native.Mathlib.Nat.{lt-of-mul-lt-mul-right, le-of-mul-le-mul-right, div-mul-le-self, mul-le-mul, mul-le-mul-left, mul-le-mul-right}
 use native.Mathlib.Omega.{arith}
 use Rattle.numbers.specs.Congruence.{Cong, c-refl, c-sym, c-trans, c-eq, c-add, c-mul, c-mod, c-cancel, c-dvd, c-zero, ring}
 
@@ -106,6 +106,10 @@ high-less B n hi lo p l = lt-of-mul-lt-mul-right B (omega (arith, div-mul-le-sel
 
 pub high-room : (B n hi lo p : ℕ) → n + n < B → hi * B + lo + p < (n + n) * B → hi + p / B + 1 < B
 high-room B n hi lo p half l = let h = high-less B n hi lo p l in omega arith
+
+pub high-most : (B q x h : ℕ) → q < B → h ≡ q * x / B → h ≤ x
+high-most B q x h l e =
+    le-of-mul-le-mul-right {k = B} (rw e (omega (arith, div-mul-le-self (q * x) B, mul-le-mul-right x l))) (omega arith)
 
 pub two-products : {B n c y e z : ℕ} → 0 < n → n + n < B → c ≤ n → y < n → e ≤ n → z < n → c * y + e * z < n * B
 two-products {B} {n} {c} {y} {e} {z} pos half lc ly le lz =
