@@ -30,7 +30,7 @@ use Rattle.modulus_windows.specs.Standing.{Wrote, Scaled}
 use Rattle.modulus_windows.proofs.Forms.{values-length}
 use Rattle.resultant_turns.specs.RunLaws.{Run}
 use Rattle.resultant_turns.specs.Signs.{signed-even, signed-odd}
-use Rattle.resultant_pseudo.specs.Standing.{Placed, Led, TriedAnswer, Answers, standing}
+use Rattle.resultant_pseudo.specs.Standing.{Placed, Led, TriedAnswer, standing}
 use Rattle.resultant_pseudo.specs.declared.Tried.{Tried}
 use Rattle.resultant_pseudo.specs.declared.Tried.the-variants.{Value}
 use Rattle.resultant_pseudo.proofs.Stepping.{pair-stepped, last-stepped, turn-stepped, drop-stepped, next-placed}
@@ -38,7 +38,7 @@ use Rattle.resultant_pseudo.proofs.Stepping.{turned-placed, led-self, led-trans
 use Rattle.euclid_steps.specs.Plain.{Sound, values-at, values-below, known-sound, plain-sound}
 use Rattle.euclid_steps.specs.Stages.{Standing, Leads, Stepped, Finished, Told, meant}
 use Rattle.euclid_steps.specs.declared.Stage.{Stage}
-use Rattle.resultant_euclid.specs.Running.{Descends}
+use Rattle.resultant_euclid.specs.Running.{Descends, Answering}
 use Rattle.resultant_euclid.proofs.Moving.{pair-moves, last-moves, turn-moves, drop-moves}
 
 -- ---- the stage after a step: the remainder and f; f and what a turn leaves of g; f without its leading word and g
@@ -298,19 +298,20 @@ module _ (m : Modulus) (sound : Sound m) where
   pub leads-self : {x : Stage} {w : List ℕ} → Standing m x w → Leads m x w x w
   leads-self {x} {w} st = record { standing = st; led = led-self (standing-values (x .a) (x .d) (x .b) (x .e) w (st .placed)) }
 
-  -- the value at the end of a run, from what the code found
-  pub value-is : (y : Stage) (w : List ℕ) (R₀ i g s l c z u v : ℕ) → Standing m y w → y .d ≡ 0
-      → Run (m .n) (value m (y .s)) (value m (y .p)) (value m (y .t)) (y .d) R₀ (standing (m .n) (y .a) (y .d) (y .b) (y .e) (values m w))
-      → R₀ < m .n
-      → s ≡ value m (y .s) → (i * s) % m .n ≡ g % m .n → g ≡ 1 → l ≡ value m (getD w (y .a) 0) → c ≡ (l ^ y .e) % m .n
-      → value m z ≡ (value m (y .p) * value m (y .t)) % m .n → u ≡ (value m z * c) % m .n → v ≡ (i * u) % m .n → TriedAnswer (m .n) R₀
-      (Value v)
-  value-is y w R₀ i g s l c z u v st h run small hs hi hg hl hc hz hu hv =
-      run-value (m .n) (m .n) (y .a) (y .d) (y .b) (y .e) (value m (y .s)) (value m (y .p)) (value m (y .t)) R₀ i g c (value m z) u v
-      (values m w) refl
-      (standing-values (y .a) (y .d) (y .b) (y .e) w (st .placed)) h run small
-      (subst (λ (q : ℕ). (i * q) % m .n ≡ g % m .n) hs hi) hg
-      (hc ∙ ap (λ (q : ℕ). (q ^ y .e) % m .n) (hl ∙ sym (values-at m sound w (y .a)))) hz hu hv
+-- the value at the end of a run, from what the code found
+pub value-is : {n : ℕ} (m : Modulus) (y : Stage) (w : List ℕ) (R₀ i g s l c z u v : ℕ) → Standing m y w → y .d ≡ 0
+    → Run (m .n) (value m (y .s)) (value m (y .p)) (value m (y .t)) (y .d) R₀ (standing (m .n) (y .a) (y .d) (y .b) (y .e) (values m w))
+    → R₀ < m .n
+    → s ≡ value m (y .s) → (i * s) % m .n ≡ g % m .n → g ≡ 1 → l ≡ value m (getD w (y .a) 0) → c ≡ (l ^ y .e) % m .n
+    → value m z ≡ (value m (y .p) * value m (y .t)) % m .n → u ≡ (value m z * c) % m .n → v ≡ (i * u) % m .n → Sound m → m .n ≡ n
+    → TriedAnswer n R₀ (Value v)
+value-is m y w R₀ i g s l c z u v st h run small hs hi hg hl hc hz hu hv sound is =
+    subst (λ (N : ℕ). TriedAnswer N R₀ (Value v)) is
+    (run-value (m .n) (m .n) (y .a) (y .d) (y .b) (y .e) (value m (y .s)) (value m (y .p)) (value m (y .t)) R₀ i g c (value m z) u v
+    (values m w) refl
+    (standing-values m sound (y .a) (y .d) (y .b) (y .e) w (st .placed)) h run small
+    (subst (λ (q : ℕ). (i * q) % m .n ≡ g % m .n) hs hi) hg
+    (hc ∙ ap (λ (q : ℕ). (q ^ y .e) % m .n) (hl ∙ sym (values-at m sound w (y .a)))) hz hu hv)
 
 pub leads-trans : {m : Modulus} {x y z : Stage} {w w' w'' : List ℕ} → Leads m x w y w' → Leads m y w' z w'' → Leads m x w z w''
 leads-trans p q = record { standing = q .standing; led = led-trans (p .led) (q .led) }
@@ -418,16 +419,16 @@ sign-odd m e x r sound l h s =
 
 -- ---- the answer
 
-pub attempted : {m : Modulus} {a d b e u : ℕ} {w w₁ : List ℕ} {x : Stage} (r : Tried) → 2 ≤ m .n → Placed (m .n) a d b e w → Enters m 1 u
-    → Leads m (beginning a d b e u) w x w₁ → Answers (m .n) (meant m x) (values m w₁) r
-    → TriedAnswer (m .n) (resultant (m .n) (piece (values m w) a (d + 1)) (piece (values m w) b (e + 1))) r
-attempted {m} {a} {d} {b} {e} {u} {w} {w₁} {x} r two pl en l an =
-    answered (m .n) (m .n) a d b e (values m w) (meant m x) (values m w₁) r refl (pl .pos) (began u x two (en .1) l) an
+pub attempted : {m : Modulus} {n a d b e u : ℕ} {w w₁ : List ℕ} {x : Stage} (r : Tried) → Placed n a d b e w → Enters m 1 u
+    → Leads m (beginning a d b e u) w x w₁ → Answering m x w₁ r → m .n ≡ n → 2 ≤ n
+    → TriedAnswer n (resultant n (piece (values m w) a (d + 1)) (piece (values m w) b (e + 1))) r
+attempted {m} {n} {a} {d} {b} {e} {u} {w} {w₁} {x} r pl en l an is two =
+    answered n (m .n) a d b e (values m w) (meant m x) (values m w₁) r is (pl .pos)
+    (began u x (omega arith) (en .1) l) (an .at)
 
 -- what is known at the end is known before
-pub answers-before : {m : Modulus} {x y : Stage} {w v : List ℕ} (r : Tried) → Leads m x w y v → Answers (m .n) (meant m y) (values m v) r
-    → Answers (m .n) (meant m x) (values m w) r
-answers-before r l an = λ R₀ h run. an R₀ h (l .led .run R₀ run)
+pub answers-before : {m : Modulus} {x y : Stage} {w v : List ℕ} {r : Tried} → Leads m x w y v → Answering m y v r → Answering m x w r
+answers-before l an = record { at = λ R₀ h run. an .at R₀ h (l .led .run R₀ run) }
 
 pub leads-scratch : {m : Modulus} {x y : Stage} {w w₁ : List ℕ} → Leads m x w y w₁ → Scratch w w₁
 leads-scratch l = record { same = leads-same l }
