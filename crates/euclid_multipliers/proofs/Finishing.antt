@@ -2,13 +2,11 @@
 --
 --   multiplied    the multipliers of f and g, and the resultant's equation
 --   scratched     the buffer keeps its length
---   climbs        the rules
 use mathlib.Core.Path.{_≡_, refl, sym, ap, _∙_, subst}
 use mathlib.Core.List.{List}
 use Prim.Native.Nat.{ℕ, _+_, _-_, _*_, _%_, _^_, _≤_, _<_}
 use native.Mathlib.Omega.{arith}
 use lib.ListN.{length, getD}
-use borrow.Author.Needs.{needs}
 use Rattle.numbers.specs.Congruence.{c-refl, c-add, c-mul}
 use Rattle.definitions.specs.Polynomials.{coef, deg}
 use Rattle.definitions.specs.Resultants.{resultant}
@@ -23,7 +21,7 @@ use Rattle.resultant_euclid.proofs.Steps.{standing-values, leads-same}
 use Rattle.euclid_steps.specs.declared.Stage.{Stage}
 use Rattle.euclid_steps.specs.declared.Found.{Found}
 use Rattle.euclid_steps.specs.declared.Ending.{Ending}
-use Rattle.euclid_steps.specs.Plain.{Sound, known-sound, plain-sound, values-at}
+use Rattle.euclid_steps.specs.Plain.{Sound, values-at}
 use Rattle.euclid_steps.specs.Steps.{Bound}
 use Rattle.euclid_steps.specs.Stages.{polynomial, meant}
 use Rattle.euclid_steps.specs.Backs.{Ended}
@@ -32,7 +30,7 @@ use Rattle.euclid_steps.specs.Multiplied.{Asked, Multiplied}
 use Rattle.euclid_multipliers.specs.Ways.{Started, Descended, Raised, Rising, stage, f-at, g-at}
 use Rattle.euclid_multipliers.specs.declared.Descent.{Descent}
 use Rattle.euclid_multipliers.proofs.Trailing.{trail-degree}
-use Rattle.euclid_multipliers.proofs.Rounds.{bottomed, rises}
+use Rattle.euclid_multipliers.proofs.Rounds.{bottomed}
 
 -- no step: the pair is the first one
 at-first : (m : Modulus) (h : ℕ) (w : List ℕ) (F₀ G₀ : ℕ → ℕ) (d₀ e₀ : ℕ) (F G : ℕ → ℕ) (d e : ℕ) → Trail m h w F₀ G₀ d₀ e₀ 0 F G d e
@@ -136,5 +134,3 @@ module _ {m : Modulus} {f g w : List ℕ} {x : Stage} {w₁ : List ℕ} {y : Des
 
   pub scratched : Scratch w w₄
   scratched = record { same = rs .same ∙ bt .around .same ∙ leads-same (ds .descending .leads) ∙ st .same }
-
-pub ruleset climbs = (needs, known-sound, plain-sound, rises, multiplied, scratched)
