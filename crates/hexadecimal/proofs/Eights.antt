@@ -1,8 +1,9 @@
 -- Eight characters at once: what is done to a number of eight bytes is done to each of them, as long as none passes 255.
 --
 --   each f t                  the values of f at the characters t, as one number
---   and-each, add-each, scale-each, same-each    `&`, `+` and `*` of such numbers
---   upto, by-table            a test that holds of every character
+--   and-each, add-each        `&`, and `+` with `*`, of such numbers
+--   mask, masked              a number of eight equal bytes, and what `&` with it leaves of the characters
+--   upto, looked-up           a test that holds of every character
 --   letter, value, ten        what is done to one character: see `word` in src
 --   tested, wanted            the two sides of the test
 --   digits-all, digits-not    the test tells digits from other characters, and then the values are theirs
