@@ -6,5 +6,4 @@ pub jingcobu-resultant-cofactors-spec : {M : Type 1} → statement M
 jingcobu-resultant-cofactors-spec =
     tie.close
     (tie.spec
-    (λ c κs. search needs) (λ c. search needs) (λ c. search needs) (λ c. search needs)
-    (λ c. c .before .before .before .before .before .before .resultant-cofactors .ensures))
+    (λ c κs. search needs) (λ c. search needs) (λ c. search needs) (λ c. search needs) (λ c. search needs))
