@@ -12,6 +12,7 @@ use mathlib.Core.List.{List}
 use Prim.Native.Nat.{ℕ, zero, suc, _+_, _-_, _*_, _%_, _^_, _<_, _≤_}
 use native.Mathlib.Nat.{mod-eq-of-lt, zero-lt-suc}
 use native.Mathlib.Omega.{arith}
+use lib.Dec.{T, leb, leb→le}
 use mir.Syntax.{w32, w64}
 use mir.Val.{Fits}
 use borrow.Author.Needs.{needs}
@@ -52,10 +53,11 @@ module _ {n last d a e b z : ℕ} {f g out₀ w₀ out w : List ℕ} (p : Prepar
     working = omega (arith, h .same, p .sizes .working);
   }
 
-  module _ (l : z < last + 1) where
-    pub point-fits : Fits w32 n → Fits w32 z
-    point-fits r = record { fits = omega (arith, r .fits, differences-above (p .two) (p .apart)) }
+  -- the points up to B + 1 are words
+  pub point-fits : (j : ℕ) → z < last + j → T (leb j 2) → Fits w32 n → Fits w32 z
+  point-fits j l t r = record { fits = omega (arith, r .fits, leb→le j 2 t, differences-above (p .two) (p .apart)) }
 
+  module _ (l : z < last + 1) where
     pub value-inside : z < length out
     value-inside = omega (arith, p .inside, h .done .same)
 
