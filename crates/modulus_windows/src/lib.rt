@@ -225,21 +225,13 @@ pub fn add_scaled(w: &mut [u32], m: Modulus, c: u32, src: usize, dst: usize, len
     if m.held != 0 {
         let one = modulus::enter(m, 1);
         let x = modulus::enter(m, c);
-        held_windows::combine_pair(
-            w,
-            Form {
-                n,
-                k: m.negative,
-                m: m.inverse,
-                r2: m.c,
-            },
-            one,
-            0,
-            x,
-            src,
-            dst,
-            len,
-        );
+        let form = Form {
+            n,
+            k: m.negative,
+            m: m.inverse,
+            r2: m.c,
+        };
+        held_windows::combine_pair(w, form, one, 0, x, src, dst, len);
         return;
     }
     if reduction::power_of_two(n) {
