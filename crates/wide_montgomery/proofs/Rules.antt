@@ -4,11 +4,13 @@
 --   newton, six-steps, no-inverse   a step of the inverse; six of them; an even n has none
 --   carried-…                       the carry of a sum of words
 --   product-is, added-fits, added-is    a product of two words; what is added to it
---   less-…, redc-is                 the multiple of n, and what is left of two words without it
---   …-room, …-less                  what fits on the way of a sum of products
+--   multiple-most, redc-is          the multiple of n, and what is left of two words without it
+--   entered-…, three-…, two-…       a multiplier entered; what fits on the way of a sum of products, and what it is
+--   rules, sums                     the rules
 use mathlib.Core.Path.{_≡_, refl, sym, ap, ap₂, _∙_}
 use Prim.Native.Nat.{ℕ, _+_, _-_, _*_, _/_, _%_, _^_, _<_, _≤_, _∣_}
-use native.Mathlib.Nat.{add-zero, mod-lt, mod-self, zero-mod, mod-eq-of-lt, mul-one, div-add-mod', dvd-mul-right, dvd-refl, mul-le-mul, mul-le-mul-right}
+use native.Mathlib.Nat.{add-zero, mod-lt, mod-self, zero-mod, mod-eq-of-lt, mul-one, div-add-mod'}
+use native.Mathlib.Nat.{dvd-mul-right, dvd-refl, mul-le-mul, mul-le-mul-right}
 use native.Mathlib.Decide.{decLt}
 use native.Mathlib.Omega.{arith}
 use borrow.Author.Needs.{needs}
@@ -52,8 +54,10 @@ six-steps {n} {m₁} {m₂} {m₃} {m₄} {m₅} {m₆} a b c d e f odd =
     let one : n % 2 ≡ 1 = omega arith in
     shut-inverse (
     f .at 4294967296 (2 ^ 64) (omega arith) (omega arith) (dvd-mul-right 4294967296 4294967296) (dvd-refl (2 ^ 64)) (dvd-refl (2 ^ 64))
-    (e .at 65536 4294967296 (omega arith) (omega arith) (dvd-mul-right 65536 281474976710656) (dvd-mul-right 4294967296 4294967296) (dvd-refl 4294967296)
-    (d .at 256 65536 (omega arith) (omega arith) (dvd-mul-right 256 72057594037927936) (dvd-mul-right 65536 281474976710656) (dvd-refl 65536)
+    (e .at 65536 4294967296 (omega arith) (omega arith) (dvd-mul-right 65536 281474976710656) (dvd-mul-right 4294967296 4294967296)
+    (dvd-refl 4294967296)
+    (d .at 256 65536 (omega arith) (omega arith) (dvd-mul-right 256 72057594037927936) (dvd-mul-right 65536 281474976710656)
+    (dvd-refl 65536)
     (c .at 16 256 (omega arith) (omega arith) (dvd-mul-right 16 1152921504606846976) (dvd-mul-right 256 72057594037927936) (dvd-refl 256)
     (b .at 4 16 (omega arith) (omega arith) (dvd-mul-right 4 4611686018427387904) (dvd-mul-right 16 1152921504606846976) (dvd-refl 16)
     (a .at 2 4 (omega arith) (omega arith) (dvd-mul-right 2 9223372036854775808) (dvd-mul-right 4 4611686018427387904) (dvd-refl 4)
@@ -93,7 +97,7 @@ module _ (hi a b h : ℕ) (room : hi + a * b / 2 ^ 64 + 1 < 2 ^ 64) (eh : h ≡ 
 
 pub sign-fits : (y n : ℕ) → y < 2 ^ 64 → n < 2 ^ 63 → y / 9223372036854775808 * n < 2 ^ 64
 sign-fits y n ly ln =
-    omega (arith, mul-le-mul {n₁ = y / 9223372036854775808} {m₁ = n} {n₂ = 1} {m₂ = n} (let h : y / 9223372036854775808 ≤ 1 = omega arith in h) (omega arith))
+    omega (arith, mul-le-mul-right n (let h : y / 9223372036854775808 ≤ 1 = omega arith in h))
 
 module _ (a b : ℕ) (ha : a < 2 ^ 64) (hb : b < 2 ^ 64) where
   pub low-fits : (a % 4294967296) * (b % 4294967296) < 2 ^ 64

@@ -13,8 +13,9 @@ use borrow.Author.Needs.{needs}
 use Rattle.words.specs.Fractions.{Fraction}
 use Rattle.wide_words.specs.Doubling.{added-low, added-high}
 use Rattle.wide_words.specs.Reciprocals.{Digit, Less, IsReciprocal, digit-first, digit-word, digit-second}
-use Rattle.wide_words.specs.Reciprocals.{digit-next, digit-is, digit-less, digits-under, digits-over, rest-fits, multiple-large, multiple-some}
-use Rattle.wide_words.specs.Reciprocals.{multiple-most, reciprocal-is, square-is, product-fits, quotient-fits, multiplier-none, multiplier-once}
+use Rattle.wide_words.specs.Reciprocals.{digit-next, digit-is, digit-less, digits-under, digits-over, rest-fits, multiple-large}
+use Rattle.wide_words.specs.Reciprocals.{multiple-some, multiple-most, reciprocal-is, square-is, product-fits, quotient-fits}
+use Rattle.wide_words.specs.Reciprocals.{multiplier-none, multiplier-once}
 use Rattle.wide_words.specs.Reciprocals.{multiplier-fits, scaled-less, scaled-is, sum-less, sum-is, two-words, base-fraction, unit-fraction}
 use Rattle.wide_montgomery.specs.Forms.{Inverse, open-inverse, shut-form, shut-square}
 use Rattle.wide_reduction.specs.Moduli.{Ready, open-ready, shut}
@@ -67,7 +68,8 @@ pub ready-small : (m : Reciprocal) (w : ℕ) → 1 ≤ m .n → m .n < 922337203
     → Inverse (m .n) (m .k) → w ≡ (m .v0 * m .n) % 2 ^ 64 → (m .s + w) % 2 ^ 64 ≡ 0 → m .s < 2 ^ 64 → m .v1 ≡ 18446744073709551615 / m .n
     → m .r ≡ 18446744073709551615 % m .n + 1 → Ready m
 ready-small m w pos small u o i ew es ls ev er =
-    shut m pos (λ _. is) (λ h. (shut-form (record { pos = pos; half = omega arith; inverse = open-inverse i h }), shut-square (square-is is w ew es ls)))
+    shut m pos (λ _. is)
+    (λ h. (shut-form (record { pos = pos; half = omega arith; inverse = open-inverse i h }), shut-square (square-is is w ew es ls)))
   where
     is : IsReciprocal (2 ^ 64) (m .n) (m .r) (m .v1) (m .v0)
     is = rw (ev, er) (reciprocal-is 18446744073709551615 (m .n) pos (omega arith) (m .v0) u o)

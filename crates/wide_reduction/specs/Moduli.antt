@@ -1,8 +1,8 @@
 -- A modulus of 64 bits with its reciprocal.
 --
---   Ready m          n is above 0; where it is below 2^63, r, v1 and v0 are its reciprocal; where k is not 0, n has Montgomery's form, with k
---                    and s. The equations are shut: omega above this crate stops at numbers as large as 2^64. `open-ready`, `formed` and
---                    `squared` open them, `shut` makes them.
+--   Ready m          n is above 0; where it is below 2^63, r, v1 and v0 are its reciprocal; where k is not 0, n has Montgomery's form,
+--                    with k and s. The equations are shut: omega above this crate stops at numbers as large as 2^64. `open-ready`,
+--                    `formed` and `squared` open them, `shut` makes them.
 use mathlib.Core.Path.{_≡_}
 use Prim.Native.Nat.{ℕ, _^_, _<_, _≤_}
 use Rattle.wide_words.specs.Reciprocals.{IsReciprocal}

@@ -19,8 +19,8 @@ ghost use Rattle.words.specs.Fractions.{Fraction};
 ghost use Rattle.wide_words.specs.Reciprocals.{Digit, Less};
 ghost use Rattle.wide_reduction.specs.Moduli.{Ready};
 
-// What is found once for a modulus n: `Ready` says that v1, v0 and r belong to it, and that k is 0, or n is odd and below 2^63, k its inverse
-// modulo 2^64 and s 2^128 modulo n.
+// What is found once for a modulus n: `Ready` says that v1, v0 and r belong to it, and that k is 0, or n is odd and below 2^63, k its
+// inverse modulo 2^64 and s 2^128 modulo n.
 pub struct Reciprocal {
     pub n: u64,
     pub r: u64,
@@ -48,7 +48,7 @@ fn less(n: u64, q: u64, a: u64, c: u64) -> Parts
     Parts { q: q + 1, x: a - b }
 }
 
-// One digit of a quotient by n in the base 2^32, by the upper half of n and one more: the digit is at most two too small, and a + c is left.
+// One digit of a quotient by n in the base 2^32, by the upper half of n and one more: q is at most two too small, and a + c is left.
 fn digit(n: u64, x: u64) -> Parts
     requires { ⌜ (2 ^ 63 ≤ n) × ((1 ≤ x) × (x ≤ n)) ⌝ }
     ensures { λ r. ⌜ Digit 4294967296 n x (r .q) (r .x) ⌝ }

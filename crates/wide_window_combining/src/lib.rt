@@ -13,8 +13,8 @@ ghost use Rattle.wide_reduction.specs.Moduli.{Ready};
 ghost use Rattle.window_combining.specs.Combined.{combination};
 use wide_reduction::Reciprocal;
 
-// w[dst + j] = l * w[dst + j] + c * w[src + j - 1] + m * w[src + j], for j < len; the word before the first counts as 0. By the fractions of
-// l, c and m: any n.
+// w[dst + j] = l * w[dst + j] + c * w[src + j - 1] + m * w[src + j], for j < len; the word before the first counts as 0. By the
+// fractions of l, c and m: any n.
 fn combine_plain(
     w: &mut [u64],
     modulus: Reciprocal,

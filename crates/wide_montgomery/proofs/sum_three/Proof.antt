@@ -7,4 +7,5 @@ pub sum-three-spec : {M : Type 1} → statement M
 sum-three-spec =
     tie.close
     (tie.spec
-    (λ c κs. search needs) (λ c κs. search sums fits 20000) (λ c κs. search sums fits 20000) (λ c κs. search sums fits 20000) (λ c. search sums fits 20000))
+    (λ c κs. search needs) (λ c κs. search sums fits 20000) (λ c κs. search sums fits 20000) (λ c κs. search sums fits 20000)
+    (λ c. search sums fits 20000))

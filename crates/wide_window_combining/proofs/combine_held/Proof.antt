@@ -12,6 +12,7 @@ combine-held-spec =
     (λ w₀ n k s l c m src dst len hl hc hm j₀ y₀ w j y. len - j)
     (λ c κs. search combinations) (λ c κs. search combinations) (λ c κs. search combinations)
     (λ c. search combinations) (λ c. search combinations) (λ c. search combinations) (λ c. search combinations)
-    (λ c. search combinations) (λ c. search combinations) (λ c. search combinations) (λ c κs. (search residues, (search needs, search residues)))
+    (λ c. search combinations) (λ c. search combinations) (λ c. search combinations)
+    (λ c κs. (search residues, (search needs, search residues)))
     (λ c. search combinations) (λ c. search combinations) (λ c. search combinations) (λ c. search combinations)
     (λ c. search combinations) (λ c. search combinations) (λ c. search combinations) (λ c. search combinations))
