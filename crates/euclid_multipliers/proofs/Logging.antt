@@ -148,5 +148,16 @@ module _ (at a b y c k : ℕ) (w : List ℕ) (room : at + 5 ≤ length w) where
       past-one : (i : ℕ) → i < at + 1 → getD five i 0 ≡ getD one i 0
       past-one i l = past-two i (omega arith) ∙ getD-set-other one (at + 1) i b 0 (λ e. omega arith)
 
-pub ruleset logs = (needs, reads-pair, reads-last, reads-turn, reads-drop, bit-swap-none, bit-swap-one, bit-none, bit-one, log-around,
-  log-stands)
+pub ruleset logs = (
+  needs,
+  reads-pair,
+  reads-last,
+  reads-turn,
+  reads-drop,
+  bit-swap-none,
+  bit-swap-one,
+  bit-none,
+  bit-one,
+  log-around,
+  log-stands,
+)

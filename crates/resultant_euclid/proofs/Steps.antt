@@ -445,8 +445,24 @@ descends {m} {a} {d} {b} {e} {u} {w} {w₁} {y} sound two pl en f = record {
       (began u y two (en .1) (f .0)) (f .1);
 }
 
-pub ruleset places = (arith, lead-below, lead-most, lower-below, other-below, other-above, other-here, first-room, second-room, first-words,
-  second-words, words-apart, higher, turn-room, turn-apart, clear-own)
+pub ruleset places = (
+  arith,
+  lead-below,
+  lead-most,
+  lower-below,
+  other-below,
+  other-above,
+  other-here,
+  first-room,
+  second-room,
+  first-words,
+  second-words,
+  words-apart,
+  higher,
+  turn-room,
+  turn-apart,
+  clear-own,
+)
 
 pub ruleset leading = (needs, known-sound, plain-sound, pair-led, last-led, turn-led, drop-led)
 
@@ -454,5 +470,19 @@ pub ruleset telling = (needs, known-sound, plain-sound, pair-told, last-told, tu
 
 pub ruleset signs = (needs, known-sound, plain-sound, sign-even, sign-odd)
 
-pub ruleset runs = (needs, known-sound, plain-sound, leads-self, leads-trans, leads-same, leads-scratch, scratch-after, begun, value-is,
-  attempted, answers-before, descends, first-inside)
+pub ruleset runs = (
+  needs,
+  known-sound,
+  plain-sound,
+  leads-self,
+  leads-trans,
+  leads-same,
+  leads-scratch,
+  scratch-after,
+  begun,
+  value-is,
+  attempted,
+  answers-before,
+  descends,
+  first-inside,
+)
