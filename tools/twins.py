@@ -21,8 +21,8 @@ SHARED = {
     "law_refusals": 2, "multiplier_steps": 0, "multiplier_words": 3, "polynomial_degree": 0, "polynomial_division": 0, "polynomial_factors": 18, "polynomial_inverse": 0,
     "polynomial_product": 0, "reduced": 0, "reduced_attempt": 10, "reduced_clearing": 0, "reduced_cofactors": 0, "reduced_products": 0,
     "reduced_quotients": 0, "reduced_service": 8, "reduced_stages": 0, "reduced_units": 0, "refusals": 2, "residue": 4, "residue_services": 0,
-    "resultant_attempt": 4, "resultant_euclid": 0, "resultant_steps": 0, "resultants_service": 2, "window_division": 0, "window_factor": 0,
-    "windows": 13,
+    "resultant_attempt": 4, "resultant_euclid": 0, "resultant_steps": 0, "resultants_service": 2, "window_division": 31, "window_factor": 0,
+    "windows": 42,
 }
 
 
