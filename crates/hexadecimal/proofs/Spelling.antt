@@ -12,6 +12,7 @@ use mathlib.Core.Bool.{Bool, true, false, _&&_, and-false}
 use mathlib.Core.List.{List, [], _∷_, _++_, append-assoc}
 use Prim.Native.Nat.{ℕ, suc, _+_, _-_, _*_, _/_, _%_, _^_, _<_, _≤_}
 use native.Mathlib.Omega.{arith}
+use native.Mathlib.Nat.{mul-le-mul}
 use native.Mathlib.Numerals.{add-one}
 use lib.ListN.{length, getD, take, drop, set, length-drop, length-set, take-append-drop}
 use lib.Dec.{ltb}
@@ -110,11 +111,15 @@ module _ (s : List ℕ) (at count : ℕ) (fits : at + count ≤ length s) where
   part-below : {i x : ℕ} → Spelled s at count i x → count ≤ 8 → i < count → x < 16 ^ 7
   part-below p e h = spelling-below 7 (omega arith) (omega (arith, part-length s at count fits)) (p .is)
 
-  pub scaled-fit : {i x : ℕ} → Spelled s at count i x → count ≤ 8 → i < count → Fits w32 (x * 16)
-  scaled-fit p e h = record { fits = omega (arith, part-below p e h) }
+  scaled-most : {i x : ℕ} (k : ℕ) → Spelled s at count i x → count ≤ 8 → i < count → k ≤ 16 → x * k ≤ 268435455 * 16
+  scaled-most {x = x} k p e h l =
+      mul-le-mul {n₁ = x} {m₁ = k} {n₂ = 268435455} {m₂ = 16} (omega (arith, part-below p e h)) l
 
-  pub sum-fits : {i x : ℕ} (v : ℕ) → Spelled s at count i x → count ≤ 8 → i < count → v ≤ 15 → Fits w32 (x * 16 + v)
-  sum-fits v p e h l = record { fits = omega (arith, part-below p e h) }
+  pub scaled-fit : {i x : ℕ} (k : ℕ) → Spelled s at count i x → count ≤ 8 → i < count → k ≤ 16 → Fits w32 (x * k)
+  scaled-fit k p e h l = record { fits = omega (arith, scaled-most k p e h l) }
+
+  pub sum-fits : {i x : ℕ} (k v : ℕ) → Spelled s at count i x → count ≤ 8 → i < count → k ≤ 16 → v ≤ 15 → Fits w32 (x * k + v)
+  sum-fits k v p e h l m = record { fits = omega (arith, scaled-most k p e h l) }
 
 pub value-enough : (c : ℕ) → 48 ≤ c → c ≤ 102 → 48 ≤ getD values (c - 48) 0
 value-enough c l m = omega (arith, value-at c l m)
