@@ -243,6 +243,8 @@ pub ruleset numbers = (first-room, number-small, tenth-room, digit-room, digit-f
 
 pub ruleset powers = (power-none, star-room, letter-room, power-one, circumflex-room, digits-room, power-more, three-kept)
 
-pub ruleset words = (plus-first, plus-later, added-none, number-room, power-room, term-put, done-none, term-room, done-next, done-all, done-zero)
+pub ruleset terms-written = (plus-first, plus-later, added-none, number-room, power-room, term-put)
 
-pub ruleset writing = (needs, numbers, powers, words)
+pub ruleset text-written = (done-none, term-room, done-next, done-all, done-zero)
+
+pub ruleset writing = (needs, numbers, powers, terms-written, text-written)
