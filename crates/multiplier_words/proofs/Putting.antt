@@ -92,4 +92,16 @@ pub handed-out : {m : Modulus} {r : Ending} {y z a b : ℕ} {w u v u' v' : List 
     → Put (m .n) z (r .u) a (values m w) u u' → Put (m .n) y (r .v) b (values m w) v v' → Handed m r z a b w u v u' v'
 handed-out {m} {r} {y} {z} e p q = record { first = p; second = put-times z (value m (r .k)) (e .1) q }
 
-pub ruleset puts = (needs, known-sound, plain-sound, putting-none, putting-next, putting-times, putting-room, putting-length, putting-end, word-fits, handed-out)
+pub ruleset puts = (
+  needs,
+  known-sound,
+  plain-sound,
+  putting-none,
+  putting-next,
+  putting-times,
+  putting-room,
+  putting-length,
+  putting-end,
+  word-fits,
+  handed-out,
+)

@@ -1,5 +1,5 @@
-// The quick attempt at the reduced resultant in words of 64 bits. The 32-bit twin `reduced_quick` has the description, the laws and the rules
-// of the proofs; here every word stands for itself.
+// The quick attempt at the reduced resultant in words of 64 bits. The 32-bit twin `reduced_quick` has the description, the laws and the
+// rules of the proofs; here every word stands for itself.
 //
 //   m          the modulus, found once
 //
@@ -24,7 +24,8 @@ use wide_residue::Attempt;
 // as found. r is where Euclid ended, h the number of words of a multiplier.
 fn settle(u: &mut [u64], v: &mut [u64], w: &[u64], m: Reciprocal, r: Ending, h: usize) -> bool
     requires { ⌜ HandAsked m r h h (now w) (now u) (now v) ⌝ }
-    ensures { λ x. ⌜ Settled (plain m) (ending-of r) h (now (w .entry)) (now (u .entry)) (now (v .entry)) (now (u .exit)) (now (v .exit)) x ⌝ }
+    ensures { λ x. ⌜ Settled (plain m) (ending-of r) h (now (w .entry)) (now (u .entry)) (now (v .entry)) (now (u .exit))
+        (now (v .exit)) x ⌝ }
 {
     let c = wide_modulus::leave(m, r.c);
     let i = wide_bezout::cofactor(m.n, c);

@@ -13,7 +13,13 @@ last-step-spec =
     (λ c. search needs)
     (λ c. search needs)
     (λ c. search needs)
-    (λ c κs. (search places, ((search places, (search places, (search places, search places))), (search places, (search places, search places)))))
+    (λ c κs. (
+      search places,
+      (
+        (search places, (search places, (search places, search places))),
+        (search places, (search places, search places)),
+      ),
+    ))
     (λ c κs. search needs)
     (λ c κs. search needs)
     (λ c. search needs)

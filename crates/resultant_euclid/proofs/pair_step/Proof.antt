@@ -24,7 +24,13 @@ pair-step-spec =
     (λ c. search needs)
     (λ c. search needs)
     (λ c κs. (search places, (search places, (search places, (search places, search places)))))
-    (λ c κs. (search places, ((search places, (search places, (search places, (search places, search places)))), (search places, (search places, search places)))))
+    (λ c κs. (
+      search places,
+      (
+        (search places, (search places, (search places, (search places, search places)))),
+        (search places, (search places, search places)),
+      ),
+    ))
     (λ c κs. search needs)
     (λ c κs. search needs)
     (λ c. search needs)

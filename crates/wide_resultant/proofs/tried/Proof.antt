@@ -21,8 +21,8 @@ returns c =
     let a = b .before .before .before .before in
     let m = a .before .before in
     let s = m .before .before .before .before .pre in
-    tried-found (tried-of (e .attempt .result)) (a .load .ensures) (b .load2 .ensures) (m .modulus-of .ensures .1) (s .0) (s .1 .0) (s .1 .1)
-    (e .attempt .ensures .0)
+    tried-found (tried-of (e .attempt .result)) (a .load .ensures) (b .load2 .ensures) (m .modulus-of .ensures .1) (s .0) (s .1 .0)
+    (s .1 .1) (e .attempt .ensures .0)
 
 pub tried-spec : {M : Type 1} → statement M
 tried-spec =
