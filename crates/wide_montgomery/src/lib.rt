@@ -5,7 +5,7 @@
 //   minus                 a - b modulo n
 //   inverse_of            the inverse of n modulo 2^64, or 0
 //   enter                 a multiplier, held
-//   sum_two, sum_three    x + c y + e z and l x + c y + e z modulo n, the multipliers l, c and e held
+//   sum_three             l x + c y + e z modulo n, the multipliers l, c and e held
 //
 //   k       the inverse of n modulo 2^64
 //   s       2^128 modulo n, at most n
@@ -117,17 +117,6 @@ pub fn sum_three(n: u64, k: u64, l: u64, x: u64, c: u64, y: u64, e: u64, z: u64)
     ensures { λ r. ⌜ Reduced n (l * x + c * y + e * z) r ⌝ }
 {
     let t = product(l, x);
-    let u = add_product(t, c, y);
-    let v = add_product(u, e, z);
-    redc(n, k, v.hi, v.lo)
-}
-
-// x + c y + e z, with c and e held.
-pub fn sum_two(n: u64, k: u64, x: u64, c: u64, y: u64, e: u64, z: u64) -> u64
-    requires { ⌜ (Formed n k) × ((x ≤ n) × (Factors n c y e z)) ⌝ }
-    ensures { λ r. ⌜ Reduced n (x * 2 ^ 64 + c * y + e * z) r ⌝ }
-{
-    let t = Wide { hi: x, lo: 0 };
     let u = add_product(t, c, y);
     let v = add_product(u, e, z);
     redc(n, k, v.hi, v.lo)

@@ -6,7 +6,8 @@
 use mathlib.Core.Path.{_≡_, ap}
 use Prim.Native.Nat.{ℕ}
 use Rattle.wide_residue.proofs.Cases.{readings}
-use Rattle.window_factor.specs.declared.Highest.the-variants.{UnitAt as NarrowUnitAt, Splits as NarrowSplits, AllNilpotent as NarrowNilpotent}
+use Rattle.window_factor.specs.declared.Highest.the-variants.{UnitAt as NarrowUnitAt, Splits as NarrowSplits}
+use Rattle.window_factor.specs.declared.Highest.the-variants.{AllNilpotent as NarrowNilpotent}
 use Rattle.window_factor.proofs.Cases as narrow
 use Rattle.wide_window_factor.specs.declared.Highest.{Highest}
 use Rattle.wide_window_factor.specs.declared.Highest.the-variants.{UnitAt as UnitAt', Splits, AllNilpotent}
