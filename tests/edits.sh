@@ -2,6 +2,7 @@
 # The wrong versions of crates/*/must-fail: each must have been refused in the proof of the function that it changes (tools/edits.py).
 # First the script itself, on a crate of two functions with logs of its own. Usage: tests/edits.sh (make check-edits)
 set -u
+shopt -s lastpipe # `expect` at the end of a pipe ends this script, not a subshell
 cd "$(dirname "$0")/.." || exit 1
 folder=$(mktemp -d)
 trap 'rm -rf "$folder"' EXIT
@@ -31,6 +32,7 @@ printf '%s\n' "$first" | expect 1 "$bad"
 printf '%s\n' "$second" | expect 1 "$bad"
 # a function that is refused only because it calls one that is
 printf '%s\n' "$first" "$echoed" 'fn two::second: not proved; it calls `two::first`, which is not proved' | expect 1 "$bad"
+printf '%s\n' "$first" 'fn two::second: no proof: expected `second-spec` in proofs/second/Proof.antt; it calls `two::first`, which is not proved' | expect 1 "$bad"
 printf '%s\n' 'stopped by `two/one` and `…/other`, `two/src`' > "$folder/README.md"
 printf '%s\n' "$first" "$second" | expect 0 'edits: 2 wrong versions in 1 edits, each refused in what it changes'
 printf '%s\n' 'stopped by `two/third`' > "$folder/README.md"

@@ -10,7 +10,8 @@ by a search that has limits, it does not say: the log does.
                                   was not refused where it should be, and the counts. No logs: SKIPPED, or a failure if CI is set.
                                   A version that a document names must be there, with or without logs.
   tools/edits.py list [CRATE]     the versions: crate, file, name, the function that each changes
-  tools/edits.py one CRATE NAME   tries one version alone, in a copy of the crate, and prints its first error. The crates below must be
+  tools/edits.py one CRATE NAME   tries one version alone, or a file of several versions by the file's name, in a copy of the crate, and
+                                  prints the first error of each proof, and which versions are not refused. The crates below must be
                                   proved (rt check CRATE).
 """
 import glob
@@ -25,7 +26,7 @@ ROOT = os.path.dirname(os.path.dirname(os.path.abspath(__file__)))
 FUNCTION = re.compile(r'^[ \t]*(?:pub )?(?:extern "C" )?fn (\w+)', re.M)
 ERROR = re.compile(r'^(?:\./|/\S*?/)?((?:proofs|specs|src)/\S+?):\d+:\d+: error: (?:`([^`]*)`: )?(.*)$', re.M)
 # An error that only says that something else was refused, or that the text of a proof does not fit.
-ECHO = re.compile(r'was not admitted|is not proved|this cannot be checked|that can be named')
+ECHO = re.compile(r'was not admitted|(is|are) not proved|this cannot be checked|that can be named')
 
 
 def versions(path):
@@ -99,10 +100,32 @@ def refusals(log):
         part = where.split('/')
         place = part[1] if part[0] == 'proofs' and len(part) > 2 else where
         places.setdefault(place, (need + ': ' if need else '') + words)
-    # a function without a file of its own: the prover names it, and the fact that it does not find
+    # a function without a file of its own: the prover names it, and the fact that it does not find, or what it calls that is refused
     for name, words in re.findall(r'^fn \w+::(\w+): no proof: expected .*?; (.*)$', log, re.M):
-        places.setdefault(name, words)
+        if not ECHO.search(words):
+            places.setdefault(name, words)
     return places
+
+
+def reading(log):
+    with open(log, encoding='utf-8', errors='replace') as file:
+        return refusals(file.read())
+
+
+def missed(crate, label, tried, places):
+    """The versions of an edit that are not refused in what they change, each with a line that says so."""
+    found, texts = [], {}
+    for name, _, pairs in tried:
+        changed = apply(crate, pairs, texts)
+        if None in changed:
+            refused = bool(places)
+        else:
+            refused = any(proof(crate, function) in places for function in changed)
+        if not refused:
+            found.append(name)
+            print('%s/%s (%s): nothing is refused in the proof of %s, but in: %s' %
+                  (crate, name, label, ', '.join(sorted(map(str, changed))), ', '.join(sorted(places))))
+    return found
 
 
 def unknown():
@@ -139,19 +162,7 @@ def check():
             if not os.path.exists(log):
                 continue
             tried += 1
-            with open(log, encoding='utf-8', errors='replace') as file:
-                places = refusals(file.read())
-            texts = {}
-            for name, _, pairs in versions(path):
-                changed = apply(crate, pairs, texts)
-                if None in changed:
-                    refused = bool(places)
-                else:
-                    refused = any(proof(crate, function) in places for function in changed)
-                if not refused:
-                    wrong += 1
-                    print('%s/%s (%s): nothing is refused in the proof of %s, but in: %s' %
-                          (crate, name, label, ', '.join(sorted(map(str, changed))), ', '.join(sorted(places))))
+            wrong += len(missed(crate, label, versions(path), reading(log)))
     total = sum(len(versions(path)) for folder in crates() for path in files(os.path.basename(folder)))
     if tried < count:
         if tried or os.environ.get('CI'):
@@ -178,35 +189,42 @@ def listing(crate):
     return 0
 
 
-def one(crate, version):
+def one(crate, name):
     for path in files(crate):
-        for name, sentences, pairs in versions(path):
-            if name == version:
-                with tempfile.TemporaryDirectory() as folder:
-                    return alone(crate, name, sentences, pairs, folder)
-    print('%s has no version %s' % (crate, version))
+        there = versions(path)
+        if os.path.basename(path) == name + '.edit':
+            chosen = there
+        else:
+            chosen = [version for version in there if version[0] == name]
+        if chosen:
+            with tempfile.TemporaryDirectory() as folder:
+                return alone(crate, name, chosen, folder)
+    print('%s has no version %s' % (crate, name))
     return 2
 
 
-def alone(crate, name, sentences, pairs, folder):
-    """rt itself tries the version, in a copy of the repository that has no other edit."""
+def alone(crate, label, chosen, folder):
+    """rt itself tries the versions, as one edit, in a copy of the repository that has no other."""
     subprocess.run(['cp', '-R', os.path.join(ROOT, 'crates'), os.path.join(ROOT, 'crates.txt'), folder], check=True)
     for edits in glob.glob(os.path.join(folder, 'crates', '*', 'must-fail')):
         shutil.rmtree(edits)
     os.makedirs(os.path.join(folder, 'crates', crate, 'must-fail'))
-    with open(os.path.join(folder, 'crates', crate, 'must-fail', name + '.edit'), 'w', encoding='utf-8') as file:
-        file.write('\n'.join(sentences) + '\n')
-        for pair in pairs:
-            file.write('file: %s\nold: %s\nnew: %s\n' % pair)
+    with open(os.path.join(folder, 'crates', crate, 'must-fail', label + '.edit'), 'w', encoding='utf-8') as file:
+        for _, sentences, pairs in chosen:
+            file.write('\n'.join(sentences) + '\n')
+            for pair in pairs:
+                file.write('file: %s\nold: %s\nnew: %s\n' % pair)
     os.symlink(os.path.join(ROOT, 'target'), os.path.join(folder, 'target'))
     words = subprocess.run(['rt', 'must-fail', crate], cwd=folder, capture_output=True, text=True)
     print(*re.findall(r'^rt: must-fail .*$', words.stdout, re.M), sep='\n')
-    log = os.path.join(ROOT, 'target', 'must-fail', crate, name, '.log')
+    log, status = os.path.join(ROOT, 'target', 'must-fail', crate, label, '.log'), words.returncode
     if os.path.exists(log):
-        with open(log, encoding='utf-8', errors='replace') as file:
-            for place, error in refusals(file.read()).items():
-                print('%s: %s' % (place, error[:400]))
-    return words.returncode
+        places = reading(log)
+        for place, error in places.items():
+            print('%s: %s' % (place, error[:400]))
+        if missed(crate, label, chosen, places):
+            status = 1
+    return status
 
 
 if __name__ == '__main__':

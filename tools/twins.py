@@ -17,11 +17,12 @@ import sys
 ROOT = pathlib.Path(__file__).resolve().parent.parent
 # pairs whose function proofs are written by rules that both widths share: how many lines may differ
 SHARED = {
-    "batch_pairs": 0, "divisor": 2, "divisor_stages": 0, "divisors_service": 2, "evaluator": 0, "evaluator_matrices": 0, "law": 0,
-    "law_refusals": 2, "polynomial_degree": 0, "polynomial_division": 0, "polynomial_factors": 18, "polynomial_inverse": 0,
-    "polynomial_product": 0, "reduced": 0, "reduced_attempt": 10, "reduced_clearing": 0, "reduced_cofactors": 0, "reduced_products": 0,
-    "reduced_quotients": 0, "reduced_service": 8, "reduced_stages": 0, "reduced_units": 0, "residue_services": 0, "resultant_attempt": 4,
-    "resultants_service": 2, "window_division": 0, "window_factor": 0, "windows": 13,
+    "batch_pairs": 0, "convolution": 9, "divisor": 2, "divisor_stages": 0, "divisors_service": 2, "euclid_multipliers": 6, "evaluator": 0,
+    "evaluator_matrices": 0, "law": 0, "law_refusals": 2, "multiplier_steps": 0, "multiplier_words": 3, "polynomial_degree": 0,
+    "polynomial_division": 0, "polynomial_factors": 18, "polynomial_inverse": 0, "polynomial_product": 0, "reduced": 0, "reduced_attempt": 10,
+    "reduced_clearing": 0, "reduced_cofactors": 0, "reduced_products": 0, "reduced_quotients": 0, "reduced_service": 8, "reduced_stages": 0,
+    "reduced_units": 0, "refusals": 2, "residue": 4, "residue_services": 0, "resultant_attempt": 4, "resultant_euclid": 0, "resultant_steps": 0,
+    "resultants_service": 2, "window_division": 31, "window_factor": 0, "windows": 42,
 }
 
 

@@ -13,7 +13,7 @@ use native.Mathlib.Omega.{arith}
 use lib.ListN.{length, getD}
 use Rattle.windows.specs.Window.{piece, Moved, Clear, addMul}
 use Rattle.windows.proofs.Leaf.{piece-at, piece-over}
-use Rattle.band_clearing.specs.Bands.{cell, window, Shape, RowAdded}
+use Rattle.band_clearing.specs.Bands.{cell, window, Shape, PairAsked, RowAdded}
 
 pub window-at : (o len : ℕ) (w : List ℕ) (r c : ℕ) → c < len → window o len w r c ≡ cell w r (o + c)
 window-at o len w r c l = piece-at w (145 * r + o) len c l ∙ ap (λ (z : ℕ). getD w z 0) (omega arith)
@@ -54,54 +54,39 @@ module _ {op : ℕ → ℕ → ℕ} (i k o src dst len : ℕ) {w w' : List ℕ} 
   moved-after j l = mv .high (145 * k + j) (omega arith)
 
 -- the words, the first multiplier and the second
-module _ (n c b d e i k s t : ℕ) (w₀ w₁ w₂ w₃ : List ℕ) (shape : Shape b d e) (apart : i ≢ k) (es : s ≡ 145 * i) (et : t ≡ 145 * k)
-    (a : Moved (addMul n c) s t b w₀ w₁) (f : Moved (addMul n c) (s + 49) (t + 49) e w₁ w₂)
-    (g : Moved (addMul n c) (s + 97) (t + 97) d w₂ w₃) where
-  lb : b ≤ 49
-  lb = shape .most
+pub added-rows : {n c b d e i k : ℕ} {w₀ w₁ w₂ w₃ : List ℕ} → PairAsked n b d e i k w₀ → Moved (addMul n c) (145 * i) (145 * k) b w₀ w₁
+    → Moved (addMul n c) (145 * i + 49) (145 * k + 49) e w₁ w₂ → Moved (addMul n c) (145 * i + 97) (145 * k + 97) d w₂ w₃
+    → RowAdded n c b d e i k w₀ w₃
+added-rows {n} {c} {b} {d} {e} {i} {k} {w₀} {w₁} {w₂} {w₃} p x y z = record {
+  same = z .same ∙ y .same ∙ x .same;
+  words = λ j l. moved-before i k 97 _ _ d refl refl ld z (0 + j) (omega (arith, lb)) ∙ moved-before i k 49 _ _ e refl refl le y (0 + j)
+      (omega (arith, lb)) ∙ moved-in i k 0 _ _ b (zero i) (zero k) lw x j l;
+  first = λ j l. moved-before i k 97 _ _ d refl refl ld z (49 + j) (omega (arith, lb, shape)) ∙ moved-in i k 49 _ _ e refl refl le y j l
+      ∙ ap₂ (λ (x y : ℕ). (x + c * y) % n) (moved-after i k 0 _ _ b (zero i) (zero k) lw x (49 + j) (omega (arith, lb)))
+      (moved-other i k 0 _ _ b (zero i) (zero k) lw x i (49 + j) (omega (arith, lb, shape)) (p .apart));
+  second = λ j l. moved-in i k 97 _ _ d refl refl ld z j l ∙ ap₂ (λ (x y : ℕ). (x + c * y) % n)
+      (moved-after i k 49 _ _ e refl refl le y (97 + j) (omega (arith, lb, shape))
+      ∙ moved-after i k 0 _ _ b (zero i) (zero k) lw x (97 + j) (omega (arith, lb)))
+      (moved-other i k 49 _ _ e refl refl le y i (97 + j) (omega (arith, lb, shape)) (p .apart)
+      ∙ moved-other i k 0 _ _ b (zero i) (zero k) lw x i (97 + j) (omega (arith, lb, shape)) (p .apart));
+  others = λ r j l q. moved-other i k 97 _ _ d refl refl ld z r j l q ∙ moved-other i k 49 _ _ e refl refl le y r j l q
+      ∙ moved-other i k 0 _ _ b (zero i) (zero k) lw x r j l q;
+}
+  where
+    shape : Shape b d e
+    shape = p .shape
 
-  le : e < 49
-  le = omega (arith, shape .second, shape .most)
+    lb : b ≤ 49
+    lb = shape .most
 
-  ld : d < 49
-  ld = omega (arith, shape .first, shape .most)
+    lw : 0 + b ≤ 145
+    lw = omega (arith, lb)
 
-  zero-first : s ≡ 145 * i + 0
-  zero-first = omega arith
+    le : 49 + e ≤ 145
+    le = omega (arith, lb, shape .second)
 
-  zero-second : t ≡ 145 * k + 0
-  zero-second = omega arith
+    ld : 97 + d ≤ 145
+    ld = omega (arith, lb, shape .first)
 
-  at-first : s + 49 ≡ 145 * i + 49
-  at-first = omega arith
-
-  to-first : t + 49 ≡ 145 * k + 49
-  to-first = omega arith
-
-  at-second : s + 97 ≡ 145 * i + 97
-  at-second = omega arith
-
-  to-second : t + 97 ≡ 145 * k + 97
-  to-second = omega arith
-
-  pub added-rows : RowAdded n c b d e i k w₀ w₃
-  added-rows = record {
-    same = g .same ∙ f .same ∙ a .same;
-    words = λ j l. moved-before i k 97 (s + 97) (t + 97) d at-second to-second (omega (arith, ld)) g (0 + j) (omega (arith, lb))
-        ∙ moved-before i k 49 (s + 49) (t + 49) e at-first to-first (omega (arith, le)) f (0 + j) (omega (arith, lb))
-        ∙ moved-in i k 0 s t b zero-first zero-second (omega (arith, lb)) a j l;
-    first = λ j l. moved-before i k 97 (s + 97) (t + 97) d at-second to-second (omega (arith, ld)) g (49 + j) (omega (arith, le))
-        ∙ moved-in i k 49 (s + 49) (t + 49) e at-first to-first (omega (arith, le)) f j l
-        ∙ ap₂ (λ (x y : ℕ). (x + c * y) % n)
-        (moved-after i k 0 s t b zero-first zero-second (omega (arith, lb)) a (49 + j) (omega (arith, lb)))
-        (moved-other i k 0 s t b zero-first zero-second (omega (arith, lb)) a i (49 + j) (omega (arith, le)) apart);
-    second = λ j l. moved-in i k 97 (s + 97) (t + 97) d at-second to-second (omega (arith, ld)) g j l
-        ∙ ap₂ (λ (x y : ℕ). (x + c * y) % n)
-        (moved-after i k 49 (s + 49) (t + 49) e at-first to-first (omega (arith, le)) f (97 + j) (omega (arith, le))
-        ∙ moved-after i k 0 s t b zero-first zero-second (omega (arith, lb)) a (97 + j) (omega (arith, lb)))
-        (moved-other i k 49 (s + 49) (t + 49) e at-first to-first (omega (arith, le)) f i (97 + j) (omega (arith, ld)) apart
-        ∙ moved-other i k 0 s t b zero-first zero-second (omega (arith, lb)) a i (97 + j) (omega (arith, ld)) apart);
-    others = λ r j l z. moved-other i k 97 (s + 97) (t + 97) d at-second to-second (omega (arith, ld)) g r j l z
-        ∙ moved-other i k 49 (s + 49) (t + 49) e at-first to-first (omega (arith, le)) f r j l z
-        ∙ moved-other i k 0 s t b zero-first zero-second (omega (arith, lb)) a r j l z;
-  }
+    zero : (r : ℕ) → 145 * r ≡ 145 * r + 0
+    zero r = omega arith

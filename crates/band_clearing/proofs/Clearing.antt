@@ -1,15 +1,18 @@
 -- A column cleared row by row.
 --
 --   clearing-start, clearing-next, row-asked, clearing-end     what the loop over the rows keeps
---   pair-asked                                                 what a step on two rows asks
+--   pair-asked, pair-heads                                     what a step on two rows asks
+--   columns, clearings                                         the rules
 use mathlib.Core.Path.{_≡_, refl, sym, _∙_, subst}
 use mathlib.Core.Logic.{_≢_, _⊎_, inl, inr}
 use mathlib.Core.List.{List}
-use Prim.Native.Nat.{ℕ, _+_, _*_, _<_}
+use Prim.Native.Nat.{ℕ, _+_, _*_, _<_, _≤_}
 use native.Mathlib.Decide.{ℕ-discrete}
 use native.Mathlib.Omega.{arith}
-use lib.ListN.{length, getD}
-use Rattle.band_clearing.specs.Bands.{RowCleared, ColumnCleared, PairAsked, RowAsked, ColumnAsked}
+use borrow.Author.Needs.{needs}
+use lib.ListN.{getD}
+use Rattle.band_clearing.specs.Bands.{HeadsBelow, KeepsTwo, RowCleared, ColumnCleared, PairAsked, RowAsked, ColumnAsked}
+use Rattle.band_clearing.proofs.TwoRows.{cleared-same, cleared-none, cleared-after}
 
 pub clearing-start : {n b d e l t : ℕ} {w : List ℕ} → ColumnAsked n b d e l t w → ColumnCleared n b d e l 0 t w w
 clearing-start a = record {
@@ -18,9 +21,9 @@ clearing-start a = record {
   zeros = λ r l z. absurd (omega arith);
 }
 
-pub clearing-next : {n b d e l k p t : ℕ} {w₀ w w' : List ℕ} → k < l → ColumnCleared n b d e l k p w₀ w → RowCleared n b d e p k t w w'
+pub clearing-next : {n b d e l k p t : ℕ} {w₀ w w' : List ℕ} → ColumnCleared n b d e l k p w₀ w → RowCleared n b d e p k t w w' → k < l
     → ColumnCleared n b d e l (k + 1) t w₀ w'
-clearing-next {n} {b} {d} {e} {l} {k} {p} {t} {w₀} {w} {w'} lk c r = record {
+clearing-next {n} {b} {d} {e} {l} {k} {p} {t} {w₀} {w} {w'} c r lk = record {
   keeps = record {
     same = r .keeps .same ∙ c .keeps .same;
     band = λ f g s p q x h. r .keeps .band f g s l p q x (c .pivot) lk (c .keeps .band f g s p q x h);
@@ -50,15 +53,22 @@ row-asked a c lk = record {
   heads = c .keeps .heads;
 }
 
-pub clearing-end : {n b d e l k p : ℕ} {w₀ w : List ℕ} → k ≡ l → ColumnCleared n b d e l k p w₀ w → ColumnCleared n b d e l l p w₀ w
-clearing-end {n} {b} {d} {e} {l} {k} {p} {w₀} {w} h c = subst (λ (j : ℕ). ColumnCleared n b d e l j p w₀ w) h c
+pub clearing-end : {n b d e l k p : ℕ} {w₀ w : List ℕ} → ColumnCleared n b d e l k p w₀ w → k ≤ l → l ≤ k → ColumnCleared n b d e l l p w₀ w
+clearing-end {n} {b} {d} {e} {l} {k} {p} {w₀} {w} c x y = subst (λ (j : ℕ). ColumnCleared n b d e l j p w₀ w) (omega arith) c
 
-pub pair-asked : {n b d e i k : ℕ} {w w' : List ℕ} → RowAsked n b d e i k w → i ≢ k → length w' ≡ length w → PairAsked n b d e i k w'
-pair-asked a z h = record {
+pub pair-heads : {n b d e i k : ℕ} {w w' : List ℕ} → RowAsked n b d e i k w → KeepsTwo n b d e i k w w' → HeadsBelow n w'
+pair-heads a h = h .heads (a .heads)
+
+pub pair-asked : {n b d e i k : ℕ} {w w' : List ℕ} → RowAsked n b d e i k w → KeepsTwo n b d e i k w w' → i ≢ k → PairAsked n b d e i k w'
+pair-asked a h z = record {
   modulus = a .modulus;
   shape = a .shape;
   row = a .row;
   other = a .other;
   apart = z;
-  room = omega (arith, a .room, h);
+  room = omega (arith, a .room, h .same);
 }
+
+pub ruleset columns = (needs, clearing-start, clearing-next, row-asked, clearing-end)
+
+pub ruleset clearings = (pair-asked, pair-heads, cleared-same, cleared-none, cleared-after)

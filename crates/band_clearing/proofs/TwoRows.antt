@@ -3,16 +3,20 @@
 --   row-keeps                   live rows stay live
 --   row-reduced                 the remainder of the first words
 --   keeps-none, keeps-both, keeps-flip   steps one after the other
---   turn-falls, turn-kept, turn-ends, turn-done    a turn of Euclid's algorithm
+--   Turning, turn-falls, turn-kept, turn-ends, turn-done    a turn of Euclid's algorithm
+--   turning-asked, half-asked, half-heads    what its two steps ask
+--   reductions, multiples, turnings          the rules
 use mathlib.Core.Path.{_≡_, refl, sym, ap, ap₂, _∙_, subst}
 use mathlib.Core.Logic.{_≢_, _⊎_, inl, inr}
 use mathlib.Core.List.{List}
 use Prim.Native.Nat.{ℕ, zero, suc, pred, _+_, _*_, _-_, _/_, _%_, _<_, _≤_, _∣_}
 use native.Mathlib.Decide.{decLt, ℕ-discrete}
-use native.Mathlib.Nat.{mod-lt, mod-mod, mod-eq-of-lt, zero-mod, div-add-mod, add-mul-mod-self-left, mul-div-cancel'}
+use native.Mathlib.Nat.{mod-lt, mod-mod, mod-eq-of-lt, zero-mod, div-add-mod, add-mul-mod-self-left, pos-of-dvd-of-pos}
 use native.Mathlib.Omega.{arith}
+use borrow.Author.Needs.{needs}
 use lib.ListN.{length, getD}
 use Rattle.definitions.specs.Polynomials.{coef, deg}
+use Rattle.numbers.specs.Divisors.{GcdCofactor}
 use Rattle.cofactor_rows.specs.LiveWords.{LiveWords}
 use Rattle.cofactor_rows.specs.WordSteps.{AddedWords, words-add}
 use Rattle.band_clearing.specs.Bands.{cell, window, Shape, Band, HeadsBelow, PairAsked, RowAdded, KeepsTwo, RowReduced, RowCleared}
@@ -43,7 +47,13 @@ added-window m c i k o len w w' fits new old = record { new = λ j. fresh j (dec
     kept r j z (yes l) = window-at o len w' r j l ∙ old r (o + j) (omega arith) z ∙ sym (window-at o len w r j l)
     kept r j z (no l) = window-over o len w' r j (omega arith) ∙ sym (window-over o len w r j (omega arith))
 
-module _ {n c b d e i k : ℕ} {w w' : List ℕ} (pos : 1 ≤ n) (shape : Shape b d e) (apart : i ≢ k) (ad : RowAdded n c b d e i k w w') where
+module _ {n c b d e i k : ℕ} {w w' : List ℕ} (a : PairAsked n b d e i k w) (ad : RowAdded n c b d e i k w w') where
+  pos : 1 ≤ n
+  pos = a .modulus
+
+  shape : Shape b d e
+  shape = a .shape
+
   band-below : ((r j : ℕ) → window 0 b w r j < n) → (r j : ℕ) → window 0 b w' r j < n
   band-below h r j = go (decLt j b) (ℕ-discrete r k)
     where
@@ -81,7 +91,7 @@ module _ {n c b d e i k : ℕ} {w w' : List ℕ} (pos : 1 ≤ n) (shape : Shape 
           → LiveWords (pred n) f g s l p q x (window 0 b w') (window 49 e w') (window 97 d w')
       rows zero pos ad f g s l p q x hi hk t = absurd (omega arith)
       rows (suc m) pos ad f g s l p q x hi hk t =
-          words-add m f g i k c hi hk apart
+          words-add m f g i k c hi hk (a .apart)
           (added-window m c i k 0 b w w' (omega (arith, shape .most)) (ad .words) (ad .others))
           (added-window m c i k 49 e w w' (omega (arith, shape .second, shape .most)) (ad .first) (ad .others))
           (added-window m c i k 97 d w w' (omega (arith, shape .first, shape .most)) (ad .second) (ad .others)) t
@@ -93,8 +103,8 @@ module _ {n c b d e i k : ℕ} {w w' : List ℕ} (pos : 1 ≤ n) (shape : Shape 
 
 -- ---- remainders
 
-pub quotient-below : (n a b : ℕ) → a < n → 1 ≤ b → a / b ≤ n
-quotient-below n a b l one = go (a / b) b (a % b) one (div-add-mod a b)
+quotient : (n a b : ℕ) → a < n → 1 ≤ b → a / b ≤ n
+quotient n a b l one = go (a / b) b (a % b) one (div-add-mod a b)
   where
     go : (q b s : ℕ) → 1 ≤ b → b * q + s ≡ a → q ≤ n
     go q zero s one e = absurd (omega arith)
@@ -103,13 +113,13 @@ quotient-below n a b l one = go (a / b) b (a % b) one (div-add-mod a b)
 -- a + (n - q) b leaves what the division of a by b leaves
 left-over : (n a b : ℕ) → a < n → 1 ≤ b → (a + (n - a / b) * b) % n ≡ a % b
 left-over n a b l one =
-    ap (λ (w : ℕ). w % n) (split (a / b) (a % b) (n - a / b) (div-add-mod a b) (omega (arith, quotient-below n a b l one)))
+    ap (λ (w : ℕ). w % n) (split (a / b) (a % b) (n - a / b) (div-add-mod a b) (omega (arith, quotient n a b l one)))
     ∙ add-mul-mod-self-left (a % b) n b ∙ mod-eq-of-lt (omega (arith, div-add-mod a b))
   where
     split : (q s t : ℕ) → b * q + s ≡ a → n ≡ q + t → a + t * b ≡ s + n * b
     split q s t e h = omega (arith, ap (λ (w : ℕ). w * b) h)
 
-pub keeps-flip : {n b d e i k : ℕ} {w w' : List ℕ} → KeepsTwo n b d e i k w w' → KeepsTwo n b d e k i w w'
+keeps-flip : {n b d e i k : ℕ} {w w' : List ℕ} → KeepsTwo n b d e i k w w' → KeepsTwo n b d e k i w w'
 keeps-flip t = record {
   same = t .same;
   band = λ f g s l p q x hi hk. t .band f g s l p q x hk hi;
@@ -117,40 +127,7 @@ keeps-flip t = record {
   others = λ r z y. t .others r y z;
 }
 
-pub row-reduced : {n b d e i k : ℕ} {w w' : List ℕ} → 1 ≤ n → Shape b d e → i ≢ k → HeadsBelow n w → 1 ≤ getD w (145 * k) 0
-    → RowAdded n (n - getD w (145 * i) 0 / getD w (145 * k) 0) b d e k i w w' → RowReduced n b d e i k w w'
-row-reduced {n} {b} {d} {e} {i} {k} {w} {w'} pos shape apart heads one ad =
-    let z : k ≢ i = λ h. apart (sym h) in
-    record {
-      keeps = keeps-flip (row-keeps pos shape z ad);
-      remainder = head-own pos shape z ad ∙ left-over n (getD w (145 * i) 0) (getD w (145 * k) 0) (heads .at i) one;
-      divisor = head-other pos shape z ad k z;
-    }
-
--- ---- one step after another
-
-pub keeps-none : {n b d e i k : ℕ} {w : List ℕ} → KeepsTwo n b d e i k w w
-keeps-none = record { same = refl; band = λ f g s l p q x hi hk t. t; heads = λ h. h; others = λ r z y. refl }
-
-pub keeps-both : {n b d e i k : ℕ} {w w' w″ : List ℕ} → KeepsTwo n b d e i k w w' → KeepsTwo n b d e i k w' w″ → KeepsTwo n b d e i k w w″
-keeps-both t u = record {
-  same = u .same ∙ t .same;
-  band = λ f g s l p q x hi hk y. u .band f g s l p q x hi hk (t .band f g s l p q x hi hk y);
-  heads = λ h. u .heads (t .heads h);
-  others = λ r z y. u .others r z y ∙ t .others r z y;
-}
-
-pub asked-next : {n b d e i k : ℕ} {w w' : List ℕ} → PairAsked n b d e i k w → length w' ≡ length w → PairAsked n b d e i k w'
-asked-next a h = record {
-  modulus = a .modulus;
-  shape = a .shape;
-  row = a .row;
-  other = a .other;
-  apart = a .apart;
-  room = omega (arith, a .room, h);
-}
-
-pub asked-flip : {n b d e i k : ℕ} {w : List ℕ} → PairAsked n b d e i k w → PairAsked n b d e k i w
+asked-flip : {n b d e i k : ℕ} {w : List ℕ} → PairAsked n b d e i k w → PairAsked n b d e k i w
 asked-flip a = record {
   modulus = a .modulus;
   shape = a .shape;
@@ -160,14 +137,58 @@ asked-flip a = record {
   room = a .room;
 }
 
+pub quotient-below : {n : ℕ} {w : List ℕ} (i k : ℕ) → HeadsBelow n w → 1 ≤ getD w (145 * k) 0
+    → getD w (145 * i) 0 / getD w (145 * k) 0 ≤ n
+quotient-below {n} {w} i k h one = quotient n (getD w (145 * i) 0) (getD w (145 * k) 0) (h .at i) one
+
+pub row-reduced : {n b d e i k : ℕ} {w w' : List ℕ} → PairAsked n b d e i k w → HeadsBelow n w → 1 ≤ getD w (145 * k) 0
+    → RowAdded n (n - getD w (145 * i) 0 / getD w (145 * k) 0) b d e k i w w' → RowReduced n b d e i k w w'
+row-reduced {n} {b} {d} {e} {i} {k} {w} {w'} a heads one ad = record {
+  keeps = keeps-flip (row-keeps (asked-flip a) ad);
+  remainder = head-own (asked-flip a) ad ∙ left-over n (getD w (145 * i) 0) (getD w (145 * k) 0) (heads .at i) one;
+  divisor = head-other (asked-flip a) ad k (λ h. a .apart (sym h));
+}
+
+-- ---- one step after another
+
+pub keeps-none : {n b d e i k : ℕ} {w : List ℕ} → KeepsTwo n b d e i k w w
+keeps-none = record { same = refl; band = λ f g s l p q x hi hk t. t; heads = λ h. h; others = λ r z y. refl }
+
+keeps-both : {n b d e i k : ℕ} {w w' w″ : List ℕ} → KeepsTwo n b d e i k w w' → KeepsTwo n b d e i k w' w″ → KeepsTwo n b d e i k w w″
+keeps-both t u = record {
+  same = u .same ∙ t .same;
+  band = λ f g s l p q x hi hk y. u .band f g s l p q x hi hk (t .band f g s l p q x hi hk y);
+  heads = λ h. u .heads (t .heads h);
+  others = λ r z y. u .others r z y ∙ t .others r z y;
+}
+
+asked-next : {n b d e i k : ℕ} {w w' : List ℕ} → PairAsked n b d e i k w → length w' ≡ length w → PairAsked n b d e i k w'
+asked-next a h = record {
+  modulus = a .modulus;
+  shape = a .shape;
+  row = a .row;
+  other = a .other;
+  apart = a .apart;
+  room = omega (arith, a .room, h);
+}
+
 -- what the loop keeps, between its turns: the row i by the row k, then the row k by the row i
 pub record Turning (n b d e i k : ℕ) (w₀ w : List ℕ) : Type 0 where
   pub keeps : KeepsTwo n b d e i k w₀ w
   pub heads : HeadsBelow n w
 
+pub turning-none : {n b d e i k : ℕ} {w : List ℕ} → HeadsBelow n w → Turning n b d e i k w w
+turning-none h = record { keeps = keeps-none; heads = h }
+
+pub turning-asked : {n b d e i k : ℕ} {w₀ w : List ℕ} → PairAsked n b d e i k w₀ → Turning n b d e i k w₀ w → PairAsked n b d e i k w
+turning-asked a t = asked-next a (t .keeps .same)
+
 module _ {n b d e i k : ℕ} {w₀ w₁ w₂ : List ℕ} (before : Turning n b d e i k w₀ w₁) (first : RowReduced n b d e i k w₁ w₂) where
-  pub half : KeepsTwo n b d e i k w₀ w₂
+  half : KeepsTwo n b d e i k w₀ w₂
   half = keeps-both (before .keeps) (first .keeps)
+
+  pub half-asked : PairAsked n b d e i k w₀ → PairAsked n b d e k i w₂
+  half-asked a = asked-flip (asked-next a (half .same))
 
   pub half-heads : HeadsBelow n w₂
   half-heads = first .keeps .heads (before .heads)
@@ -175,34 +196,37 @@ module _ {n b d e i k : ℕ} {w₀ w₁ w₂ : List ℕ} (before : Turning n b d
   pub turn-kept : {w₃ : List ℕ} → RowReduced n b d e k i w₂ w₃ → Turning n b d e i k w₀ w₃
   turn-kept t = record { keeps = keeps-both half (keeps-flip (t .keeps)); heads = t .keeps .heads half-heads }
 
-  pub turn-falls : {w₃ : List ℕ} → RowReduced n b d e k i w₂ w₃ → 1 ≤ getD w₁ (145 * k) 0 → 1 ≤ getD w₂ (145 * i) 0
+  pub turn-falls : {w₃ : List ℕ} → RowReduced n b d e k i w₂ w₃ → (getD w₁ (145 * k) 0 ≡ 0 → ⊥) → (getD w₂ (145 * i) 0 ≡ 0 → ⊥)
       → getD w₃ (145 * k) 0 < getD w₁ (145 * k) 0
   turn-falls {w₃} t p q =
       omega (
         arith,
         t .remainder,
         first .remainder,
-        mod-lt (getD w₂ (145 * k) 0) {m = getD w₂ (145 * i) 0} q,
-        mod-lt (getD w₁ (145 * i) 0) {m = getD w₁ (145 * k) 0} p,
+        mod-lt (getD w₂ (145 * k) 0) {m = getD w₂ (145 * i) 0} (omega arith),
+        mod-lt (getD w₁ (145 * i) 0) {m = getD w₁ (145 * k) 0} (omega arith),
       )
 
   pub turn-ends : getD w₂ (145 * i) 0 ≡ 0 → RowCleared n b d e i k k w₀ w₂
-  turn-ends z = record { keeps = half; pivot = inr refl; zero = λ r. elim [ inl h ↦ λ y. ap (λ (x : ℕ). getD w₂ (145 * x) 0) h ∙ z | inr h ↦ λ y. absurd (y h) ] }
+  turn-ends z = record {
+    keeps = half;
+    pivot = inr refl;
+    zero = λ r. elim [ inl h ↦ λ y. ap (λ (x : ℕ). getD w₂ (145 * x) 0) h ∙ z | inr h ↦ λ y. absurd (y h) ];
+  }
 
-pub turn-done : {n b d e i k : ℕ} {w₀ w : List ℕ} → Turning n b d e i k w₀ w → getD w (145 * k) 0 ≡ 0 → RowCleared n b d e i k i w₀ w
-turn-done {n} {b} {d} {e} {i} {k} {w₀} {w} t z = record {
-  keeps = t .keeps;
+left-with : {n b d e i k : ℕ} {w₀ w : List ℕ} → KeepsTwo n b d e i k w₀ w → getD w (145 * k) 0 ≡ 0 → RowCleared n b d e i k i w₀ w
+left-with {n} {b} {d} {e} {i} {k} {w₀} {w} t z = record {
+  keeps = t;
   pivot = inl refl;
   zero = λ r. elim [ inl h ↦ λ y. absurd (y h) | inr h ↦ λ y. ap (λ (x : ℕ). getD w (145 * x) 0) h ∙ z ];
 }
+
+pub turn-done : {n b d e i k : ℕ} {w₀ w : List ℕ} → Turning n b d e i k w₀ w → getD w (145 * k) 0 ≡ 0 → RowCleared n b d e i k i w₀ w
+turn-done t z = left-with (t .keeps) z
 
 -- nothing to clear, or the multiple first
 pub cleared-none : {n b d e i k : ℕ} {w : List ℕ} → getD w (145 * k) 0 ≡ 0 → RowCleared n b d e i k i w w
-cleared-none {n} {b} {d} {e} {i} {k} {w} z = record {
-  keeps = keeps-none;
-  pivot = inl refl;
-  zero = λ r. elim [ inl h ↦ λ y. absurd (y h) | inr h ↦ λ y. ap (λ (x : ℕ). getD w (145 * x) 0) h ∙ z ];
-}
+cleared-none z = left-with keeps-none z
 
 pub cleared-same : {n b d e i k : ℕ} {w : List ℕ} → i ≡ k → RowCleared n b d e i k i w w
 cleared-same {n} {b} {d} {e} {i} {k} {w} z = record {
@@ -217,12 +241,14 @@ cleared-after u c = record { keeps = keeps-both u (c .keeps); pivot = c .pivot; 
 
 -- ---- bounds of the words that a multiple is made of
 
-pub divisor-positive : (n g : ℕ) → 1 ≤ n → g ∣ n → 0 < g
-divisor-positive n zero pos h = absurd (none (n / 0) (mul-div-cancel' 0 h))
-  where
-    none : (q : ℕ) → 0 * q ≡ n → ⊥
-    none q e = omega arith
-divisor-positive n (suc g) pos h = omega arith
+pub divisor-positive : {n x g s : ℕ} → GcdCofactor n x g s → 1 ≤ n → 0 < g
+divisor-positive c pos = pos-of-dvd-of-pos (c .gcd .left) pos
 
-pub residue-below : (r a n : ℕ) → 1 ≤ n → r ≡ a % n → r ≤ n
-residue-below r a n pos h = omega (arith, h, mod-lt a {m = n} pos)
+pub residue-below : (r a n : ℕ) → r ≡ a % n → 1 ≤ n → r ≤ n
+residue-below r a n h pos = omega (arith, h, mod-lt a {m = n} pos)
+
+pub ruleset reductions = (needs, quotient-below, row-reduced)
+
+pub ruleset multiples = (needs, divisor-positive, residue-below, keeps-none, row-keeps)
+
+pub ruleset turnings = (turning-none, turning-asked, half-asked, half-heads, turn-kept, turn-falls, turn-ends, turn-done)

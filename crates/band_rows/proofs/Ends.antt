@@ -2,6 +2,7 @@
 --
 --   came-both, came-first, came-second, came-none    what coming in promises, by cases
 --   left-last, left-other                            what leaving promises, by cases
+--   comings, leavings                                the rules
 use mathlib.Core.Path.{_≡_, refl, sym, ap, _∙_, subst}
 use mathlib.Core.List.{List}
 use Prim.Native.Nat.{ℕ, suc, _+_, _*_, _-_, _%_, _<_, _≤_}
@@ -60,8 +61,8 @@ module _ {n : ℕ} {f g : List ℕ} {d e j l x : ℕ} {w : List ℕ} (a : ComeAs
 
 -- ---- leaving
 
-pub residue-small : (r a n : ℕ) → 1 ≤ n → r ≡ a % n → r < n
-residue-small r a n pos h = omega (arith, h, mod-lt a {m = n} pos)
+pub residue-small : (r a n : ℕ) → r ≡ a % n → 1 ≤ n → r < n
+residue-small r a n h pos = omega (arith, h, mod-lt a {m = n} pos)
 
 module _ {n b t l x : ℕ} {w : List ℕ} (a : LeaveAsked n b t l x w) where
   pub left-last : {z y : ℕ} {w' : List ℕ} → t ≡ l → Shifted l b w w' → z ≡ (x * getD w (145 * t) 0) % n → y ≡ signed n l z
@@ -79,3 +80,7 @@ module _ {n b t l x : ℕ} {w : List ℕ} (a : LeaveAsked n b t l x w) where
         (sym (hy ∙ ap (signed n l) (hz ∙ ap (λ (k : ℕ). (k * getD w (145 * t) 0) % n) hv)))
         (leaving-other n f g b d e l p q x w (a .modulus) shape u t w₁ w' (omega (arith, a .row)) zs c s);
   }
+
+pub ruleset comings = (came-both, came-first, came-second, came-none)
+
+pub ruleset leavings = (residue-small, left-last, left-other)

@@ -17,7 +17,8 @@ use Rattle.theory.specs.ResultantLaws.{signed}
 use Rattle.resultant_turns.specs.Degrees.{deg-of}
 use Rattle.windows.specs.Window.{Moved, second}
 use Rattle.cofactor_rows.specs.LiveWords.{LiveWords}
-use Rattle.cofactor_rows.specs.WordSteps.{Entered, signed-below, words-enter-both, words-enter-first, words-enter-second, words-enter-none, words-leave-last, words-leave}
+use Rattle.cofactor_rows.specs.WordSteps.{Entered, signed-below, words-enter-both, words-enter-first, words-enter-second}
+use Rattle.cofactor_rows.specs.WordSteps.{words-enter-none, words-leave-last, words-leave}
 use Rattle.band_clearing.specs.Bands.{cell, window, from-top, Shape, Band, RowEntered, Shifted}
 use Rattle.band_clearing.proofs.Cells.{window-at, window-over, moved-in, moved-other}
 use Rattle.band_clearing.proofs.TwoRows.{head-cell}
@@ -82,7 +83,8 @@ module _ (b dh r : ℕ) (h : List ℕ) (o p o' k k' : ℕ) (w w' : List ℕ) (lh
 
       go : Dec (i ≡ r) → Dec (c < b) → window 0 b w' i c < n
       go (yes z) (yes t) =
-          subst (λ (j : ℕ). window 0 b w' j c < n) (sym z) (subst (λ (y : ℕ). y < n) (sym (word-at b w' r c t)) (own c t (decLt c (length h))))
+          subst (λ (j : ℕ). window 0 b w' j c < n) (sym z)
+          (subst (λ (y : ℕ). y < n) (sym (word-at b w' r c t)) (own c t (decLt c (length h))))
       go z (no t) = subst (λ (y : ℕ). y < n) (sym (window-over 0 b w' i c (omega arith))) pos
       go (no z) (yes t) =
           subst (λ (y : ℕ). y < n) (sym (window-same 0 b w w' i i (omega arith) (λ j l. e .others i j l z) c)) (old i c)
@@ -110,11 +112,13 @@ module _ (n : ℕ) (f g : List ℕ) (b d e : ℕ) (two : 2 ≤ n) (shape : Shape
   fit-y : 97 + d ≤ 145
   fit-y = omega (arith, lb, ld)
 
-  first-row : (l p : ℕ) (w w' : List ℕ) → p < e → RowEntered l f 49 p w w' → Entered f p (window 0 b w' l) (window 49 e w' l) (window 97 d w' l)
+  first-row : (l p : ℕ) (w w' : List ℕ) → p < e → RowEntered l f 49 p w w'
+      → Entered f p (window 0 b w' l) (window 49 e w' l) (window 97 d w' l)
   first-row l p w w' lp t =
       entered-row b d l f 49 p 97 e d w w' lf ld lb (omega arith) fit-x (omega arith) fit-y lp (λ j y z. omega (arith, lb, le)) t
 
-  second-row : (l q : ℕ) (w w' : List ℕ) → q < d → RowEntered l g 97 q w w' → Entered g q (window 0 b w' l) (window 97 d w' l) (window 49 e w' l)
+  second-row : (l q : ℕ) (w w' : List ℕ) → q < d → RowEntered l g 97 q w w'
+      → Entered g q (window 0 b w' l) (window 97 d w' l) (window 49 e w' l)
   second-row l q w w' lq t =
       entered-row b e l g 97 q 49 d e w w' lg le lb (omega arith) fit-y (omega arith) fit-x lq (λ j y z. omega (arith, lb, le)) t
 

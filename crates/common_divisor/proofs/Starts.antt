@@ -4,25 +4,27 @@
 --   asked, found        what Euclid's algorithm asks, and what its answer says of f and g
 --   ready-first, ready-second, both-zero    f longer, g longer, and nothing left of both
 --   flipped             the two exchanged
+--   starts              the rules
 use mathlib.Core.Path.{_≡_, refl, sym, subst}
 use mathlib.Core.List.{List}
 use Prim.Native.Nat.{ℕ, _+_, _-_, _%_, _<_, _≤_, _∣_}
 use native.Mathlib.Nat.{dvd-trans}
 use native.Mathlib.Omega.{arith}
+use borrow.Author.Needs.{needs}
 use lib.ListN.{length}
 use Rattle.definitions.specs.Residues.{IsUnit}
 use Rattle.definitions.specs.Polynomials.{coef}
-use Rattle.numbers.specs.Congruence.{c-dvd}
 use Rattle.numbers.specs.Units.{unit-dvd}
 use Rattle.windows.specs.Window.{piece, Apart}
 use Rattle.windows.proofs.Leaf.{piece-at, piece-length}
 use Rattle.common_divisor.specs.Common.{OnlyZero}
-use Rattle.common_divisor.specs.CommonLaws.{only-zero-dvd, only-zero-cong, only-zero-flip, divides-cong}
-use Rattle.common_divisor.specs.Searches.{Stripped, EuclidAsked, CommonIn, StartAsked, ZeroIn}
+use Rattle.common_divisor.specs.CommonLaws.{only-zero-dvd, only-zero-cong, only-zero-flip}
+use Rattle.common_divisor.specs.Searches.{Stripped, EuclidAsked, CommonIn, StartAsked, ZeroIn, GroundIn}
 use Rattle.common_divisor.specs.declared.Found.{Found}
-use Rattle.common_divisor.proofs.Turns.{shorter}
+use Rattle.common_divisor.specs.declared.Ground.the-variants.{Common}
+use Rattle.common_divisor.proofs.Turns.{shorter, common-cong}
 
-pub record Ready (m c a p k b r l : ℕ) (w : List ℕ) : Type 0 where
+record Ready (m c a p k b r l : ℕ) (w : List ℕ) : Type 0 where
   pub two : 2 ≤ c
   pub divides : c ∣ m
   pub inside-a : a + p ≤ length w
@@ -38,7 +40,7 @@ pub record Ready (m c a p k b r l : ℕ) (w : List ℕ) : Type 0 where
   pub unit : IsUnit c (coef (piece w a p) (k - 1))
   pub only : OnlyZero c (piece w a p) (piece w b r)
 
-module _ (m c a p k b r l : ℕ) (w : List ℕ) (y : Ready m c a p k b r l w) where
+module _ {m c a p k b r l : ℕ} {w : List ℕ} (y : Ready m c a p k b r l w) where
   top : k - 1 + 1 ≡ k
   top = let s = y .some in omega arith
 
@@ -51,7 +53,7 @@ module _ (m c a p k b r l : ℕ) (w : List ℕ) (y : Ready m c a p k b r l w) wh
   left-b : (i : ℕ) → coef (piece w b l) i % c ≡ coef (piece w b r) i % c
   left-b = shorter c w b r l l (y .few-b) refl (y .zero-b)
 
-  pub asked : EuclidAsked c a (k - 1) b l w
+  asked : EuclidAsked c a (k - 1) b l w
   asked = record {
     two = y .two;
     near = omega (arith, top, y .near);
@@ -62,20 +64,11 @@ module _ (m c a p k b r l : ℕ) (w : List ℕ) (y : Ready m c a p k b r l w) wh
     only = only-zero-cong c pos _ _ _ _ (λ i. sym (left-a i)) (λ i. sym (left-b i)) (y .only);
   }
 
-  pub found : (w' : List ℕ) (h : Found) → CommonIn c (k - 1) (piece w a (k - 1 + 1)) (piece w b l) w' h
+  found : {w' : List ℕ} {h : Found} → CommonIn c (k - 1) (piece w a (k - 1 + 1)) (piece w b l) w' h
       → CommonIn m 48 (piece w a p) (piece w b r) w' h
-  found w' h x = record {
-    divides = dvd-trans (h .m) (x .divides) (y .divides);
-    two = x .two;
-    one = x .one;
-    few = omega (arith, x .few, y .few-a, y .most);
-    inside = x .inside;
-    unit = x .unit;
-    first = divides-cong (h .m) (omega (arith, x .two)) _ _ _ _ (λ _. refl) (λ i. c-dvd (x .divides) (record { same = left-a i }) .same) (x .first);
-    second = divides-cong (h .m) (omega (arith, x .two)) _ _ _ _ (λ _. refl) (λ i. c-dvd (x .divides) (record { same = left-b i }) .same) (x .second);
-  }
+  found x = common-cong x (y .divides) (omega (arith, y .few-a, y .most)) left-a left-b
 
-pub flipped : {m d : ℕ} {f g w : List ℕ} {h : Found} → CommonIn m d f g w h → CommonIn m d g f w h
+flipped : {m d : ℕ} {f g w : List ℕ} {h : Found} → CommonIn m d f g w h → CommonIn m d g f w h
 flipped x = record {
   divides = x .divides;
   two = x .two;
@@ -87,7 +80,8 @@ flipped x = record {
   second = x .first;
 }
 
-module _ (m x y : ℕ) (w : List ℕ) (q : StartAsked m x y w) (c₁ k c l : ℕ) (s : Stripped m (piece w 0 x) c₁ k) (t : Stripped c₁ (piece w x y) c l) where
+module _ {m x y : ℕ} {w : List ℕ} (q : StartAsked m x y w) {c₁ k c l : ℕ} (s : Stripped m (piece w 0 x) c₁ k)
+    (t : Stripped c₁ (piece w x y) c l) where
   few-k : k ≤ x
   few-k = subst (λ (z : ℕ). k ≤ z) (piece-length w 0 x (omega (arith, q .room))) (s .few)
 
@@ -140,18 +134,18 @@ module _ (m x y : ℕ) (w : List ℕ) (q : StartAsked m x y w) (c₁ k c l : ℕ
   }
 
   pub asked-first : (l ≤ k) → (k ≡ 0 → ⊥) → EuclidAsked c 0 (k - 1) x l w
-  asked-first n z = asked m c 0 x k x y l w (ready-first n z)
+  asked-first n z = asked (ready-first n z)
 
-  pub found-first : (l ≤ k) → (k ≡ 0 → ⊥) → (w' : List ℕ) (h : Found) → CommonIn c (k - 1) (piece w 0 (k - 1 + 1)) (piece w x l) w' h
-      → CommonIn m 48 (piece w 0 x) (piece w x y) w' h
-  found-first n z = found m c 0 x k x y l w (ready-first n z)
+  pub found-first : (l ≤ k) → (k ≡ 0 → ⊥) → {w' : List ℕ} {h : Found} → CommonIn c (k - 1) (piece w 0 (k - 1 + 1)) (piece w x l) w' h
+      → GroundIn m (piece w 0 x) (piece w x y) w' (Common h)
+  found-first n z = found (ready-first n z)
 
   pub asked-second : k < l → EuclidAsked c x (l - 1) 0 k w
-  asked-second n = asked m c x y l 0 x k w (ready-second n)
+  asked-second n = asked (ready-second n)
 
-  pub found-second : k < l → (w' : List ℕ) (h : Found) → CommonIn c (l - 1) (piece w x (l - 1 + 1)) (piece w 0 k) w' h
-      → CommonIn m 48 (piece w 0 x) (piece w x y) w' h
-  found-second n w' h z = flipped (found m c x y l 0 x k w (ready-second n) w' h z)
+  pub found-second : k < l → {w' : List ℕ} {h : Found} → CommonIn c (l - 1) (piece w x (l - 1 + 1)) (piece w 0 k) w' h
+      → GroundIn m (piece w 0 x) (piece w x y) w' (Common h)
+  found-second n z = flipped (found (ready-second n) z)
 
   pub both-zero : l ≤ k → k ≡ 0 → ZeroIn m (piece w 0 x) (piece w x y) c
   both-zero n z = record {
@@ -160,3 +154,5 @@ module _ (m x y : ℕ) (w : List ℕ) (q : StartAsked m x y w) (c₁ k c l : ℕ
     first = record { at = λ i. zero-k i (omega arith) };
     second = record { at = λ i. t .zero i (omega arith) };
   }
+
+pub ruleset starts = (needs, asked-first, asked-second, found-first, found-second, both-zero)

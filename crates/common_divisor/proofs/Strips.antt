@@ -3,12 +3,14 @@
 --   Left                      what holds at each turn
 --   left-none, left-step      before the first turn, and after one more
 --   left-unit, left-end       a leading word that is a unit, and no word left
+--   strips                    the rules
 use mathlib.Core.Path.{_≡_, sym, ap, subst, _∙_}
 use mathlib.Core.List.{List}
 use mathlib.Core.Logic.{⊎-elim}
 use Prim.Native.Nat.{ℕ, zero, _+_, _-_, _<_, _≤_, _∣_}
 use native.Mathlib.Nat.{dvd-trans, dvd-zero, dvd-refl, pos-of-dvd-of-pos}
 use native.Mathlib.Omega.{arith}
+use borrow.Author.Needs.{needs}
 use lib.ListN.{length, getD}
 use Rattle.definitions.specs.Polynomials.{coef}
 use Rattle.numbers.specs.Divisors.{IsGcd}
@@ -23,8 +25,8 @@ pub record Left (m : ℕ) (w : List ℕ) (a len c l : ℕ) : Type 0 where
   pub few : l ≤ len
   pub zero : (k : ℕ) → l ≤ k → c ∣ coef (piece w a len) k
 
-pub left-none : (m : ℕ) (w : List ℕ) (a len : ℕ) → 2 ≤ m → Left m w a len m len
-left-none m w a len h = record {
+pub left-none : {m : ℕ} {w : List ℕ} {a len : ℕ} → 2 ≤ m → Left m w a len m len
+left-none {m} {w} {a} {len} h = record {
   divides = dvd-refl m;
   two = h;
   few = omega arith;
@@ -44,10 +46,11 @@ left-step {m} {a} {len} {c} {l} {g} {w} h p d n = record {
 }
   where
     at : (k : ℕ) → k ≡ l - 1 → g ∣ coef (piece w a len) k
-    at k e = subst (λ (x : ℕ). g ∣ x) (ap (λ (x : ℕ). getD w (a + x) 0) (sym e) ∙ sym (piece-at w a len k (omega (arith, h .few)))) (d .left)
+    at k e =
+        subst (λ (x : ℕ). g ∣ x) (ap (λ (x : ℕ). getD w (a + x) 0) (sym e) ∙ sym (piece-at w a len k (omega (arith, h .few)))) (d .left)
 
-pub left-unit : {m a len c l g : ℕ} {w : List ℕ} → Left m w a len c l → 0 < l → a + len ≤ length w → IsGcd (getD w (a + (l - 1)) 0) c g → g ≡ 1
-    → Stripped m (piece w a len) c l
+pub left-unit : {m a len c l g : ℕ} {w : List ℕ} → Left m w a len c l → 0 < l → a + len ≤ length w → IsGcd (getD w (a + (l - 1)) 0) c g
+    → g ≡ 1 → Stripped m (piece w a len) c l
 left-unit {m} {a} {len} {c} {l} {g} {w} h p b d e = record {
   divides = h .divides;
   two = h .two;
@@ -63,7 +66,7 @@ left-unit {m} {a} {len} {c} {l} {g} {w} h p b d e = record {
     word : coef (piece w a len) (l - 1) ≡ getD w (a + (l - 1)) 0
     word = piece-at w a len (l - 1) (omega (arith, h .few))
 
-pub left-end : {m a len c l : ℕ} {w : List ℕ} → Left m w a len c l → (0 < l → ⊥) → Stripped m (piece w a len) c 0
+pub left-end : {m a len c l : ℕ} {w : List ℕ} → Left m w a len c l → l ≤ 0 → Stripped m (piece w a len) c 0
 left-end {m} {a} {len} {c} {l} {w} h n = record {
   divides = h .divides;
   two = h .two;
@@ -71,3 +74,5 @@ left-end {m} {a} {len} {c} {l} {w} h n = record {
   zero = λ k _. h .zero k (omega arith);
   unit = λ p. absurd (omega arith);
 }
+
+pub ruleset strips = (needs, left-none, left-step, left-unit, left-end)

@@ -4,12 +4,15 @@
 --   step-asked     what the division asks
 --   next-asked     what the next turn asks
 --   next-found     what divides g and the remainder divides f and g
+--   less           fewer words are left
+--   turns          the rules
 use mathlib.Core.Path.{_≡_, refl, sym, ap, subst, _∙_}
 use mathlib.Core.List.{List}
 use mathlib.Core.Logic.{⊎-elim}
 use Prim.Native.Nat.{ℕ, zero, _+_, _-_, _%_, _<_, _≤_, _∣_}
 use native.Mathlib.Nat.{zero-mod, one-mul, dvd-trans}
 use native.Mathlib.Omega.{arith}
+use borrow.Author.Needs.{needs}
 use lib.ListN.{getD}
 use Rattle.definitions.specs.Residues.{IsUnit}
 use Rattle.definitions.specs.Polynomials.{coef}
@@ -25,7 +28,8 @@ use Rattle.common_divisor.specs.declared.Found.{Found}
 use Rattle.common_divisor.proofs.Steps.{unit-same}
 
 -- a polynomial of degree 0 whose word is a unit
-pub no-constant : (c : ℕ) → 2 ≤ c → (w : List ℕ) (a d : ℕ) (g : List ℕ) → IsUnit c (getD w (a + d) 0) → OnlyZero c (piece w a (d + 1)) g → d ≡ 0 → ⊥
+no-constant : (c : ℕ) → 2 ≤ c → (w : List ℕ) (a d : ℕ) (g : List ℕ) → IsUnit c (getD w (a + d) 0) → OnlyZero c (piece w a (d + 1)) g
+    → d ≡ 0 → ⊥
 no-constant c l w a d g u z e =
     not-constant c l (piece w a (d + 1)) g
     (subst (IsUnit c) (ap (λ (x : ℕ). getD w (a + x) 0) e ∙ sym (piece-at w a (d + 1) 0 (omega arith))) u)
@@ -38,11 +42,27 @@ shorter c w b l k j h e z i = ⊎-elim
     (λ (p : i < k). ap (λ (x : ℕ). x % c) (piece-at w b j i (omega arith) ∙ sym (piece-at w b l i (omega arith))))
     (λ (p : k ≤ i). ap (λ (x : ℕ). x % c) (piece-over w b j i (omega arith)) ∙ sym (c-zero (z i p) .same)) (lt-or-le i k)
 
-module _ (m a d b l : ℕ) (w : List ℕ) (q : EuclidAsked m a d b l w) (c k : ℕ) (s : Stripped m (piece w b l) c k) where
+-- what divides polynomials that agree with f and g modulo m, a divisor of m', divides f and g
+pub common-cong : {m m' d d' : ℕ} {f g f' g' w : List ℕ} {h : Found} → CommonIn m d f g w h → m ∣ m' → d ≤ d'
+    → ((i : ℕ) → coef f i % m ≡ coef f' i % m) → ((i : ℕ) → coef g i % m ≡ coef g' i % m) → CommonIn m' d' f' g' w h
+common-cong {m} {h = h} x v n same-f same-g = record {
+  divides = dvd-trans (h .m) (x .divides) v;
+  two = x .two;
+  one = x .one;
+  few = omega (arith, x .few);
+  inside = x .inside;
+  unit = x .unit;
+  first = divides-cong (h .m) (omega (arith, x .two)) _ _ _ _ (λ _. refl) (λ i. c-dvd (x .divides) (record { same = same-f i }) .same)
+      (x .first);
+  second = divides-cong (h .m) (omega (arith, x .two)) _ _ _ _ (λ _. refl) (λ i. c-dvd (x .divides) (record { same = same-g i }) .same)
+      (x .second);
+}
+
+module _ {m a d b l : ℕ} {w : List ℕ} (q : EuclidAsked m a d b l w) {c k : ℕ} (s : Stripped m (piece w b l) c k) where
   pos : 1 ≤ c
   pos = omega (arith, s .two)
 
-  pub few : k ≤ l
+  few : k ≤ l
   few = subst (λ (x : ℕ). k ≤ x) (piece-length w b l (q .second)) (s .few)
 
   only : OnlyZero c (piece w a (d + 1)) (piece w b l)
@@ -79,10 +99,13 @@ module _ (m a d b l : ℕ) (w : List ℕ) (q : EuclidAsked m a d b l w) (c k : �
     lead : IsUnit c (getD w (b + (k - 1)) 0)
     lead = subst (IsUnit c) (piece-at w b l (k - 1) (omega (arith, few))) (s .unit (omega arith))
 
+    pub less : {t : ℕ} → l ≡ t → k - 1 < t
+    less e = omega (arith, few)
+
     pub step-asked : StepAsked c a d b (k - 1) w
     step-asked = record {
       two = s .two;
-      one = let n : (k - 1 ≡ 0 → ⊥) = no-constant c (s .two) w b (k - 1) (piece w a (d + 1)) lead (only-zero-flip c pos _ _ only-short) in omega arith;
+      one = let n : (k - 1 ≡ 0 → ⊥) = no-constant c (s .two) w b (k - 1) _ lead (only-zero-flip c pos _ _ only-short) in omega arith;
       near = omega (arith, near);
       first = q .first;
       second = omega (arith, few, q .second);
@@ -90,7 +113,10 @@ module _ (m a d b l : ℕ) (w : List ℕ) (q : EuclidAsked m a d b l w) (c k : �
       unit = lead;
     }
 
-    module _ (w' : List ℕ) (r : Stepped c a d b (k - 1) w w') where
+    at : (v : List ℕ) → coef (piece v b (k - 1 + 1)) (k - 1) ≡ getD v (b + (k - 1)) 0
+    at v = piece-at v b (k - 1 + 1) (k - 1) (omega arith)
+
+    module _ {w' : List ℕ} (r : Stepped c a d b (k - 1) w w') where
       pub next-asked : EuclidAsked c b (k - 1) a (k - 1) w'
       next-asked = record {
         two = s .two;
@@ -98,21 +124,23 @@ module _ (m a d b l : ℕ) (w : List ℕ) (q : EuclidAsked m a d b l w) (c k : �
         first = omega (arith, few, q .second, r .same);
         second = omega (arith, near, q .first, r .same);
         apart = record { ok = λ i j x y e. q .apart .ok j i (omega (arith, few)) (omega (arith, near)) (sym e) };
-        unit = unit-same c (getD w (b + (k - 1)) 0) (getD w' (b + (k - 1)) 0) pos (ap (λ (x : ℕ). x % c) (sym (piece-at w' b (k - 1 + 1) (k - 1) (omega arith)))
-            ∙ r .divisor (k - 1) ∙ ap (λ (x : ℕ). x % c) (piece-at w b (k - 1 + 1) (k - 1) (omega arith))) lead;
-        only = only-zero-cong c pos _ _ _ _ (λ i. sym (r .divisor i)) (λ _. refl) (only-zero-rest c pos _ _ (r .quotient) _ (r .divided) only-short);
+        unit = unit-same c (getD w (b + (k - 1)) 0) (getD w' (b + (k - 1)) 0) pos (ap (λ (x : ℕ). x % c) (sym (at w'))
+            ∙ r .divisor (k - 1) ∙ ap (λ (x : ℕ). x % c) (at w)) lead;
+        only = only-zero-cong c pos _ _ _ _ (λ i. sym (r .divisor i)) (λ _. refl)
+            (only-zero-rest c pos _ _ (r .quotient) _ (r .divided) only-short);
       }
 
-      pub next-found : (w'' : List ℕ) (h : Found) → CommonIn c (k - 1) (piece w' b (k - 1 + 1)) (piece w' a (k - 1)) w'' h
+      pub next-found : {w'' : List ℕ} {h : Found} → CommonIn c (k - 1) (piece w' b (k - 1 + 1)) (piece w' a (k - 1)) w'' h
           → CommonIn m d (piece w a (d + 1)) (piece w b l) w'' h
-      next-found w'' h x = record {
+      next-found {w''} {h} x = record {
         divides = dvd-trans (h .m) (x .divides) (s .divides);
         two = x .two;
         one = x .one;
         few = omega (arith, near, x .few);
         inside = x .inside;
         unit = x .unit;
-        first = divides-rest (h .m) some-m _ _ _ (r .quotient) _ (divided-dvd (h .m) c _ _ (r .quotient) _ (x .divides) (r .divided)) divisor (x .second);
+        first = divides-rest (h .m) some-m _ _ _ (r .quotient) _ (divided-dvd (h .m) c _ _ (r .quotient) _ (x .divides) (r .divided))
+            divisor (x .second);
         second = divides-cong (h .m) some-m _ _ _ _ (λ _. refl) (λ i. c-dvd (x .divides) (record { same = shown i }) .same) divisor;
       }
         where
@@ -120,4 +148,7 @@ module _ (m a d b l : ℕ) (w : List ℕ) (q : EuclidAsked m a d b l w) (c k : �
           some-m = omega (arith, x .two)
 
           divisor : DividesModulo (h .m) (piece w'' (h .at) (h .degree + 1)) (piece w b (k - 1 + 1))
-          divisor = divides-cong (h .m) some-m _ _ _ _ (λ _. refl) (λ i. c-dvd (x .divides) (record { same = r .divisor i }) .same) (x .first)
+          divisor =
+              divides-cong (h .m) some-m _ _ _ _ (λ _. refl) (λ i. c-dvd (x .divides) (record { same = r .divisor i }) .same) (x .first)
+
+pub ruleset turns = (needs, last, less, step-asked, next-asked, next-found)

@@ -2,12 +2,12 @@
 -- above 1. The words of a polynomial count modulo m only.
 --
 --   Stripped m f m' l          the first l words of f are left, modulo m'
---   StepAsked, Stepped         one division, of the polynomial at a by the one at b
+--   StepAsked, Stepped         one division, of the polynomial at a by the one at b; ResiduesAt both modulo m before it
 --   EuclidAsked                what the algorithm asks: f of degree d at a, its leading word a unit, and l words at b
 --   CommonIn                   what it promises: a divisor of both, in the buffer
---   StartAsked, SearchAsked    what the search asks, of polynomials in the buffer and of lent ones
+--   StartAsked, SearchAsked    what the search asks, of polynomials in the buffer and of lent ones; BothLoaded puts these there
 --   ZeroIn, GroundIn           what it promises
---   MonicAsked, MonicOf        a polynomial is written out, times the inverse of its leading word
+--   MonicAsked, WrittenOut, MonicOf    a polynomial is written out, times the inverse of its leading word
 use mathlib.Core.Path.{_≡_}
 use mathlib.Core.List.{List}
 use Prim.Native.Nat.{ℕ, _+_, _-_, _*_, _%_, _<_, _≤_, _∣_}
@@ -37,6 +37,12 @@ pub record StepAsked (m a d b e : ℕ) (w : List ℕ) : Type 0 where
   pub second : b + e < length w
   pub apart : Apart b (e + 1) a (d + 1)
   pub unit : IsUnit m (getD w (b + e) 0)
+
+-- both stand modulo m where they stood
+pub record ResiduesAt (m a d b e : ℕ) (w w' : List ℕ) : Type 0 where
+  pub same : length w' ≡ length w
+  pub first : (i : ℕ) → i < d + 1 → getD w' (a + i) 0 ≡ getD w (a + i) 0 % m
+  pub second : (i : ℕ) → i < e + 1 → getD w' (b + i) 0 ≡ getD w (b + i) 0 % m
 
 -- the remainder stands at a, and g is what it was modulo m
 pub record Stepped (m a d b e : ℕ) (w w' : List ℕ) : Type 0 where
@@ -83,6 +89,12 @@ pub record SearchAsked (m : ℕ) (f g w : List ℕ) : Type 0 where
   pub few-g : length g ≤ 49
   pub only : OnlyZero m f g
 
+-- f at 0 and g after it, modulo m
+pub record BothLoaded (m : ℕ) (f g w w' : List ℕ) : Type 0 where
+  pub same : length w' ≡ length w
+  pub first : (k : ℕ) → coef (piece w' 0 (length f)) k % m ≡ coef f k % m
+  pub second : (k : ℕ) → coef (piece w' (length f) (length g)) k % m ≡ coef g k % m
+
 -- both are zero modulo m', a divisor of m above 1
 pub record ZeroIn (m : ℕ) (f g : List ℕ) (m' : ℕ) : Type 0 where
   pub divides : m' ∣ m
@@ -101,6 +113,12 @@ pub record MonicAsked (m a t : ℕ) (out w : List ℕ) : Type 0 where
   pub fits : t < length out
   pub inside : a + t < length w
   pub unit : IsUnit m (getD w (a + t) 0)
+
+-- the words modulo m, and zeros above them
+pub record WrittenOut (m a t : ℕ) (w out out' : List ℕ) : Type 0 where
+  pub same : length out' ≡ length out
+  pub words : (k : ℕ) → k ≤ t → coef out' k ≡ getD w (a + k) 0 % m
+  pub above : (k : ℕ) → t < k → coef out' k ≡ 0
 
 -- the leading word becomes 1, and there are zeros above it
 pub record MonicOf (m a t : ℕ) (w out out' : List ℕ) : Type 0 where

@@ -6,16 +6,16 @@
 //   x, y   the words of f and of g
 //
 //   strip     leading words that are no units vanish modulo a divisor of m
-//   step      one division
+//   step      one division, of what `residues` leaves
 //   euclid    the last divisor
 //   start     both are zero, or have a divisor of degree 1 or more
-//   search    the same for lent polynomials
-//   monic     a polynomial with its leading word made 1
+//   search    the same for lent polynomials, which `load_both` puts side by side
+//   monic     a polynomial with its leading word made 1, of what `write_out` leaves
 ghost use Prim.Native.Nat.{_+_, _≤_};
 ghost use lib.ListN.{length};
 ghost use Rattle.windows.specs.Window.{piece, Scratch};
-ghost use Rattle.common_divisor.specs.Searches.{Stripped, StepAsked, Stepped, EuclidAsked, CommonIn};
-ghost use Rattle.common_divisor.specs.Searches.{StartAsked, SearchAsked, GroundIn, MonicAsked, MonicOf};
+ghost use Rattle.common_divisor.specs.Searches.{Stripped, StepAsked, ResiduesAt, Stepped, EuclidAsked, CommonIn};
+ghost use Rattle.common_divisor.specs.Searches.{StartAsked, SearchAsked, BothLoaded, GroundIn, MonicAsked, WrittenOut, MonicOf};
 
 // The words left of a polynomial, and the modulus.
 struct Lead {
@@ -54,13 +54,21 @@ fn strip(w: &[u32], m: u32, a: usize, len: usize) -> Lead
     Lead { m: c, len: 0 }
 }
 
+// f and g modulo m, where they stand.
+fn residues(w: &mut [u32], m: u32, a: usize, d: usize, b: usize, e: usize)
+    requires { ⌜ StepAsked m a d b e (now w) ⌝ }
+    ensures { λ _. ⌜ ResiduesAt m a d b e (now (w .entry)) (now (w .exit)) ⌝ }
+{
+    windows::reduce_words(w, m, a, d + 1);
+    windows::reduce_words(w, m, b, e + 1);
+}
+
 // The remainder of f by g stands at the place of f.
 fn step(w: &mut [u32], m: u32, a: usize, d: usize, b: usize, e: usize)
     requires { ⌜ StepAsked m a d b e (now w) ⌝ }
     ensures { λ _. ⌜ Stepped m a d b e (now (w .entry)) (now (w .exit)) ⌝ }
 {
-    windows::reduce_words(w, m, a, d + 1);
-    windows::reduce_words(w, m, b, e + 1);
+    residues(w, m, a, d, b, e);
     let i = bezout::cofactor(m, w[b + e]);
     window_division::divide(w, m, b, e, a, d, i.s);
 }
@@ -106,16 +114,32 @@ fn start(w: &mut [u32], m: u32, x: usize, y: usize) -> Ground
     Ground::Common(euclid(w, c, 0, k - 1, x, l))
 }
 
+// f and then g, modulo m, from the start of w on.
+fn load_both(w: &mut [u32], m: u32, f: &[u32], g: &[u32])
+    requires { ⌜ SearchAsked m (now f) (now g) (now w) ⌝ }
+    ensures { λ _. ⌜ BothLoaded m (now (f .entry)) (now (g .entry)) (now (w .entry)) (now (w .exit)) ⌝ }
+{
+    windows::load(w, 0, f, m);
+    windows::load(w, f.len(), g, m);
+}
+
 // The ground for f and g, worked in w. A divisor that is found stands there.
 pub fn search(w: &mut [u32], m: u32, f: &[u32], g: &[u32]) -> Ground
     requires { ⌜ SearchAsked m (now f) (now g) (now w) ⌝ }
     ensures { λ r. ⌜ GroundIn m (now (f .entry)) (now (g .entry)) (now (w .exit)) r ⌝ }
     ensures { λ _. ⌜ Scratch (now (w .entry)) (now (w .exit)) ⌝ }
 {
-    let x = f.len();
-    windows::load(w, 0, f, m);
-    windows::load(w, x, g, m);
-    start(w, m, x, g.len())
+    load_both(w, m, f, g);
+    start(w, m, f.len(), g.len())
+}
+
+// The polynomial of degree t at a modulo m, with zeros above it.
+fn write_out(out: &mut [u32], w: &[u32], m: u32, a: usize, t: usize)
+    requires { ⌜ MonicAsked m a t (now out) (now w) ⌝ }
+    ensures { λ _. ⌜ WrittenOut m a t (now (w .entry)) (now (out .entry)) (now (out .exit)) ⌝ }
+{
+    windows::wipe(out);
+    windows::load(out, 0, &w[a..a + (t + 1)], m);
 }
 
 // The polynomial of degree t at a, times the inverse of its leading word: "a monic w … written out … zeros above it".
@@ -123,8 +147,7 @@ pub fn monic(out: &mut [u32], w: &[u32], m: u32, a: usize, t: usize)
     requires { ⌜ MonicAsked m a t (now out) (now w) ⌝ }
     ensures { λ _. ⌜ MonicOf m a t (now (w .entry)) (now (out .entry)) (now (out .exit)) ⌝ }
 {
-    windows::wipe(out);
-    windows::load(out, 0, &w[a..a + (t + 1)], m);
+    write_out(out, w, m, a, t);
     let i = bezout::cofactor(m, w[a + t]);
     windows::scale(out, m, i.s, 0, 0, t + 1);
 }

@@ -4,13 +4,19 @@
 --   summed-start, summed-step, summed-end    at the start, a term more, and at the end
 --   carry-some, carry-none        a sum of two that passes 64 bits, and one that does not
 --   summed-none, none             no place where words meet; no words
+--   products, terms               the rules
 use mathlib.Core.Path.{_≡_, refl, sym, ap, ap₂, _∙_}
 use mathlib.Core.List.{List}
 use Prim.Native.Nat.{ℕ, suc, min, _+_, _-_, _*_, _%_, _^_, _<_, _≤_}
-use native.Mathlib.Nat.{zero-mul, mul-zero}
+use native.Mathlib.Nat.{zero-mul, mul-zero, zero-mod}
 use native.Mathlib.Numerals.{add-one}
 use native.Mathlib.Omega.{arith}
 use lib.ListN.{length, List·getD-eq-default}
+use mir.Syntax.{w32, w64}
+use mir.Val.{Fits}
+use borrow.Author.Needs.{needs}
+use Rattle.words.specs.Digits as digits
+use Rattle.reduction.proofs.Reciprocals.{modulo}
 use Rattle.definitions.specs.Polynomials.{coef, total, convolve}
 use Rattle.convolution.specs.Carries.{wide, Carry}
 use Rattle.convolution.specs.Sums.{total-last, total-none, total-more}
@@ -35,18 +41,28 @@ rest k i f g b l =
     total-more i (suc k) (λ (j : ℕ). coef f j * coef g (k - j)) (omega arith)
     (λ j p q. ap (λ (z : ℕ). z * coef g (k - j)) (beyond f j (omega arith)) ∙ zero-mul (coef g (k - j)))
 
-pub summed-none : (k i : ℕ) (f g : List ℕ) → 1 ≤ length g → i ≡ k + 1 - length g → min (k + 1) (length f) ≤ i
-    → convolve (coef f) (coef g) k ≡ 0
-summed-none k i f g one e l = rest k i f g (omega arith) l ∙ unmet k i f g e
+pub summed-none : (n k i l : ℕ) (f g : List ℕ) → i ≡ k + 1 - length g → l ≡ min (k + 1) (length f) → l ≤ i → (length g ≡ 0 → ⊥)
+    → 0 ≡ convolve (coef f) (coef g) k % n
+summed-none n k i l f g e el h ne =
+    sym (ap (λ (x : ℕ). x % n) (rest k i f g (omega arith) (omega arith) ∙ unmet k i f g e) ∙ zero-mod n)
+
+-- without words, no sum
+pub none : (n k : ℕ) (f g : List ℕ) → length g ≡ 0 → 0 ≡ convolve (coef f) (coef g) k % n
+none n k f g e = sym (ap (λ (x : ℕ). x % n) (total-none (suc k) _
+    (λ y l. ap (λ (x : ℕ). coef f y * x) (beyond g (k - y) (omega arith)) ∙ mul-zero (coef f y))) ∙ zero-mod n)
 
 -- a sum of two numbers of 64 bits, and the carry
-pub carry-some : (x p s : ℕ) → x < 2 ^ 64 → p < 2 ^ 64 → s ≡ (x + p) % 2 ^ 64 → s < p → Carry x p 1
-unfolding wide
-carry-some x p s lx lp e l = record { is = omega arith; most = omega arith }
+module _ {x p s : ℕ} (e : s ≡ (x + p) % 2 ^ 64) (lx : Fits w64 x) (lp : Fits w64 p) where
+  pub carry-some : s < p → Carry x p 1
+  unfolding wide
+  carry-some l = record { is = omega (arith, lx .fits, lp .fits); most = omega arith }
 
-pub carry-none : (x p s : ℕ) → x < 2 ^ 64 → p < 2 ^ 64 → s ≡ (x + p) % 2 ^ 64 → p ≤ s → Carry x p 0
-unfolding wide
-carry-none x p s lx lp e l = record { is = omega arith; most = omega arith }
+  pub carry-none : p ≤ s → Carry x p 0
+  unfolding wide
+  carry-none l = record { is = omega (arith, lx .fits, lp .fits); most = omega arith }
+
+pub product-fits : {a b : ℕ} → Fits w32 a → Fits w32 b → Fits w64 (a * b)
+product-fits p q = record { fits = digits.product-fits (p .fits) (q .fits) }
 
 wide-none : wide 0 0 ≡ 0
 unfolding wide
@@ -56,29 +72,33 @@ wide-step : (h x r p z : ℕ) → Carry x p r → z ≡ (x + p) % 2 ^ 64 → wid
 unfolding wide
 wide-step h x r p z c e = omega (arith, c .is, e)
 
-pub summed-start : (k i : ℕ) (f g : List ℕ) → 1 ≤ length g → i ≡ k + 1 - length g → Summed k i 0 0 f g
-summed-start k i f g one e = record { most = omega arith; least = omega arith; count = omega arith; sum = wide-none ∙ sym (unmet k i f g e) }
+pub summed-start : {k i : ℕ} {f g : List ℕ} → i ≡ k + 1 - length g → (length g ≡ 0 → ⊥) → Summed k i 0 0 f g
+summed-start {k} {i} {f} {g} e ne =
+    record { most = omega arith; least = omega arith; count = omega arith; sum = wide-none ∙ sym (unmet k i f g e) }
 
 last-term : (i : ℕ) (F : ℕ → ℕ) → total (i + 1) F ≡ total i F + F i
 last-term i F = ap (λ (j : ℕ). total j F) (add-one i) ∙ total-last i F
 
 -- a term more
-pub summed-step : {k i x h r x' : ℕ} {f g : List ℕ} (p : ℕ) → i < k + 1 → p ≡ coef f i * coef g (k - i) → Carry x p r
-    → x' ≡ (x + p) % 2 ^ 64 → Summed k i x h f g → Summed k (i + 1) x' (h + r) f g
-summed-step {k} {i} {x} {h} {r} {x'} {f} {g} p l ep c ex s =
+pub summed-step : {k i x h r x' i' h' l : ℕ} {f g : List ℕ} (p : ℕ) → Summed k i x h f g → p ≡ coef f i * coef g (k - i) → Carry x p r
+    → x' ≡ (x + p) % 2 ^ 64 → l ≡ min (k + 1) (length f) → i < l → i' ≡ i + 1 → h' ≡ h + r → Summed k i' x' h' f g
+summed-step {k} {i} {x} {h} {r} {x'} {f = f} {g = g} p s ep c ex el b ei eh =
     let F : ℕ → ℕ = λ (j : ℕ). coef f j * coef g (k - j) in
-    record {
+    rw (ei, eh) (record {
       most = omega arith;
       least = omega (arith, s .least);
       count = omega (arith, s .count, c .most);
       sum = wide-step h x r p x' c ex ∙ ap₂ (λ (a b : ℕ). a + b) (s .sum) ep ∙ sym (last-term i F);
-    }
+    })
 
-pub summed-end : {k i x h r : ℕ} {f g : List ℕ} (n : ℕ) → min (k + 1) (length f) ≤ i → r ≡ (h * 2 ^ 64 + x) % n → Summed k i x h f g
-    → r ≡ convolve (coef f) (coef g) k % n
+pub summed-end : {k i x h r l : ℕ} {f g : List ℕ} (n : ℕ) → Summed k i x h f g → r ≡ (h * 2 ^ 64 + x) % n → l ≡ min (k + 1) (length f)
+    → l ≤ i → r ≡ convolve (coef f) (coef g) k % n
 unfolding wide
-summed-end {k} {i} {x} {h} {r} {f} {g} n b er s = er ∙ ap (λ (z : ℕ). z % n) (s .sum ∙ sym (rest k i f g (s .most) b))
+summed-end {k} {i} {f = f} {g = g} n s er el b = er ∙ ap (λ (z : ℕ). z % n) (s .sum ∙ sym (rest k i f g (s .most) (omega arith)))
 
--- without words, no sum
-pub none : (f g : List ℕ) (k : ℕ) → length g ≡ 0 → convolve (coef f) (coef g) k ≡ 0
-none f g k e = total-none (suc k) _ (λ y l. ap (λ (x : ℕ). coef f y * x) (beyond g (k - y) (omega arith)) ∙ mul-zero (coef f y))
+pub same-modulus : {a n r : ℕ} (x : ℕ) → r ≡ x % a → a ≡ n → r ≡ x % n
+same-modulus x e h = modulo x h e
+
+pub ruleset products = (needs, none, summed-none, product-fits, carry-some, carry-none, same-modulus)
+
+pub ruleset terms = (products, summed-start, summed-step, summed-end)

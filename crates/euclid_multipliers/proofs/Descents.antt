@@ -6,38 +6,42 @@
 --   write-asked         what the log asks
 --   descending-next     one step more
 --   descended           the last step
+--   descents            the rules
 use mathlib.Core.Path.{_≡_, sym, _∙_, ap, subst}
 use mathlib.Core.List.{List}
 use mathlib.Core.Bool.{Bool, true, false}
 use Prim.Native.Nat.{ℕ, _+_, _-_, _*_, _≤_, _<_}
 use native.Mathlib.Omega.{arith}
 use lib.ListN.{length, getD}
+use borrow.Author.Needs.{needs}
 use Rattle.definitions.specs.Polynomials.{coef}
 use Rattle.definitions.specs.Resultants.{resultant}
 use Rattle.windows.specs.Window.{piece, Around}
 use Rattle.windows.proofs.Leaf.{piece-same}
 use Rattle.windows.proofs.Lift.{below-is}
 use Rattle.modulus.specs.declared.Modulus.{Modulus}
-use Rattle.modulus.specs.Values.{Known, value, values}
-use Rattle.modulus_windows.proofs.Forms.{values-length, values-at}
+use Rattle.modulus.specs.Values.{value, values}
+use Rattle.modulus_windows.proofs.Forms.{values-length}
 use Rattle.resultant_turns.specs.RunLaws.{Run}
 use Rattle.resultant_turns.specs.TurnLaws.{Within}
 use Rattle.resultant_pseudo.specs.Standing.{Placed}
 use Rattle.resultant_euclid.proofs.Steps.{standing-values, leads-self, leads-trans}
 use Rattle.euclid_steps.specs.declared.Stage.{Stage}
 use Rattle.euclid_steps.specs.declared.Logged.{Logged}
+use Rattle.euclid_steps.specs.Plain.{Sound, known-sound, plain-sound, values-at}
 use Rattle.euclid_steps.specs.Steps.{Moves}
 use Rattle.euclid_steps.specs.Stages.{Leads, Stepped, Told, Placing}
 use Rattle.euclid_steps.specs.Trails.{bit, LoggedAt}
+use Rattle.euclid_multipliers.specs.declared.Descent.{Descent}
 use Rattle.euclid_multipliers.specs.Ways.{DescentAsked, Descending, Descended, f-at, g-at, TrailTo}
 use Rattle.euclid_multipliers.proofs.Trailing.{falls-least, bit-small, trail-kept, trail-next, trail-none}
 
-module _ (m : Modulus) (known : Known m) where
+module _ (m : Modulus) (sound : Sound m) where
   pub piece-kept : (w v : List ℕ) (a l : ℕ) → length v ≡ length w → a + l ≤ length w
       → ((k : ℕ) → k < l → getD v (a + k) 0 ≡ getD w (a + k) 0) → piece (values m v) a l ≡ piece (values m w) a l
   piece-kept w v a l same h at =
       piece-same (values m w) (values m v) a l (omega (arith, values-length m w)) (values-length m v ∙ same ∙ sym (values-length m w))
-      (λ k p. values-at m known v (a + k) ∙ ap (value m) (at k p) ∙ sym (values-at m known w (a + k)))
+      (λ k p. values-at m sound v (a + k) ∙ ap (value m) (at k p) ∙ sym (values-at m sound w (a + k)))
 
   -- the words of the pair after a step stay
   module _ (y z : Stage) (v v₁ v₂ : List ℕ) (same : length v₂ ≡ length v₁) (l : Leads m y v z v₁)
@@ -74,7 +78,7 @@ module _ (m : Modulus) (known : Known m) where
         t-below = l .standing .t-below;
       };
       led = record {
-        placed = standing-values m known (z .a) (z .d) (z .b) (z .e) v₂ placed-kept;
+        placed = standing-values m sound (z .a) (z .d) (z .b) (z .e) v₂ placed-kept;
         same = values-length m v₂ ∙ same ∙ sym (values-length m v₁) ∙ l .led .same;
         run = λ R₀ r.
             subst (λ (f : List ℕ). Run (m .n) (value m (z .s)) (value m (z .p)) (value m (z .t)) (z .d) R₀
@@ -91,7 +95,7 @@ module _ (m : Modulus) (known : Known m) where
 
   pub descending-none : (h : ℕ) (x : Stage) (w : List ℕ) → DescentAsked m h x w → Descending m h x w 0 x w
   descending-none h x w k = record {
-    leads = leads-self m known (k .standing);
+    leads = leads-self m sound (k .standing);
     trail = trail-none m h w (f-at m x w) (g-at m x w) (x .d) (x .e);
     under-a = k .under-a;
     under-b = k .under-b;
@@ -115,7 +119,7 @@ write-asked {m} {h} {j} {x} {y} {z} {w} {v} {v₁} g t one = (
   bit-small (y .d) (y .e) (z .d) (z .e) (z .c) (z .swap) (t .falls),
 )
 
-module _ {m : Modulus} {h j : ℕ} {x y z : Stage} {w v v₁ v₂ : List ℕ} (known : Known m) (g : Descending m h x w j y v) (one : 1 ≤ y .d)
+module _ {m : Modulus} {h j : ℕ} {x y z : Stage} {w v v₁ v₂ : List ℕ} (sound : Sound m) (g : Descending m h x w j y v) (one : 1 ≤ y .d)
     (s : Stepped m y v z v₁) (t : Told m y v z v₁) (ar : Around (h + h + 5 * j) 5 v₁ v₂)
     (lg : LoggedAt (h + h + 5 * j) (z .e) (kept y z) v₂) where
   near : y .d ≤ y .e
@@ -134,10 +138,10 @@ module _ {m : Modulus} {h j : ℕ} {x y z : Stage} {w v v₁ v₂ : List ℕ} (k
   second k l = ar .low (z .b + k) (omega (arith, places .1, least .1, g .high))
 
   first-is : piece (values m v₂) (z .a) (z .d + 1) ≡ piece (values m v₁) (z .a) (z .d + 1)
-  first-is = first-kept m known y z v v₁ v₂ (ar .same) (s .0) first second
+  first-is = first-kept m sound y z v v₁ v₂ (ar .same) (s .0) first second
 
   second-is : piece (values m v₂) (z .b) (z .e + 1) ≡ piece (values m v₁) (z .b) (z .e + 1)
-  second-is = second-kept m known y z v v₁ v₂ (ar .same) (s .0) first second
+  second-is = second-kept m sound y z v v₁ v₂ (ar .same) (s .0) first second
 
   moved : Moves (m .n) (y .e - y .d) (f-at m y v) (g-at m y v)
       (f-at m z v₂) (g-at m z v₂)
@@ -162,7 +166,7 @@ module _ {m : Modulus} {h j : ℕ} {x y z : Stage} {w v v₁ v₂ : List ℕ} (k
 
   pub descending-next : (j' : ℕ) → j' ≡ j + 1 → Descending m h x w j' z v₂
   descending-next j' is = record {
-    leads = leads-trans (g .leads) (leads-kept m known y z v v₁ v₂ (ar .same) (s .0) first second);
+    leads = leads-trans (g .leads) (leads-kept m sound y z v v₁ v₂ (ar .same) (s .0) first second);
     trail = trailed j' is;
     under-a = places .0;
     under-b = places .1;
@@ -170,9 +174,9 @@ module _ {m : Modulus} {h j : ℕ} {x y z : Stage} {w v v₁ v₂ : List ℕ} (k
     room = omega (arith, g .room, ar .same, t .around .same, s .1);
   }
 
-pub descended : {m : Modulus} {h j : ℕ} {x y : Stage} {w v : List ℕ} → Descending m h x w j y v → y .d ≡ 0
-    → Descended m h x w (record { a = y .a; d = y .d; b = y .b; e = y .e; s = y .s; p = y .p; t = y .t; steps = j }) v
-descended g z = record {
+pub descended : {m : Modulus} {h j : ℕ} {x y : Stage} {w v : List ℕ} {r : Descent} → Descending m h x w j y v → y .d ≡ 0
+    → record { a = y .a; d = y .d; b = y .b; e = y .e; s = y .s; p = y .p; t = y .t; steps = j } ≡ r → Descended m h x w r v
+descended {m} {h} {j} {x} {y} {w} {v} g z is = subst (λ (r : Descent). Descended m h x w r v) is (record {
   descending = record {
     leads = record {
       standing = record {
@@ -190,4 +194,6 @@ descended g z = record {
     room = g .room;
   };
   none = z;
-}
+})
+
+pub ruleset descents = (needs, known-sound, plain-sound, descending-none, descending-next, descended)

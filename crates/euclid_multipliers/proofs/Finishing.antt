@@ -13,14 +13,15 @@ use Rattle.definitions.specs.Resultants.{resultant}
 use Rattle.theory.specs.ReachedSteps.{convolve-mod}
 use Rattle.windows.specs.Window.{Scratch}
 use Rattle.modulus.specs.declared.Modulus.{Modulus}
-use Rattle.modulus.specs.Values.{Known, value, values}
-use Rattle.modulus_windows.proofs.Forms.{values-at}
+use Rattle.modulus.specs.Values.{value, values}
 use Rattle.resultant_turns.specs.Degrees.{deg-of}
 use Rattle.resultant_pseudo.specs.Standing.{Led, Descended as DescendedTo}
 use Rattle.resultant_pseudo.proofs.Stepping.{descended}
 use Rattle.resultant_euclid.proofs.Steps.{standing-values, leads-same}
 use Rattle.euclid_steps.specs.declared.Stage.{Stage}
 use Rattle.euclid_steps.specs.declared.Found.{Found}
+use Rattle.euclid_steps.specs.declared.Ending.{Ending}
+use Rattle.euclid_steps.specs.Plain.{Sound, values-at}
 use Rattle.euclid_steps.specs.Steps.{Bound}
 use Rattle.euclid_steps.specs.Stages.{polynomial, meant}
 use Rattle.euclid_steps.specs.Backs.{Ended}
@@ -38,7 +39,7 @@ unfolding Trail
 at-first m h w F₀ G₀ d₀ e₀ F G d e t = t
 
 module _ {m : Modulus} {f g w : List ℕ} {x : Stage} {w₁ : List ℕ} {y : Descent} {w₂ : List ℕ} {z : Found} {w₃ : List ℕ} {r : Found}
-    {w₄ : List ℕ} (known : Known m) (two : 2 ≤ m .n) (k : Asked f g w) (st : Started m f g w x w₁) (ds : Descended m (length g) x w₁ y w₂)
+    {w₄ : List ℕ} (sound : Sound m) (two : 2 ≤ m .n) (k : Asked f g w) (st : Started m f g w x w₁) (ds : Descended m (length g) x w₁ y w₂)
     (bt : Ended m (length g) (y .e) w₂ z w₃) (rs : Raised m (length g) (y .steps) z w₃ r w₄) where
   abbrev C : ℕ
   C = value m (getD w₂ (y .a) 0)
@@ -50,7 +51,7 @@ module _ {m : Modulus} {f g w : List ℕ} {x : Stage} {w₁ : List ℕ} {y : Des
   G₀ = g-at m x w₁
 
   top : Rising m (length g) F₀ G₀ (x .d) (x .e) C 0 r w₄
-  top = rs .rising F₀ G₀ (x .d) (x .e) C (bottomed known ds bt)
+  top = rs .rising F₀ G₀ (x .d) (x .e) C (bottomed sound ds bt)
 
   ends : (top .F ≡ F₀) × ((top .G ≡ G₀) × ((r .d ≡ x .d) × (r .e ≡ x .e)))
   ends = at-first m (length g) w₄ F₀ G₀ (x .d) (x .e) (top .F) (top .G) (r .d) (r .e) (top .trail)
@@ -98,14 +99,14 @@ module _ {m : Modulus} {f g w : List ℕ} {x : Stage} {w₁ : List ℕ} {y : Des
   reached : DescendedTo (m .n) (x .a) (x .d) (x .b) (x .e) (values m w₁) (meant m (stage y)) (values m w₂)
   reached =
       descended (m .n) (x .a) (x .d) (x .b) (x .e) (values m w₁) (meant m (stage y)) (values m w₂)
-      (standing-values m known (x .a) (x .d) (x .b) (x .e) w₁ (st .asked .standing .placed)) led (ds .none)
+      (standing-values m sound (x .a) (x .d) (x .b) (x .e) w₁ (st .asked .standing .placed)) led (ds .none)
 
   none : (i : ℕ) → i + 0 ≡ i
   none i = omega arith
 
-  pub multiplied : {c : ℕ} → c ≡ getD w₂ (y .a) 0 → Multiplied m f g
+  multiplied-at : {c : ℕ} → c ≡ getD w₂ (y .a) 0 → Multiplied m f g
       (record { u = r .u; v = r .v; k = r .k; c = c; s = y .s; p = y .p; t = y .t; e = y .e }) w₄
-  multiplied {c} is = record {
+  multiplied-at {c} is = record {
     inside-u = omega (arith, top .held .under-u, top .held .room);
     inside-v = omega (arith, top .held .under-v, top .held .room);
     below-u = top .held .below-u;
@@ -122,10 +123,14 @@ module _ {m : Modulus} {f g w : List ℕ} {x : Stage} {w₁ : List ℕ} {y : Des
     second-ends = λ j l. top .held .second-ends j (omega (arith, l, deg-f, ends .1 .1 .0));
     equation = ap (λ (i : ℕ). (value m (y .s) * i) % m .n) (sym (st .resultant-is)) ∙ reached .equation
         ∙ ap (λ (i : ℕ). (value m (y .p) * value m (y .t) * i ^ y .e) % m .n)
-        (values-at m known w₂ (y .a) ∙ ap (value m) (sym is));
+        (values-at m sound w₂ (y .a) ∙ ap (value m) (sym is));
     degree = λ q. trail-degree m (length g) w₂ F₀ G₀ (x .d) (x .e) (y .steps) (f-at m (stage y) w₂)
         (g-at m (stage y) w₂) (y .d) (y .e) (ds .descending .trail) (omega (arith, q, deg-g));
   }
+
+  pub multiplied : {o : Ending} → record { u = r .u; v = r .v; k = r .k; c = getD w₂ (y .a) 0; s = y .s; p = y .p; t = y .t; e = y .e } ≡ o
+      → Multiplied m f g o w₄
+  multiplied e = subst (λ (o : Ending). Multiplied m f g o w₄) e (multiplied-at refl)
 
   pub scratched : Scratch w w₄
   scratched = record { same = rs .same ∙ bt .around .same ∙ leads-same (ds .descending .leads) ∙ st .same }

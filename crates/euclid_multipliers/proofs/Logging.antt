@@ -3,6 +3,7 @@
 --   reads-pair, reads-last, reads-turn, reads-drop        the step that the words tell
 --   bit-swap-none, bit-swap-one, bit-none, bit-one        what is kept of the degrees
 --   log-around, log-stands                                the five words are written, and nothing else
+--   logs                                                  the rules
 use mathlib.Core.Path.{_≡_, refl, _∙_, ap, ap₂}
 use mathlib.Core.List.{List}
 use mathlib.Core.Bool.{Bool, true, false}
@@ -11,6 +12,7 @@ use Prim.Native.Nat.{ℕ, _+_, _≤_, _<_}
 use native.Mathlib.Omega.{arith}
 use lib.ListN.{length, getD, set, length-set}
 use lib.Seq.{getD-set-same, getD-set-other}
+use borrow.Author.Needs.{needs}
 use Rattle.windows.specs.Window.{Around}
 use Rattle.euclid_steps.specs.declared.Logged.{Logged}
 use Rattle.euclid_steps.specs.Steps.{Falls}
@@ -145,3 +147,17 @@ module _ (at a b y c k : ℕ) (w : List ℕ) (room : at + 5 ≤ length w) where
 
       past-one : (i : ℕ) → i < at + 1 → getD five i 0 ≡ getD one i 0
       past-one i l = past-two i (omega arith) ∙ getD-set-other one (at + 1) i b 0 (λ e. omega arith)
+
+pub ruleset logs = (
+  needs,
+  reads-pair,
+  reads-last,
+  reads-turn,
+  reads-drop,
+  bit-swap-none,
+  bit-swap-one,
+  bit-none,
+  bit-one,
+  log-around,
+  log-stands,
+)

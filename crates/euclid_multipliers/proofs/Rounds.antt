@@ -13,11 +13,11 @@ use Rattle.definitions.specs.Polynomials.{convolve, constant}
 use Rattle.theory.specs.ReachedSteps.{convolve-constant}
 use Rattle.windows.proofs.Leaf.{piece-at, piece-over}
 use Rattle.modulus.specs.declared.Modulus.{Modulus}
-use Rattle.modulus.specs.Values.{Known, value, values}
-use Rattle.modulus_windows.proofs.Forms.{values-at}
+use Rattle.modulus.specs.Values.{value, values}
 use Rattle.euclid_steps.specs.declared.Stage.{Stage}
 use Rattle.euclid_steps.specs.declared.Logged.{Logged}
 use Rattle.euclid_steps.specs.declared.Found.{Found}
+use Rattle.euclid_steps.specs.Plain.{Sound, values-at}
 use Rattle.euclid_steps.specs.Steps.{bound-lifted}
 use Rattle.euclid_steps.specs.Stages.{polynomial}
 use Rattle.euclid_steps.specs.Backs.{Held, Ended, LiftAsked, Lifted}
@@ -113,7 +113,7 @@ module _ {m : Modulus} {h j : ℕ} {r : Found} {w : List ℕ} {i : ℕ} {o : Fou
 
 -- ---- the end of the steps down
 
-module _ {m : Modulus} {h : ℕ} {x : Stage} {w : List ℕ} {y : Descent} {v : List ℕ} {r : Found} {v' : List ℕ} (known : Known m)
+module _ {m : Modulus} {h : ℕ} {x : Stage} {w : List ℕ} {y : Descent} {v : List ℕ} {r : Found} {v' : List ℕ} (sound : Sound m)
     (g : Descended m h x w y v) (b : Ended m h (y .e) v r v') where
   abbrev constant-at : ℕ
   constant-at = value m (getD v (y .a) 0)
@@ -124,7 +124,7 @@ module _ {m : Modulus} {h : ℕ} {x : Stage} {w : List ℕ} {y : Descent} {v : L
   -- the last f is a constant
   first-is : (k : ℕ) → f-at m (stage y) v k ≡ constant constant-at k
   first-is zero = piece-at (values m v) (y .a) (y .d + 1) 0 (omega arith) ∙ ap (λ (i : ℕ). getD (values m v) i 0) (none (y .a))
-      ∙ values-at m known v (y .a)
+      ∙ values-at m sound v (y .a)
   first-is (suc k) = piece-over (values m v) (y .a) (y .d + 1) (suc k) (omega (arith, g .none))
 
   zeros : (k : ℕ) → constant 0 k ≡ 0
@@ -166,12 +166,12 @@ module _ {m : Modulus} {h : ℕ} {x : Stage} {w : List ℕ} {y : Descent} {v : L
         };
       }
 
-  pub rises : Rises m h (y .steps) r v'
-  rises = record {
+  pub rises : {j : ℕ} → y .steps ≡ j → Rises m h j r v'
+  rises is = subst (λ (j : ℕ). Rises m h j r v') is (record {
     F₀ = f-at m x w;
     G₀ = g-at m x w;
     d₀ = x .d;
     e₀ = x .e;
     C = constant-at;
     rising = bottomed;
-  }
+  })

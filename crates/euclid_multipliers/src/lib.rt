@@ -28,7 +28,7 @@ use euclid_steps::Stage;
 use modulus::Modulus;
 
 // f of degree d at a and g of degree e at b, after so many steps; s, p and t as in a `Stage`.
-struct Descent {
+pub struct Descent {
     a: usize,
     d: usize,
     b: usize,

@@ -1,3 +1,4 @@
+pub mod Plain
 pub mod Steps
 pub mod Turning
 pub mod Stages

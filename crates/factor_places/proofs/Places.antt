@@ -1,68 +1,99 @@
--- The loops over the places, as the code goes.
+-- The loops over the places, as the code goes: i is the place that is next, or the last that was taken in.
 --
---   found-here, passed-over, none-found     the place asked has the number; it has not; none is left to ask
---   one-more-degree, one-more-resultant     one place more of a sum and of a product, from the last on
---   no-degree, no-resultant                 before the first place
---   all-degrees, all-resultants             after the last
+--   Sought k l i            no place of l before i has k, the invariant of `place_of`
+--   Summed l s i            s is the sum of the words from i on, the invariant of `degree_sum`
+--   Multiplied n l p i      p is the product modulo n of the words from i on, the invariant of `multiplied`
+--   placing                 the rules
 use mathlib.Core.Path.{_≡_, sym, ap, _∙_}
 use mathlib.Core.List.{List}
 use Prim.Native.Nat.{ℕ, zero, suc, _+_, _*_, _-_, _%_, _≤_, _<_}
 use native.Mathlib.Numerals.{add-one}
 use native.Mathlib.Omega.{arith}
+use borrow.Author.Needs.{needs}
+use borrow.Author.Tests.{eq-eqb, ne-eqb}
 use lib.ListN.{length, getD, drop, drop-of-length-le}
 use lib.Seq.{drop-cons}
-use borrow.Author.Tests.{eq-eqb, ne-eqb}
 use Rattle.factor_places.specs.Places.{place-of, sum, multiplied}
 
-module _ (k i : ℕ) (l : List ℕ) where
-  pub found-here : i < length l → getD l i 0 ≡ k → place-of k l ≡ i + place-of k (drop i l) → i ≡ place-of k l
+pub record Sought (k : ℕ) (l : List ℕ) (i : ℕ) : Type 0 where
+  pub most : i ≤ 16
+  pub so : place-of k l ≡ i + place-of k (drop i l)
+
+module _ {k i : ℕ} {l : List ℕ} (s : Sought k l i) (e : length l ≡ 16) where
+  pub found-here : i < 16 → getD l i 0 ≡ k → i ≡ place-of k l
   unfolding place-of
-  found-here h e p = omega (arith, p, here)
+  found-here h x = omega (arith, s .so, here)
     where
       here : place-of k (drop i l) ≡ 0
-      here = rw (drop-cons l i 0 h, eq-eqb (getD l i 0) k e)
+      here = rw (drop-cons l i 0 (omega arith), eq-eqb (getD l i 0) k x)
 
-  pub passed-over : i < length l → (getD l i 0 ≡ k → ⊥) → place-of k l ≡ i + place-of k (drop i l)
-      → place-of k l ≡ (i + 1) + place-of k (drop (i + 1) l)
+  pub passed-over : {i' : ℕ} → i < 16 → (getD l i 0 ≡ k → ⊥) → i' ≡ i + 1 → Sought k l i'
   unfolding place-of
-  passed-over h n p = omega (arith, p, next)
+  passed-over h n ei = rw ei (record { most = omega arith; so = omega (arith, s .so, next) })
     where
       next : place-of k (drop i l) ≡ suc (place-of k (drop (i + 1) l))
-      next = rw (drop-cons l i 0 h, ne-eqb (getD l i 0) k n, add-one i)
+      next = rw (drop-cons l i 0 (omega arith), ne-eqb (getD l i 0) k n, add-one i)
 
-pub none-found : (k i : ℕ) (l : List ℕ) → length l ≡ 16 → 16 ≤ i → i ≤ 16 → place-of k l ≡ i + place-of k (drop i l) → 16 ≡ place-of k l
-unfolding place-of
-none-found k i l e h b p = omega (arith, p, ap (place-of k) (drop-of-length-le l {i = i} (omega arith)))
-
-module _ (l : List ℕ) (e : length l ≡ 16) where
-  pub no-degree : 0 ≡ sum (drop 16 l)
-  unfolding sum
-  no-degree = sym (ap sum (drop-of-length-le l {i = 16} (omega arith)))
-
-  pub no-resultant : (n : ℕ) → 1 ≡ multiplied n (drop 16 l)
-  unfolding multiplied
-  no-resultant n = sym (ap (multiplied n) (drop-of-length-le l {i = 16} (omega arith)))
+  pub none-found : 16 ≤ i → 16 ≡ place-of k l
+  unfolding place-of
+  none-found h = omega (arith, s .so, s .most, ap (place-of k) (drop-of-length-le l {i = i} (omega arith)))
 
 before : (i : ℕ) → 0 < i → suc (i - 1) ≡ i
 before i h = omega arith
 
-module _ (l : List ℕ) (i : ℕ) (h : 0 < i) (b : i ≤ length l) where
-  pub one-more-degree : (s : ℕ) → s ≡ sum (drop i l) → s + getD l (i - 1) 0 ≡ sum (drop (i - 1) l)
+pub record Summed (l : List ℕ) (s i : ℕ) : Type 0 where
+  pub most : i ≤ 16
+  pub so : s ≡ sum (drop i l)
+  pub few : s ≤ (16 - i) * 4294967295
+
+pub summed-none : (l : List ℕ) → length l ≡ 16 → Summed l 0 16
+unfolding sum
+summed-none l e = record { most = omega arith; so = sym (ap sum (drop-of-length-le l {i = 16} (omega arith))); few = omega arith }
+
+module _ {l : List ℕ} {s i : ℕ} (p : Summed l s i) where
+  pub summed-next : {s' i' : ℕ} (x : ℕ) → x ≡ getD l (i - 1) 0 → x ≤ 4294967295 → length l ≡ 16 → 0 < i → s' ≡ s + x → i' ≡ i - 1
+      → Summed l s' i'
   unfolding sum
-  one-more-degree s e =
-      let z = ap sum (drop-cons l (i - 1) 0 (omega arith)) ∙ ap (λ (j : ℕ). getD l (i - 1) 0 + sum (drop j l)) (before i h) in
-      omega (arith, e, z)
+  summed-next x ex few e h es ei =
+      let z = ap sum (drop-cons l (i - 1) 0 (omega (arith, p .most)))
+      ∙ ap (λ (j : ℕ). getD l (i - 1) 0 + sum (drop j l)) (before i h) in
+      rw (es, ei) (record { most = omega (arith, p .most); so = omega (arith, p .so, z); few = omega (arith, p .few, p .most) })
 
-  pub one-more-resultant : (n p : ℕ) → p ≡ multiplied n (drop i l) → (getD l (i - 1) 0 * p) % n ≡ multiplied n (drop (i - 1) l)
+  pub summed-all : i ≤ 0 → s ≡ sum l
+  summed-all h = let e : i ≡ 0 = omega arith in p .so ∙ ap (λ (j : ℕ). sum (drop j l)) e
+
+pub record Multiplied (n : ℕ) (l : List ℕ) (p i : ℕ) : Type 0 where
+  pub most : i ≤ 16
+  pub so : p ≡ multiplied n (drop i l)
+
+pub multiplied-none : (n : ℕ) (l : List ℕ) → length l ≡ 16 → Multiplied n l 1 16
+unfolding multiplied
+multiplied-none n l e =
+    record { most = omega arith; so = sym (ap (multiplied n) (drop-of-length-le l {i = 16} (omega arith))) }
+
+module _ {n : ℕ} {l : List ℕ} {p i : ℕ} (m : Multiplied n l p i) where
+  pub multiplied-next : {p' i' : ℕ} → p' ≡ (getD l (i - 1) 0 * p) % n → length l ≡ 16 → 0 < i → i' ≡ i - 1 → Multiplied n l p' i'
   unfolding multiplied
-  one-more-resultant n p e =
-      ap (λ (x : ℕ). (getD l (i - 1) 0 * x) % n) (e ∙ ap (λ (j : ℕ). multiplied n (drop j l)) (sym (before i h)))
-      ∙ sym (ap (multiplied n) (drop-cons l (i - 1) 0 (omega arith)))
+  multiplied-next ep e h ei =
+      rw ei (record {
+        most = omega (arith, m .most);
+        so = ep
+            ∙ ap (λ (x : ℕ). (getD l (i - 1) 0 * x) % n) (m .so ∙ ap (λ (j : ℕ). multiplied n (drop j l)) (sym (before i h)))
+            ∙ sym (ap (multiplied n) (drop-cons l (i - 1) 0 (omega (arith, m .most))));
+      })
 
-pub all-degrees : (l : List ℕ) (i s : ℕ) → i ≤ 0 → s ≡ sum (drop i l) → s ≡ sum l
-all-degrees l zero s h e = e
-all-degrees l (suc i) s h e = absurd (omega arith)
+  pub multiplied-all : i ≤ 0 → p ≡ multiplied n l
+  multiplied-all h = let e : i ≡ 0 = omega arith in m .so ∙ ap (λ (j : ℕ). multiplied n (drop j l)) e
 
-pub all-resultants : (l : List ℕ) (i n p : ℕ) → i ≤ 0 → p ≡ multiplied n (drop i l) → p ≡ multiplied n l
-all-resultants l zero n p h e = e
-all-resultants l (suc i) n p h e = absurd (omega arith)
+pub ruleset placing = (
+  needs,
+  found-here,
+  passed-over,
+  none-found,
+  summed-none,
+  summed-next,
+  summed-all,
+  multiplied-none,
+  multiplied-next,
+  multiplied-all,
+)

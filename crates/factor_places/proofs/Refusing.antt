@@ -1,7 +1,7 @@
 -- The refusals of an arrival and of a leaving, from the tests that the code makes in its order.
 --
---   unheld-by, unheld-zero, leaving   the rules of `unheld` and `leaving_refusal`
---   full-places, full-sum             the ends of `full`
+--   taken-.., unheld-.., full-..     the ends of `taken`, `unheld` and `full`
+--   testing                          their rules
 --   sent-.., number-taken, places-full, work-short, none-refused      the rules of `arrival_refusal`
 use mathlib.Core.Path.{_≡_, refl, sym, ap, _∙_}
 use mathlib.Core.Bool.{Bool, true, false, not}
@@ -10,47 +10,40 @@ use Prim.Native.Nat.{ℕ, _+_, _-_, _≤_, _<_}
 use native.Mathlib.Numerals.{sub-one}
 use native.Mathlib.Omega.{arith}
 use native.Mathlib.Decide.{decLe}
-use lib.Dec.{ltb, leb}
+use lib.Dec.{T, ltb, leb, leb→le}
 use lib.ListN.{length}
+use borrow.Author.Needs.{needs}
 use borrow.Author.Tests.{lt-ltb, le-ltb, le-leb, lt-leb, eq-eqb, ne-eqb}
 use Rattle.definitions.specs.Polynomials.{deg}
-use Rattle.refusals.specs.Refusals.{Tested, narrow, bad-modulus, short, first-refusal, refusals-two}
+use Rattle.refusals.specs.Refusals.{Tested, narrow, short, first-refusal, refusals-two}
 use Rattle.refusals.specs.Conditions.{accepted-two}
 use Rattle.refusals.proofs.Statuses.{row-applies, row-passes, refused-early, passed-on, too-short, long-enough}
-use Rattle.factor_places.specs.Places.{place-of, sum, unheld, taken, full, arrival-tests, leaving-tests}
+use Rattle.factor_places.specs.Places.{place-of, sum, unheld, taken, full, arrival-tests}
 
-pub unheld-by : (k : ℕ) (l : List ℕ) (i : ℕ) → i ≡ place-of k l → (k ≡ 0 → ⊥) → leb 16 i ≡ unheld k l
-unheld-by k l i e z = go (decLe 16 i) ∙ sym (rw (ne-eqb k 0 z, sym e))
-  where
-    go : Dec (16 ≤ i) → leb 16 i ≡ not (ltb i 16)
-    go (yes h) = rw (le-leb 16 i h, le-ltb i 16 h)
-    go (no h) = rw (lt-leb 16 i (omega arith), lt-ltb i 16 (omega arith))
+module _ (k : ℕ) (l : List ℕ) where
+  pub taken-zero : k ≡ 0 → true ≡ taken k l
+  taken-zero z = rw (eq-eqb k 0 z)
 
-pub unheld-zero : (k : ℕ) (l : List ℕ) → k ≡ 0 → true ≡ unheld k l
-unheld-zero k l z = rw (eq-eqb k 0 z)
+  pub unheld-zero : k ≡ 0 → true ≡ unheld k l
+  unheld-zero z = rw (eq-eqb k 0 z)
 
-module _ (n : ℕ) (number : List ℕ) (k : ℕ) (t : Bool) (b : t ≡ bad-modulus narrow n) where
-  pub leaving-modulus : t ≡ true → 1 ≡ first-refusal (leaving-tests narrow n number k)
-  leaving-modulus e = row-applies 0 (bad-modulus narrow n) ((14, unheld k number) ∷ []) (sym b ∙ e)
+  module _ (i : ℕ) (e : i ≡ place-of k l) (z : k ≡ 0 → ⊥) where
+    pub taken-by : ltb i 16 ≡ taken k l
+    taken-by = rw (ne-eqb k 0 z, e)
 
-  module _ (f : t ≡ false) (u : Bool) (q : u ≡ unheld k number) where
-    pub leaving-unheld : u ≡ true → 14 ≡ first-refusal (leaving-tests narrow n number k)
-    leaving-unheld e =
-        row-passes 1 (bad-modulus narrow n) ((14, unheld k number) ∷ []) 14 (sym b ∙ f) (row-applies 13 (unheld k number) [] (sym q ∙ e))
-
-    pub leaving-passed : u ≡ false → 0 ≡ first-refusal (leaving-tests narrow n number k)
-    leaving-passed e =
-        row-passes 1 (bad-modulus narrow n) ((14, unheld k number) ∷ []) 0 (sym b ∙ f)
-        (row-passes 14 (unheld k number) [] 0 (sym q ∙ e) refl)
-
-pub ruleset leaving = (leaving-modulus, leaving-unheld, leaving-passed)
+    pub unheld-by : leb 16 i ≡ unheld k l
+    unheld-by = go (decLe 16 i) ∙ sym (rw (ne-eqb k 0 z, sym e))
+      where
+        go : Dec (16 ≤ i) → leb 16 i ≡ not (ltb i 16)
+        go (yes h) = rw (le-leb 16 i h, le-ltb i 16 h)
+        go (no h) = rw (lt-leb 16 i (omega arith), lt-ltb i 16 (omega arith))
 
 module _ (d : ℕ) (number degree : List ℕ) (i : ℕ) (e : i ≡ place-of 0 number) where
-  pub full-places : 16 ≤ i → true ≡ full d number degree
-  full-places h = rw (le-ltb (place-of 0 number) 16 (omega (arith, e)))
+  pub full-places : (j : ℕ) → j ≤ i → T (leb 16 j) → true ≡ full d number degree
+  full-places j h t = rw (le-ltb (place-of 0 number) 16 (omega (arith, e, leb→le 16 j t)))
 
-  pub full-sum : i < 16 → (x : ℕ) → x ≡ sum degree → ltb 48 (x + d) ≡ full d number degree
-  full-sum h x p = rw (lt-ltb (place-of 0 number) 16 (omega (arith, e)), p)
+  pub full-sum : (x : ℕ) → i < 16 → x ≡ sum degree → ltb 48 (x + d) ≡ full d number degree
+  full-sum x h p = rw (lt-ltb (place-of 0 number) 16 (omega (arith, e)), p)
 
 module _ (n : ℕ) (f h : List ℕ) (t : ℕ) (e : t ≡ first-refusal (refusals-two narrow n f h)) where
   pub sent-some : t ≡ 0 → 1 ≤ length f
@@ -88,11 +81,14 @@ module _ (n : ℕ) (f h : List ℕ) (t : ℕ) (e : t ≡ first-refusal (refusals
         places-full r = further 13 (row-applies 12 (full (deg f) number degree) ((7, short l 8192) ∷ []) (sym full-is ∙ r))
 
         module _ (r : c ≡ false) where
-          pub work-short : l < 8192 → 7 ≡ first-refusal (arrival-tests narrow n number degree k f h l)
-          work-short m =
-              further 7 (row-passes 13 (full (deg f) number degree) ((7, short l 8192) ∷ []) 7 (sym full-is ∙ r) (too-short 6 l 8192 [] m))
+          pub work-short : (m : ℕ) → l < m → T (leb m 8192) → 7 ≡ first-refusal (arrival-tests narrow n number degree k f h l)
+          work-short m h t =
+              further 7 (row-passes 13 (full (deg f) number degree) ((7, short l 8192) ∷ []) 7 (sym full-is ∙ r)
+              (too-short 6 l 8192 [] (omega (arith, leb→le m 8192 t))))
 
           pub none-refused : 8192 ≤ l → 0 ≡ first-refusal (arrival-tests narrow n number degree k f h l)
           none-refused m =
               further 0 (row-passes 13 (full (deg f) number degree) ((7, short l 8192) ∷ []) 0 (sym full-is ∙ r)
               (long-enough 7 l 8192 [] 0 m refl))
+
+pub ruleset testing = (needs, taken-zero, taken-by, unheld-zero, unheld-by, full-places, full-sum)

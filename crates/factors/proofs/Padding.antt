@@ -1,11 +1,13 @@
 -- The words of h with zeros above, as the code stores them.
 --
---   word-stored, words-after      one word more, and after the last
+--   Padded      i words of h are stored, the invariant of `padded`
+--   padding     the rules
 use mathlib.Core.Path.{_≡_, sym, ap, _∙_}
 use mathlib.Core.List.{List, [], _∷_, _++_}
 use Prim.Native.Nat.{ℕ, zero, suc, _+_, _-_, _≤_, _<_}
 use native.Mathlib.Numerals.{add-one}
 use native.Mathlib.Omega.{arith}
+use borrow.Author.Needs.{needs}
 use lib.ListN.{length, getD, set, take, replicate}
 use lib.Seq.{take-all}
 
@@ -24,12 +26,19 @@ stored-at (suc m) (x ∷ h) (suc i) l b =
     ∙ ap (λ (t : List ℕ). x ∷ t) (stored-at m h i (omega arith) (omega arith))
     ∙ ap (λ (j : ℕ). x ∷ (take (suc i) h ++ replicate j 0)) (sym q)
 
-pub word-stored : (h w : List ℕ) (i : ℕ) → i < length h → length h ≤ 49 → w ≡ take i h ++ replicate (49 - i) 0
-    → set w i (getD h i 0) ≡ take (i + 1) h ++ replicate (49 - (i + 1)) 0
-word-stored h w i l b e = rw (e, add-one i) (stored-at 49 h i l (omega arith))
+-- i words of h, and zeros up to 49
+pub record Padded (h w : List ℕ) (i : ℕ) : Type 0 where
+  pub most : i ≤ length h
+  pub so : w ≡ take i h ++ replicate (49 - i) 0
 
-pub words-after : (h w : List ℕ) (i : ℕ) → length h ≤ i → i ≤ length h → w ≡ take i h ++ replicate (49 - i) 0
-    → w ≡ h ++ replicate (49 - length h) 0
-words-after h w i l b e =
-    let z : i ≡ length h = omega arith in
-    e ∙ ap (λ (t : List ℕ). t ++ replicate (49 - i) 0) (take-all i h l) ∙ ap (λ (j : ℕ). h ++ replicate (49 - j) 0) z
+module _ {h w : List ℕ} {i : ℕ} (p : Padded h w i) where
+  pub padded-next : {w' : List ℕ} {i' : ℕ} → i < length h → length h ≤ 49 → w' ≡ set w i (getD h i 0) → i' ≡ i + 1 → Padded h w' i'
+  padded-next l b ew ei =
+      rw (ew, ei) (record { most = omega arith; so = rw (p .so, add-one i) (stored-at 49 h i l (omega arith)) })
+
+  pub padded-end : length h ≤ i → w ≡ h ++ replicate (49 - length h) 0
+  padded-end l =
+      let z : i ≡ length h = omega (arith, p .most) in
+      p .so ∙ ap (λ (t : List ℕ). t ++ replicate (49 - i) 0) (take-all i h l) ∙ ap (λ (j : ℕ). h ++ replicate (49 - j) 0) z
+
+pub ruleset padding = (needs, padded-next, padded-end)

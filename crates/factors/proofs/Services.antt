@@ -1,16 +1,15 @@
 -- The promise of each call at each place where it returns, from what the code hands over there.
 --
---   read-refused, read-answered       the ends of `read`
---   leave-refused, leave-answered, place-held       the rules of `leave`
---   start-refused, start-answered, start-length     the rules of `start`
---   arrive-.., part-held              the rules of `arrive_beside` and `arrive`
+--   arriving     the rules of `arrive_beside` and `arrive`
+--   calling      the rules of the other calls
 use mathlib.Core.Path.{_≡_, refl, sym, ap, _∙_}
-use mathlib.Core.Bool.{true, false}
+use mathlib.Core.Bool.{Bool, true, false}
 use mathlib.Core.List.{List, [], _∷_, _++_}
 use Prim.Native.Nat.{ℕ, zero, suc, _-_, _≤_, _<_}
 use native.Mathlib.Numerals.{sub-one}
 use native.Mathlib.Omega.{arith}
 use lib.ListN.{length, take, replicate}
+use borrow.Author.Needs.{needs}
 use mir.Syntax.{w32}
 use mir.Val.{Fits}
 use Rattle.definitions.specs.Polynomials.{deg}
@@ -29,15 +28,16 @@ use Rattle.factors.specs.FactorsListed.{HeldNumber, arrive-conditions, a
 
 -- ---- reading
 
-module _ (s : Factors) where
-  pub read-refused : bad-modulus narrow (s .n) ≡ true → ReadingAnswer narrow s 0 1
-  read-refused e = record { status-is = row-applies 0 (bad-modulus narrow (s .n)) [] e; value-is = refl }
+module _ (s : Factors) (b : Bool) (m : b ≡ bad-modulus narrow (s .n)) where
+  pub read-refused : b ≡ true → ReadingAnswer narrow s 0 1
+  read-refused e = record { status-is = row-applies 0 (bad-modulus narrow (s .n)) [] (sym m ∙ e); value-is = refl }
 
-  pub read-answered : bad-modulus narrow (s .n) ≡ false → (x : ℕ) → x ≡ multiplied (s .n) (s .resultant) → ReadingAnswer narrow s x 0
-  read-answered e x h = record { status-is = row-passes 1 (bad-modulus narrow (s .n)) [] 0 e refl; value-is = h }
+  module _ (e : b ≡ false) where
+    pub read-modulus : 2 ≤ s .n
+    read-modulus = modulus-fails narrow (s .n) .passed (sym m ∙ e) .least
 
-pub modulus-two : (n : ℕ) → bad-modulus narrow n ≡ false → 2 ≤ n
-modulus-two n e = modulus-fails narrow n .passed e .least
+    pub read-answered : (x : ℕ) → x ≡ multiplied (s .n) (s .resultant) → ReadingAnswer narrow s x 0
+    read-answered x h = record { status-is = row-passes 1 (bad-modulus narrow (s .n)) [] 0 (sym m ∙ e) refl; value-is = h }
 
 -- ---- leaving
 
@@ -76,6 +76,9 @@ module _ (n : ℕ) (h : List ℕ) (t : ℕ) (e : t ≡ first-refusal (refusals-o
 
   pub start-length : t ≡ 0 → length h ≤ 49
   start-length z = accepted-one narrow n h (sym e ∙ z) .few
+
+  pub start-fits : t ≡ 0 → Fits w32 (length h)
+  start-fits z = record { fits = omega (arith, start-length z) }
 
 -- ---- arrival
 
@@ -125,5 +128,24 @@ module _ (s : Factors) (k : ℕ) (f h work : List ℕ) (t : ℕ) (same : h ≡ h
         value : x ≡ resultant (s .n) f (held-h s)
         value = a .value-is ∙ rw (zero-status, same)
 
+pub held-room : (l : ℕ) (w : List ℕ) → l ≤ 49 → length w ≡ 49 → l ≤ length w
+held-room l w h e = omega arith
+
 pub part-held : (s : Factors) (l : ℕ) → l ≡ served-length (s .len) → take (l - 0) (s .h) ≡ held-h s
 part-held s l e = let z : l - 0 ≡ l = omega arith in ap (λ (j : ℕ). take j (s .h)) (z ∙ e)
+
+pub ruleset arriving = (needs, arrive-refused, arrive-some, arrive-fits, arrive-free, arrive-answered, held-room, part-held)
+
+pub ruleset calling = (
+  needs,
+  read-refused,
+  read-modulus,
+  read-answered,
+  leave-refused,
+  leave-answered,
+  place-held,
+  start-refused,
+  start-answered,
+  start-length,
+  start-fits,
+)

@@ -1,10 +1,15 @@
 -- Writing texts one after the other into a buffer.
+--
+--   put-front, put-rest, put-after, put-next    what stands where, once a text is written
+--   line-put                                    an answer line
+--   puts                                        the rules
 use mathlib.Core.Path.{_≡_, sym, ap, ap₂, _∙_}
 use mathlib.Core.List.{List, [], _∷_, _++_, append-assoc}
 use Prim.Native.Nat.{ℕ, suc, _+_, _≤_}
 use native.Mathlib.Omega.{arith}
 use lib.ListN.{length, take, drop, set, length-append}
 use lib.Seq.{length-take-le, take-at, drop-at, drop-drop, set-split}
+use borrow.Author.Needs.{needs}
 use Rattle.hexadecimal.specs.Hexadecimal.{digits-of}
 use Rattle.hexadecimal.specs.DigitLaws.{digits-length}
 use Rattle.frame_lines.specs.FrameLines.{answer-line}
@@ -34,13 +39,13 @@ module _ (o w a : List ℕ) (at k : ℕ) (fits : at + k ≤ length o) (la : leng
       ∙ ap (λ (x : List ℕ). take at o ++ x) (sym (append-assoc a b (drop (at + (k + m)) o)))
 
 -- an answer line: its three numbers and the newline
-pub line-put : (o w₁ w₂ w₃ : List ℕ) (at k r v : ℕ) → at + 13 ≤ length o → length w₃ ≡ length o
-    → w₁ ≡ take at o ++ (digits-of 2 k ++ drop (at + 2) o)
+pub line-put : (o w₁ w₂ w₃ w' : List ℕ) (at k r v : ℕ) → w₁ ≡ take at o ++ (digits-of 2 k ++ drop (at + 2) o)
     → w₂ ≡ take (at + 2) w₁ ++ (digits-of 2 r ++ drop (at + 2 + 2) w₁)
     → w₃ ≡ take (at + 4) w₂ ++ (digits-of 8 v ++ drop (at + 4 + 8) w₂)
-    → set w₃ (at + 12) 10 ≡ take at o ++ (answer-line k r v ++ drop (at + 13) o)
+    → w' ≡ set w₃ (at + 12) 10 → at + 13 ≤ length o → length w₁ ≡ length o → length w₂ ≡ length w₁ → length w₃ ≡ length w₂
+    → w' ≡ take at o ++ (answer-line k r v ++ drop (at + 13) o)
 unfolding answer-line
-line-put o w₁ w₂ w₃ at k r v fits same h₁ h₂ h₃ =
+line-put o w₁ w₂ w₃ w' at k r v h₁ h₂ h₃ is fits s₁ s₂ s₃ =
     let a = digits-of 2 k in
     let b = digits-of 2 r in
     let c = digits-of 8 v in
@@ -50,7 +55,10 @@ line-put o w₁ w₂ w₃ at k r v fits same h₁ h₂ h₃ =
     let p₂ : w₂ ≡ take at o ++ ((a ++ b) ++ drop (at + 4) o) = h₂ ∙ put-next o w₁ a at 2 (omega arith) la h₁ b 2 in
     let p₃ : w₃ ≡ take at o ++ (((a ++ b) ++ c) ++ drop (at + 12) o) = h₃ ∙ put-next o w₂ (a ++ b) at 4 (omega arith) lb p₂ c 8 in
     let e : suc (at + 12) ≡ at + 12 + 1 = omega arith in
-    set-split w₃ (at + 12) 10 (omega arith)
+    is
+    ∙ set-split w₃ (at + 12) 10 (omega arith)
     ∙ ap (λ (x : ℕ). take (at + 12) w₃ ++ 10 ∷ drop x w₃) e
     ∙ put-next o w₃ ((a ++ b) ++ c) at 12 (omega arith) lc p₃ (10 ∷ []) 1
     ∙ ap (λ (x : List ℕ). take at o ++ (x ++ drop (at + 13) o)) (append-assoc (a ++ b) c (10 ∷ []) ∙ append-assoc a b (c ++ 10 ∷ []))
+
+pub ruleset puts = (needs, line-put)

@@ -1,5 +1,6 @@
 -- The head of a line: what its length and its first 14 characters say.
 --
+--   KindRead s k          s can be a frame by its length and its first two characters, which say the kind k
 --   Fields s k n d e      s is a frame if the characters after the first 14 are digits, with these numbers at its head
 --   HeadOf s h            h is what the head of s says
 --   WordsRead             what reading the words comes to
@@ -22,6 +23,13 @@ pub record Fields (s : List ℕ) (k n d e : ℕ) : Type 0 where
   pub short : length s ≤ 798
   pub fits : length s ≡ 14 + 8 * (d + 1 + (e + 1))
   pub frame : is-frame s ≡ all-digits (drop 14 s)
+
+pub record KindRead (s : List ℕ) (k : ℕ) : Type 0 where
+  pub digits : all-digits (take 2 s) ≡ true
+  pub is : k ≡ kind-of s
+  pub known : (1 ≤ k) × (k ≤ 2)
+  pub long : 14 ≤ length s
+  pub short : length s ≤ 798
 
 abbrev pub HeadOf : List ℕ → Head → Type 0
 HeadOf s (Frame k n d e) = Fields s k n d e

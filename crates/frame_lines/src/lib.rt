@@ -1,15 +1,17 @@
 // The lines of the frame program (S65 to S67): what a line's characters say, and an answer line's characters.
 //
 //   Head          what the head of a line says
+//   read_fields   the modulus and the degrees
 //   read_head     the head of a line
 //   read_words    the words after it
+//   newline       the end of a line
 //   write_line    an answer line
 ghost use mathlib.Core.Path.{_≡_};
 ghost use mathlib.Core.List.{_++_};
-ghost use Prim.Native.Nat.{_+_, _*_, _≤_};
-ghost use lib.ListN.{length, take, drop};
+ghost use Prim.Native.Nat.{_+_, _*_, _≤_, _<_};
+ghost use lib.ListN.{length, take, drop, set};
 ghost use Rattle.frame_lines.specs.FrameLines.{answer-line};
-ghost use Rattle.frame_lines.specs.Heads.{HeadOf, WordsRead};
+ghost use Rattle.frame_lines.specs.Heads.{KindRead, HeadOf, WordsRead};
 use hexadecimal::Reading;
 
 // The head of a line: kind, modulus and degrees, where the line can be a frame by its length and its first 14 characters.
@@ -23,25 +25,12 @@ pub enum Head {
     Other,
 }
 
-pub fn read_head(s: &[u8]) -> Head
+// What the rest of the head says, once the length and the kind are known.
+fn read_fields(s: &[u8], kind: u32) -> Head
+    requires { ⌜ KindRead (now s) kind ⌝ }
     ensures { λ r. ⌜ HeadOf (now (s .entry)) r ⌝ }
 {
-    if s.len() < 14 {
-        return Head::Other;
-    }
-    if s.len() > 798 {
-        return Head::Other;
-    }
-    let Reading::Number(kind) = hexadecimal::number(s, 0, 2) else {
-        return Head::Other;
-    };
-    if kind == 0 {
-        return Head::Other;
-    }
-    if kind > 2 {
-        return Head::Other;
-    }
-    let Reading::Number(n) = hexadecimal::number(s, 2, 8) else {
+    let Reading::Number(n) = hexadecimal::word(s, 2) else {
         return Head::Other;
     };
     let Reading::Number(d) = hexadecimal::number(s, 10, 2) else {
@@ -62,6 +51,27 @@ pub fn read_head(s: &[u8]) -> Head
     }
 }
 
+pub fn read_head(s: &[u8]) -> Head
+    ensures { λ r. ⌜ HeadOf (now (s .entry)) r ⌝ }
+{
+    if s.len() < 14 {
+        return Head::Other;
+    }
+    if s.len() > 798 {
+        return Head::Other;
+    }
+    let Reading::Number(kind) = hexadecimal::number(s, 0, 2) else {
+        return Head::Other;
+    };
+    if kind == 0 {
+        return Head::Other;
+    }
+    if kind > 2 {
+        return Head::Other;
+    }
+    read_fields(s, kind)
+}
+
 // Reads the words of a line that is as long as its head says; answers whether all of its characters are digits.
 pub fn read_words(s: &[u8], words: &mut [u32], count: usize) -> bool
     requires { ⌜ (length (now s) ≡ 14 + 8 * count) × (count ≤ length (now words)) ⌝ }
@@ -69,13 +79,20 @@ pub fn read_words(s: &[u8], words: &mut [u32], count: usize) -> bool
 {
     let mut i: usize = 0;
     while i < count {
-        let Reading::Number(x) = hexadecimal::number(s, 14 + 8 * i, 8) else {
+        let Reading::Number(x) = hexadecimal::word(s, 14 + 8 * i) else {
             return false;
         };
         words[i] = x;
         i += 1;
     }
     true
+}
+
+fn newline(out: &mut [u8], at: usize)
+    requires { ⌜ at < length (now out) ⌝ }
+    ensures { λ _. ⌜ now (out .exit) ≡ set (now (out .entry)) at 10 ⌝ }
+{
+    out[at] = 10;
 }
 
 // Writes an answer line from place `at` on; what stands before and after it is left.
@@ -87,5 +104,5 @@ pub fn write_line(out: &mut [u8], at: usize, kind: u32, status: u32, value: u32)
     hexadecimal::write(out, at, 2, kind);
     hexadecimal::write(out, at + 2, 2, status);
     hexadecimal::write(out, at + 4, 8, value);
-    out[at + 12] = 10;
+    newline(out, at + 12);
 }

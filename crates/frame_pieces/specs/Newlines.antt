@@ -2,8 +2,10 @@
 -- newline is 10.
 --
 --   has-newline t             whether a newline stands in t
+--   Clear p a r               no newline stands in p from place a to place r
 --   NewlineAt p a r           r is the place of the first newline of p from place a on, or the length of p
 --   Held s h b                the unfinished line s is held: h counts its characters, up to 799, and they stand at the front of b
+--   Holds h b p r b'          whatever line is held, the part p is held after it
 --   LineAfter h b b'          what becomes of the buffer's words
 use mathlib.Core.Path.{_≡_, refl, sym, ap, ap₂, _∙_}
 use mathlib.Core.Bool.{Bool, true, false, _||_, true≢false}
@@ -17,6 +19,12 @@ unfoldable pub has-newline : List ℕ → Bool
 has-newline [] = false
 has-newline (c ∷ t) = eqb c 10 || has-newline t
 
+-- no newline stands in p from place a to place r
+pub record Clear (p : List ℕ) (a r : ℕ) : Type 0 where
+  pub least : a ≤ r
+  pub most : r ≤ length p
+  pub before : has-newline (take (r - a) (drop a p)) ≡ false
+
 -- r is the place of the first newline of p from place a on, or the length of p
 pub record NewlineAt (p : List ℕ) (a r : ℕ) : Type 0 where
   pub least : a ≤ r
@@ -29,6 +37,10 @@ pub record Held (s : List ℕ) (h : ℕ) (b : List ℕ) : Type 0 where
   pub single : has-newline s ≡ false
   pub count : h ≡ min (length s) 799
   pub kept : h ≤ 798 → take h b ≡ s
+
+-- Whatever line is held as h in b, the part p is held after it as r in b'.
+pub record Holds (h : ℕ) (b p : List ℕ) (r : ℕ) (b' : List ℕ) : Type 0 where
+  pub held : (s : List ℕ) → Held s h b → has-newline p ≡ false → Held (s ++ p) r b'
 
 -- The buffer of the line held after a step or a part of one: h characters are held, at most 799; the words from 798 on are as they were,
 -- and those between are of no use.

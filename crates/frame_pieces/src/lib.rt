@@ -1,15 +1,14 @@
 // What an input's pieces are made of (S64): what a read's count means, where a line ends, and how an unfinished line is held.
 //
 //   Input, what_came      what the count of a read means
+//   skip                  how far there is no newline, at least
 //   find_newline          the end of a line
 //   hold                  an unfinished line
 ghost use mathlib.Core.Path.{_≡_};
-ghost use mathlib.Core.Bool.{false};
-ghost use mathlib.Core.List.{List, _++_};
-ghost use Prim.Native.Nat.{ℕ, _≤_};
+ghost use Prim.Native.Nat.{_≤_};
 ghost use lib.ListN.{length};
 ghost use Rattle.frame_pieces.specs.Inputs.{input-of};
-ghost use Rattle.frame_pieces.specs.Newlines.{has-newline, NewlineAt, Held, LineAfter};
+ghost use Rattle.frame_pieces.specs.Newlines.{Clear, NewlineAt, Holds, LineAfter};
 
 // What the count of a read means: that many characters came, or the input has ended.
 pub enum Input {
@@ -27,12 +26,27 @@ pub fn what_came(count: usize) -> Input
     Input::Came(count)
 }
 
+// From place `from` on, eight characters at a time, as far as each of them has the bit 32: all digits have it, and a newline has not.
+fn skip(piece: &[u8], from: usize) -> usize
+    requires { ⌜ from ≤ length (now piece) ⌝ }
+    ensures { λ r. ⌜ Clear (now (piece .entry)) from r ⌝ }
+{
+    let mut j = from;
+    while 8 <= piece.len() - j {
+        if hexadecimal::eight(piece, j) & 0x2020202020202020 != 0x2020202020202020 {
+            return j;
+        }
+        j += 8;
+    }
+    j
+}
+
 // The place of the first newline from place `from` on, and the length of the piece where there is none.
 pub fn find_newline(piece: &[u8], from: usize) -> usize
     requires { ⌜ from ≤ length (now piece) ⌝ }
     ensures { λ r. ⌜ NewlineAt (now (piece .entry)) from r ⌝ }
 {
-    let mut j = from;
+    let mut j = skip(piece, from);
     while j < piece.len() {
         if piece[j] == 10 {
             return j;
@@ -45,8 +59,7 @@ pub fn find_newline(piece: &[u8], from: usize) -> usize
 // Holds part after what is held of an unfinished line. No more than the first 798 words of the buffer are used.
 pub fn hold(held: usize, line: &mut [u8], part: &[u8]) -> usize
     requires { ⌜ 798 ≤ length (now line) ⌝ }
-    ensures { λ r. ⌜ ((s : List ℕ) → Held s held (now (line .entry)) → has-newline (now (part .entry)) ≡ false
-        → Held (s ++ now (part .entry)) r (now (line .exit))) ⌝ }
+    ensures { λ r. ⌜ Holds held (now (line .entry)) (now (part .entry)) r (now (line .exit)) ⌝ }
     ensures { λ r. ⌜ LineAfter r (now (line .entry)) (now (line .exit)) ⌝ }
 {
     if held > 798 {

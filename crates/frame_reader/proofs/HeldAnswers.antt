@@ -1,14 +1,20 @@
 -- Answering the line held.
-use mathlib.Core.Path.{_≡_, sym, ap, _∙_, subst}
+--
+--   long-refused, held-answered, part-answered, then-answered    what is written for it
+--   line-none, line-answered                                     what is held after it
+--   held-answers                                                 the rules
+use mathlib.Core.Path.{_≡_, refl, sym, ap, _∙_, subst}
 use mathlib.Core.List.{List, _++_}
 use Prim.Native.Nat.{ℕ, _+_, _-_, _<_, _≤_}
 use native.Mathlib.Omega.{arith}
 use lib.ListN.{take, drop}
+use borrow.Author.Needs.{needs}
 use Rattle.frame_lines.specs.FrameLines.{answer-line}
 use Rattle.frame_lines.proofs.Heads.{too-long}
 use Rattle.frames.specs.Frames.{Wrote}
-use Rattle.frames.proofs.Answering.{wrote-refused, first-handed}
-use Rattle.frame_pieces.specs.Newlines.{Held}
+use Rattle.frames.proofs.Answering.{wrote-refused, first-handed, still-working}
+use Rattle.frame_pieces.specs.Newlines.{Held, Holds, LineAfter}
+use Rattle.frame_reader.specs.Pieces.{HeldAnswered, PartAnswered}
 
 pub long-refused : (s : List ℕ) {h : ℕ} {b : List ℕ} (at : ℕ) {o o' w : List ℕ} → Held s h b → 798 < h
     → o' ≡ take at o ++ (answer-line 255 8 0 ++ drop (at + 13) o) → Wrote s at o o' w w
@@ -23,3 +29,17 @@ pub part-answered : (s : List ℕ) {h : ℕ} {b : List ℕ} (p : List ℕ) {at :
     → Wrote p at o o' w w' → Wrote (s ++ p) at o o' w w'
 part-answered s {h} {b} p {at} {o} {o'} {w} {w'} k e q =
     subst (λ (x : List ℕ). Wrote (x ++ p) at o o' w w') (ap (λ (x : ℕ). take x b) (sym e) ∙ k .kept (omega arith)) q
+
+-- the part is held after what is held, and the line is answered
+pub then-answered : {h r at : ℕ} {b b' p o o' w w' : List ℕ} → Holds h b p r b' → HeldAnswered r b' at o o' w w'
+    → PartAnswered h b p at o o' w w'
+then-answered {p = p} q a = record { held = λ s k n. a .held (s ++ p) (q .held s k n) }
+
+pub line-none : (b : List ℕ) → LineAfter 0 b b
+line-none b = record { most = omega arith; same = refl; beyond = refl }
+
+pub line-answered : {r : ℕ} {b b' : List ℕ} → LineAfter r b b' → LineAfter 0 b b'
+line-answered q = record { most = omega arith; same = q .same; beyond = q .beyond }
+
+pub ruleset held-answers =
+    (needs, long-refused, held-answered, part-answered, then-answered, still-working, line-none, line-answered)

@@ -1,26 +1,30 @@
 -- A step over a piece, line by line.
 --
---   Sizes p b₀ o₀ i w b o m   the lengths that a turn relies on
---   Going s p i h w b o₀ o    of the piece p the first i characters are worked, s being the line held before it
+--   Going s p i h w b o₀ o                   of the piece p the first i characters are worked, s being the line held before it
+--   Underway held p b₀ o₀ i h w b o m        the same whatever line is held, with the lengths that a turn relies on
+--   ended-none, ended-line                   the end of the input
+--   steps                                    the rules
 use mathlib.Core.Path.{_≡_, refl, sym, ap, ap₂, _∙_, subst}
 use mathlib.Core.Bool.{false}
 use mathlib.Core.List.{List, [], _∷_, _++_, append-assoc, append-nil}
-use Prim.Native.Nat.{ℕ, _+_, _-_, _*_, _<_, _≤_}
+use Prim.Native.Nat.{ℕ, min, _+_, _-_, _*_, _<_, _≤_}
 use native.Mathlib.Omega.{arith}
 use native.Mathlib.Nat.{pos-of-ne-zero}
 use native.Mathlib.Numerals.{add-one}
 use lib.ListN.{length, getD, take, drop, length-drop, take-append-drop, drop-of-length-le}
 use lib.Seq.{take-all, drop-cons, drop-drop}
+use borrow.Author.Needs.{needs}
 use borrow.Rule.Slice.PartMut.{postOf}
 use Rattle.frame_lines.specs.FrameLines.{line-length}
 use Rattle.frame_lines.proofs.Putting.{put-front, put-rest}
 use Rattle.frame_runs.specs.Working.{Working}
 use Rattle.frames.specs.Frames.{AnswerOf, refused, answered, Wrote}
-use Rattle.frame_pieces.specs.Newlines.{has-newline, none-in-either, NewlineAt, Held}
+use Rattle.frame_pieces.specs.Newlines.{has-newline, none-in-either, NewlineAt, Held, Holds, LineAfter}
+use Rattle.frame_pieces.proofs.Holding.{held-counted, line-unchanged, line-then}
 use Rattle.frame_reader.specs.Lines.{finished, unfinished, last-line, Answers, none}
 use Rattle.frame_reader.specs.LineLaws.{finished-none, unfinished-all, finished-line, unfinished-line, answers-append}
 use Rattle.frame_reader.specs.LineLaws.{answers-one}
-use Rattle.frame_reader.specs.Pieces.{Stepped, Ended}
+use Rattle.frame_reader.specs.Pieces.{HeldAnswered, PartAnswered, Stepped, Ended, Steps, Ends}
 use Rattle.frame_reader.specs.Whole.{held-none}
 
 -- ---- what was written
@@ -52,22 +56,9 @@ cut-at p i j l h e =
     ∙ drop-cons p j 0 h
     ∙ ap₂ (λ (x : ℕ) (y : List ℕ). x ∷ y) e (ap (λ (x : ℕ). drop x p) (sym (add-one j))))
 
--- what stays in reach: the place in the piece, the room for answers, and the buffers' lengths
-pub record Sizes (p b₀ o₀ : List ℕ) (i w : ℕ) (b o m : List ℕ) : Type 0 where
-  pub place : i ≤ length p
-  pub room : w ≤ 13 * i
-  pub line : length b ≡ length b₀
-  pub out : length o ≡ length o₀
-  pub work : length m ≡ 8192
-  pub zeros : Working m
-
--- all working words are lent, and come back
+-- all working words are lent
 pub working-lent : (m : List ℕ) → length m ≡ 8192 → Working m → Working (take 8192 m)
 working-lent m e h = subst Working (sym (take-all 8192 m (omega arith))) h
-
-pub working-back : (m x : List ℕ) → length m ≡ 8192 → Working x → Working (x ++ postOf 0 8192 m)
-working-back m x e h =
-    subst Working (sym (ap (λ (y : List ℕ). x ++ y) (drop-of-length-le m {i = 8192} (omega arith)) ∙ append-nil x)) h
 
 pub record Going (s p : List ℕ) (i h w : ℕ) (b o₀ o : List ℕ) : Type 0 where
   pub done : List (List ℕ)
@@ -78,11 +69,11 @@ pub record Going (s p : List ℕ) (i h w : ℕ) (b o₀ o : List ℕ) : Type 0 w
   pub answers : Answers done (take w o)
   pub after : drop w o ≡ drop w o₀
 
-pub going-none : (s p : List ℕ) {h : ℕ} {b : List ℕ} (o : List ℕ) → Held s h b → Going s p 0 h 0 b o o
+going-none : (s p : List ℕ) {h : ℕ} {b : List ℕ} (o : List ℕ) → Held s h b → Going s p 0 h 0 b o o
 going-none s p o k = record { done = []; rest = s; ended = refl; left = refl; held = k; answers = none; after = refl }
 
 module _ {s p : List ℕ} {i h w : ℕ} {b o₀ o : List ℕ} (g : Going s p i h w b o₀ o) where
-  pub going-step : {j : ℕ} (b' : List ℕ) {o' v v' : List ℕ} → NewlineAt p i j → j < length p → w + 13 ≤ length o
+  going-step : {j : ℕ} (b' : List ℕ) {o' v v' : List ℕ} → NewlineAt p i j → j < length p → w + 13 ≤ length o
       → Wrote (g .rest ++ take (j - i) (drop i p)) w o o' v v' → Going s p (j + 1) 0 (w + 13) b' o₀ o'
   going-step {j} b' {o'} n l m r =
       let part = take (j - i) (drop i p) in
@@ -117,14 +108,81 @@ module _ {s p : List ℕ} {i h w : ℕ} {b o₀ o : List ℕ} (g : Going s p i h
         rest = g .after;
       }
 
-  pub going-hold : {j h' : ℕ} {b' : List ℕ} → length p ≤ j → Held (g .rest ++ take (j - i) (drop i p)) h' b' → Stepped s p h' b' w o₀ o
+  going-hold : {j h' : ℕ} {b' : List ℕ} → length p ≤ j → Held (g .rest ++ take (j - i) (drop i p)) h' b' → Stepped s p h' b' w o₀ o
   going-hold {j} {h'} {b'} l k =
       going-last (subst (λ (x : List ℕ). Held (g .rest ++ x) h' b') (take-all (j - i) (drop i p) (omega (arith, length-drop i p))) k)
 
-  pub going-end : length p ≤ i → Stepped s p h b w o₀ o
+  going-end : length p ≤ i → Stepped s p h b w o₀ o
   going-end l =
       going-last (subst (λ (x : List ℕ). Held x h b)
       (sym (ap (λ (x : List ℕ). g .rest ++ x) (drop-of-length-le p l) ∙ append-nil (g .rest))) (g .held))
+
+pub record Underway (held : ℕ) (p b₀ o₀ : List ℕ) (i h w : ℕ) (b o m : List ℕ) : Type 0 where
+  pub place : i ≤ length p
+  pub room : w ≤ 13 * i
+  pub line : length b ≡ length b₀
+  pub out : length o ≡ length o₀
+  pub work : length m ≡ 8192
+  pub zeros : Working m
+  pub kept : LineAfter h b₀ b
+  pub going : (s : List ℕ) → Held s (min held 799) b₀ → Going s p i h w b o₀ o
+
+pub underway-none : (held : ℕ) (p b o m : List ℕ) (x : ℕ) → x ≡ min held 799 → 8192 ≡ length m → Working m
+    → Underway held p b o 0 x 0 b o m
+underway-none held p b o m x e l z = record {
+  place = omega arith;
+  room = omega arith;
+  line = refl;
+  out = refl;
+  work = sym l;
+  zeros = z;
+  kept = line-unchanged x b (omega arith);
+  going = λ s k. going-none s p o (held-counted e k);
+}
+
+module _ {held i h w : ℕ} {p b₀ o₀ b o m : List ℕ} (u : Underway held p b₀ o₀ i h w b o m) where
+  pub underway-hold : {j r : ℕ} {b' : List ℕ} → NewlineAt p i j → j ≡ length p
+      → Holds h b (take (j - i) (drop i p)) r b'
+      → Steps (min held 799) b₀ p r b' w o₀ o
+  underway-hold n e hold s k = let g = u .going s k in going-hold g (omega arith) (hold .held (g .rest) (g .held) (n .before))
+
+  pub underway-end : length p ≤ i → Steps (min held 799) b₀ p h b w o₀ o
+  underway-end l s k = going-end (u .going s k) l
+
+  pub underway-line : {r : ℕ} {b' : List ℕ} → LineAfter r b b' → LineAfter r b₀ b'
+  underway-line q = line-then (u .kept) q
+
+  pub underway-written : 13 * length p ≤ length o₀ → w ≤ length o₀
+  underway-written l = omega (arith, u .place, u .room)
+
+  pub underway-room : {j : ℕ} → NewlineAt p i j → (j ≡ length p → ⊥) → 13 * length p ≤ length o₀ → w + 13 ≤ length o
+  underway-room n e l = omega (arith, u .room, u .out, n .least, n .most)
+
+  pub underway-lent : Working (take 8192 m)
+  underway-lent = working-lent m (u .work) (u .zeros)
+
+  pub underway-next : {j i' h' w' : ℕ} {b' o' v v' m' : List ℕ} → NewlineAt p i j → (j ≡ length p → ⊥) → 13 * length p ≤ length o₀
+      → PartAnswered h b (take (j - i) (drop i p)) w o o' v v'
+      → LineAfter 0 b b' → Working v' → length o' ≡ length o → length v' ≡ length (take 8192 m) → m' ≡ v' ++ postOf 0 8192 m
+      → i' ≡ j + 1 → h' ≡ 0 → w' ≡ w + 13 → Underway held p b₀ o₀ i' h' w' b' o' m'
+  underway-next {j} {b' = b'} {o' = o'} {v' = v'} n e l wrote q z lo lv em ei eh ew =
+      let below : j < length p = omega (arith, n .most) in
+      let room = underway-room n e l in
+      let whole : length v' ≡ 8192 = lv ∙ ap length (take-all 8192 m (omega (arith, u .work))) ∙ u .work in
+      let back : v' ++ postOf 0 8192 m ≡ v' =
+      ap (λ (y : List ℕ). v' ++ y) (drop-of-length-le m {i = 8192} (omega (arith, u .work))) ∙ append-nil v' in
+      rw (em, ei, eh, ew, back) (record {
+        place = omega arith;
+        room = omega (arith, u .room, n .least);
+        line = q .same ∙ u .line;
+        out = lo ∙ u .out;
+        work = whole;
+        zeros = z;
+        kept = line-then (u .kept) q;
+        going = λ s k.
+            let g = u .going s k in
+            going-step g b' n below room (wrote .held (g .rest) (g .held) (n .before));
+      })
 
 -- ---- the end of the input
 
@@ -132,16 +190,22 @@ last-some : (s : List ℕ) → 0 < length s → last-line s ≡ s ∷ []
 last-some [] h = absurd (omega arith)
 last-some (c ∷ s) h = refl
 
-pub ended-none : {h : ℕ} {b : List ℕ} (o : List ℕ) → h ≡ 0 → (s : List ℕ) → Held s h b → Ended s 0 o o
-ended-none {h} {b} o e s k =
-    let z : [] ≡ s = ap (λ (x : ℕ). take x b) (sym e) ∙ k .kept (omega arith) in
+pub ended-none : {h x : ℕ} {b : List ℕ} (o : List ℕ) → x ≡ h → x ≡ 0 → Ends h b 0 o o
+ended-none {h} {x} {b} o eh e s k =
+    let z : [] ≡ s = ap (λ (x : ℕ). take x b) (sym e ∙ eh) ∙ k .kept (omega arith) in
     record { answers = subst (λ (x : List ℕ). Answers (last-line x) []) z none; rest = refl }
 
-pub ended-line : {h : ℕ} {b o o' v v' : List ℕ} (s : List ℕ) → (h ≡ 0 → ⊥) → 13 ≤ length o → Held s h b → Wrote s 0 o o' v v'
-    → Ended s 13 o o'
-ended-line {h} {b} {o} {o'} s n l k r =
+pub ended-line : {h x : ℕ} {b o o' v v' : List ℕ} → HeldAnswered x b 0 o o' v v' → x ≡ h
+    → (x ≡ 0 → ⊥) → 13 ≤ length o → Ends h b 13 o o'
+ended-line {h} {x} {b} {o} {o'} wrote eh n l s k =
+    let r = wrote .held s (held-counted eh k) in
     let z : 0 < length s = pos-of-ne-zero (λ e. n (omega (arith, k .count))) in
     record {
       answers = subst (λ (x : List (List ℕ)). Answers x (take 13 o')) (sym (last-some s z)) (wrote-more {ls = []} l none r);
       rest = wrote-rest l r;
     }
+
+pub ruleset turns =
+    (underway-none, underway-hold, underway-end, underway-line, underway-written, underway-room, underway-lent, underway-next)
+
+pub ruleset steps = (needs, turns, working-lent, ended-none, ended-line)

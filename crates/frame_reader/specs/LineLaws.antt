@@ -1,7 +1,7 @@
 -- Laws of lines: a text that has a newline is its first line, the newline and the rest; and how texts that follow one another
 -- share out their lines.
 use mathlib.Core.Path.{_≡_, refl, sym, ap, ap₂, _∙_, subst}
-use mathlib.Core.Bool.{Bool, true, false, cond, _||_}
+use mathlib.Core.Bool.{Bool, true, false, cond, _||_, or-true}
 use mathlib.Core.List.{List, [], _∷_, _++_, append-assoc, append-nil}
 use Prim.Native.Nat.{ℕ}
 use lib.Dec.{eqb}
@@ -10,10 +10,6 @@ use Rattle.frame_pieces.specs.Newlines.{has-newline, or-neither, has-newline-ap
 use Rattle.frame_reader.specs.Lines.{lengthen, finished, unfinished, last-line, lines, Answers, none, then}
 use Rattle.frames.specs.Frames.{AnswerOf}
 use Rattle.frames.specs.FrameLaws.{answer-unique}
-
-or-true : (a : Bool) → (a || true) ≡ true
-or-true true = refl
-or-true false = refl
 
 -- ---- a text without a newline
 

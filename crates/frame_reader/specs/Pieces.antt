@@ -1,13 +1,24 @@
 -- An input that comes in pieces. Between two pieces the unfinished line is held in a buffer, as far as it can be a frame.
 --
+--   HeldAnswered, PartAnswered    the answer to the line held, and to the one that a part ends, whatever line is held
 --   Stepped s p h b w o o'    what a step over the piece p owes, s being the line held before it
 --   Written h b ps a          a is what is written, from a line held as h in b, for the pieces ps and at the end of the input
 use mathlib.Core.Path.{_≡_}
+use mathlib.Core.Bool.{false}
 use mathlib.Core.List.{List, [], _∷_, _++_}
 use Prim.Native.Nat.{ℕ}
 use lib.ListN.{take, drop}
-use Rattle.frame_pieces.specs.Newlines.{Held}
+use Rattle.frame_pieces.specs.Newlines.{has-newline, Held}
+use Rattle.frames.specs.Frames.{Wrote}
 use Rattle.frame_reader.specs.Lines.{finished, unfinished, last-line, Answers}
+
+-- Whatever line is held as h in b, its answer is written from place at on.
+pub record HeldAnswered (h : ℕ) (b : List ℕ) (at : ℕ) (o o' w w' : List ℕ) : Type 0 where
+  pub held : (s : List ℕ) → Held s h b → Wrote s at o o' w w'
+
+-- The same of the line that the part p ends.
+pub record PartAnswered (h : ℕ) (b p : List ℕ) (at : ℕ) (o o' w w' : List ℕ) : Type 0 where
+  pub held : (s : List ℕ) → Held s h b → has-newline p ≡ false → Wrote (s ++ p) at o o' w w'
 
 -- The first w characters of o' are the answers to the lines that end in the piece; the rest is as it was. What comes after the
 -- last newline is held.

@@ -1,14 +1,11 @@
 // An input that comes in pieces of any size: the lines that end in a piece are answered, and the unfinished line is held until
 // the next. Of a line that is too long for a frame nothing but that is held.
 ghost use mathlib.Core.Path.{_≡_};
-ghost use mathlib.Core.Bool.{false};
-ghost use mathlib.Core.List.{List, _++_};
-ghost use Prim.Native.Nat.{ℕ, min, _+_, _*_, _≤_};
+ghost use Prim.Native.Nat.{min, _+_, _*_, _≤_};
 ghost use lib.ListN.{length};
 ghost use Rattle.frame_runs.specs.Working.{Working};
-ghost use Rattle.frames.specs.Frames.{Wrote};
-ghost use Rattle.frame_pieces.specs.Newlines.{has-newline, Held, LineAfter};
-ghost use Rattle.frame_reader.specs.Pieces.{Steps, Ends};
+ghost use Rattle.frame_pieces.specs.Newlines.{LineAfter};
+ghost use Rattle.frame_reader.specs.Pieces.{HeldAnswered, PartAnswered, Steps, Ends};
 
 // What a step leaves: the count of the line held, and of the characters written.
 pub struct Progress {
@@ -37,8 +34,8 @@ fn counted(held: usize) -> usize
 // Writes the answer to the line held.
 fn answer_held(held: usize, line: &[u8], work: &mut [u32], out: &mut [u8], at: usize)
     requires { ⌜ (798 ≤ length (now line)) × ((Working (now work)) × (at + 13 ≤ length (now out))) ⌝ }
-    ensures { λ _. ⌜ ((s : List ℕ) → Held s held (now (line .entry))
-        → Wrote s at (now (out .entry)) (now (out .exit)) (now (work .entry)) (now (work .exit))) ⌝ }
+    ensures { λ _. ⌜ HeldAnswered held (now (line .entry)) at (now (out .entry)) (now (out .exit))
+        (now (work .entry)) (now (work .exit)) ⌝ }
     ensures { λ _. ⌜ Working (now (work .exit)) ⌝ }
 {
     if held > 798 {
@@ -51,8 +48,8 @@ fn answer_held(held: usize, line: &[u8], work: &mut [u32], out: &mut [u8], at: u
 // Writes the answer to the line that part ends.
 fn close(held: usize, line: &mut [u8], part: &[u8], work: &mut [u32], out: &mut [u8], at: usize)
     requires { ⌜ (798 ≤ length (now line)) × ((Working (now work)) × (at + 13 ≤ length (now out))) ⌝ }
-    ensures { λ _. ⌜ ((s : List ℕ) → Held s held (now (line .entry)) → has-newline (now (part .entry)) ≡ false
-        → Wrote (s ++ now (part .entry)) at (now (out .entry)) (now (out .exit)) (now (work .entry)) (now (work .exit))) ⌝ }
+    ensures { λ _. ⌜ PartAnswered held (now (line .entry)) (now (part .entry)) at (now (out .entry)) (now (out .exit))
+        (now (work .entry)) (now (work .exit)) ⌝ }
     ensures { λ _. ⌜ LineAfter 0 (now (line .entry)) (now (line .exit)) ⌝ }
     ensures { λ _. ⌜ Working (now (work .exit)) ⌝ }
 {

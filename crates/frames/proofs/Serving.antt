@@ -3,27 +3,19 @@
 --   job-asked                          what a run asks of a job that is not refused
 --   served-refused, served-resultant, served-reduced    the promise at each place where a job is served
 use mathlib.Core.Path.{_≡_, refl, sym, ap, _∙_, subst}
-use mathlib.Core.List.{List, _++_}
+use mathlib.Core.List.{List}
 use Prim.Native.Nat.{ℕ, zero, suc, _+_, _-_, _≤_}
 use native.Mathlib.Omega.{arith}
 use lib.ListN.{length, take, drop, replicate}
 use Rattle.definitions.specs.Resultants.{resultant, Reduced}
-use Rattle.refusals.specs.Refusals.{narrow, Tested, first-of, first-refusal, refusals-two, left}
+use Rattle.refusals.specs.Refusals.{narrow, first-refusal, refusals-two, left}
 use Rattle.refusals.specs.Conditions.{accepted-two}
-use Rattle.refusals.proofs.Statuses.{first-append, left-refused}
+use Rattle.refusals.proofs.Statuses.{front-passes, left-refused}
 use Rattle.frame_refusals.specs.FrameRefusals.{top-refusals, job-refusals}
 use Rattle.frame_runs.specs.Working.{Working}
 use Rattle.frame_runs.specs.Jobs.{JobAsked}
 use Rattle.frames.specs.Frames.{Value, Served}
 use Rattle.frames.proofs.Answering.{first-handed, second-handed}
-
--- a list of refusals of which none applies: none of its first part does
-front-passes : (a b : List Tested) → first-refusal (a ++ b) ≡ 0 → first-refusal a ≡ 0
-front-passes a b z = go (first-refusal a) (first-refusal b) (sym (first-append a b) ∙ z)
-  where
-    go : (x y : ℕ) → first-of x y ≡ 0 → x ≡ 0
-    go zero y h = refl
-    go (suc x) y h = h
 
 pub job-asked : {n r : ℕ} {f g w : List ℕ} → Working w → r ≡ first-refusal (job-refusals n f g) → r ≡ 0 → JobAsked n f g w
 job-asked {n} {r} {f} {g} {w} h e z =

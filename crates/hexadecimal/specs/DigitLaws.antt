@@ -1,13 +1,13 @@
 -- Laws of hexadecimal texts: how texts join, how large a number they spell, and that reading undoes writing.
 --
---   and-both, and-assoc, and-false    two tests
+--   and-both                          two tests
 --   all-digits-append, all-digits-part, all-digits-after    digits of a joined text, of a part, of the rest
 --   spelled-append, number-snoc       the number of a joined text
 --   spelled-below, number-below       how large it is
 --   digits-length, digits-are-digits, digit-character    what is written: k characters, digits, each with its value
 --   number-digits                     read again, it is the number written
 use mathlib.Core.Path.{_≡_, refl, sym, ap, ap₂, _∙_}
-use mathlib.Core.Bool.{Bool, true, false, _&&_, false≢true}
+use mathlib.Core.Bool.{Bool, true, false, _&&_, false≢true, and-assoc, and-false}
 use mathlib.Core.List.{List, [], _∷_, _++_}
 use Prim.Native.Nat.{ℕ, zero, suc, _+_, _-_, _*_, _/_, _%_, _^_, _<_, _≤_}
 use native.Mathlib.Nat.{lt-of-lt-of-le, mul-le-mul-right, pow-suc, pow-le-pow-right}
@@ -23,14 +23,6 @@ use Rattle.hexadecimal.specs.Hexadecimal.{digit-of, all-digits, spelled,
 pub and-both : (a b : Bool) → (a && b) ≡ true → (a ≡ true) × (b ≡ true)
 and-both true b h = (refl, h)
 and-both false b h = absurd (false≢true h)
-
-pub and-assoc : (a b c : Bool) → ((a && b) && c) ≡ (a && (b && c))
-and-assoc true b c = refl
-and-assoc false b c = refl
-
-pub and-false : (a : Bool) → (a && false) ≡ false
-and-false true = refl
-and-false false = refl
 
 -- ---- one text after another
 

@@ -1,3 +1,4 @@
 pub mod Hexadecimal
 pub mod Readings
 pub mod DigitLaws
+pub mod Joining

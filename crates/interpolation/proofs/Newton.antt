@@ -1,10 +1,11 @@
 -- Newton's differences and Horner's rule in place: each pass, each term, and what they end with.
 --
---   Sweep, sweep-first, sweep-next, swept     a pass place by place, from b down
+--   Sweep, sweep-first, sweep-down, swept     a pass place by place, from b down
 --   inverse-is                the code's inverse of k + 1 is the one of the passes
---   passes-first, passes-next     before the first pass; one pass
---   grown-first, grown-next       before the last term but one; one term more
+--   passes-first, passes-next, passes-last     before the first pass; one pass; after the last
+--   grown-first, grown-down, grown-last        before the last term but one; one term more; after the last
 --   interpolated              after the last pass and the last term the words are the polynomial with the values
+--   sweeps, passings, expansions, interpolations    the rules
 --
 -- Letters: n is the modulus, m is n less 1; b is the last point, k a pass, i the inverse of k + 1; j a term; w are words.
 use mathlib.Core.Path.{_≡_, refl, sym, _∙_, ap, ap₂, subst}
@@ -13,17 +14,23 @@ use Prim.Native.Nat.{ℕ, zero, suc, _<_, _≤_, _%_, _^_, _+_, _*_, _-_}
 use native.Mathlib.Decide.{Fin·val-path, ℕ-discrete, decLt}
 use native.Mathlib.Nat.{mod-mod, mod-lt, mod-eq-of-lt, zero-lt-suc}
 use native.Mathlib.Omega.{arith}
+use mir.Syntax.{w32}
+use mir.Val.{Fits}
+use lib.Dec.{T, leb, leb→le}
 use lib.IntN.{pos}
+use borrow.Author.Needs.{needs}
 use lib.ListN.{length, getD, set, length-set}
 use lib.Seq.{getD-set-same, getD-set-other}
 use Rattle.definitions.specs.Polynomials.{total}
 use Rattle.definitions.specs.Residues.{Inverse, IsUnit}
 use Rattle.algebra.specs.Evaluation.{ev, ev-cong}
-use Rattle.algebra.specs.Newton.{num, nest, nest-cong, nest-out, nest-step, grow, diff, Stage, stage-first, stage-next, stage-last, newton-values}
+use Rattle.algebra.specs.Newton.{num, nest, nest-cong, nest-out, nest-step, grow, diff}
+use Rattle.algebra.specs.Newton.{Stage, stage-first, stage-next, stage-last, newton-values}
 use Rattle.algebra.specs.Reduction.{reduce-hom}
 use Rattle.algebra.specs.Residues.{Res, toRes, Res-ring, mul-mod, mul-mod-r}
 use Rattle.algebra.specs.Ring.{neg-mul, mul-zero, add-zero, neg-zero}
 use Rattle.numbers.specs.Divisors.{GcdCofactor, bezout-exists}
+use Rattle.numbers.specs.PrimeTable.{differences-above}
 use Rattle.numbers.specs.Units.{cofactor-inverse, inverse-unique, gcd-of-coprime, coprime-of-unit}
 use Rattle.theory.specs.TwoVariablesLaws.{ev-total, num-is}
 use Rattle.windows.specs.Window.{Moved, addMul}
@@ -33,18 +40,29 @@ use Rattle.interpolation.specs.NewtonWords.{Row, Passes, Grown, cofactor
 -- ---- one pass: of the words up to b those above s are new
 
 pub record Sweep (n i k b s : ℕ) (w w' : List ℕ) : Type 0 where
+  pub least : k ≤ s
+  pub most : s ≤ b
   pub same : length w' ≡ length w
   pub low : (j : ℕ) → j ≤ s → getD w' j 0 ≡ getD w j 0
   pub new : (j : ℕ) → s ≤ j → j < b → getD w' (suc j) 0 ≡ (i * (getD w (suc j) 0 + (n - getD w j 0))) % n
   pub high : (j : ℕ) → b < j → getD w' j 0 ≡ getD w j 0
 
-pub sweep-first : (n i k b : ℕ) (w : List ℕ) → Sweep n i k b b w w
-sweep-first n i k b w = record { same = refl; low = λ j l. refl; new = λ j l h. absurd (omega arith); high = λ j l. refl }
+pub sweep-first : (n i k b : ℕ) (w : List ℕ) → k ≤ b → Sweep n i k b b w w
+sweep-first n i k b w h = record {
+  least = h;
+  most = omega arith;
+  same = refl;
+  low = λ j l. refl;
+  new = λ j l h. absurd (omega arith);
+  high = λ j l. refl;
+}
 
 -- the word s + 1
-pub sweep-next : {n i k b s x v : ℕ} {w w' : List ℕ} → Sweep n i k b (suc s) w w' → suc s ≤ b → b < length w
+sweep-next : {n i k b s x v : ℕ} {w w' : List ℕ} → Sweep n i k b (suc s) w w' → k < suc s → b < length w
     → x ≡ (getD w' (suc s) 0 + (n - getD w' s 0)) % n → v ≡ (i * x) % n → Sweep n i k b s w (set w' (suc s) v)
-sweep-next {n} {i} {k} {b} {s} {x} {v} {w} {w'} h l r e f = record {
+sweep-next {n} {i} {k} {b} {s} {x} {v} {w} {w'} h z r e f = record {
+  least = omega arith;
+  most = omega (arith, h .most);
   same = length-set w' (suc s) v ∙ h .same;
   low = λ j q. getD-set-other w' (suc s) j v 0 (λ z. omega arith) ∙ h .low j (omega arith);
   new = λ j p q. go j p q (ℕ-discrete j s);
@@ -56,7 +74,7 @@ sweep-next {n} {i} {k} {b} {s} {x} {v} {w} {w'} h l r e f = record {
         ∙ ap₂ (λ (y z : ℕ). (i * (y + (n - z))) % n) (h .low (suc s) (omega arith)) (h .low s (omega arith))
 
     at : getD (set w' (suc s) v) (suc s) 0 ≡ v
-    at = getD-set-same w' (suc s) v 0 (omega (arith, h .same))
+    at = getD-set-same w' (suc s) v 0 (omega (arith, h .same, h .most))
 
     go : (j : ℕ) → s ≤ j → j < b → Dec (j ≡ s) → getD (set w' (suc s) v) (suc j) 0 ≡ (i * (getD w (suc j) 0 + (n - getD w j 0))) % n
     go j p q (yes z) =
@@ -64,22 +82,29 @@ sweep-next {n} {i} {k} {b} {s} {x} {v} {w} {w'} h l r e f = record {
     go j p q (no z) = getD-set-other w' (suc s) (suc j) v 0 (λ y. z (omega arith)) ∙ h .new j (omega arith) q
 
 -- the same, as the loop counts
-pub sweep-down : {n i k b x v : ℕ} {w w' : List ℕ} (s : ℕ) → Sweep n i k b s w w' → k < s → s ≤ b → b < length w
-    → x ≡ (getD w' s 0 + (n - getD w' (s - 1) 0)) % n → v ≡ (i * x) % n → Sweep n i k b (s - 1) w (set w' s v)
-sweep-down zero h z l r e f = absurd (omega arith)
-sweep-down {n} {i} {k} {b} {x} {v} {w} {w'} (suc s) h z l r e f =
-    subst (λ (t : ℕ). Sweep n i k b t w (set w' (suc s) v)) (sym back)
-    (sweep-next h l r (subst (λ (t : ℕ). x ≡ (getD w' (suc s) 0 + (n - getD w' t 0)) % n) back e) f)
+pub sweep-down : {n i k b x v : ℕ} {w w' w'' : List ℕ} (s : ℕ) → Sweep n i k b s w w' → k < s → Row n b w
+    → x ≡ (getD w' s 0 + (n - getD w' (s - 1) 0)) % n → v ≡ (i * x) % n → w'' ≡ set w' s v → Sweep n i k b (s - 1) w w''
+sweep-down zero h z r e f ew = absurd (omega arith)
+sweep-down {n} {i} {k} {b} {x} {v} {w} {w'} (suc s) h z r e f ew =
+    subst (Sweep n i k b (suc s - 1) w) (sym ew) (subst (λ (t : ℕ). Sweep n i k b t w (set w' (suc s) v)) (sym back)
+    (sweep-next h z (r .inside) (subst (λ (t : ℕ). x ≡ (getD w' (suc s) 0 + (n - getD w' t 0)) % n) back e) f))
   where
     back : suc s - 1 ≡ s
     back = omega arith
 
-pub swept : {n i k b : ℕ} {w w' : List ℕ} → Sweep n i k b k w w' → Differenced n i k b w w'
-swept h = record { same = h .same; low = h .low; new = h .new; high = h .high }
+pub swept : {n i k b s : ℕ} {w w' : List ℕ} → Sweep n i k b s w w' → s ≤ k → Differenced n i k b w w'
+swept h l = record {
+  same = h .same;
+  low = λ j q. h .low j (omega (arith, h .least));
+  new = λ j p q. h .new j (omega arith) q;
+  high = h .high;
+}
 
 -- the word before the one that is changed is as it was
-pub sweep-below : {n i k b s : ℕ} {w w' : List ℕ} → Sweep n i k b s w w' → Row n b w → s ≤ b → (j : ℕ) → j ≤ s → getD w' j 0 ≤ n
-sweep-below {n} {i} {k} {b} {s} {w} {w'} h r l j q = omega (arith, h .low j q, r .below j (omega arith))
+pub sweep-below : {n i k b s : ℕ} {w w' : List ℕ} → Sweep n i k b s w w' → Row n b w → getD w' (s - 1) 0 ≤ n
+sweep-below {s = s} h r = omega (arith, h .low (s - 1) (omega arith), r .below (s - 1) (omega (arith, h .most)))
+
+pub ruleset sweeps = (needs, sweep-first, sweep-down, swept, sweep-below)
 
 -- ---- the passes
 
@@ -143,8 +168,21 @@ passes-next {n} {b} {k} {g} {s} {w} {w'} {w''} v h l c d = record {
     next m e i p q =
         ap (toRes m) (d .new i p (omega arith) ∙ ap (λ (x : ℕ). (s * (getD w' (suc i) 0 + (x - getD w' i 0))) % x) e)
         ∙ taken m s (getD w' (suc i) 0) (getD w' i 0) (subst (λ (x : ℕ). getD w' i 0 < x) e (h .row .below i (omega arith)))
-        ∙ ap (λ (x : ℕ). Res-ring m .mul (toRes m x) (Res-ring m .add (toRes m (getD w' (suc i) 0)) (Res-ring m .neg (toRes m (getD w' i 0)))))
+        ∙ ap (λ (x : ℕ). Res-ring m .mul (toRes m x)
+        (Res-ring m .add (toRes m (getD w' (suc i) 0)) (Res-ring m .neg (toRes m (getD w' i 0)))))
         (inverse-is (v .two) unit (subst (λ (x : ℕ). GcdCofactor n x g s) more c) e)
+
+pub passes-last : {n b k : ℕ} {w w' : List ℕ} → Passes n b k w w' → k ≤ b → b ≤ k → Passes n b b w w'
+passes-last {n} {b} {k} {w} {w'} h p q = subst (λ (x : ℕ). Passes n b x w w') (omega arith) h
+
+-- the numbers up to b + 1 are words
+pub point-fits : {n b k : ℕ} {w : List ℕ} (j : ℕ) → Valued n b w → Fits w32 n → k < b → T (leb j 2) → Fits w32 (k + j)
+point-fits j v f l t = record { fits = omega (arith, differences-above (v .two) (v .apart), f .fits, leb→le j 2 t) }
+
+pub valued-one : {n b : ℕ} {w : List ℕ} → Valued n b w → 1 ≤ n
+valued-one v = omega (arith, v .two)
+
+pub ruleset passings = (needs, passes-first, passes-next, passes-last, point-fits, valued-one)
 
 -- ---- the terms
 
@@ -214,7 +252,8 @@ module _ {n b j : ℕ} {w w' w'' : List ℕ} (h : Grown n b (suc j) w w') (l : s
         (old k (j + suc k) (omega arith) (omega arith)) (old (suc k) (suc (j + suc k)) (omega arith) (omega arith))
     top k q (no p) =
         ap (toRes m) (v .high (j + suc k) (omega arith)) ∙ old k (j + suc k) (omega arith) (omega arith)
-        ∙ sym (ap (λ (y : Res m). Res-ring m .add (G k) (Res-ring m .neg (Res-ring m .mul (num (Res-ring m) j) y))) (beyond (suc k) (omega arith))
+        ∙ sym (ap (λ (y : Res m). Res-ring m .add (G k) (Res-ring m .neg (Res-ring m .mul (num (Res-ring m) j) y)))
+        (beyond (suc k) (omega arith))
         ∙ ap (λ (y : Res m). Res-ring m .add (G k) (Res-ring m .neg y)) (mul-zero (Res-ring m) (num (Res-ring m) j))
         ∙ ap (Res-ring m .add (G k)) (neg-zero (Res-ring m)) ∙ add-zero (Res-ring m) (G k))
 
@@ -237,9 +276,10 @@ module _ {n b j : ℕ} {w w' w'' : List ℕ} (h : Grown n b (suc j) w w') (l : s
       → toRes m (getD w'' (j + k) 0) ≡ nest (Res-ring m) r j (λ i. toRes m (getD w (j + i) 0)) k
   counted m e r t k q =
       let f : suc (b - j) ≡ r = omega arith in
-      subst (λ (x : ℕ). toRes m (getD w'' (j + k) 0) ≡ nest (Res-ring m) x j (λ i. toRes m (getD w (j + i) 0)) k) f (all m e k (omega arith))
+      subst (λ (x : ℕ). toRes m (getD w'' (j + k) 0) ≡ nest (Res-ring m) x j (λ i. toRes m (getD w (j + i) 0)) k) f
+      (all m e k (omega arith))
 
-  pub grown-next : Grown n b j w w''
+  grown-next : Grown n b j w w''
   grown-next = record {
     same = v .same ∙ h .same;
     row = record { one = h .row .one; inside = omega (arith, v .same, h .row .inside); below = λ i q. fits i q (decLt i j) (decLt i b) };
@@ -258,6 +298,18 @@ grown-down {n} {b} {w} {w'} {w''} (suc j) h z l small v =
   where
     back : suc j - 1 ≡ j
     back = omega arith
+
+pub grown-last : {n b j : ℕ} {w w' : List ℕ} → Grown n b j w w' → j ≤ 0 → Grown n b 0 w w'
+grown-last {n} {b} {j} {w} {w'} h l = subst (λ (x : ℕ). Grown n b x w w') (omega arith) h
+
+module _ {n b j : ℕ} {w w' : List ℕ} (h : Grown n b j w w') (l : j ≤ b) (z : 0 < j) where
+  pub source-fits : j - 1 + 1 + (b - (j - 1)) ≤ length w'
+  source-fits = omega (arith, h .row .inside)
+
+  pub target-fits : j - 1 + (b - (j - 1)) ≤ length w'
+  target-fits = omega (arith, h .row .inside)
+
+pub ruleset expansions = (needs, grown-first, grown-down, grown-last, source-fits, target-fits)
 
 -- ---- the end
 
@@ -296,6 +348,9 @@ module _ {n b : ℕ} {w w' w'' : List ℕ} (v : Valued n b w) (p : Passes n b b 
       ∙ newton-values (Res-ring m) b (λ i. toRes m (cofactor-of m i)) unit-of (λ i. toRes m (getD w i 0)) z l)
       ∙ mod-eq-of-lt (subst (λ (x : ℕ). getD w z 0 < x) e (v .below z l))
 
+pub valued-small : {n b : ℕ} {w : List ℕ} → Valued n b w → b < n
+valued-small v = differences-above (v .two) (v .apart)
+
 pub interpolated : {n b : ℕ} {w w' w'' : List ℕ} → Valued n b w → Passes n b b w w' → Grown n b 0 w' w'' → Interpolated n b w w''
 interpolated {n} {b} {w} {w'} {w''} v p g = record {
   same = g .same ∙ p .same;
@@ -307,3 +362,5 @@ interpolated {n} {b} {w} {w'} {w''} v p g = record {
     go : (z : ℕ) → z ≤ b → (t : ℕ) → n ≡ t → total (suc b) (λ k. getD w'' k 0 * z ^ k) % t ≡ getD w z 0
     go z l zero e = absurd (omega (arith, v .two))
     go z l (suc m) e = value-at v p g m e z l
+
+pub ruleset interpolations = (needs, valued-row, valued-small, interpolated)

@@ -7,11 +7,11 @@
 //   product, sum, difference     of words
 //   difference_of                l x - c y, by one reduction
 //   times                        a word times a number: a number
-//   multiply                     numbers
+//   multiply, multiply_add       a b and z + a b, of numbers
 //
 //   m          the modulus
 //   x, y, l    words below n
-//   a, b       numbers
+//   a, b, z    numbers
 ghost use mathlib.Core.Path.{_≡_};
 ghost use Prim.Native.Nat.{_+_, _-_, _*_, _%_, _<_, _≤_};
 ghost use Rattle.modulus.specs.Values.{Known, ModulusOf, value};
@@ -175,6 +175,23 @@ pub fn multiply(m: Modulus, a: u32, b: u32) -> u32
             v: m.v,
             c: m.c as u64,
         },
+        a,
+        b,
+    )
+}
+
+// z + a b.
+pub fn multiply_add(m: Modulus, z: u32, a: u32, b: u32) -> u32
+    requires { ⌜ Known m ⌝ }
+    ensures { λ r. ⌜ r ≡ (z + a * b) % m .n ⌝ }
+{
+    reduction::add_product(
+        Reciprocal {
+            n: m.n,
+            v: m.v,
+            c: m.c as u64,
+        },
+        z,
         a,
         b,
     )

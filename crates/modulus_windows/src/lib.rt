@@ -1,16 +1,19 @@
 // The word loops of Euclid's steps over the record of a modulus: one test of the form at the top, and a loop for each form behind it. The
-// contracts are about what the words stand for, and say that the words stay residues.
+// contracts but the last two are about what the words stand for, and say that the words stay residues.
 //
 //   combine_pair    the words at dst, times l, less c and e times the words at src
 //   combine         the same with e alone
 //   scale           words times c
 //   load            the words of a lent polynomial, entered
 //
+//   add_pair, add_scaled    multiples of the words at src added to the words at dst, words and multipliers as they are: where words can be
+//                           held, the multipliers are entered and the words are not
+//
 //   m          the modulus
 //   l, c, e    words below n
 ghost use Prim.Native.Nat.{_+_, _-_, _<_, _≤_};
 ghost use lib.ListN.{length};
-ghost use Rattle.windows.specs.Window.{Clear, Apart, Below};
+ghost use Rattle.windows.specs.Window.{Clear, Apart, Below, PairAsked, Paired, Moved, addMul};
 ghost use Rattle.window_combining.specs.Combined.{combination};
 ghost use Rattle.modulus.specs.Values.{Known, value, values};
 ghost use Rattle.modulus_windows.specs.Standing.{Wrote, Scaled, Entered};
@@ -162,4 +165,90 @@ pub fn load(w: &mut [u32], at: usize, f: &[u32], m: Modulus)
         return;
     }
     windows::load(w, at, f, n);
+}
+
+// w[dst + j] += c * w[src + j - 1] + e * w[src + j], for j < len; the word before the first counts as 0.
+pub fn add_pair(w: &mut [u32], m: Modulus, c: u32, e: u32, src: usize, dst: usize, len: usize)
+    requires { ⌜ Known m ⌝ }
+    requires { ⌜ (PairAsked (m .n) e src dst len (now w)) × (Below (m .n) src len (now w)) ⌝ }
+    ensures { λ _. ⌜ Paired (m .n) c e src dst len (now (w .entry)) (now (w .exit)) ⌝ }
+{
+    let n = m.n;
+    if m.held != 0 {
+        let one = modulus::enter(m, 1);
+        let x = modulus::enter(m, c);
+        let y = modulus::enter(m, e);
+        held_windows::combine_pair(
+            w,
+            Form {
+                n,
+                k: m.negative,
+                m: m.inverse,
+                r2: m.c,
+            },
+            one,
+            x,
+            y,
+            src,
+            dst,
+            len,
+        );
+        return;
+    }
+    if reduction::power_of_two(n) {
+        windows::add_pair_masked(w, n, c, e, src, dst, len);
+        return;
+    }
+    windows::add_pair_by(
+        w,
+        n,
+        Reciprocal {
+            n,
+            v: m.v,
+            c: m.c as u64,
+        },
+        c,
+        e,
+        src,
+        dst,
+        len,
+    );
+}
+
+// w[dst + j] += c * w[src + j], for j < len.
+pub fn add_scaled(w: &mut [u32], m: Modulus, c: u32, src: usize, dst: usize, len: usize)
+    requires { ⌜ Known m ⌝ }
+    requires { ⌜ (PairAsked (m .n) c src dst len (now w)) × (Below (m .n) src len (now w)) ⌝ }
+    ensures { λ _. ⌜ Moved (addMul (m .n) c) src dst len (now (w .entry)) (now (w .exit)) ⌝ }
+{
+    let n = m.n;
+    if m.held != 0 {
+        let one = modulus::enter(m, 1);
+        let x = modulus::enter(m, c);
+        let form = Form {
+            n,
+            k: m.negative,
+            m: m.inverse,
+            r2: m.c,
+        };
+        held_windows::combine_pair(w, form, one, 0, x, src, dst, len);
+        return;
+    }
+    if reduction::power_of_two(n) {
+        windows::add_scaled_masked(w, n, c, src, dst, len);
+        return;
+    }
+    windows::add_scaled_by(
+        w,
+        n,
+        Reciprocal {
+            n,
+            v: m.v,
+            c: m.c as u64,
+        },
+        c,
+        src,
+        dst,
+        len,
+    );
 }

@@ -4,6 +4,7 @@
 --   raise-…, raising          what it asks over a turn before it: two windows of d words
 --   exchanged, raised         the step backwards that it makes
 --   ended                     the end of the steps
+--   exchanging, raising, backs    the rules
 --
 -- Letters: h is the length of a window; x is a step, with the degrees d and e before it; r are the multipliers after it, k the factor of
 -- gamma, beta at u, gamma at v.
@@ -16,6 +17,7 @@ use native.Mathlib.Omega.{arith}
 use native.Mathlib.Nat.{mod-mod, mod-self, zero-mod, mod-eq-of-lt, zero-add}
 use lib.ListN.{length, getD, set, length-set}
 use lib.Seq.{getD-set-same, getD-set-other}
+use borrow.Author.Needs.{needs}
 use Rattle.definitions.specs.Polynomials.{coef, constant}
 use Rattle.numbers.specs.Congruence.{Cong, c-refl, c-sym, c-trans, c-eq, c-mul, c-neg, c-cancel}
 use Rattle.windows.specs.Window.{piece, Moved, zeroed, Written, Around, Apart, Below}
@@ -24,10 +26,10 @@ use Rattle.windows.proofs.Lift.{around-wide}
 use Rattle.window_division.proofs.Turns.{spot}
 use Rattle.window_combining.specs.Combined.{combination}
 use Rattle.modulus.specs.declared.Modulus.{Modulus}
-use Rattle.modulus.specs.Values.{Known, value, values, Enters, Multiplies}
-use Rattle.modulus.proofs.Valuing.{value-none, value-below}
+use Rattle.modulus.specs.Values.{value, values, Enters, Multiplies}
 use Rattle.modulus_windows.specs.Standing.{Wrote}
-use Rattle.modulus_windows.proofs.Forms.{values-length, values-at}
+use Rattle.modulus_windows.proofs.Forms.{values-length}
+use Rattle.euclid_steps.specs.Plain.{Sound, known-sound, plain-sound, values-at}
 use Rattle.euclid_steps.specs.Steps.{Mixture, Added, Falls, Lifts, two}
 use Rattle.euclid_steps.specs.Stages.{polynomial}
 use Rattle.euclid_steps.specs.Backs.{Held, Ended, LiftAsked, Lifted}
@@ -40,32 +42,30 @@ words-of e = ap (λ (z : List ℕ). coef z) e
 
 -- ---- what the word loop asks
 
+-- with the places and the degrees as equations
 module _ {m : Modulus} {h : ℕ} {x : Logged} {r : Found} {w : List ℕ} (k : LiftAsked m h x r w) where
-  abbrev hd : Held m h (r .d) (r .e) (r .u) (r .v) w
-  hd = k .held
+  pub exchange-apart : {u v e : ℕ} → r .u ≡ u → r .v ≡ v → x .e ≡ e → Apart u e v e
+  exchange-apart hu hv he = rw (← hu, ← hv, ← he) (record { ok = λ i j p q g. k .held .apart .ok i j (omega arith) (omega arith) g })
 
-  pub exchange-apart : Apart (r .u) (x .e) (r .v) (x .e)
-  exchange-apart = record { ok = λ i j p q g. hd .apart .ok i j (omega arith) (omega arith) g }
+  pub exchange-first : {n u e : ℕ} → m .n ≡ n → r .u ≡ u → x .e ≡ e → Below n u e w
+  exchange-first hn hu he = rw (← hn, ← hu, ← he) (record { at = λ i p. k .held .below-u .at i (omega arith) })
 
-  pub exchange-first : Below (m .n) (r .u) (x .e) w
-  exchange-first = record { at = λ i p. hd .below-u .at i (omega arith) }
+  pub exchange-second : {n v e : ℕ} → m .n ≡ n → r .v ≡ v → x .e ≡ e → Below n v e w
+  exchange-second hn hv he = rw (← hn, ← hv, ← he) (record { at = λ i p. k .held .below-v .at i (omega arith) })
 
-  pub exchange-second : Below (m .n) (r .v) (x .e) w
-  exchange-second = record { at = λ i p. hd .below-v .at i (omega arith) }
+  pub raise-apart : {u v d e : ℕ} → r .u ≡ u → r .v ≡ v → x .d ≡ d → x .e ≡ e → Apart v d (u + (e - d)) d
+  raise-apart hu hv hd he = rw (← hu, ← hv, ← hd, ← he) (record {
+    ok = λ i j p q g. k .held .apart .ok (x .e - x .d + j) i (omega arith) (omega arith) (omega arith);
+  })
 
-  pub raise-apart : Apart (r .v) (x .d) (r .u + (x .e - x .d)) (x .d)
-  raise-apart = record {
-    ok = λ i j p q g. hd .apart .ok (x .e - x .d + j) i (omega arith) (omega arith) (omega arith);
-  }
+  pub raise-first : {n v d : ℕ} → m .n ≡ n → r .v ≡ v → x .d ≡ d → Below n v d w
+  raise-first hn hv hd = rw (← hn, ← hv, ← hd) (record { at = λ i p. k .held .below-v .at i (omega arith) })
 
-  pub raise-first : Below (m .n) (r .v) (x .d) w
-  raise-first = record { at = λ i p. hd .below-v .at i (omega arith) }
-
-  pub raise-second : Below (m .n) (r .u + (x .e - x .d)) (x .d) w
-  raise-second = record {
+  pub raise-second : {n u d e : ℕ} → m .n ≡ n → r .u ≡ u → x .d ≡ d → x .e ≡ e → Below n (u + (e - d)) d w
+  raise-second hn hu hd he = rw (← hn, ← hu, ← hd, ← he) (record {
     at = λ i p. let j : r .u + (x .e - x .d) + i ≡ r .u + (x .e - x .d + i) = omega arith in
-        subst (λ (y : ℕ). getD w y 0 < m .n) (sym j) (hd .below-u .at (x .e - x .d + i) (omega arith));
-  }
+        subst (λ (y : ℕ). getD w y 0 < m .n) (sym j) (k .held .below-u .at (x .e - x .d + i) (omega arith));
+  })
 
 -- ---- what a step backwards makes
 
@@ -74,8 +74,8 @@ whole : (n : ℕ) → Cong n n 0
 whole n = record { same = mod-self n ∙ sym (zero-mod n) }
 
 -- n less what 0 stands for
-whole-less : (m : Modulus) → Known m → (c : ℕ) → c ≡ 0 → Cong (m .n) (m .n - value m c) 0
-whole-less m known c e = c-trans (c-eq (less (m .n) (value m c) (ap (value m) e ∙ value-none m known))) (whole (m .n))
+whole-less : (m : Modulus) → Sound m → (c : ℕ) → c ≡ 0 → Cong (m .n) (m .n - value m c) 0
+whole-less m sound c e = c-trans (c-eq (less (m .n) (value m c) (ap (value m) e ∙ sound .none))) (whole (m .n))
   where
     less : (n z : ℕ) → z ≡ 0 → n - z ≡ n
     less n z g = omega arith
@@ -99,7 +99,7 @@ less-times n a b c pos la e = c-cancel (a * b) pos (c-trans left (c-sym (c-trans
     sums : (a' : ℕ) → a' + a ≡ n → b * a' + a * b ≡ b * n
     sums a' g = omega (arith, ap (λ (z : ℕ). b * z) g)
 
-module _ {m : Modulus} {h : ℕ} {x : Logged} {r : Found} {w : List ℕ} (known : Known m) (k : LiftAsked m h x r w) where
+module _ {m : Modulus} {h : ℕ} {x : Logged} {r : Found} {w : List ℕ} (sound : Sound m) (k : LiftAsked m h x r w) where
   size : length (values m w) ≡ length w
   size = values-length m w
 
@@ -137,7 +137,7 @@ module _ {m : Modulus} {h : ℕ} {x : Logged} {r : Found} {w : List ℕ} (known 
       falls = subst (λ (b : Bool). Falls (x .d) (x .e) (r .d) (r .e) (x .c) b) t (k .falls)
 
       near : (x .e ≡ x .d + 1) ⊎ ((x .e ≡ x .d) × (Cong (m .n) (m .n - value m (x .c)) 0))
-      near = ⊎-elim (λ z. inl z) (λ z. inr (z .0, whole-less m known (x .c) (z .1))) (falls .0)
+      near = ⊎-elim (λ z. inl z) (λ z. inr (z .0, whole-less m sound (x .c) (z .1))) (falls .0)
 
       β-nil : (j : ℕ) → x .d ≤ j → polynomial m w (r .u) h j ≡ 0
       β-nil j l = k .held .first-ends (omega (arith, k .one, falls .1 .1)) j (omega (arith, falls .1 .1))
@@ -236,8 +236,8 @@ module _ {m : Modulus} {h : ℕ} {x : Logged} {r : Found} {w : List ℕ} (known 
           (r .u + (x .e - x .d)) (x .d) (values m w) (values m w')) unit (wr .stands)
 
       factor : Cong (m .n) (m .n - value m q) (value m (r .k) * (m .n - value m (x .k)))
-      factor = less-times (m .n) (value m (x .k)) (value m (r .k)) (value m q) (known .pos)
-          (omega (arith, value-below m known (k .q-below))) (hq .1)
+      factor = less-times (m .n) (value m (x .k)) (value m (r .k)) (value m q) (sound .pos)
+          (omega (arith, sound .residue (k .q-below))) (hq .1)
 
       kept : piece (values m w') (r .v) h ≡ piece (values m w) (r .v) h
       kept = second-kept (m .n) h (x .d) (x .e) (m .n - value m q) (value m (r .k)) (m .n - value m (x .k)) (r .u) (r .v) (values m w)
@@ -258,7 +258,7 @@ constant-out : (c j : ℕ) → 1 ≤ j → constant c j ≡ 0
 constant-out c zero l = absurd (omega arith)
 constant-out c (suc j) l = refl
 
-module _ {m : Modulus} {h e one : ℕ} {w w₁ : List ℕ} (known : Known m) (pos : 2 ≤ m .n) (high : e < h) (room : h + h ≤ length w)
+module _ {m : Modulus} {h e one : ℕ} {w w₁ : List ℕ} (sound : Sound m) (pos : 2 ≤ m .n) (high : e < h) (room : h + h ≤ length w)
     (mv : Moved zeroed 0 0 (h + h) w w₁) (en : Enters m 1 one) where
   abbrev w' : List ℕ
   w' = set w₁ 0 one
@@ -273,10 +273,10 @@ module _ {m : Modulus} {h e one : ℕ} {w w₁ : List ℕ} (known : Known m) (po
   zero-at j p q = getD-set-other w₁ 0 j one 0 (λ g. omega arith) ∙ ap (λ (i : ℕ). getD w₁ i 0) (sym (zero-add j)) ∙ mv .mid j q
 
   nil-at : (j : ℕ) → 1 ≤ j → j < h + h → getD (values m w') j 0 ≡ 0
-  nil-at j p q = values-at m known w' j ∙ ap (value m) (zero-at j p q) ∙ value-none m known
+  nil-at j p q = values-at m sound w' j ∙ ap (value m) (zero-at j p q) ∙ sound .none
 
   β : (j : ℕ) → polynomial m w' 0 h j ≡ constant 1 j
-  β zero = piece-at (values m w') 0 h 0 (omega arith) ∙ values-at m known w' 0 ∙ ap (value m) first-one ∙ en .1 ∙ mod-eq-of-lt (omega arith)
+  β zero = piece-at (values m w') 0 h 0 (omega arith) ∙ values-at m sound w' 0 ∙ ap (value m) first-one ∙ en .1 ∙ mod-eq-of-lt (omega arith)
   β (suc j) = ⊎-elim (λ l. piece-at (values m w') 0 h (suc j) l ∙ nil-at (0 + suc j) (omega arith) (omega arith))
       (λ l. piece-over (values m w') 0 h (suc j) l) (lt-or-le (suc j) h)
 
@@ -314,3 +314,5 @@ module _ {m : Modulus} {h e one : ℕ} {w w₁ : List ℕ} (known : Known m) (po
 pub ruleset exchanging = (arith, exchange-apart, exchange-first, exchange-second)
 
 pub ruleset raising = (arith, raise-apart, raise-first, raise-second)
+
+pub ruleset backs = (needs, known-sound, plain-sound, ended, exchanged, raised)

@@ -17,8 +17,8 @@ use Rattle.convolution.specs.Sums.{zeros-at}
 use Rattle.windows.specs.Window.{piece, Below}
 use Rattle.windows.proofs.Leaf.{lt-or-le, piece-at, piece-over}
 use Rattle.modulus.specs.declared.Modulus.{Modulus}
-use Rattle.modulus.specs.Values.{Known, value, values}
-use Rattle.modulus_windows.proofs.Forms.{values-at}
+use Rattle.modulus.specs.Values.{value, values}
+use Rattle.euclid_steps.specs.Plain.{Sound, known-sound, plain-sound, values-at}
 use Rattle.euclid_steps.specs.declared.Ending.{Ending}
 use Rattle.multiplier_words.specs.Words.{Put, HandAsked, Handed}
 
@@ -53,11 +53,11 @@ putting-next {n} {c} {at} {len} {j} {j'} {w} {u₀} {u} {u'} {x} p l e eu ej = r
 })
 
 -- what a word stands for, times c
-pub putting-times : {m : Modulus} {c at len j j' : ℕ} (w : List ℕ) {u₀ u u' : List ℕ} {x : ℕ} → Known m
-    → Putting (m .n) c at len (values m w) u₀ u j → j < len → x ≡ (value m (getD w (at + j) 0) * c) % m .n → u' ≡ set u j x → j' ≡ j + 1
-    → Putting (m .n) c at len (values m w) u₀ u' j'
-putting-times {m} {c} {at} {len} {j} {j'} w k p l e eu ej = putting-next p l
-    (e ∙ ap (λ (y : ℕ). y % m .n) (mul-comm (value m (getD w (at + j) 0)) c ∙ ap (λ (y : ℕ). c * y) (sym (values-at m k w (at + j))))) eu ej
+pub putting-times : {m : Modulus} {n c at len j j' : ℕ} (w : List ℕ) {u₀ u u' : List ℕ} {x : ℕ} → Sound m
+    → Putting n c at len (values m w) u₀ u j → j < len → x ≡ (value m (getD w (at + j) 0) * c) % n → u' ≡ set u j x → j' ≡ j + 1
+    → Putting n c at len (values m w) u₀ u' j'
+putting-times {m} {n} {c} {at} {len} {j} {j'} w k p l e eu ej = putting-next p l
+    (e ∙ ap (λ (y : ℕ). y % n) (mul-comm (value m (getD w (at + j) 0)) c ∙ ap (λ (y : ℕ). c * y) (sym (values-at m k w (at + j))))) eu ej
 
 pub putting-room : {n c at len j : ℕ} {w u₀ u : List ℕ} → Putting n c at len w u₀ u j → j < len → j < length u
 putting-room p l = omega (arith, p .room, p .same)
@@ -92,4 +92,16 @@ pub handed-out : {m : Modulus} {r : Ending} {y z a b : ℕ} {w u v u' v' : List 
     → Put (m .n) z (r .u) a (values m w) u u' → Put (m .n) y (r .v) b (values m w) v v' → Handed m r z a b w u v u' v'
 handed-out {m} {r} {y} {z} e p q = record { first = p; second = put-times z (value m (r .k)) (e .1) q }
 
-pub ruleset puts = (needs, putting-none, putting-next, putting-times, putting-room, putting-length, putting-end, word-fits, handed-out)
+pub ruleset puts = (
+  needs,
+  known-sound,
+  plain-sound,
+  putting-none,
+  putting-next,
+  putting-times,
+  putting-room,
+  putting-length,
+  putting-end,
+  word-fits,
+  handed-out,
+)

@@ -2,6 +2,7 @@
 --
 --   words-placed, room-placed    what the two attempts at them ask
 --   entered-tried                the attempt without inverses answers for what the words stand for, the sent polynomials
+--   tried-found                  the same where the modulus of the record is n
 --   entered-answer               the general attempt answers for the words; with a power of what 1 stands for, for the sent polynomials
 use mathlib.Core.Path.{_≡_, refl, sym, ap, ap₂, subst, _∙_}
 use mathlib.Core.List.{List}
@@ -62,63 +63,78 @@ module _ (m : Modulus) (known : Known m) where
   values-degree : (w : List ℕ) (a l : ℕ) → a + l ≤ length w → deg (piece (values m w) a l) ≡ deg (piece w a l)
   values-degree w a l h = ap pred (piece-length (values m w) a l (omega (arith, values-length m w)) ∙ sym (piece-length w a l h))
 
-  module _ (f g w w₁ w₂ : List ℕ) (two : 2 ≤ m .n) (s : RunSizes f g w) (near : length f ≤ length g)
-      (lf : Entered m 0 f w w₁) (lg : Entered m (length f) g w₁ w₂) where
-    sizes : RunSizes f g (values m w)
-    sizes = record {
-      least-f = s .least-f;
-      most-f = s .most-f;
-      least-g = s .least-g;
-      most-g = s .most-g;
-      working = omega (arith, s .working, values-length m w);
-    }
+module _ (m : Modulus) (f g w w₁ w₂ : List ℕ) (two : 2 ≤ m .n) (s : RunSizes f g w) (near : length f ≤ length g)
+    (lf : Entered m 0 f w w₁) (lg : Entered m (length f) g w₁ w₂) where
+  sizes : RunSizes f g (values m w)
+  sizes = record {
+    least-f = s .least-f;
+    most-f = s .most-f;
+    least-g = s .least-g;
+    most-g = s .most-g;
+    working = omega (arith, s .working, values-length m w);
+  }
 
-    pub words-placed : PairPlaced (m .n) 0 (length f - 1) (length f) (length g - 1) w₂
-    words-placed =
-        placed-words m f g w w₁ w₂ (s .least-f) (s .least-g) lf lg
-        (pair-asked (m .n) f g (values m w) (values m w₁) (values m w₂) two sizes near (lf .stands) (lg .stands))
+  pub words-placed : PairPlaced (m .n) 0 (length f - 1) (length f) (length g - 1) w₂
+  words-placed =
+      placed-words m f g w w₁ w₂ (s .least-f) (s .least-g) lf lg
+      (pair-asked (m .n) f g (values m w) (values m w₁) (values m w₂) two sizes near (lf .stands) (lg .stands))
 
-    pub room-placed : Placed (m .n) 0 (length f - 1) (length f) (length g - 1) (length f + length g) w₂
-    room-placed =
-        let p = placed-asked (m .n) f g (values m w) (values m w₁) (values m w₂) two sizes near (lf .stands) (lg .stands) in
-        record {
-          two = two;
-          near = p .near;
-          first = p .first;
-          second = p .second;
-          fits = omega
-              (arith, p .fits, values-length m w₂);
-          pair = words-placed .pair;
-        }
+  pub room-placed : Placed (m .n) 0 (length f - 1) (length f) (length g - 1) (length f + length g) w₂
+  room-placed =
+      let p = placed-asked (m .n) f g (values m w) (values m w₁) (values m w₂) two sizes near (lf .stands) (lg .stands) in
+      record {
+        two = two;
+        near = p .near;
+        first = p .first;
+        second = p .second;
+        fits = omega
+            (arith, p .fits, values-length m w₂);
+        pair = words-placed .pair;
+      }
 
-    pub entered-tried : (r : Tried) → TriedAnswer (m .n)
-        (resultant (m .n) (piece (values m w₂) 0 (length f - 1 + 1)) (piece (values m w₂) (length f) (length g - 1 + 1))) r
-        → TriedAnswer (m .n) (resultant (m .n) f g) r
-    entered-tried = loaded-tried (m .n) f g (values m w) (values m w₁) (values m w₂) two sizes near (lf .stands) (lg .stands)
+  pub entered-tried : (r : Tried) → TriedAnswer (m .n)
+      (resultant (m .n) (piece (values m w₂) 0 (length f - 1 + 1)) (piece (values m w₂) (length f) (length g - 1 + 1))) r
+      → TriedAnswer (m .n) (resultant (m .n) f g) r
+  entered-tried = loaded-tried (m .n) f g (values m w) (values m w₁) (values m w₂) two sizes near (lf .stands) (lg .stands)
 
-    power-is : (c x : ℕ) → x ≡ value m 1 → c ≡ (x ^ (length f - 1 + (length g - 1))) % m .n
-        → (c * resultant (m .n) (piece w₂ 0 (length f - 1 + 1)) (piece w₂ (length f) (length g - 1 + 1))) % m .n
-        ≡ resultant (m .n) (piece (values m w₂) 0 (length f - 1 + 1)) (piece (values m w₂) (length f) (length g - 1 + 1))
-    power-is c x hx hc =
-        let F : List ℕ = piece w₂ 0 (length f - 1 + 1) in
-        let G : List ℕ = piece w₂ (length f) (length g - 1 + 1) in
-        let hf : 0 + (length f - 1 + 1) ≤ length w₂ = omega (arith, words-placed .first) in
-        let hg : length f + (length g - 1 + 1) ≤ length w₂ = omega (arith, words-placed .second) in
-        c-mul (c-trans (c-eq hc) (c-trans (c-mod (x ^ (length f - 1 + (length g - 1))))
-        (c-eq (ap₂ (λ (y z : ℕ). y ^ z) hx (ap₂ (λ (y z : ℕ). y + z)
-        (sym (deg-of F (length f - 1) (piece-length w₂ 0 (length f - 1 + 1) hf)))
-        (sym (deg-of G (length g - 1) (piece-length w₂ (length f) (length g - 1 + 1) hg)))))))) (c-refl {a = resultant (m .n) F G}) .same
-        ∙ sym (scaled-both (m .n) (value m 1) (omega arith) F (piece (values m w₂) 0 (length f - 1 + 1)) G
-        (piece (values m w₂) (length f) (length g - 1 + 1))
-        (values-degree w₂ 0 (length f - 1 + 1) hf) (values-degree w₂ (length f) (length g - 1 + 1) hg)
-        (values-times w₂ 0 (length f - 1 + 1)) (values-times w₂ (length f) (length g - 1 + 1)))
+  power-is : Known m → (c x : ℕ) → x ≡ value m 1 → c ≡ (x ^ (length f - 1 + (length g - 1))) % m .n
+      → (c * resultant (m .n) (piece w₂ 0 (length f - 1 + 1)) (piece w₂ (length f) (length g - 1 + 1))) % m .n
+      ≡ resultant (m .n) (piece (values m w₂) 0 (length f - 1 + 1)) (piece (values m w₂) (length f) (length g - 1 + 1))
+  power-is known c x hx hc =
+      let F : List ℕ = piece w₂ 0 (length f - 1 + 1) in
+      let G : List ℕ = piece w₂ (length f) (length g - 1 + 1) in
+      let hf : 0 + (length f - 1 + 1) ≤ length w₂ = omega (arith, words-placed .first) in
+      let hg : length f + (length g - 1 + 1) ≤ length w₂ = omega (arith, words-placed .second) in
+      c-mul (c-trans (c-eq hc) (c-trans (c-mod (x ^ (length f - 1 + (length g - 1))))
+      (c-eq (ap₂ (λ (y z : ℕ). y ^ z) hx (ap₂ (λ (y z : ℕ). y + z)
+      (sym (deg-of F (length f - 1) (piece-length w₂ 0 (length f - 1 + 1) hf)))
+      (sym (deg-of G (length g - 1) (piece-length w₂ (length f) (length g - 1 + 1) hg)))))))) (c-refl {a = resultant (m .n) F G}) .same
+      ∙ sym (scaled-both (m .n) (value m 1) (omega arith) F (piece (values m w₂) 0 (length f - 1 + 1)) G
+      (piece (values m w₂) (length f) (length g - 1 + 1))
+      (values-degree m known w₂ 0 (length f - 1 + 1) hf) (values-degree m known w₂ (length f) (length g - 1 + 1) hg)
+      (values-times m known w₂ 0 (length f - 1 + 1)) (values-times m known w₂ (length f) (length g - 1 + 1)))
 
-    pub entered-answer : (c x : ℕ) (r a : Attempt) → x ≡ value m 1 → c ≡ (x ^ (length f - 1 + (length g - 1))) % m .n
-        → ValueOrSplit (m .n) (resultant (m .n) (piece w₂ 0 (length f - 1 + 1)) (piece w₂ (length f) (length g - 1 + 1))) r
-        → Follows (m .n) (λ (y : ℕ). (c * y) % m .n) r a → ValueOrSplit (m .n) (resultant (m .n) f g) a
-    entered-answer c x r a hx hc v follows =
-        loaded-answer (m .n) f g (values m w) (values m w₁) (values m w₂) two sizes near (lf .stands) (lg .stands) a
-        (subst (λ (y : ℕ). ValueOrSplit (m .n) y a) (power-is c x hx hc) (follows .at _ v))
+  pub entered-answer : Known m → (c x : ℕ) (r a : Attempt) → x ≡ value m 1 → c ≡ (x ^ (length f - 1 + (length g - 1))) % m .n
+      → ValueOrSplit (m .n) (resultant (m .n) (piece w₂ 0 (length f - 1 + 1)) (piece w₂ (length f) (length g - 1 + 1))) r
+      → Follows (m .n) (λ (y : ℕ). (c * y) % m .n) r a → ValueOrSplit (m .n) (resultant (m .n) f g) a
+  entered-answer known c x r a hx hc v follows =
+      loaded-answer (m .n) f g (values m w) (values m w₁) (values m w₂) two sizes near (lf .stands) (lg .stands) a
+      (subst (λ (y : ℕ). ValueOrSplit (m .n) y a) (power-is known c x hx hc) (follows .at _ v))
+
+-- the same where the modulus of the record is n
+pub placed-found : {n : ℕ} {m : Modulus} {f g w w₁ w₂ : List ℕ} → Entered m 0 f w w₁ → Entered m (length f) g w₁ w₂ → m .n ≡ n
+    → 2 ≤ n → RunSizes f g w → length f ≤ length g → PairPlaced n 0 (length f - 1) (length f) (length g - 1) w₂
+placed-found {n} {m} {f} {g} {w} {w₁} {w₂} lf lg is two s near =
+    subst (λ (z : ℕ). PairPlaced z 0 (length f - 1) (length f) (length g - 1) w₂) is
+    (words-placed m f g w w₁ w₂ (omega arith) s near lf lg)
+
+pub tried-found : {n : ℕ} {m : Modulus} {f g w w₁ w₂ : List ℕ} (r : Tried) → Entered m 0 f w w₁ → Entered m (length f) g w₁ w₂ → m .n ≡ n
+    → 2 ≤ n → RunSizes f g w → length f ≤ length g
+    → TriedAnswer (m .n)
+    (resultant (m .n) (piece (values m w₂) 0 (length f - 1 + 1)) (piece (values m w₂) (length f) (length g - 1 + 1))) r
+    → TriedAnswer n (resultant n f g) r
+tried-found {n} {m} {f} {g} {w} {w₁} {w₂} r lf lg is two s near t =
+    subst (λ (z : ℕ). TriedAnswer z (resultant z f g) r) is (entered-tried m f g w w₁ w₂ (omega arith) s near lf lg r t)
 
 -- the modulus of the record is the one that was asked for
 pub found-answer : {n : ℕ} {m : Modulus} (f g : List ℕ) (r : Attempt) → ModulusOf n m → ValueOrSplit (m .n) (resultant (m .n) f g) r

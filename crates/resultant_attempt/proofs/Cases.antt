@@ -1,33 +1,24 @@
 -- The answers of the two enums of this width, taken apart by the arm that the code is in.
 --
---   unit-at, degree-at, splits-at, nilpotents-at    of the highest coefficient that is not nilpotent
---   value-at, split-at                   of an attempt
---   attempts                             the rules
+--   degree-at             of the highest coefficient that is not nilpotent
+--   value-at, split-at    of an attempt
+--   attempts, products    the rules
 use mathlib.Core.Path.{_≡_, subst}
 use mathlib.Core.List.{List}
 use Prim.Native.Nat.{ℕ, _<_}
 use Rattle.residue.specs.declared.Attempt.{Attempt}
 use Rattle.residue.specs.declared.Attempt.the-variants.{Value, Splits}
 use Rattle.window_factor.specs.declared.Highest.{Highest}
-use Rattle.window_factor.specs.declared.Highest.the-variants.{UnitAt as UnitAt', Splits as SplitsAt, AllNilpotent}
-use Rattle.window_factor.specs.Factors.{HighestOf, LeadingUnit, AllNilpotents}
+use Rattle.window_factor.specs.declared.Highest.the-variants.{UnitAt as UnitAt'}
+use Rattle.window_factor.specs.Factors.{HighestOf}
+use Rattle.window_factor.proofs.Cases.{unit-at, highest}
 use Rattle.resultant_steps.specs.AttemptAnswers.{ValueOrSplit}
-use Rattle.resultant_attempt.proofs.Rules.{attempt, first-of, lead-below-degree}
+use Rattle.resultant_attempt.proofs.Rules.{attempt, factors-answer, lead-below-degree}
+use Rattle.resultant_steps.proofs.Contents.{first-of}
 use Rattle.resultant_attempt.specs.Stages.{Stacked}
 
-module _ (n : ℕ) (f : List ℕ) (h : Highest) (p : HighestOf n f h) where
-  pub unit-at : (t i : ℕ) → h ≡ UnitAt' t i → LeadingUnit n t i f
-  unit-at t i e = subst (HighestOf n f) e p
-
-  pub splits-at : (x a b : ℕ) → h ≡ SplitsAt a b → ValueOrSplit n x (Splits a b)
-  splits-at x a b e = subst (HighestOf n f) e p
-
-  pub nilpotents-at : h ≡ AllNilpotent → AllNilpotents n f
-  nilpotents-at e = subst (HighestOf n f) e p
-
 pub degree-at : {n d e t i : ℕ} {w : List ℕ} (h : Highest) → Stacked n d e w → HighestOf n (first-of d e w) h → h ≡ UnitAt' t i
-    → (t ≡ d → ⊥)
-    → t < d
+    → (t ≡ d → ⊥) → t < d
 degree-at {n} {d} {e} {t} {i} h st p q ne = lead-below-degree st (unit-at n _ h p t i q) ne
 
 module _ (n x : ℕ) (r : Attempt) (p : ValueOrSplit n x r) where
@@ -37,4 +28,6 @@ module _ (n x : ℕ) (r : Attempt) (p : ValueOrSplit n x r) where
   pub split-at : (z a b : ℕ) → r ≡ Splits a b → ValueOrSplit n z (Splits a b)
   split-at z a b e = subst (ValueOrSplit n x) e p
 
-pub ruleset attempts = (attempt, unit-at, degree-at, splits-at, nilpotents-at, value-at, split-at)
+pub ruleset attempts = (attempt, highest, degree-at, value-at, split-at)
+
+pub ruleset products = (factors-answer)

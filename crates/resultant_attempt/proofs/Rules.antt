@@ -25,7 +25,7 @@ use Rattle.window_factor.specs.Factors.{LeadingUnit, AllNilpotents, Given, Fact
 use Rattle.resultant_steps.specs.AttemptAnswers.{ValueOrSplit, Follows, IsAnswer, Partial, Lifted}
 use Rattle.resultant_steps.specs.Layouts.{Primitive, ContentCleared, Beside, words-at, words-back}
 use Rattle.resultant_steps.proofs.SideBySide.{onward}
-use Rattle.resultant_steps.proofs.Contents.{content-positive, content-whole, content-times}
+use Rattle.resultant_steps.proofs.Contents.{first-of, lent, content-positive, content-whole, content-times}
 use Rattle.resultant_steps.proofs.Turned.{followed, answer-follows}
 use Rattle.resultant_attempt.specs.Rooms.{place}
 use Rattle.resultant_attempt.specs.Stages.{Placed, Divisor, Stacked, Part}
@@ -35,7 +35,7 @@ use Rattle.resultant_attempt.proofs.Copies.{monic-constant, monic-asked
 use Rattle.resultant_attempt.proofs.Copies.{monic-kept, kept-none, placed-part, unit-inverse}
 use Rattle.resultant_attempt.proofs.Copies.{reversed-asked, reversed-sign, dropped-asked, dropped-sign}
 use Rattle.resultant_attempt.proofs.Leads.{stacked-fits, cleared-asked, cleared-divides, not-all-nilpotent}
-use Rattle.resultant_attempt.proofs.Leads.{lent, lead-asked, lead-below, given-in}
+use Rattle.resultant_attempt.proofs.Leads.{lead-asked, lead-below, given-in}
 use Rattle.resultant_attempt.proofs.Products.{monic-part, monic-lead, unit-part, unit-constant, product-times}
 
 -- ---- the measure
@@ -69,7 +69,7 @@ module _ {n d e : ℕ} {w : List ℕ} (st : Stacked n d e w) where
 
   module _ {c : ℕ} {w' : List ℕ} (cl : ContentCleared n d e c w w') where
     pub cleared-positive : 1 ≤ c
-    cleared-positive = content-positive (omega (arith, st .two)) (cl .content)
+    cleared-positive = content-positive (cl .content) (omega (arith, st .two))
 
     pub whole-answer : c ≡ n → ValueOrSplit n (resultant n (piece w (e + 1) (d + 1)) (piece w 0 (e + 1))) (Value 0)
     whole-answer = content-whole n c d e w w' (st .two) (st .one) (st .near) (stacked-fits n d e w st) (st .below) cl
@@ -164,11 +164,8 @@ module _ {n a k b e x : ℕ} {w w₁ : List ℕ} (pt : Part n a k b e x w)
 
 -- ---- the highest coefficient that is not nilpotent
 
-abbrev pub first-of : ℕ → ℕ → List ℕ → List ℕ
-first-of d e w = midOf (e + 1) (e + 1 + (d + 1) - (e + 1)) w
-
 pub lead-lent : (n d e t i : ℕ) (w : List ℕ) → LeadingUnit n t i (first-of d e w) → LeadingUnit n t i (piece w (e + 1) (d + 1))
-lead-lent n d e t i w = lent (LeadingUnit n t i) (e + 1) (d + 1) (e + 1 + (d + 1) - (e + 1)) w (omega arith)
+lead-lent n d e t i w = lent (LeadingUnit n t i) d e w
 
 module _ {n d e t i : ℕ} {w : List ℕ} (st : Stacked n d e w) (u : LeadingUnit n t i (first-of d e w)) where
   pub lead-step-asked : t ≡ d → Divisor n (e + 1) d 0 e (e + 1 + (d + 1)) i w
@@ -180,8 +177,7 @@ module _ {n d e t i : ℕ} {w : List ℕ} (st : Stacked n d e w) (u : LeadingUni
 pub nilpotent-answer : {n d e : ℕ} {w : List ℕ} (x : ℕ) (r : Attempt) → Stacked n d e w → Primitive n (piece w (e + 1) (d + 1))
     → AllNilpotents n (first-of d e w) → ValueOrSplit n x r
 nilpotent-answer {n} {d} {e} {w} x r st p h =
-    absurd (not-all-nilpotent n (piece w (e + 1) (d + 1)) (st .two) p (lent (AllNilpotents n) (e + 1) (d + 1) (e + 1 + (d + 1) - (e + 1))
-    w (omega arith) h))
+    absurd (not-all-nilpotent n (piece w (e + 1) (d + 1)) (st .two) p (lent (AllNilpotents n) d e w h))
 
 -- ---- the two factors
 
@@ -210,11 +206,15 @@ module _ {n d e t : ℕ} {w ys : List ℕ} (st : Stacked n d e w) (lt : t < d) (
     pub unit-constant-asked : IsUnit n (getD w₂ (e + 1 + (d + 1) + (t + 1) + t) 0)
     unit-constant-asked = unit-constant n d e t w ys st lt ly fc w₂ kp
 
-    pub factors-answer : {y : ℕ} {r u : Attempt}
-        → ValueOrSplit n (resultant n (piece joined (e + 1 + (d + 1)) (t + 1)) (piece joined 0 (e + 1))) (Value y)
+    -- at a place too deep to search for a record that holds the conclusion's own numbers: variables, with an equation for each
+    pub factors-answer : {y n' x' : ℕ} {q r u u' : Attempt}
+        → ValueOrSplit n (resultant n (piece joined (e + 1 + (d + 1)) (t + 1)) (piece joined 0 (e + 1))) q → q ≡ Value y
         → ValueOrSplit n (resultant n (piece w₂ (e + 1 + (d + 1) + (t + 1) + t) (d - t + 1)) (piece w₂ 0 (e + 1))) r
-        → Follows n (λ x. (y * x) % n) r u → ValueOrSplit n (resultant n (piece w (e + 1) (d + 1)) (piece w 0 (e + 1))) u
-    factors-answer {y} hy v f = followed f v (product-times n d e t w ys st lt ly fc w₂ kp y (hy .0))
+        → Follows n (λ x. (y * x) % n) r u → n' ≡ n → x' ≡ resultant n (piece w (e + 1) (d + 1)) (piece w 0 (e + 1)) → u' ≡ u
+        → ValueOrSplit n' x' u'
+    factors-answer {y} {n'} {x'} {q} {r} {u} {u'} hq ey v f en ex eu =
+        let hy = subst (ValueOrSplit n _) ey hq in
+        rw (en, ex, eu) (followed f v (product-times n d e t w ys st lt ly fc w₂ kp y (hy .0)))
 
 pub ruleset degrees = (same-degree, lower-degree, factor-degree, unit-degree, positive, difference-positive)
 
@@ -246,6 +246,6 @@ pub ruleset parts = (
 
 pub ruleset leads = (lead-lent, lead-step-asked, nilpotent-answer)
 
-pub ruleset factors = (given-room, given-lead, monic-part-asked, monic-lead-asked, unit-part-asked, unit-constant-asked, factors-answer)
+pub ruleset factors = (given-room, given-lead, monic-part-asked, monic-lead-asked, unit-part-asked, unit-constant-asked)
 
 pub ruleset attempt = (needs, degrees, contents, divisions, copies, parts, leads, factors)

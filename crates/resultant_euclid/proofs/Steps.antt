@@ -14,25 +14,31 @@ use mathlib.Core.Logic.{⊎-elim, inl, inr}
 use mathlib.Core.Bool.{Bool, true, false}
 use Prim.Native.Nat.{ℕ, _+_, _-_, _*_, _%_, _^_, _≤_, _<_}
 use native.Mathlib.Omega.{arith}
-use native.Mathlib.Nat.{mod-eq-of-lt}
+use native.Mathlib.Nat.{mod-eq-of-lt, mod-lt, zero-add}
 use lib.ListN.{length, getD}
+use borrow.Author.Needs.{needs}
+use Rattle.definitions.specs.Resultants.{resultant}
 use Rattle.numbers.specs.Congruence.{Cong, c-refl, c-eq, c-add, c-mul}
 use Rattle.theory.specs.ResultantLaws.{signed}
-use Rattle.windows.specs.Window.{Moved, mulBy, Written, Below, Around, Apart}
-use Rattle.windows.proofs.Leaf.{lt-or-le}
+use Rattle.windows.specs.Window.{piece, Moved, mulBy, Written, Below, Around, Apart, Scratch}
+use Rattle.windows.proofs.Leaf.{lt-or-le, apart-at}
+use Rattle.windows.proofs.Turns.{clear-own}
 use Rattle.window_combining.specs.Combined.{combination}
 use Rattle.modulus.specs.declared.Modulus.{Modulus}
-use Rattle.modulus.specs.Values.{Known, value, values}
-use Rattle.modulus.proofs.Valuing.{value-none}
+use Rattle.modulus.specs.Values.{value, values, Enters, Subtracts}
 use Rattle.modulus_windows.specs.Standing.{Wrote, Scaled}
-use Rattle.modulus_windows.proofs.Forms.{values-length, values-at, values-below}
+use Rattle.modulus_windows.proofs.Forms.{values-length}
 use Rattle.resultant_turns.specs.RunLaws.{Run}
+use Rattle.resultant_turns.specs.Signs.{signed-even, signed-odd}
 use Rattle.resultant_pseudo.specs.Standing.{Placed, Led, TriedAnswer, standing}
+use Rattle.resultant_pseudo.specs.declared.Tried.{Tried}
 use Rattle.resultant_pseudo.specs.declared.Tried.the-variants.{Value}
 use Rattle.resultant_pseudo.proofs.Stepping.{pair-stepped, last-stepped, turn-stepped, drop-stepped, next-placed}
-use Rattle.resultant_pseudo.proofs.Stepping.{turned-placed, asked as asked-below, led-self, led-trans, run-value}
-use Rattle.euclid_steps.specs.Stages.{Standing, Leads, Stepped, Told}
+use Rattle.resultant_pseudo.proofs.Stepping.{turned-placed, led-self, led-trans, run-value, answered, descended, first-inside}
+use Rattle.euclid_steps.specs.Plain.{Sound, values-at, values-below, known-sound, plain-sound}
+use Rattle.euclid_steps.specs.Stages.{Standing, Leads, Stepped, Finished, Told, meant}
 use Rattle.euclid_steps.specs.declared.Stage.{Stage}
+use Rattle.resultant_euclid.specs.Running.{Descends, Answering}
 use Rattle.resultant_euclid.proofs.Moving.{pair-moves, last-moves, turn-moves, drop-moves}
 
 -- ---- the stage after a step: the remainder and f; f and what a turn leaves of g; f without its leading word and g
@@ -67,7 +73,7 @@ written-cong l' c' e' src {dst} {len} v {w} {w'} hl hc he wr = record {
 nothing : (s t : ℕ) → s + t ≡ s + t + 0 * 0
 nothing s t = omega arith
 
-module _ (m : Modulus) (known : Known m) where
+module _ (m : Modulus) (sound : Sound m) where
   -- what the words stand for stands in the same places
   pub standing-values : (a d b e : ℕ) (w : List ℕ) → Placed (m .n) a d b e w → Placed (m .n) a d b e (values m w)
   standing-values a d b e w pl = record {
@@ -76,8 +82,8 @@ module _ (m : Modulus) (known : Known m) where
     first = omega (arith, pl .first, values-length m w);
     second = omega (arith, pl .second, values-length m w);
     pair = record {
-      first = values-below m known (pl .pair .first);
-      second = values-below m known (pl .pair .second);
+      first = values-below m sound (pl .pair .first);
+      second = values-below m sound (pl .pair .second);
       apart =
           pl .pair .apart;
     };
@@ -85,19 +91,19 @@ module _ (m : Modulus) (known : Known m) where
 
   module _ (x : Stage) (w w' : List ℕ) (st : Standing m x w) (one : 1 ≤ x .d) where
     at : (i : ℕ) → value m (getD w i 0) ≡ getD (values m w) i 0
-    at i = sym (values-at m known w i)
+    at i = sym (values-at m sound w i)
 
     less-at : (i : ℕ) → m .n - getD (values m w) i 0 ≡ m .n - value m (getD w i 0)
     less-at i = ap (λ (u : ℕ). m .n - u) (sym (at i))
 
     less-none : m .n ≡ m .n - value m 0
-    less-none = omega (arith, value-none m known)
+    less-none = omega (arith, sound .none)
 
     in-places : Placed (m .n) (x .a) (x .d) (x .b) (x .e) (values m w)
     in-places = standing-values (x .a) (x .d) (x .b) (x .e) w (st .placed)
 
     top-none : getD w (x .a + x .d) 0 ≡ 0 → getD (values m w) (x .a + x .d) 0 ≡ 0
-    top-none h = sym (at (x .a + x .d)) ∙ ap (value m) h ∙ value-none m known
+    top-none h = sym (at (x .a + x .d)) ∙ ap (value m) h ∙ sound .none
 
     -- the remainder and f
     next : (len : ℕ) → len ≤ x .e + 1 → (k s y c q : ℕ) (z : Bool) → k < m .n → s < m .n → Around (x .b) len w w'
@@ -171,7 +177,7 @@ module _ (m : Modulus) (known : Known m) where
       last-told k s = record {
         around = around-more (omega arith) (wr .around);
         y-below = st .placed .pair .first .at (x .d) (omega arith);
-        c-below = known .pos;
+        c-below = sound .pos;
         k-below = st .placed .pair .second .at (x .d) (omega arith);
         places = (refl, refl);
         falls = (inr (h, refl), (omega arith, refl));
@@ -184,8 +190,8 @@ module _ (m : Modulus) (known : Known m) where
     drop-told h two u hu t s = record {
       around = record { same = refl; low = λ k l. refl; high = λ k l. refl };
       y-below = hu .0;
-      c-below = known .pos;
-      k-below = known .pos;
+      c-below = sound .pos;
+      k-below = sound .pos;
       places = (refl, refl);
       falls = (omega (arith, st .placed .near), inr (omega arith, refl));
       moves = drop-moves (m .n) (x .a) (x .d) (x .b) (x .e) (values m w) one (top-none h) _ (m .n - value m 0) _
@@ -260,7 +266,7 @@ module _ (m : Modulus) (known : Known m) where
       turn-told k = record {
         around = turn-around;
         y-below = st .placed .pair .first .at (x .d) (omega arith);
-        c-below = known .pos;
+        c-below = sound .pos;
         k-below = st .placed .pair .second .at (x .e) (omega arith);
         places = (refl, refl);
         falls = (omega arith, inl (refl, omega arith));
@@ -292,19 +298,20 @@ module _ (m : Modulus) (known : Known m) where
   pub leads-self : {x : Stage} {w : List ℕ} → Standing m x w → Leads m x w x w
   leads-self {x} {w} st = record { standing = st; led = led-self (standing-values (x .a) (x .d) (x .b) (x .e) w (st .placed)) }
 
-  -- the value at the end of a run, from what the code found
-  pub value-is : (y : Stage) (w : List ℕ) (R₀ i g s l c z u v : ℕ) → Standing m y w → y .d ≡ 0
-      → Run (m .n) (value m (y .s)) (value m (y .p)) (value m (y .t)) (y .d) R₀ (standing (m .n) (y .a) (y .d) (y .b) (y .e) (values m w))
-      → R₀ < m .n
-      → s ≡ value m (y .s) → (i * s) % m .n ≡ g % m .n → g ≡ 1 → l ≡ value m (getD w (y .a) 0) → c ≡ (l ^ y .e) % m .n
-      → value m z ≡ (value m (y .p) * value m (y .t)) % m .n → u ≡ (value m z * c) % m .n → v ≡ (i * u) % m .n → TriedAnswer (m .n) R₀
-      (Value v)
-  value-is y w R₀ i g s l c z u v st h run small hs hi hg hl hc hz hu hv =
-      run-value (m .n) (m .n) (y .a) (y .d) (y .b) (y .e) (value m (y .s)) (value m (y .p)) (value m (y .t)) R₀ i g c (value m z) u v
-      (values m w) refl
-      (standing-values (y .a) (y .d) (y .b) (y .e) w (st .placed)) h run small
-      (subst (λ (q : ℕ). (i * q) % m .n ≡ g % m .n) hs hi) hg
-      (hc ∙ ap (λ (q : ℕ). (q ^ y .e) % m .n) (hl ∙ sym (values-at m known w (y .a)))) hz hu hv
+-- the value at the end of a run, from what the code found
+pub value-is : {n : ℕ} (m : Modulus) (y : Stage) (w : List ℕ) (R₀ i g s l c z u v : ℕ) → Standing m y w → y .d ≡ 0
+    → Run (m .n) (value m (y .s)) (value m (y .p)) (value m (y .t)) (y .d) R₀ (standing (m .n) (y .a) (y .d) (y .b) (y .e) (values m w))
+    → R₀ < m .n
+    → s ≡ value m (y .s) → (i * s) % m .n ≡ g % m .n → g ≡ 1 → l ≡ value m (getD w (y .a) 0) → c ≡ (l ^ y .e) % m .n
+    → value m z ≡ (value m (y .p) * value m (y .t)) % m .n → u ≡ (value m z * c) % m .n → v ≡ (i * u) % m .n → Sound m → m .n ≡ n
+    → TriedAnswer n R₀ (Value v)
+value-is m y w R₀ i g s l c z u v st h run small hs hi hg hl hc hz hu hv sound is =
+    subst (λ (N : ℕ). TriedAnswer N R₀ (Value v)) is
+    (run-value (m .n) (m .n) (y .a) (y .d) (y .b) (y .e) (value m (y .s)) (value m (y .p)) (value m (y .t)) R₀ i g c (value m z) u v
+    (values m w) refl
+    (standing-values m sound (y .a) (y .d) (y .b) (y .e) w (st .placed)) h run small
+    (subst (λ (q : ℕ). (i * q) % m .n ≡ g % m .n) hs hi) hg
+    (hc ∙ ap (λ (q : ℕ). (q ^ y .e) % m .n) (hl ∙ sym (values-at m sound w (y .a)))) hz hu hv)
 
 pub leads-trans : {m : Modulus} {x y z : Stage} {w w' w'' : List ℕ} → Leads m x w y w' → Leads m y w' z w'' → Leads m x w z w''
 leads-trans p q = record { standing = q .standing; led = led-trans (p .led) (q .led) }
@@ -328,36 +335,154 @@ began {m} {a} {d} {b} {e} {w} {w'} u y two h l =
     (values m w'))
     (h ∙ mod-eq-of-lt (omega arith)) (l .led)
 
--- ---- what the code asks
+-- ---- what the code asks, from where the pair stands
 
-pub lead-below : {n a d b e : ℕ} {w : List ℕ} → Placed n a d b e w → getD w (a + d) 0 < n
-lead-below {d = d} pl = pl .pair .first .at d (omega arith)
+module _ {n a d b e : ℕ} {w : List ℕ} (pl : Placed n a d b e w) where
+  pub lead-below : getD w (a + d) 0 < n
+  lead-below = pl .pair .first .at d (omega arith)
 
-pub other-below : {n a d b e : ℕ} {w : List ℕ} → Placed n a d b e w → getD w (b + e) 0 < n
-other-below {e = e} pl = pl .pair .second .at e (omega arith)
+  pub lead-most : getD w (a + d) 0 ≤ n
+  lead-most = omega (arith, lead-below)
 
--- the word loop, from the place i of g on
-pub asked : (n a d b e c i l q : ℕ) (w w₁ : List ℕ) → Placed n a d b e w → c ≡ b + i → i + d ≤ e + 1 → length w₁ ≡ length w
-    → ((k : ℕ) → k < d + 1 → getD w₁ (a + k) 0 ≡ getD w (a + k) 0) → ((k : ℕ) → k < d → getD w₁ (c + k) 0 ≡ getD w (c + k) 0) → l < n
-    → q < n
-    → ((l < n) × ((q < n) × ((a + d ≤ length w₁) × (c + d ≤ length w₁)))) × ((Apart a d c d) × ((Below n a d w₁) × (Below n c d w₁)))
-asked n a d b e c i l q w w₁ pl h g same words others ll lq =
-    let z = asked-below n a d b e c i w w₁ pl h g same words in (
-      (ll, (lq, z .0)),
-      (
-        z .1 .0,
-        (
-          z .1 .1,
-          record {
-            at = λ k u. let j : c + k ≡ b + (i + k) = omega arith in
-                subst (λ (x : ℕ). x < n) (sym (others k u))
-                (subst (λ (x : ℕ). getD w x 0 < n) (sym j) (pl .pair .second .at (i + k) (omega arith)));
-          },
-        ),
-      ),
-    )
+  pub lower-below : getD w (a + (d - 1)) 0 < n
+  lower-below = pl .pair .first .at (d - 1) (omega arith)
 
-pub asked-here : (n a d b e l q : ℕ) (w : List ℕ) → Placed n a d b e w → l < n → q < n
-    → ((l < n) × ((q < n) × ((a + d ≤ length w) × (b + d ≤ length w)))) × ((Apart a d b d) × ((Below n a d w) × (Below n b d w)))
-asked-here n a d b e l q w pl ll lq = asked n a d b e b 0 l q w w pl (omega arith) (omega (arith, pl .near)) refl (λ k h. refl)
-    (λ k h. refl) ll lq
+  pub other-below : getD w (b + e) 0 < n
+  other-below = pl .pair .second .at e (omega arith)
+
+  pub other-above : e ≡ d + 1 → getD w (b + (d + 1)) 0 < n
+  other-above h = pl .pair .second .at (d + 1) (omega arith)
+
+  pub other-here : getD w (b + d) 0 < n
+  other-here = pl .pair .second .at d (omega (arith, pl .near))
+
+  pub first-room : a + d ≤ length w
+  first-room = omega (arith, pl .first)
+
+  pub second-room : b + d ≤ length w
+  second-room = omega (arith, pl .second, pl .near)
+
+  pub first-words : Below n a d w
+  first-words = record { at = λ k l. pl .pair .first .at k (omega arith) }
+
+  pub second-words : Below n b d w
+  second-words = record { at = λ k l. pl .pair .second .at k (omega (arith, pl .near)) }
+
+  pub words-apart : Apart a d b d
+  words-apart = record { ok = λ i j p q g. pl .pair .apart .ok i j (omega arith) (omega (arith, pl .near)) g }
+
+  pub higher : (e ≡ d → ⊥) → d < e
+  higher h = omega (arith, pl .near)
+
+  -- the words from the place i of g on, after those below it were scaled
+  module _ {i : ℕ} (is : i ≡ e - d) where
+    pub turn-room : b + i ≤ length w
+    turn-room = omega (arith, pl .second)
+
+    pub turn-apart : Apart a d (b + i) d
+    turn-apart = record { ok = λ k j p q g. pl .pair .apart .ok k (i + j) (omega arith) (omega (arith, pl .near)) (omega arith) }
+
+module _ {m : Modulus} {c b i : ℕ} {w w₁ : List ℕ} (sc : Scaled m c b b i w w₁) {n a d e : ℕ} (pl : Placed n a d b e w) (is : i ≡ e - d)
+  where
+    pub turn-first-room : a + d ≤ length w₁
+    turn-first-room = omega (arith, pl .first, sc .around .same)
+
+    pub turn-second-room : b + i + d ≤ length w₁
+    turn-second-room = omega (arith, pl .second, pl .near, sc .around .same)
+
+    pub turn-first : Below n a d w₁
+    turn-first = record {
+      at = λ k l. subst (λ (z : ℕ). z < n)
+          (sym (apart-at (pl .pair .apart) (around-more (omega arith) (sc .around)) k (omega arith))) (pl .pair .first .at k (omega arith));
+    }
+
+    pub turn-second : Below n (b + i) d w₁
+    turn-second = record {
+      at = λ k l. let j : b + i + k ≡ b + (i + k) = omega arith in
+          subst (λ (z : ℕ). z < n) (sym (sc .around .high (b + i + k) (omega arith)))
+          (subst (λ (z : ℕ). getD w z 0 < n) (sym j) (pl .pair .second .at (i + k) (omega (arith, pl .near))));
+    }
+
+-- ---- a sign
+
+pub sign-even : (m : Modulus) (e x : ℕ) → Sound m → x < m .n → e % 2 ≡ 0 → value m x ≡ signed (m .n) e (value m x)
+sign-even m e x sound l h = sym (signed-even (m .n) e (value m x) (sound .residue l) h)
+
+pub sign-odd : (m : Modulus) (e x r : ℕ) → Sound m → x < m .n → (e % 2 ≡ 0 → ⊥) → Subtracts m 0 x r
+    → value m r ≡ signed (m .n) e (value m x)
+sign-odd m e x r sound l h s =
+    s .1 ∙ ap (λ (z : ℕ). (z + (m .n - value m x)) % m .n) (sound .none) ∙ ap (λ (z : ℕ). z % m .n) (zero-add (m .n - value m x))
+    ∙ sym (signed-odd (m .n) e (value m x) (sound .residue l) (odd (e % 2) h (mod-lt e (omega arith))))
+  where
+    odd : (z : ℕ) → (z ≡ 0 → ⊥) → z < 2 → z ≡ 1
+    odd z h l = omega arith
+
+-- ---- the answer
+
+pub attempted : {m : Modulus} {n a d b e u : ℕ} {w w₁ : List ℕ} {x : Stage} (r : Tried) → Placed n a d b e w → Enters m 1 u
+    → Leads m (beginning a d b e u) w x w₁ → Answering m x w₁ r → m .n ≡ n → 2 ≤ n
+    → TriedAnswer n (resultant n (piece (values m w) a (d + 1)) (piece (values m w) b (e + 1))) r
+attempted {m} {n} {a} {d} {b} {e} {u} {w} {w₁} {x} r pl en l an is two =
+    answered n (m .n) a d b e (values m w) (meant m x) (values m w₁) r is (pl .pos)
+    (began u x (omega arith) (en .1) l) (an .at)
+
+-- what is known at the end is known before
+pub answers-before : {m : Modulus} {x y : Stage} {w v : List ℕ} {r : Tried} → Leads m x w y v → Answering m y v r → Answering m x w r
+answers-before l an = record { at = λ R₀ h run. an .at R₀ h (l .led .run R₀ run) }
+
+pub leads-scratch : {m : Modulus} {x y : Stage} {w w₁ : List ℕ} → Leads m x w y w₁ → Scratch w w₁
+leads-scratch l = record { same = leads-same l }
+
+pub scratch-after : {m : Modulus} {x y : Stage} {w w₁ w₂ : List ℕ} → Leads m x w y w₁ → Scratch w₁ w₂ → Scratch w w₂
+scratch-after l s = record { same = s .same ∙ leads-same l }
+
+pub descends : {m : Modulus} {a d b e u : ℕ} {w w₁ : List ℕ} {y : Stage} → Sound m → 2 ≤ m .n → Placed (m .n) a d b e w → Enters m 1 u
+    → Finished m (beginning a d b e u) w y w₁ → Descends m a d b e w y w₁
+descends {m} {a} {d} {b} {e} {u} {w} {w₁} {y} sound two pl en f = record {
+  same = leads-same (f .0);
+  inside = first-inside (f .0 .standing .placed);
+  stands = descended (m .n) a d b e (values m w) (meant m y) (values m w₁) (standing-values m sound a d b e w pl)
+      (began u y two (en .1) (f .0)) (f .1);
+}
+
+pub ruleset places = (
+  arith,
+  lead-below,
+  lead-most,
+  lower-below,
+  other-below,
+  other-above,
+  other-here,
+  first-room,
+  second-room,
+  first-words,
+  second-words,
+  words-apart,
+  higher,
+  turn-room,
+  turn-apart,
+  clear-own,
+)
+
+pub ruleset leading = (needs, known-sound, plain-sound, pair-led, last-led, turn-led, drop-led)
+
+pub ruleset telling = (needs, known-sound, plain-sound, pair-told, last-told, turn-told, drop-told)
+
+pub ruleset signs = (needs, known-sound, plain-sound, sign-even, sign-odd)
+
+pub ruleset runs = (
+  needs,
+  known-sound,
+  plain-sound,
+  leads-self,
+  leads-trans,
+  leads-same,
+  leads-scratch,
+  scratch-after,
+  begun,
+  value-is,
+  attempted,
+  answers-before,
+  descends,
+  first-inside,
+)

@@ -7,6 +7,7 @@
 //
 //   attempt      the value, or nothing where some leading word is no unit
 //   descend      all steps, whatever the leading words are: the resultant's equation, and the constant that is reached
+//   rest         all steps from a stage on, and the value
 //   finish       steps down to degree 0
 //   two_steps    two steps, or fewer where degree 0 is reached
 //   value_of     the value from the state at the end
@@ -241,6 +242,17 @@ fn value_of(w: &[u32], m: Modulus, y: Stage) -> Tried
     Tried::Value(modulus::multiply(m, i.s, u))
 }
 
+// All other steps, and the value.
+fn rest(w: &mut [u32], m: Modulus, x: Stage) -> Tried
+    requires { ⌜ (Known m) × (2 ≤ m .n) ⌝ }
+    requires { ⌜ Standing m x (now w) ⌝ }
+    ensures { λ r. ⌜ Answering m x (now (w .entry)) r ⌝ }
+    ensures { λ _. ⌜ Scratch (now (w .entry)) (now (w .exit)) ⌝ }
+{
+    let y = finish(w, m, x);
+    value_of(w, m, y)
+}
+
 // The resultant of what the words stand for: f of degree d at a and g of degree e at b; both are lost. Where a test after the second
 // step already shows a zero divisor, nothing more is tried; where few steps are left the test costs more than they do.
 pub fn attempt(w: &mut [u32], m: Modulus, a: usize, d: usize, b: usize, e: usize) -> Tried
@@ -273,6 +285,5 @@ pub fn attempt(w: &mut [u32], m: Modulus, a: usize, d: usize, b: usize, e: usize
             return Tried::NotUnit(x.s);
         }
     }
-    let y = finish(w, m, x);
-    value_of(w, m, y)
+    rest(w, m, x)
 }

@@ -1,5 +1,5 @@
 // Euclid without inverses: what it keeps and what it answers. The laws of its steps, for words of any width and form, are in
-// proofs/Stepping, and what they are about in specs/Standing; the functions are those of `resultant_euclid` and `wide_resultant_pseudo`.
+// proofs/Stepping, and what they are about in specs/Standing; the functions are those of `resultant_euclid` and `wide_resultant_euclid`.
 //
 //   Tried    a value, or a product of leading words that is no unit
 //   State    where the run stands

@@ -2,16 +2,19 @@
 --
 --   factors            c m = n
 --   content-law        the law, over lists
+--   first-of, lent     the words of f as a call is lent them
 --   cleared, cleared-none    what the division by c and the reduction modulo m leave; the content 1 needs neither
 --   content-two, content-below, content-primitive   m is above 1, the words are residues of it, f / c is primitive modulo m
 --   content-times      the value, from that modulo m
 --   content-whole      c = n: the resultant is 0
+--   clearing           the rules of the function that takes the content out
 use mathlib.Core.Path.{_≡_, refl, sym, ap, ap₂, subst, _∙_}
 use mathlib.Core.List.{List}
 use mathlib.Core.Logic.{⊎-elim}
 use Prim.Native.Nat.{ℕ, zero, suc, _+_, _-_, _*_, _/_, _%_, _^_, _≤_, _<_, _∣_}
 use native.Mathlib.Omega.{arith}
-use native.Mathlib.Nat.{div-one, mod-lt, mod-eq-of-lt, mod-mod, mul-div-cancel', pos-of-dvd-of-pos, pow-suc, mul-one, mul-zero, zero-add, zero-mod, mul-le-mul-left, mul-dvd-mul-left, dvd-mul-left, dvd-of-mul-dvd-mul-left, dvd-one, mod-eq-zero-of-dvd}
+use native.Mathlib.Nat.{div-one, mod-lt, mod-eq-of-lt, mod-mod, mul-div-cancel', pos-of-dvd-of-pos, pow-suc, mul-one, mul-zero, zero-add}
+use native.Mathlib.Nat.{zero-mod, mul-le-mul-left, mul-dvd-mul-left, dvd-mul-left, dvd-of-mul-dvd-mul-left, dvd-one, mod-eq-zero-of-dvd}
 use lib.ListN.{length, getD}
 use Rattle.definitions.specs.Polynomials.{coef, deg}
 use Rattle.definitions.specs.Resultants.{resultant}
@@ -66,7 +69,8 @@ module _ (n c m d e : ℕ) (f f' g g' : List ℕ) (product : c * m ≡ n) (lc : 
   pub content-law : resultant n f g ≡ (c ^ e * resultant m f' g') % n
   content-law =
       ap (λ (x : ℕ). resultant x f g) (sym product)
-      ∙ resultant-content c m lc lm f f' g (e - 1) (deg-of f d lf ∙ sym (deg-of f' d lf')) degree (record { at = λ k. ap (λ (x : ℕ). x % (c * m)) (scaled k) })
+      ∙ resultant-content c m lc lm f f' g (e - 1) (deg-of f d lf ∙ sym (deg-of f' d lf')) degree
+      (record { at = λ k. ap (λ (x : ℕ). x % (c * m)) (scaled k) })
       ∙ ap₂ (λ (x y : ℕ). (c ^ x * y) % (c * m)) (deg-of g e lg) same-resultant
       ∙ ap (λ (x : ℕ). (c ^ e * resultant m f' g') % x) product
     where
@@ -102,36 +106,48 @@ none-law (suc n) d e f g l le lf lg h =
 
 -- ---- words: g of degree e at 0, f of degree d above it
 
-pub content-positive : {n c : ℕ} {f : List ℕ} → 1 ≤ n → Content n f c → 1 ≤ c
-content-positive l h = pos-of-dvd-of-pos (h .divides-n) l
+-- the words of f as a call is lent them
+abbrev pub first-of : ℕ → ℕ → List ℕ → List ℕ
+first-of d e w = midOf (e + 1) (e + 1 + (d + 1) - (e + 1)) w
 
-pub content-left : {n c : ℕ} {f : List ℕ} → 1 ≤ n → Content n f c → 1 ≤ n / c
-content-left {n} {c} l h = pos-of-dvd-of-pos (subst (λ (x : ℕ). n / c ∣ x) (factors n c (h .divides-n)) (dvd-mul-left (n / c) c)) l
-
-pub cleared : (n c d e m : ℕ) (w w₁ w₂ : List ℕ) → m ≡ d + 1 → e + 1 + (d + 1) ≤ length w → Content n (midOf (e + 1) m w) c
-    → Moved (quotient-by c) (e + 1) (e + 1) (d + 1) w w₁ → Moved (reduced-by (n / c)) 0 0 (e + 1) w₁ w₂ → ContentCleared n d e c w w₂
+pub lent : (P : List ℕ → Type 0) (d e : ℕ) (w : List ℕ) → P (first-of d e w) → P (piece w (e + 1) (d + 1))
 unfolding piece
-cleared n c d e m w w₁ w₂ h fits ct x y = record {
-  content = subst (λ (k : ℕ). Content n (midOf (e + 1) k w) c) h ct;
-  around = record {
-    same = y .same ∙ x .same;
-    low = λ k l. absurd (omega arith);
-    high = λ k l. y .high k (omega arith) ∙ x .high k (omega arith);
-  };
-  first = λ k l. y .high (e + 1 + k) (omega arith) ∙ x .mid k l;
-  second = λ k l. ap (λ (i : ℕ). getD w₂ i 0) (sym (zero-add k)) ∙ y .mid k l
-      ∙ ap (λ (i : ℕ). i % (n / c)) (ap (λ (i : ℕ). getD w₁ i 0) (zero-add k) ∙ x .low k (omega arith));
-}
+lent P d e w = let h : e + 1 + (d + 1) - (e + 1) ≡ d + 1 = omega arith in subst (λ (k : ℕ). P (midOf (e + 1) k w)) h
 
--- the content 1: nothing is to be done
-pub cleared-none : (n c d e m : ℕ) (w : List ℕ) → m ≡ d + 1 → Content n (midOf (e + 1) m w) c → c ≡ 1 → Below n 0 (e + 1) w → ContentCleared n d e 1 w w
-unfolding piece
-cleared-none n c d e m w h ct one below = record {
-  content = subst (λ (x : ℕ). Content n (midOf (e + 1) (d + 1) w) x) one (subst (λ (k : ℕ). Content n (midOf (e + 1) k w) c) h ct);
-  around = record { same = refl; low = λ k l. refl; high = λ k l. refl };
-  first = λ k l. sym (div-one (getD w (e + 1 + k) 0));
-  second = λ k l. sym (ap (λ (x : ℕ). getD w k 0 % x) (div-one n) ∙ mod-eq-of-lt (subst (λ (x : ℕ). getD w x 0 < n) (zero-add k) (below .at k l)));
-}
+module _ {n c : ℕ} {f : List ℕ} (h : Content n f c) (l : 1 ≤ n) where
+  pub content-positive : 1 ≤ c
+  content-positive = pos-of-dvd-of-pos (h .divides-n) l
+
+  pub content-left : 1 ≤ n / c
+  content-left = pos-of-dvd-of-pos (subst (λ (x : ℕ). n / c ∣ x) (factors n c (h .divides-n)) (dvd-mul-left (n / c) c)) l
+
+module _ {n c : ℕ} (d e : ℕ) {w : List ℕ} (ct : Content n (first-of d e w) c) where
+  pub cleared : {w₁ w₂ : List ℕ} → Moved (quotient-by c) (e + 1) (e + 1) (d + 1) w w₁ → Moved (reduced-by (n / c)) 0 0 (e + 1) w₁ w₂
+      → e + 1 + (d + 1) ≤ length w → {n' c' d' e' : ℕ} {w' w'' : List ℕ} → n' ≡ n → c' ≡ c → d' ≡ d → e' ≡ e → w' ≡ w → w'' ≡ w₂
+      → ContentCleared n' d' e' c' w' w''
+  cleared {w₁} {w₂} x y fits en ec ed ee ew ew₂ = rw (en, ec, ed, ee, ew, ew₂) (record {
+    content = lent (λ f. Content n f c) d e w ct;
+    around = record {
+      same = y .same ∙ x .same;
+      low = λ k l. absurd (omega arith);
+      high = λ k l. y .high k (omega arith) ∙ x .high k (omega arith);
+    };
+    first = λ k l. y .high (e + 1 + k) (omega arith) ∙ x .mid k l;
+    second = λ k l. ap (λ (i : ℕ). getD w₂ i 0) (sym (zero-add k)) ∙ y .mid k l
+        ∙ ap (λ (i : ℕ). i % (n / c)) (ap (λ (i : ℕ). getD w₁ i 0) (zero-add k) ∙ x .low k (omega arith));
+  })
+
+  -- the content 1: nothing is to be done
+  pub cleared-none : c ≡ 1 → Below n 0 (e + 1) w → ContentCleared n d e 1 w w
+  cleared-none one below = record {
+    content = subst (Content n (piece w (e + 1) (d + 1))) one (lent (λ f. Content n f c) d e w ct);
+    around = record { same = refl; low = λ k l. refl; high = λ k l. refl };
+    first = λ k l. sym (div-one (getD w (e + 1 + k) 0));
+    second = λ k l. sym (ap (λ (x : ℕ). getD w k 0 % x) (div-one n)
+        ∙ mod-eq-of-lt (subst (λ (x : ℕ). getD w x 0 < n) (zero-add k) (below .at k l)));
+  }
+
+pub ruleset clearing = (content-positive, content-left, cleared, cleared-none)
 
 module _ (n c d e : ℕ) (w w' : List ℕ) (two : 2 ≤ n) (one : 1 ≤ d) (near : d ≤ e) (fits : e + 1 + (d + 1) ≤ length w)
     (below : Below n 0 (e + 1 + (d + 1)) w) (cl : ContentCleared n d e c w w') where
@@ -199,11 +215,13 @@ module _ (n c d e : ℕ) (w w' : List ℕ) (two : 2 ≤ n) (one : 1 ≤ d) (near
     content-primitive = record {
       only = λ x p q. dvd-one .0 (dvd-of-mul-dvd-mul-left x (above .0) (subst (λ (y : ℕ). c * x ∣ y) (sym (mul-one c))
           (cl .content .greatest (c * x) (subst (λ (y : ℕ). c * x ∣ y) product (mul-dvd-mul-left x c p))
-          (λ k l. let b : k < d + 1 = omega (arith, lf) in subst (λ (y : ℕ). c * x ∣ y) (sym (first k b)) (mul-dvd-mul-left x c (q k (omega (arith, lf'))))))));
+          (λ k l. let b : k < d + 1 = omega (arith, lf) in
+          subst (λ (y : ℕ). c * x ∣ y) (sym (first k b)) (mul-dvd-mul-left x c (q k (omega (arith, lf'))))))));
     }
 
     pub content-times : (p : ℕ) → p ≡ (c ^ e) % n
-        → (p * resultant (n / c) (piece w' (e + 1) (d + 1)) (piece w' 0 (e + 1))) % n ≡ resultant n (piece w (e + 1) (d + 1)) (piece w 0 (e + 1))
+        → (p * resultant (n / c) (piece w' (e + 1) (d + 1)) (piece w' 0 (e + 1))) % n
+        ≡ resultant n (piece w (e + 1) (d + 1)) (piece w 0 (e + 1))
     content-times p hp =
         ap (λ (x : ℕ). (x * resultant (n / c) (piece w' (e + 1) (d + 1)) (piece w' 0 (e + 1))) % n) hp ∙ c-mul (c-mod (c ^ e)) c-refl .same
         ∙ sym (content-law n c (n / c) d e (piece w (e + 1) (d + 1)) (piece w' (e + 1) (d + 1)) (piece w 0 (e + 1))

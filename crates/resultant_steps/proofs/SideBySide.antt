@@ -1,6 +1,6 @@
 -- Polynomials side by side in one buffer, and what a call in a part of it finds there.
 --
---   copies-beside      two copies, one after the other
+--   copies-beside, copies-back    two copies, one after the other; copying, their rules
 --   beside-below       residues side by side
 --   beside-first, beside-second   the polynomials, read in the part that begins at s
 --   onward w x         the words of w from x on
@@ -13,6 +13,7 @@ use native.Mathlib.Omega.{arith}
 use native.Mathlib.Nat.{zero-add}
 use lib.ListN.{length, getD}
 use lib.Seq.{ext-getD}
+use borrow.Author.Needs.{needs}
 use borrow.Rule.Slice.PartMut.{midOf}
 use Rattle.definitions.specs.Polynomials.{coef}
 use Rattle.windows.specs.Window.{piece, Moved, second, Reversed, Below, Around}
@@ -37,19 +38,22 @@ written F G l m s w w₁ w₂ a b f g = record {
   second = g;
 }
 
-pub copies-beside : (a l b m s : ℕ) (w w₁ w₂ : List ℕ) → a + l ≤ s → b + m ≤ s → Moved second a s l w w₁ → Moved second b (s + l) m w₁ w₂
-    → Beside (words-at w a) (words-at w b) l m s w w₂
-copies-beside a l b m s w w₁ w₂ p q x y =
-    written (words-at w a) (words-at w b) l m s w w₁ w₂ (record { same = x .same; low = x .low; high = x .high })
-    (record { same = y .same; low = y .low; high = y .high })
-    (λ k h. x .mid k h) (λ k h. y .mid k h ∙ x .low (b + k) (omega arith))
+module _ {a l b m s : ℕ} {w w₁ w₂ : List ℕ} where
+  pub copies-beside : Moved second a s l w w₁ → Moved second b (s + l) m w₁ w₂ → a + l ≤ s → b + m ≤ s
+      → Beside (words-at w a) (words-at w b) l m s w w₂
+  copies-beside x y p q =
+      written (words-at w a) (words-at w b) l m s w w₁ w₂ (record { same = x .same; low = x .low; high = x .high })
+      (record { same = y .same; low = y .low; high = y .high })
+      (λ k h. x .mid k h) (λ k h. y .mid k h ∙ x .low (b + k) (omega arith))
 
-pub copies-back : (a l b m s : ℕ) (w w₁ w₂ : List ℕ) → a + l ≤ s → b + m ≤ s → Reversed a s l w w₁ → Reversed b (s + l) m w₁ w₂
-    → Beside (words-back w a l) (words-back w b m) l m s w w₂
-copies-back a l b m s w w₁ w₂ p q x y =
-    written (words-back w a l) (words-back w b m) l m s w w₁ w₂ (record { same = x .same; low = x .low; high = x .high })
-    (record { same = y .same; low = y .low; high = y .high })
-    (λ k h. x .mid k h) (λ k h. y .mid k h ∙ x .low (b + (m - 1 - k)) (omega arith))
+  pub copies-back : Reversed a s l w w₁ → Reversed b (s + l) m w₁ w₂ → a + l ≤ s → b + m ≤ s
+      → Beside (words-back w a l) (words-back w b m) l m s w w₂
+  copies-back x y p q =
+      written (words-back w a l) (words-back w b m) l m s w w₁ w₂ (record { same = x .same; low = x .low; high = x .high })
+      (record { same = y .same; low = y .low; high = y .high })
+      (λ k h. x .mid k h) (λ k h. y .mid k h ∙ x .low (b + (m - 1 - k)) (omega arith))
+
+pub ruleset copying = (needs, copies-beside, copies-back)
 
 -- ---- the part that begins at s
 
@@ -64,7 +68,8 @@ module _ (F G : ℕ → ℕ) (l m s M : ℕ) (w w' : List ℕ) (bs : Beside F G 
   beside-below n f g = record {
     at = λ k h. ⊎-elim (λ b. subst (λ (x : ℕ). x < n) (sym (ap (λ (x : ℕ). getD (midOf s M w') x 0) (zero-add k) ∙ at-first k b)) (f k b))
         (λ b. let e : 0 + k ≡ l + (k - l) = omega arith in
-        subst (λ (x : ℕ). x < n) (sym (ap (λ (x : ℕ). getD (midOf s M w') x 0) e ∙ at-second (k - l) (omega arith))) (g (k - l) (omega arith)))
+        subst (λ (x : ℕ). x < n) (sym (ap (λ (x : ℕ). getD (midOf s M w') x 0) e ∙ at-second (k - l) (omega arith)))
+        (g (k - l) (omega arith)))
         (lt-or-le k l);
   }
 

@@ -1,16 +1,18 @@
 -- The frames of a run, one after the other, and the planner's answer.
 --
---   given-before, given-after     before the first frame, and after one more
---   ready                         what the next frame requires
---   answered-shares               n frames in the range
+--   Handed n w s i                i of n frames are given out and s is left, where w waited: the invariant of `shares`
+--   framing                       the rules
 --   too-few, too-many, refused-shares     n out of the range
-use mathlib.Core.Path.{_≡_, refl, ap, _∙_}
+use mathlib.Core.Path.{_≡_, refl, sym, ap, subst, _∙_}
 use mathlib.Core.Bool.{true, false}
 use mathlib.Core.List.{List, [], _∷_}
 use Prim.Native.Nat.{ℕ, zero, suc, _+_, _≤_, _<_}
 use native.Mathlib.Numerals.{add-one}
 use native.Mathlib.Omega.{arith}
-use lib.Dec.{ltb}
+use mir.Syntax.{w32}
+use mir.Val.{Fits}
+use borrow.Author.Needs.{needs}
+use lib.Dec.{T, ltb, leb, leb→le, ltb→lt}
 use lib.ListN.{getD}
 use borrow.Author.Tests.{lt-ltb, le-ltb}
 use Rattle.refusals.proofs.Statuses.{row-applies, row-passes}
@@ -18,13 +20,17 @@ use Rattle.shares.specs.GivingOut.{Giving, giving, give-frame, give-fram
 use Rattle.shares.specs.SharesService.{bad-frames, SharesAnswer}
 use Rattle.shares.specs.GivingLaws.{after}
 
-pub given-before : (s : Giving) → s ≡ give-frames 0 s
-unfolding give-frames
-given-before s = refl
+pub record Handed (n : ℕ) (w : List ℕ) (s : Giving) (i : ℕ) : Type 0 where
+  pub most : i ≤ n
+  pub so : s ≡ give-frames i (giving 0 w (0 ∷ 0 ∷ 0 ∷ 0 ∷ []))
 
-pub given-after : (i : ℕ) (s r x : Giving) → s ≡ give-frames i x → r ≡ give-frame s → r ≡ give-frames (i + 1) x
+pub handed-none : (n : ℕ) (w : List ℕ) → Handed n w (giving 0 w (0 ∷ 0 ∷ 0 ∷ 0 ∷ [])) 0
 unfolding give-frames
-given-after i s r x e h = h ∙ ap give-frame e ∙ rw (add-one i)
+handed-none n w = record { most = omega arith; so = refl }
+
+pub handed-next : {n i i' : ℕ} {w : List ℕ} {s r : Giving} → Handed n w s i → i < n → r ≡ give-frame s → i' ≡ i + 1 → Handed n w r i'
+unfolding give-frames
+handed-next {i = i} h l e ei = rw ei (record { most = omega arith; so = e ∙ ap give-frame (h .so) ∙ rw (add-one i) })
 
 words-at : (a b c d : ℕ) → a < 4294967296 → b < 4294967296 → c < 4294967296 → d < 4294967296
     → (i : ℕ) → getD (a ∷ b ∷ c ∷ d ∷ []) i 0 < 4294967296
@@ -34,23 +40,35 @@ words-at a b c d p q r s (suc (suc zero)) = r
 words-at a b c d p q r s (suc (suc (suc zero))) = s
 words-at a b c d p q r s (suc (suc (suc (suc i)))) = omega arith
 
-pub ready : (n a b c d : ℕ) (s : Giving) → s ≡ give-frames n (giving 0 (a ∷ b ∷ c ∷ d ∷ []) (0 ∷ 0 ∷ 0 ∷ 0 ∷ []))
-    → a < 4294967296 → b < 4294967296 → c < 4294967296 → d < 4294967296
-    → (s .turn < 4) × ((i : ℕ) → getD (s .waiting) i 0 + getD (s .given) i 0 < 4294967296)
-ready n a b c d s e p q r z =
-    let h = after n (a ∷ b ∷ c ∷ d ∷ []) refl in
-    rw e (omega arith, λ i. omega (arith, h .kept i, words-at a b c d p q r z i))
+-- what the next frame requires
+module _ {n a b c d t i : ℕ} {w g : List ℕ} (h : Handed n (a ∷ b ∷ c ∷ d ∷ []) (giving t w g) i) where
+  ready : (giving t w g .turn < 4) × ((j : ℕ) → getD w j 0 + getD g j 0 ≡ getD (a ∷ b ∷ c ∷ d ∷ []) j 0)
+  ready =
+      let k = after i (a ∷ b ∷ c ∷ d ∷ []) refl in
+      subst (λ (s : Giving). (s .turn < 4) × ((j : ℕ) → getD (s .waiting) j 0 + getD (s .given) j 0 ≡ getD (a ∷ b ∷ c ∷ d ∷ []) j 0))
+      (sym (h .so)) (omega arith, k .kept)
 
-pub answered-shares : (n : ℕ) (w : List ℕ) (s : Giving) → 1 ≤ n → ltb 1024 n ≡ false
-    → s ≡ give-frames n (giving 0 w (0 ∷ 0 ∷ 0 ∷ 0 ∷ [])) → SharesAnswer n w (s .given) 0
-answered-shares n w s l m e =
-    record { status-is = row-passes 15 (bad-frames n) [] 0 (rw (le-ltb n 1 l) m) refl; share-is = ap (λ (x : Giving). x .given) e }
+  pub ready-turn : t < 4
+  ready-turn = ready .0
+
+  pub ready-words : Fits w32 a → Fits w32 b → Fits w32 c → Fits w32 d → (j : ℕ) → getD w j 0 + getD g j 0 < 4294967296
+  ready-words p q r s j = omega (arith, ready .1 j, words-at a b c d (p .fits) (q .fits) (r .fits) (s .fits) j)
+
+pub answered-shares : {n t i : ℕ} {w x g : List ℕ} → Handed n w (giving t x g) i → 1 ≤ n → ltb 1024 n ≡ false → n ≤ i → SharesAnswer n w g 0
+answered-shares {n} {t} {i} {w} h l m z =
+    let e : i ≡ n = omega (arith, h .most) in
+    record {
+      status-is = row-passes 15 (bad-frames n) [] 0 (rw (le-ltb n 1 l) m) refl;
+      share-is = ap (λ (s : Giving). s .given) (h .so) ∙ ap (λ (k : ℕ). give-frames k (giving 0 w (0 ∷ 0 ∷ 0 ∷ 0 ∷ [])) .given) e;
+    }
 
 pub too-few : (n : ℕ) → n < 1 → bad-frames n ≡ true
 too-few n l = rw (lt-ltb n 1 l)
 
-pub too-many : (n : ℕ) → 1 ≤ n → ltb 1024 n ≡ true → bad-frames n ≡ true
-too-many n l m = rw (le-ltb n 1 l) m
+pub too-many : (k n : ℕ) → T (leb 1024 k) → 1 ≤ n → ltb k n ≡ true → bad-frames n ≡ true
+too-many k n t l m = rw (le-ltb n 1 l) (lt-ltb 1024 n (omega (arith, leb→le 1024 k t, ltb→lt k n (subst T (sym m) tt))))
 
 pub refused-shares : (n : ℕ) (w : List ℕ) → bad-frames n ≡ true → SharesAnswer n w (0 ∷ 0 ∷ 0 ∷ 0 ∷ []) 15
 refused-shares n w e = record { status-is = row-applies 14 (bad-frames n) [] e; share-is = refl }
+
+pub ruleset framing = (needs, handed-none, handed-next, ready-turn, ready-words, answered-shares)

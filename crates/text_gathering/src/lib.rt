@@ -2,10 +2,12 @@
 // they come to is no polynomial until its text is the same.
 //
 //   number_after, coefficient_after    the number and the coefficient being read, after one more character
-//   store, gather                      the words that a text comes to
+//   store, end_term, gather            the words that a text comes to
 //   same_text, is_text_of              whether a text is that of lent words
 ghost use mathlib.Core.Path.{_≡_};
+ghost use mathlib.Core.Bool.{cond};
 ghost use Prim.Native.Nat.{_≤_};
+ghost use lib.Dec.{eqb};
 ghost use lib.ListN.{length};
 ghost use Rattle.text_notation.specs.Notation.{text};
 ghost use Rattle.text_notation.specs.Candidates.{number-after, coefficient-after, stored, gathered, same-text};
@@ -63,6 +65,17 @@ fn store(words: &mut [u32], c: u32, x: u32)
     }
 }
 
+// A plus sign ends a term.
+fn end_term(words: &mut [u32], b: u8, c: u32, x: u32)
+    requires { ⌜ 1 ≤ length (now words) ⌝ }
+    ensures { λ _. ⌜ now (words .exit) ≡ cond (eqb b 43) (stored c x (now (words .entry))) (now (words .entry)) ⌝ }
+{
+    if b != 43 {
+        return;
+    }
+    store(words, c, x);
+}
+
 // Every term of s to its place.
 pub fn gather(s: &[u8], words: &mut [u32])
     requires { ⌜ 1 ≤ length (now words) ⌝ }
@@ -73,9 +86,7 @@ pub fn gather(s: &[u8], words: &mut [u32])
     let mut i: usize = 0;
     while i < s.len() {
         let b = s[i];
-        if b == 43 {
-            store(words, c, x);
-        }
+        end_term(words, b, c, x);
         c = coefficient_after(b, c, x);
         x = number_after(b, x);
         i += 1;

@@ -1,8 +1,14 @@
 -- Writing one part after another.
+--
+--   put-none, put-one, put-then, put-set     no character, one, a part after another, one character after a part
+--   put-as                                   a part of which the characters are known under another name
+--   Zeroed                                   zeros from place at up to i, the invariant of `put_zeros`
+--   zeroing                                  its rules
 use mathlib.Core.Path.{_≡_, refl, sym, ap, ap₂, _∙_, subst}
 use mathlib.Core.List.{List, [], _∷_, _++_, append-assoc}
 use Prim.Native.Nat.{ℕ, suc, _+_, _-_, _≤_, _<_}
 use native.Mathlib.Omega.{arith}
+use borrow.Author.Needs.{needs}
 use lib.ListN.{length, take, drop, set, replicate, length-append, length-drop, take-append-drop, replicate-append-replicate}
 use lib.Seq.{length-take-le, take-at, drop-at, drop-drop, set-split}
 use Rattle.text_writer.specs.Parts.{Put}
@@ -10,17 +16,13 @@ use Rattle.text_writer.specs.Parts.{Put}
 pub put-none : (at : ℕ) (o : List ℕ) → Put [] at at o o
 put-none at o = record { end = omega arith; is = sym (take-append-drop at o) }
 
--- a part of which the characters are known under another name
 pub put-as : {s t : List ℕ} {at r : ℕ} {o o' : List ℕ} → s ≡ t → Put s at r o o' → Put t at r o o'
 put-as {at = at} {r = r} {o = o} {o' = o'} e p = subst (λ (x : List ℕ). Put x at r o o') e p
 
-pub put-end : {s : List ℕ} {at q r : ℕ} {o o' : List ℕ} → q ≡ r → Put s at q o o' → Put s at r o o'
-put-end {s} {at} {o = o} {o' = o'} e p = subst (λ (x : ℕ). Put s at x o o') e p
-
-pub put-one : (c at : ℕ) (o : List ℕ) → at < length o → Put (c ∷ []) at (at + 1) o (set o at c)
-put-one c at o h =
-    let e : suc at ≡ at + 1 = omega arith in
-    record { end = refl; is = set-split o at c h ∙ ap (λ (k : ℕ). take at o ++ c ∷ drop k o) e }
+pub put-one : (c at : ℕ) {r : ℕ} (o : List ℕ) → r ≡ at + 1 → at < length o → Put (c ∷ []) at r o (set o at c)
+put-one c at {r} o er h =
+    let e : suc at ≡ r = omega arith in
+    record { end = er; is = set-split o at c h ∙ ap (λ (k : ℕ). take at o ++ c ∷ drop k o) e }
 
 module _ {s : List ℕ} {at m : ℕ} {o w : List ℕ} (p : Put s at m o w) (fits : m ≤ length o) where
   front : length (take at o ++ s) ≡ m
@@ -51,24 +53,31 @@ module _ {s : List ℕ} {at m : ℕ} {o w : List ℕ} (p : Put s at m o w) (fits
             ∙ ap (λ (x : List ℕ). take at o ++ x) (sym (append-assoc s t (drop r o)));
       }
 
-  pub put-set : (c : ℕ) → m < length o → Put (s ++ c ∷ []) at (m + 1) o (set w m c)
-  put-set c h = put-then (put-one c m w (omega (arith, put-length)))
-
-pub zero-more : (k : ℕ) → _++_ {A = ℕ} (replicate k 0) (0 ∷ []) ≡ replicate (k + 1) 0
-zero-more k = replicate-append-replicate k 1 0
+  pub put-set : (c : ℕ) {r : ℕ} → r ≡ m + 1 → m < length o → Put (s ++ c ∷ []) at r o (set w m c)
+  put-set c e h = put-then (put-one c m w e (omega (arith, put-length)))
 
 -- ---- zeros
 
-pub zeros-none : (at : ℕ) (o : List ℕ) → Put (replicate (at - at) 0) at at o o
-zeros-none at o =
+pub record Zeroed (at end : ℕ) (o w : List ℕ) (i : ℕ) : Type 0 where
+  pub from : at ≤ i
+  pub most : i ≤ end
+  pub put : Put (replicate (i - at) 0) at i o w
+  pub same : length w ≡ length o
+
+pub zeroed-none : (at end : ℕ) (o : List ℕ) → at ≤ end → Zeroed at end o o at
+zeroed-none at end o h =
     let e : 0 ≡ at - at = omega arith in
-    put-as (ap (λ (k : ℕ). replicate k 0) e) (put-none at o)
+    record { from = omega arith; most = h; put = put-as (ap (λ (k : ℕ). replicate k 0) e) (put-none at o); same = refl }
 
-pub zeros-step : {at i : ℕ} {o w : List ℕ} → Put (replicate (i - at) 0) at i o w → at ≤ i → i < length o
-    → Put (replicate (i + 1 - at) 0) at (i + 1) o (set w i 0)
-zeros-step {at} {i} p h l =
-    let e : i - at + 1 ≡ i + 1 - at = omega arith in
-    put-as (zero-more (i - at) ∙ ap (λ (k : ℕ). replicate k 0) e) (put-set p (omega arith) 0 l)
+module _ {at end i : ℕ} {o w : List ℕ} (z : Zeroed at end o w i) where
+  pub zeroed-next : {i' : ℕ} {w' : List ℕ} → end ≤ length o → i < end → w' ≡ set w i 0 → i' ≡ i + 1 → Zeroed at end o w' i'
+  zeroed-next fit l ew ei =
+      let e : i - at + 1 ≡ i + 1 - at = omega (arith, z .from) in
+      let p = put-as (replicate-append-replicate (i - at) 1 0 ∙ ap (λ (k : ℕ). replicate k 0) e)
+      (put-set (z .put) (omega arith) 0 refl (omega arith)) in
+      rw (ew, ei) (record { from = omega (arith, z .from); most = omega arith; put = p; same = put-length p (omega arith) })
 
-pub zeros-all : {at i end : ℕ} {o w : List ℕ} → Put (replicate (i - at) 0) at i o w → i ≡ end → Put (replicate (end - at) 0) at end o w
-zeros-all {at} {o = o} {w = w} p e = subst (λ (k : ℕ). Put (replicate (k - at) 0) at k o w) e p
+  pub zeroed-end : end ≤ i → Put (replicate (end - at) 0) at end o w
+  zeroed-end h = let e : i ≡ end = omega (arith, z .most) in rw e at (z .put)
+
+pub ruleset zeroing = (needs, zeroed-none, zeroed-next, zeroed-end)

@@ -2,17 +2,19 @@
 --
 --   Filled, Passed    the invariants, with their start, turn and end
 --   front-none, ..    the same of FrontWritten
---   turns             the rules
-use mathlib.Core.Path.{_≡_, refl, ap, _∙_}
-use mathlib.Core.List.{List, _++_, append-nil}
-use Prim.Native.Nat.{ℕ, _+_, _-_, _≤_, _<_}
+--   Spelling, ..      the same of the number that characters spell
+--   turns, spells, digits     the rules
+use mathlib.Core.Path.{_≡_, refl, sym, ap, _∙_}
+use mathlib.Core.List.{List, [], _∷_, _++_, append-nil}
+use Prim.Native.Nat.{ℕ, suc, _+_, _-_, _*_, _%_, _≤_, _<_}
 use native.Mathlib.Omega.{arith}
 use native.Mathlib.Decide.{ℕ-discrete}
 use borrow.Author.Fill.{fill-more}
 use borrow.Author.Needs.{needs}
-use lib.ListN.{length, getD, set, drop, replicate, length-set, drop-of-length-le}
-use lib.Seq.{getD-set-other}
-use Rattle.trial_lines.specs.Lines.{Ending, FrontWritten}
+use borrow.Author.Tests.{lt-ltb, le-ltb, le-leb, lt-leb}
+use lib.ListN.{length, getD, set, take, drop, replicate, length-set, length-drop, drop-of-length-le}
+use lib.Seq.{getD-set-other, getD-drop, take-all, take-suc}
+use Rattle.trial_lines.specs.Lines.{Ending, FrontWritten, hexadecimal, spelled, part}
 
 -- ---- one number in each word
 
@@ -87,8 +89,85 @@ front-next {w₀} {w} {k} v f l = record {
   high = λ j h. getD-set-other w k j v 0 (omega arith) ∙ f .high j (omega arith);
 }
 
+-- ---- the number that characters spell
+
+-- the characters of s from place at up to place i are read
+pub record Spelling (s : List ℕ) (at end x i : ℕ) : Type 0 where
+  pub from : at ≤ i
+  pub most : i - at ≤ end - at
+  pub so : x ≡ spelled 0 (part s at i) % 18446744073709551616
+
+spelled-last : (x : ℕ) (s : List ℕ) (c : ℕ) → spelled x (s ++ c ∷ []) ≡ spelled x s * 16 + hexadecimal c
+unfolding spelled
+spelled-last x [] c = refl
+spelled-last x (a ∷ s) c = spelled-last (x * 16 + hexadecimal a) s c
+
+folded : (x d : ℕ) → (x % 18446744073709551616 * 16 + d) % 18446744073709551616 ≡ (x * 16 + d) % 18446744073709551616
+folded x d = omega arith
+
+pub spelling-none : (s : List ℕ) (at end : ℕ) → Spelling s at end 0 at
+unfolding spelled
+spelling-none s at end = record {
+  from = omega arith;
+  most = omega arith;
+  so = let e : 0 ≡ at - at = omega arith in ap (λ (k : ℕ). spelled 0 (take k (drop at s)) % 18446744073709551616) e;
+}
+
+module _ {s : List ℕ} {at end x i : ℕ} (p : Spelling s at end x i) where
+  pub spelling-next : {x' i' : ℕ} → i < end → i < length s
+      → x' ≡ (x * 16 + hexadecimal (getD s i 0)) % 18446744073709551616 → i' ≡ i + 1 → Spelling s at end x' i'
+  spelling-next h l ex ei =
+      let j = i - at in
+      let e : suc j ≡ i + 1 - at = omega (arith, p .from) in
+      let c : getD (drop at s) j 0 ≡ getD s i 0 =
+      getD-drop at s j 0 ∙ ap (λ (k : ℕ). getD s k 0) (omega (arith, p .from)) in
+      let more : part s at (i + 1) ≡ part s at i ++ getD s i 0 ∷ [] =
+      ap (λ (k : ℕ). take k (drop at s)) (sym e) ∙ take-suc (drop at s) j 0 (omega (arith, length-drop at s, p .from))
+      ∙ ap (λ (k : ℕ). part s at i ++ k ∷ []) c in
+      rw ei (record {
+        from = omega (arith, p .from);
+        most = omega (arith, p .from, p .most);
+        so = ex ∙ ap (λ (y : ℕ). (y * 16 + hexadecimal (getD s i 0)) % 18446744073709551616) (p .so)
+            ∙ folded (spelled 0 (part s at i)) (hexadecimal (getD s i 0))
+            ∙ ap (λ (y : ℕ). y % 18446744073709551616)
+            (sym (ap (spelled 0) more ∙ spelled-last 0 (part s at i) (getD s i 0)));
+      })
+
+  pub spelling-end : end ≤ i → x ≡ spelled 0 (part s at end) % 18446744073709551616
+  spelling-end h =
+      let e : i - at ≡ end - at = omega (arith, p .most) in
+      p .so ∙ ap (λ (k : ℕ). spelled 0 (take k (drop at s)) % 18446744073709551616) e
+
+  -- the text ends before
+  pub spelling-short : length s ≤ i → x ≡ spelled 0 (part s at end) % 18446744073709551616
+  spelling-short h =
+      p .so
+      ∙ ap (λ (t : List ℕ). spelled 0 t % 18446744073709551616)
+      (take-all (i - at) (drop at s) (omega (arith, length-drop at s))
+      ∙ sym (take-all (end - at) (drop at s) (omega (arith, length-drop at s, p .most))))
+
+module _ (c : ℕ) where
+  pub below-digits : c < 48 → 0 ≡ hexadecimal c
+  below-digits h = rw (lt-ltb c 48 h)
+
+  pub decimal-digit : 48 ≤ c → c ≤ 57 → c - 48 ≡ hexadecimal c
+  decimal-digit h l = rw (le-ltb c 48 h, le-leb c 57 l)
+
+  pub between-digits : 57 < c → c < 97 → 0 ≡ hexadecimal c
+  between-digits h l = rw (le-ltb c 48 (omega arith), lt-leb c 57 h, lt-ltb c 97 l)
+
+  pub letter-digit : 97 ≤ c → c ≤ 102 → c - 97 + 10 ≡ hexadecimal c
+  letter-digit h l = rw (le-ltb c 48 (omega arith), lt-leb c 57 (omega arith), le-ltb c 97 h, le-leb c 102 l)
+
+  pub above-digits : 102 < c → 0 ≡ hexadecimal c
+  above-digits h = rw (le-ltb c 48 (omega arith), lt-leb c 57 (omega arith), le-ltb c 97 (omega arith), lt-leb c 102 h)
+
 pub ruleset fills = (filled-none, filled-next, filled-end)
 
 pub ruleset passes = (passed-none, passed-next, passed-found, passed-end)
+
+pub ruleset spells = (needs, spelling-none, spelling-next, spelling-end, spelling-short)
+
+pub ruleset digits = (needs, below-digits, decimal-digit, between-digits, letter-digit, above-digits)
 
 pub ruleset turns = (needs, fills, passes, front-none, front-next)

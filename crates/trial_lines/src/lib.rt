@@ -1,5 +1,5 @@
 // What every trial program reads and writes with: cases from standard input, a line of numbers each, and answers to standard output, a
-// line each. Which numbers a line has, and what is written, no contract says: the program's output is compared with a stored one.
+// line each. Which decimal numbers a line has, and what is written, no contract says: the program's output is compared with a stored one.
 //
 //   read_line                                      the numbers of the next line
 //   size                                           a length among them
@@ -12,10 +12,10 @@
 //   wide_X                                         the same for words of 64 bits
 use libc::STDIN_FILENO;
 use libc::STDOUT_FILENO;
-ghost use Prim.Native.Nat.{_+_, _≤_, _<_, min};
+ghost use Prim.Native.Nat.{_+_, _-_, _*_, _%_, _≤_, _<_, min};
 ghost use mathlib.Core.Path.{_≡_};
 ghost use lib.ListN.{length, replicate};
-ghost use Rattle.trial_lines.specs.Lines.{Ending, FrontWritten};
+ghost use Rattle.trial_lines.specs.Lines.{Ending, FrontWritten, hexadecimal, spelled, part};
 
 // What stands in the lent words before a call.
 pub const MARK: u32 = 2882400001;
@@ -24,29 +24,26 @@ pub const WIDE_MARK: u64 = 12379813738877118345;
 
 // ---- what is read
 
-// Reads a character to place k; false at the input's end.
+// Reads a character to place k; false at a newline and at the input's end.
 fn read_to(line: &mut [u8], k: usize) -> bool
     requires { ⌜ k < length (now line) ⌝ }
 {
     let got = libc::read(STDIN_FILENO, &mut line[k..k + 1]);
-    got > 0
+    if got > 0 { line[k] != b'\n' } else { false }
 }
 
 // The characters up to the next newline, the input's end or the end of the room; how many they are. What stands after them is any.
 pub fn next_line(line: &mut [u8]) -> usize
     ensures { λ r. ⌜ r ≤ length (now (line .exit)) ⌝ }
 {
-    let mut k: usize = 0;
-    while k < line.len() {
-        if !read_to(line, k) {
-            return k;
+    let mut l: usize = 0;
+    while l < line.len() {
+        if !read_to(line, l) {
+            return l;
         }
-        if line[k] == b'\n' {
-            return k;
-        }
-        k += 1;
+        l += 1;
     }
-    k
+    l
 }
 
 // A number, and the place after the character that ends it.
@@ -128,7 +125,7 @@ pub fn size(x: u32, most: usize) -> usize
 
 // The value of a digit, 0 for any other character.
 fn digit(c: u8) -> u64
-    ensures { λ r. ⌜ r ≤ 15 ⌝ }
+    ensures { λ r. ⌜ (r ≡ hexadecimal c) × (r ≤ 15) ⌝ }
 {
     if c < b'0' {
         return 0;
@@ -146,12 +143,16 @@ fn digit(c: u8) -> u64
 }
 
 // The number with one hexadecimal digit more, modulo 2^64.
-fn with_hexadecimal(x: u64, c: u8) -> u64 {
+fn with_hexadecimal(x: u64, c: u8) -> u64
+    ensures { λ r. ⌜ r ≡ (x * 16 + hexadecimal c) % 18446744073709551616 ⌝ }
+{
     x % 1152921504606846976 * 16 + digit(c)
 }
 
-// The number that the characters from place `at` to place `end` spell, modulo 2^64.
-pub fn wide_spelt(text: &[u8], at: usize, end: usize) -> u64 {
+// The number that the characters from place `at` up to place `end`, or up to the end of the text, spell, modulo 2^64.
+pub fn wide_spelt(text: &[u8], at: usize, end: usize) -> u64
+    ensures { λ r. ⌜ r ≡ spelled 0 (part (now (text .entry)) at end) % 18446744073709551616 ⌝ }
+{
     let mut x: u64 = 0;
     let mut i = at;
     while i < end {
@@ -165,48 +166,54 @@ pub fn wide_spelt(text: &[u8], at: usize, end: usize) -> u64 {
 }
 
 // The same modulo 2^32.
-pub fn spelt(text: &[u8], at: usize, end: usize) -> u32 {
+pub fn spelt(text: &[u8], at: usize, end: usize) -> u32
+    ensures { λ r. ⌜ r ≡ spelled 0 (part (now (text .entry)) at end) % 4294967296 ⌝ }
+{
     (wide_spelt(text, at, end) % 4294967296) as u32
+}
+
+// How many characters stand from place i on.
+fn left(text: &[u8], i: usize) -> usize
+    ensures { λ r. ⌜ r ≡ length (now (text .entry)) - i ⌝ }
+{
+    if text.len() <= i {
+        return 0;
+    }
+    text.len() - i
 }
 
 // The words that eight characters each spell from place `at` on, as many as there is room for; how many they are.
 pub fn spelt_words(text: &[u8], at: usize, words: &mut [u32]) -> usize
     ensures { λ r. ⌜ FrontWritten (now (words .entry)) (now (words .exit)) r ⌝ }
 {
-    let mut k: usize = 0;
+    let mut count: usize = 0;
     let mut i = at;
-    while k < words.len() {
-        if text.len() <= i {
-            return k;
+    while count < words.len() {
+        if left(text, i) < 8 {
+            return count;
         }
-        if text.len() - i < 8 {
-            return k;
-        }
-        words[k] = spelt(text, i, i + 8);
+        words[count] = spelt(text, i, i + 8);
         i += 8;
-        k += 1;
+        count += 1;
     }
-    k
+    count
 }
 
 // The same of sixteen characters each.
 pub fn wide_spelt_words(text: &[u8], at: usize, words: &mut [u64]) -> usize
     ensures { λ r. ⌜ FrontWritten (now (words .entry)) (now (words .exit)) r ⌝ }
 {
-    let mut k: usize = 0;
+    let mut got: usize = 0;
     let mut i = at;
-    while k < words.len() {
-        if text.len() <= i {
-            return k;
+    while got < words.len() {
+        if left(text, i) < 16 {
+            return got;
         }
-        if text.len() - i < 16 {
-            return k;
-        }
-        words[k] = wide_spelt(text, i, i + 16);
+        words[got] = wide_spelt(text, i, i + 16);
         i += 16;
-        k += 1;
+        got += 1;
     }
-    k
+    got
 }
 
 // ---- what is written
@@ -319,10 +326,10 @@ pub fn end_line() {
 pub fn fill(w: &mut [u32], x: u32)
     ensures { λ _. ⌜ now (w .exit) ≡ replicate (length (now (w .entry))) x ⌝ }
 {
-    let mut i: usize = 0;
-    while i < w.len() {
-        w[i] = x;
-        i += 1;
+    let mut j: usize = 0;
+    while j < w.len() {
+        w[j] = x;
+        j += 1;
     }
 }
 
@@ -345,10 +352,10 @@ pub fn ending(w: &[u32], x: u32) -> usize
 pub fn wide_fill(w: &mut [u64], x: u64)
     ensures { λ _. ⌜ now (w .exit) ≡ replicate (length (now (w .entry))) x ⌝ }
 {
-    let mut k: usize = 0;
-    while k < w.len() {
-        w[k] = x;
-        k += 1;
+    let mut m: usize = 0;
+    while m < w.len() {
+        w[m] = x;
+        m += 1;
     }
 }
 
@@ -356,12 +363,12 @@ pub fn wide_ending(w: &[u64], x: u64) -> usize
     ensures { λ r. ⌜ Ending x (now (w .entry)) r ⌝ }
 {
     let all = w.len();
-    let mut i = all;
-    while 0 < i {
-        if w[i - 1] != x {
-            return all - i;
+    let mut j = all;
+    while 0 < j {
+        if w[j - 1] != x {
+            return all - j;
         }
-        i -= 1;
+        j -= 1;
     }
     all
 }

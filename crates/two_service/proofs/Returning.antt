@@ -1,9 +1,12 @@
 -- The promise of the resultant of two variables at each place where it returns.
 --
 --   accepted, room-accepted    what is known once none of the refusals 1, 2 and 3, or 12, 11, 6 and 7, applies
---   small-products   the products of degrees that B is made of
---   prepared, prepared-turned    what the run asks, once none applies, whichever of f and g comes first
+--   either-hit, either-miss, shape-length, shape-fits    the test of degrees and length
+--   product-fits, sum-fits     the products of degrees that B is made of
+--   prepared                   what the run asks, once none applies
+--   wiped                      the working buffer after an answer
 --   refused-sent, refused-room, done
+--   shapes, answers            the rules
 use mathlib.Core.Path.{_≡_, refl, sym, ap, subst, _∙_}
 use mathlib.Core.Bool.{Bool, true, false, not, cond}
 use mathlib.Core.List.{List, [], _∷_, _++_}
@@ -11,8 +14,11 @@ use Prim.Native.Nat.{ℕ, suc, _+_, _-_, _*_, _≤_, _<_}
 use native.Mathlib.Nat.{mul-le-mul, zero-add}
 use native.Mathlib.Numerals.{add-one}
 use native.Mathlib.Omega.{arith}
-use lib.Dec.{ltb, eqb}
+use lib.Dec.{eqb}
 use borrow.Author.Tests.{lt-ltb, le-ltb}
+use mir.Syntax.{w64}
+use mir.Val.{Fits}
+use borrow.Author.Needs.{needs}
 use lib.ListN.{length, drop, replicate}
 use Rattle.definitions.specs.Polynomials.{coef, tabulate, Residues}
 use Rattle.definitions.specs.TwoVariables.{resultant-two, degree-two}
@@ -21,10 +27,11 @@ use Rattle.theory.specs.Words.{coef-tabulate, length-tabulate}
 use Rattle.refusals.specs.Refusals.{narrow, short, first-refusal, replaced}
 use Rattle.refusals.specs.Conditions.{ServedModulus, status-zero, modulus-fails, words-fail, short-fails}
 use Rattle.refusals.specs.Fronts.{front-is}
+use Rattle.refusals.proofs.Cascade.{cascade}
 use Rattle.refusals.proofs.Statuses.{refused-early, passed-on, left-refused, replaced-refused}
-use Rattle.windows.specs.Window.{Written}
+use Rattle.windows.specs.Window.{Written, Scratch}
 use Rattle.two_variables.specs.PairSizes.{Prepared}
-use Rattle.two_service.specs.TwoService.{bad-shape, two-sent, two-room, ServedShape, shape-fails, prime-fails, TwoAnswer}
+use Rattle.two_service.specs.TwoService.{two-sent, two-room, ServedShape, shape-fails, prime-fails, TwoAnswer}
 
 -- the first words written: the list is replaced
 written-front : (F : ℕ → ℕ) (l : ℕ) (w w' : List ℕ) → l ≤ length w → Written F 0 l w w' → w' ≡ replaced 0 (tabulate l F) w
@@ -40,12 +47,12 @@ written-front F l w w' r h =
     long = length-tabulate l F
 
 -- n, f and g are served
-pub record TwoAccepted (n : ℕ) (f : List ℕ) (d a : ℕ) (g : List ℕ) (e b : ℕ) : Type 0 where
+record TwoAccepted (n : ℕ) (f : List ℕ) (d a : ℕ) (g : List ℕ) (e b : ℕ) : Type 0 where
   pub modulus : 2 ≤ n
   pub first : ServedShape d a f
   pub second : ServedShape e b g
 
-pub accepted : (n : ℕ) (f : List ℕ) (d a : ℕ) (g : List ℕ) (e b : ℕ) (s : ℕ) → s ≡ first-refusal (two-sent narrow n f d a g e b) → s ≡ 0
+accepted : (n : ℕ) (f : List ℕ) (d a : ℕ) (g : List ℕ) (e b : ℕ) (s : ℕ) → s ≡ first-refusal (two-sent narrow n f d a g e b) → s ≡ 0
     → TwoAccepted n f d a g e b
 accepted n f d a g e b s is z =
     let p = status-zero (two-sent narrow n f d a g e b)
@@ -61,13 +68,13 @@ accepted n f d a g e b s is z =
     ) .0 (sym is ∙ z) in
     record { modulus = p .0 .least; first = p .1 .0; second = p .1 .1 .0 }
 
-pub record RoomAccepted (n B l m : ℕ) : Type 0 where
+record RoomAccepted (n B l m : ℕ) : Type 0 where
   pub most : B ≤ 60
   pub none : NoSmallPrime n B
   pub out : suc B ≤ l
   pub working : 8192 ≤ m
 
-pub room-accepted : (n B l m t : ℕ) → t ≡ first-refusal (two-room narrow n B l m) → t ≡ 0 → RoomAccepted n B l m
+room-accepted : (n B l m t : ℕ) → t ≡ first-refusal (two-room narrow n B l m) → t ≡ 0 → RoomAccepted n B l m
 room-accepted n B l m t is z =
     let p = status-zero (two-room narrow n B l m) ((B ≤ 60) ∷ NoSmallPrime n B ∷ (suc B ≤ l) ∷ (8192 ≤ m) ∷ []) (
       (omega arith, short-fails 60 B),
@@ -81,23 +88,21 @@ room-accepted n B l m t is z =
     ) .0 (sym is ∙ z) in
     record { most = p .0; none = p .1 .0; out = p .1 .1 .0; working = p .1 .1 .1 .0 }
 
+-- a test of two that applies, and one that does not
+pub either-hit : (x y : Bool) → x ≡ true → true ≡ cond x true y
+either-hit x y e = sym (ap (λ (t : Bool). cond t true y) e)
+
+pub either-miss : (v x y : Bool) → x ≡ false → v ≡ y → v ≡ cond x true y
+either-miss v x y e h = h ∙ sym (ap (λ (t : Bool). cond t true y) e)
+
 -- the length that fits the degrees, as the code has it
-pub shape-last : (f : List ℕ) (d a : ℕ) → d ≤ 48 → a ≤ 48 → not (eqb (length f) ((d + 1) * (a + 1))) ≡ bad-shape d a f
-shape-last f d a p q =
-    ap (λ (x : ℕ). not (eqb (length f) x)) (same d a)
-    ∙ sym (ap (λ (t : Bool). cond t true (cond (ltb 48 a) true z)) (le-ltb 48 d p) ∙ ap (λ (t : Bool). cond t true z) (le-ltb 48 a q))
-  where
-    same : (d a : ℕ) → (d + 1) * (a + 1) ≡ suc d * suc a
-    same d a = omega arith
+pub shape-length : (l d a : ℕ) → not (eqb l ((d + 1) * (a + 1))) ≡ not (eqb l (suc d * suc a))
+shape-length l d a = ap (λ (x : ℕ). not (eqb l x)) (omega arith)
 
-    z : Bool
-    z = not (eqb (length f) (suc d * suc a))
+pub shape-fits : (d a : ℕ) → d ≤ 48 → a ≤ 48 → Fits w64 ((d + 1) * (a + 1))
+shape-fits d a p q = record { fits = omega (arith, mul-le-mul {n₁ = d + 1} {m₁ = a + 1} {n₂ = 49} {m₂ = 49} (omega arith) (omega arith)) }
 
-pub shape-most : (d a : ℕ) → d ≤ 48 → a ≤ 48 → (d + 1) * (a + 1) ≤ 2401
-shape-most d a p q = mul-le-mul (more d p) (more a q)
-  where
-    more : (d : ℕ) → d ≤ 48 → d + 1 ≤ 49
-    more d p = omega arith
+pub ruleset shapes = (cascade, either-hit, either-miss, shape-length, shape-fits)
 
 -- the length that B asks for, as the code has it
 pub lacks-room : (l b : ℕ) → l < b + 1 → short l (suc b) ≡ true
@@ -106,22 +111,34 @@ lacks-room l b h = lt-ltb l (suc b) (omega arith)
 pub has-room : (l b : ℕ) → b + 1 ≤ l → short l (suc b) ≡ false
 has-room l b h = le-ltb l (suc b) (omega arith)
 
--- the products of a degree in y and one in z
-pub record SmallProducts (d a e b : ℕ) : Type 0 where
-  pub of-da : d * a ≤ 2304
-  pub of-db : d * b ≤ 2304
-  pub of-ea : e * a ≤ 2304
-  pub of-eb : e * b ≤ 2304
+-- the products of a degree in y and one in z, and the sum of two
+pub one-of : (x y : ℕ) → x ≤ x + y
+one-of x y = omega arith
 
-pub small-products : {n d a e b : ℕ} {f g : List ℕ} → TwoAccepted n f d a g e b → SmallProducts d a e b
-small-products {n} {d} {a} {e} {b} t = record {
-  of-da = mul-le-mul (t .first .most-y) (t .first .most-z);
-  of-db = mul-le-mul (t .first .most-y) (t .second .most-z);
-  of-ea = mul-le-mul (t .second .most-y) (t .first .most-z);
-  of-eb = mul-le-mul (t .second .most-y) (t .second .most-z);
+pub other-of : (x y : ℕ) → y ≤ x + y
+other-of x y = omega arith
+
+module _ (n : ℕ) (f : List ℕ) (d a : ℕ) (g : List ℕ) (e b s : ℕ) (is : s ≡ first-refusal (two-sent narrow n f d a g e b)) (z : s ≡ 0)
+    (x y : ℕ) (p : x ≤ d + e) (q : y ≤ a + b) where
+  small : x * y ≤ 9216
+  small =
+      let t = accepted n f d a g e b s is z in
+      mul-le-mul {n₁ = x} {m₁ = y} {n₂ = 96} {m₂ = 96} (omega (arith, t .first, t .second)) (omega (arith, t .first, t .second))
+
+  pub product-fits : Fits w64 (x * y)
+  product-fits = record { fits = omega (arith, small) }
+
+pub sum-fits : (n : ℕ) (f : List ℕ) (d a : ℕ) (g : List ℕ) (e b s : ℕ) → s ≡ first-refusal (two-sent narrow n f d a g e b) → s ≡ 0
+    → (x y u v : ℕ) → x ≤ d + e → y ≤ a + b → u ≤ d + e → v ≤ a + b → Fits w64 (x * y + u * v)
+sum-fits n f d a g e b s is z x y u v p q r t = record {
+  fits = omega (arith, small n f d a g e b s is z x y p q, small n f d a g e b s is z u v r t);
 }
 
-module _ (n : ℕ) (f : List ℕ) (d a : ℕ) (g : List ℕ) (e b : ℕ) (out work : List ℕ) (s : ℕ)
+-- the working buffer after an answer
+pub wiped : {w w₁ w₂ : List ℕ} → Scratch w w₁ → w₂ ≡ replicate (length w₁) 0 → w₂ ≡ replicate (length w) 0
+wiped s e = e ∙ ap (λ (l : ℕ). replicate l 0) (s .same)
+
+module _ {n : ℕ} {f : List ℕ} {d a : ℕ} {g : List ℕ} {e b : ℕ} {out work : List ℕ} (s : ℕ)
     (is : s ≡ first-refusal (two-sent narrow n f d a g e b)) where
   pub refused-sent : (s ≡ 0 → ⊥) → TwoAnswer narrow n f d a g e b out out work work 0 s
   refused-sent z = record {
@@ -131,7 +148,7 @@ module _ (n : ℕ) (f : List ℕ) (d a : ℕ) (g : List ℕ) (e b : ℕ) (out wo
     work-is = left-refused s work z;
   }
 
-  module _ (z : s ≡ 0) (t : ℕ) (it : t ≡ first-refusal (two-room narrow n (degree-two d a e b) (length out) (length work))) where
+  module _ (z : s ≡ 0) {t : ℕ} (it : t ≡ first-refusal (two-room narrow n (degree-two d a e b) (length out) (length work))) where
     pub refused-room : (t ≡ 0 → ⊥) → TwoAnswer narrow n f d a g e b out out work work 0 t
     refused-room y = record {
       status-is = passed-on (two-sent narrow n f d a g e b) (two-room narrow n (degree-two d a e b) (length out) (length work)) s t is z it;
@@ -159,30 +176,9 @@ module _ (n : ℕ) (f : List ℕ) (d a : ℕ) (g : List ℕ) (e b : ℕ) (out wo
           apart = none-differences (omega (arith, p .modulus)) (r .none);
         }
 
-    -- the same for g and f
-    pub prepared-turned : t ≡ 0 → Prepared n (degree-two d a e b) g e b f d a out work
-    prepared-turned y =
-        let p = prepared y in
-        record {
-          two = p .two;
-          sizes = record {
-            most-d = p .sizes .most-e;
-            most-e = p .sizes .most-d;
-            words-f = p .sizes .words-g;
-            words-g = p .sizes .words-f;
-            working = p .sizes .working;
-          };
-          degree = turned d a e b;
-          inside = p .inside;
-          apart = p .apart;
-        }
-      where
-        turned : (d a e b : ℕ) → degree-two d a e b ≡ degree-two e b d a
-        turned d a e b = omega arith
-
-    pub done : (y : t ≡ 0) (out' work' : List ℕ) → Written (resultant-two n d a e b f g) 0 (degree-two d a e b + 1) out out'
+    pub done : (y : t ≡ 0) {out' work' : List ℕ} → Written (resultant-two n d a e b f g) 0 (degree-two d a e b + 1) out out'
         → work' ≡ replicate (length work) 0 → TwoAnswer narrow n f d a g e b out out' work work' 0 0
-    done y out' work' h k = record {
+    done y {out'} h k = record {
       status-is = passed-on (two-sent narrow n f d a g e b) (two-room narrow n (degree-two d a e b) (length out) (length work)) s 0 is z
           (sym y ∙ it);
       value-is = refl;
@@ -191,3 +187,5 @@ module _ (n : ℕ) (f : List ℕ) (d a : ℕ) (g : List ℕ) (e b : ℕ) (out wo
           (subst (λ (l : ℕ). Written (resultant-two n d a e b f g) 0 l out out') (add-one (degree-two d a e b)) h);
       work-is = k;
     }
+
+pub ruleset answers = (needs, one-of, other-of, product-fits, sum-fits, refused-sent, refused-room, prepared, done)

@@ -5,12 +5,15 @@
 //
 //   bad_shape, sent_refusal         the refusals 1, 2 and 3
 //   prime, prime_divides, room_refusal     the refusals 12, 11, 6 and 7
-//   resultant_two                   the service
+//   served, resultant_two           the answer, and the service
 ghost use mathlib.Core.Path.{_≡_};
-ghost use Prim.Native.Nat.{_<_, _≤_};
-ghost use lib.ListN.{getD};
+ghost use Prim.Native.Nat.{_+_, _<_, _≤_};
+ghost use lib.ListN.{length, getD, replicate};
+ghost use Rattle.definitions.specs.TwoVariables.{resultant-two};
 ghost use Rattle.numbers.specs.PrimeTable.{table};
 ghost use Rattle.refusals.specs.Refusals.{narrow, first-refusal};
+ghost use Rattle.windows.specs.Window.{Written};
+ghost use Rattle.two_variables.specs.PairSizes.{Prepared};
 ghost use Rattle.two_service.specs.TwoService.{bad-shape, small-factor, two-sent, two-room, TwoAnswer};
 use refusals::Answer;
 
@@ -64,10 +67,10 @@ fn sent_refusal(n: u32, f: &[u32], d: usize, a: usize, g: &[u32], e: usize, b: u
     if !refusals::all_below(n, f) {
         return 3;
     }
-    if refusals::all_below(n, g) {
-        return 0;
+    if !refusals::all_below(n, g) {
+        return 3;
     }
-    3
+    0
 }
 
 // Prime i of the table.
@@ -116,6 +119,28 @@ fn room_refusal(n: u32, last: usize, l: usize, m: usize) -> u32
     0
 }
 
+// The answer in out, and zeros in the working buffer; last is B.
+fn served(
+    out: &mut [u32],
+    work: &mut [u32],
+    n: u32,
+    f: &[u32],
+    d: usize,
+    a: usize,
+    g: &[u32],
+    e: usize,
+    b: usize,
+    last: usize,
+)
+    requires { ⌜ Prepared n last (now f) d a (now g) e b (now out) (now work) ⌝ }
+    ensures { λ _. ⌜ Written (resultant-two n d a e b (now (f .entry)) (now (g .entry))) 0 (last + 1)
+        (now (out .entry)) (now (out .exit)) ⌝ }
+    ensures { λ _. ⌜ now (work .exit) ≡ replicate (length (now (work .entry))) 0 ⌝ }
+{
+    two_variables::resultant_in_y(out, work, n, f, d, a, g, e, b, last);
+    windows::wipe(work);
+}
+
 // "The answer is the resultant in y, a polynomial in z of B + 1 words with B = e times a plus d times b."
 pub fn resultant_two(
     n: u32,
@@ -146,8 +171,7 @@ pub fn resultant_two(
             status: t,
         };
     }
-    two_variables::resultant_in_y(out, work, n, f, d, a, g, e, b, last);
-    windows::wipe(work);
+    served(out, work, n, f, d, a, g, e, b, last);
     Answer {
         value: 0,
         status: 0,

@@ -1,11 +1,11 @@
 -- A polynomial in y and z at a point, word by word, and the run's laws for the evaluated pair.
 --
 --   tail-first, tail-next, tail-last    Horner's rule, from the last coefficient down
---   group-word           group i of f at z, as the part of the words that it is
---   place-next           the next group's place
---   evaluated-loaded     all groups
---   length-evaluated, sizes-kept    sizes of the evaluated pair, and after a run
+--   Groups               group after group, with its start, turn and end
+--   part-inside, part-fits, part-scaled    the place of a group
+--   length-evaluated     the size of an evaluated polynomial
 --   run-is, run-value    what the run returns for the pair at z, as it stands in two buffers
+--   groups, evaluations  the rules
 --
 -- Letters: n is the modulus, z the point; f of degrees d in y and a in z, g of e and b; c are the words of a group; j, i are places.
 use mathlib.Core.Path.{_≡_, refl, sym, _∙_, ap, ap₂, fun-ext, subst}
@@ -14,7 +14,10 @@ use mathlib.Core.List.{List}
 use Prim.Native.Nat.{ℕ, zero, suc, pred, _+_, _-_, _*_, _^_, _%_, _<_, _≤_}
 use native.Mathlib.Nat.{mul-zero, mul-add, mul-one, mul-left-comm, pow-zero, pow-succ', zero-mod, mod-mod, mul-le-mul-right}
 use native.Mathlib.Omega.{arith}
-use lib.ListN.{length, getD, take, drop}
+use mir.Syntax.{w64}
+use mir.Val.{Fits}
+use borrow.Author.Needs.{needs}
+use lib.ListN.{length, getD, take, drop, set}
 use Rattle.definitions.specs.Polynomials.{coef, deg, total}
 use Rattle.definitions.specs.Resultants.{resultant}
 use Rattle.numbers.specs.Congruence.{c-refl, c-add, c-mul, c-mod}
@@ -23,7 +26,7 @@ use Rattle.theory.specs.ResultantLaws.{resultant-cong}
 use Rattle.theory.specs.TwoVariablesLaws.{group-value, evaluated}
 use Rattle.theory.specs.Words.{coef-tabulate, length-tabulate, total-cong}
 use Rattle.windows.specs.Window.{piece, Written, Loaded}
-use Rattle.windows.proofs.Leaf.{lt-or-le, piece-at, piece-length, written-loaded}
+use Rattle.windows.proofs.Leaf.{lt-or-le, piece-at, piece-length, written-none, written-step, written-loaded}
 use Rattle.two_variables.specs.PairSizes.{PairSizes, value-at}
 
 -- ---- one group
@@ -33,10 +36,11 @@ abbrev tail : List ℕ → ℕ → ℕ → ℕ → ℕ
 tail c z j r = total r (λ i. getD c (j + i) 0 * z ^ i)
 
 pub record Tail (n z : ℕ) (c : List ℕ) (j x : ℕ) : Type 0 where
+  pub most : j ≤ length c
   pub is : (r : ℕ) → j + r ≡ length c → x ≡ tail c z j r % n
 
 pub tail-first : (n z : ℕ) (c : List ℕ) → Tail n z c (length c) 0
-tail-first n z c = record { is = λ r h. go r (omega arith) }
+tail-first n z c = record { most = omega arith; is = λ r h. go r (omega arith) }
   where
     go : (r : ℕ) → r ≡ 0 → 0 ≡ tail c z (length c) r % n
     go zero h = sym (zero-mod n)
@@ -59,59 +63,89 @@ tail-more c z j r =
     over : (j i : ℕ) → j + suc i ≡ suc j + i
     over j i = omega arith
 
-tail-step : (n z : ℕ) (c : List ℕ) (j x y : ℕ) → Tail n z c (suc j) x → suc j ≤ length c → y ≡ (getD c j 0 + z * x) % n → Tail n z c j y
-tail-step n z c j x y h l e = record { is = go }
+tail-step : (n z : ℕ) (c : List ℕ) (j x y : ℕ) → Tail n z c (suc j) x → y ≡ (getD c j 0 + z * x) % n → Tail n z c j y
+tail-step n z c j x y h e = record { most = omega (arith, h .most); is = go }
   where
     go : (r : ℕ) → j + r ≡ length c → y ≡ tail c z j r % n
-    go zero q = absurd (omega arith)
+    go zero q = absurd (omega (arith, h .most))
     go (suc r) q =
         e ∙ ap (λ (t : ℕ). (getD c j 0 + z * t) % n) (h .is r (omega arith))
         ∙ c-add (c-refl {n = n} {a = getD c j 0}) (c-mul (c-refl {n = n} {a = z}) (c-mod {n = n} (tail c z (suc j) r))) .same
         ∙ ap (λ (t : ℕ). t % n) (sym (tail-more c z j r))
 
-pub tail-next : {n z : ℕ} {c : List ℕ} (j : ℕ) {x y : ℕ} → Tail n z c j x → 0 < j → j ≤ length c → y ≡ (getD c (j - 1) 0 + z * x) % n
+pub tail-next : {n z : ℕ} {c : List ℕ} (j : ℕ) {x y : ℕ} → Tail n z c j x → 0 < j → y ≡ (getD c (j - 1) 0 + z * x) % n
     → Tail n z c (j - 1) y
-tail-next zero h l q e = absurd (omega arith)
-tail-next {n} {z} {c} (suc j) {x} {y} h l q e =
-    subst (λ (t : ℕ). Tail n z c t y) (sym back) (tail-step n z c j x y h q (subst (λ (t : ℕ). y ≡ (getD c t 0 + z * x) % n) back e))
+tail-next zero h l e = absurd (omega arith)
+tail-next {n} {z} {c} (suc j) {x} {y} h l e =
+    subst (λ (t : ℕ). Tail n z c t y) (sym back) (tail-step n z c j x y h (subst (λ (t : ℕ). y ≡ (getD c t 0 + z * x) % n) back e))
   where
     back : suc j - 1 ≡ j
     back = omega arith
 
-pub tail-last : {n z : ℕ} {c : List ℕ} {x : ℕ} → Tail n z c 0 x → x ≡ total (length c) (λ j. getD c j 0 * z ^ j) % n
-tail-last {n} {z} {c} h =
-    h .is (length c) (plus (length c))
+pub tail-last : {n z j : ℕ} {c : List ℕ} {x : ℕ} → Tail n z c j x → j ≤ 0 → x ≡ total (length c) (λ j. getD c j 0 * z ^ j) % n
+tail-last {n} {z} {j} {c} h l =
+    h .is (length c) (omega arith)
     ∙ ap (λ (F : ℕ → ℕ). total (length c) F % n) (fun-ext (λ i. ap (λ (x : ℕ). getD c x 0 * z ^ i) (plus i)))
   where
-    plus : (i : ℕ) → 0 + i ≡ i
+    plus : (i : ℕ) → j + i ≡ i
     plus i = omega arith
+
+pub ruleset groups = (needs, tail-first, tail-next, tail-last)
 
 -- ---- all groups
 
-pub place-next : (i s a : ℕ) → s ≡ i * suc a → s + (a + 1) ≡ (i + 1) * suc a
-place-next i s a h = omega arith
+-- the words of i groups stand in the window; group i begins at s
+pub record Groups (n at d a z : ℕ) (f w₀ w : List ℕ) (i s : ℕ) : Type 0 where
+  pub most : i ≤ d + 1
+  pub place : s ≡ i * suc a
+  pub done : Written (λ (k : ℕ). coef (evaluated d a f z) k % n) at i w₀ w
 
--- the part ends within the words
-pub place-inside : {l : ℕ} (d a i s : ℕ) → l ≡ (d + 1) * (a + 1) → s ≡ i * suc a → i ≤ d → s + (a + 1) ≤ l
-place-inside d a i s h e q =
-    let m : (i + 1) * (a + 1) ≤ (d + 1) * (a + 1) = mul-le-mul-right (a + 1) (more i d q) in omega arith
-  where
-    more : (i d : ℕ) → i ≤ d → i + 1 ≤ d + 1
-    more i d q = omega arith
+pub groups-none : (n at d a z : ℕ) (f w : List ℕ) → Groups n at d a z f w w 0 0
+groups-none n at d a z f w = record { most = omega arith; place = omega arith; done = written-none _ _ _ }
 
--- the part of the words from s on, of l words
-pub group-word : (n z d a i s l : ℕ) (f : List ℕ) → s ≡ i * suc a → l ≡ a + 1 → i ≤ d → s + (a + 1) ≤ length f → (v : ℕ)
-    → v ≡ total (length (take l (drop s f))) (λ j. getD (take l (drop s f)) j 0 * z ^ j) % n → v ≡ coef (evaluated d a f z) i % n
-unfolding piece
-group-word n z d a i s l f e k q r v h =
-    h ∙ ap (λ (x : ℕ). x % n) (ap (λ (k : ℕ). total k (λ j. getD (take l (drop s f)) j 0 * z ^ j))
-    (piece-length f s l (omega arith) ∙ k ∙ more a)
-    ∙ total-cong (suc a) (λ j. getD (take l (drop s f)) j 0 * z ^ j) (λ j. coef f (i * suc a + j) * z ^ j)
-    (λ j p. ap (λ (x : ℕ). x * z ^ j) (piece-at f s l j (omega arith) ∙ ap (λ (x : ℕ). getD f (x + j) 0) e))
-    ∙ sym (coef-tabulate (suc d) (group-value a f z) i (omega arith)))
-  where
-    more : (a : ℕ) → a + 1 ≡ suc a
-    more a = omega arith
+module _ {n at d a z : ℕ} {f w₀ w : List ℕ} {i s : ℕ} (h : Groups n at d a z f w₀ w i s) (e : length f ≡ (d + 1) * (a + 1))
+    (l : i < d + 1) where
+  -- the part ends within the words
+  pub part-inside : s + (a + 1) ≤ length f
+  part-inside =
+      let m : (i + 1) * (a + 1) ≤ (d + 1) * (a + 1) = mul-le-mul-right (a + 1) (more i d l) in
+      omega (arith, h .place)
+    where
+      more : (i d : ℕ) → i < d + 1 → i + 1 ≤ d + 1
+      more i d q = omega arith
+
+  pub part-fits : length f * 4 < 2 ^ 63 → Fits w64 (s + (a + 1))
+  part-fits r = record { fits = omega (arith, part-inside) }
+
+  pub part-scaled : length f * 4 < 2 ^ 63 → Fits w64 (s * 4)
+  part-scaled r = record { fits = omega (arith, part-inside) }
+
+  -- the words of the part
+  part : ℕ → List ℕ
+  part k = take k (drop s f)
+
+  pub groups-next : {v i' s' : ℕ} {w' : List ℕ} → at + (d + 1) ≤ length w₀
+      → v ≡ total (length (take (s + (a + 1) - s) (drop s f))) (λ j. getD (take (s + (a + 1) - s) (drop s f)) j 0 * z ^ j) % n
+      → w' ≡ set w (at + i) v → i' ≡ i + 1 → s' ≡ s + (a + 1) → Groups n at d a z f w₀ w' i' s'
+  unfolding piece part
+  groups-next {v} fit ev ew ei es = rw (ew, ei, es) (record {
+    most = omega arith;
+    place = omega (arith, h .place);
+    done = written-step (h .done) (omega arith) (ev ∙ ap (λ (x : ℕ). x % n) word);
+  })
+    where
+      r : ℕ
+      r = s + (a + 1) - s
+
+      long : r ≡ suc a
+      long = omega arith
+
+      word : total (length (part r)) (λ j. getD (part r) j 0 * z ^ j) ≡ coef (evaluated d a f z) i
+      word =
+          ap (λ (k : ℕ). total k (λ j. getD (part r) j 0 * z ^ j)) (piece-length f s r (omega (arith, part-inside)) ∙ long)
+          ∙ total-cong (suc a) (λ j. getD (part r) j 0 * z ^ j) (λ j. coef f (i * suc a + j) * z ^ j)
+          (λ j p. ap (λ (x : ℕ). x * z ^ j) (piece-at f s r j (omega arith) ∙ ap (λ (x : ℕ). getD f (x + j) 0) (h .place)))
+          ∙ sym (coef-tabulate (suc d) (group-value a f z) i (omega arith))
 
 pub length-evaluated : (d a : ℕ) (f : List ℕ) (z : ℕ) → length (evaluated d a f z) ≡ d + 1
 length-evaluated d a f z = length-tabulate (suc d) (group-value a f z) ∙ more d
@@ -119,21 +153,16 @@ length-evaluated d a f z = length-tabulate (suc d) (group-value a f z) ∙ more 
     more : (d : ℕ) → suc d ≡ d + 1
     more d = omega arith
 
-pub evaluated-loaded : (n at d a z i : ℕ) (f w w' : List ℕ) → i ≡ d + 1 → Written (λ (k : ℕ). coef (evaluated d a f z) k % n) at i w w'
-    → Loaded n at (evaluated d a f z) w w'
-evaluated-loaded n at d a z i f w w' e h = written-loaded n at (evaluated d a f z) w w'
-    (subst (λ (k : ℕ). Written (λ (k : ℕ). coef (evaluated d a f z) k % n) at k w w') (e ∙ sym (length-evaluated d a f z)) h)
+pub groups-end : {n at d a z i s : ℕ} {f w₀ w : List ℕ} → Groups n at d a z f w₀ w i s → d + 1 ≤ i → Loaded n at (evaluated d a f z) w₀ w
+groups-end {n} {at} {d} {a} {z} {i} {s} {f} {w₀} {w} h l = written-loaded n at (evaluated d a f z) w₀ w
+    (subst (λ (k : ℕ). Written (λ (k : ℕ). coef (evaluated d a f z) k % n) at k w₀ w) (all ∙ sym (length-evaluated d a f z)) (h .done))
+  where
+    all : i ≡ d + 1
+    all = omega (arith, h .most)
+
+pub ruleset evaluations = (needs, groups-none, part-inside, part-fits, part-scaled, groups-next, groups-end)
 
 -- ---- the run
-
-pub sizes-kept : {f g w w' : List ℕ} {d a e b : ℕ} → length w' ≡ length w → PairSizes f d a g e b w → PairSizes f d a g e b w'
-sizes-kept h s = record {
-  most-d = s .most-d;
-  most-e = s .most-e;
-  words-f = s .words-f;
-  words-g = s .words-g;
-  working = omega (arith, h, s .working);
-}
 
 -- the run's words are pieces from 0 on
 pub run-is : (n d e r : ℕ) (p q : List ℕ) → r ≡ resultant n (take (d + 1 - 0) (drop 0 p)) (take (e + 1 - 0) (drop 0 q))

@@ -1,9 +1,10 @@
 -- From the values at 0 to B to the words of the resultant in y.
 --
---   point-fits      a point is a word
---   values-next     the values, word by word
+--   Values          the values, word by word, with their start, turn and end
+--   last-fits, sizes-kept, point-fits, value-inside    what a turn asks
 --   valued          what the interpolation asks of them
 --   in-y            the polynomial with these values is the resultant in y
+--   points, interpolations    the rules
 --
 -- Letters: n is the modulus, m is n less 1; f of degrees d in y and a in z, g of e and b; last is B, z a point.
 use mathlib.Core.Path.{_≡_, refl, sym, _∙_, ap, subst}
@@ -11,6 +12,10 @@ use mathlib.Core.List.{List}
 use Prim.Native.Nat.{ℕ, zero, suc, _+_, _-_, _*_, _%_, _^_, _<_, _≤_}
 use native.Mathlib.Nat.{mod-eq-of-lt, zero-lt-suc}
 use native.Mathlib.Omega.{arith}
+use lib.Dec.{T, leb, leb→le}
+use mir.Syntax.{w32, w64}
+use mir.Val.{Fits}
+use borrow.Author.Needs.{needs}
 use lib.ListN.{length, getD, set}
 use Rattle.definitions.specs.Polynomials.{total}
 use Rattle.definitions.specs.Residues.{IsUnit}
@@ -19,24 +24,64 @@ use Rattle.numbers.specs.Divisors.{bezout-exists}
 use Rattle.numbers.specs.PrimeTable.{differences-above}
 use Rattle.numbers.specs.Units.{cofactor-inverse, gcd-of-coprime, coprime-of-unit}
 use Rattle.theory.specs.TwoVariablesLaws.{evaluated, two-fixed}
-use Rattle.windows.specs.Window.{Written}
-use Rattle.windows.proofs.Leaf.{written-step}
+use Rattle.windows.specs.Window.{Written, Scratch}
+use Rattle.windows.proofs.Leaf.{written-none, written-step}
 use Rattle.resultant_turns.specs.Degrees.{resultant-lt}
 use Rattle.interpolation.specs.Interpolated.{Valued, Interpolated}
-use Rattle.two_variables.specs.PairSizes.{Prepared, value-at}
+use Rattle.two_variables.specs.PairSizes.{PairSizes, Prepared, value-at}
 
--- a word more, from the front
-pub values-next : {F : ℕ → ℕ} {w₀ w : List ℕ} {v : ℕ} (i : ℕ) → Written F 0 i w₀ w → i < length w₀ → v ≡ F i → Written F 0 (i + 1) w₀ (set w i v)
-values-next {F} {w₀} {w} {v} i h l e =
-    subst (λ (k : ℕ). Written F 0 (i + 1) w₀ (set w k v)) (plus i) (written-step h (subst (λ (k : ℕ). k < length w₀) (sym (plus i)) l) e)
-  where
-    plus : (k : ℕ) → 0 + k ≡ k
-    plus k = omega arith
+-- the values at the first z points
+pub record Values (n last : ℕ) (f : List ℕ) (d a : ℕ) (g : List ℕ) (e b : ℕ) (out₀ w₀ out w : List ℕ) (z : ℕ) : Type 0 where
+  pub most : z ≤ last + 1
+  pub same : length w ≡ length w₀
+  pub done : Written (value-at n f d a g e b) 0 z out₀ out
+
+pub values-none : (n last : ℕ) (f : List ℕ) (d a : ℕ) (g : List ℕ) (e b : ℕ) (out w : List ℕ) → Values n last f d a g e b out w out w 0
+values-none n last f d a g e b out w = record { most = omega arith; same = refl; done = written-none _ _ _ }
+
+module _ {n last d a e b z : ℕ} {f g out₀ w₀ out w : List ℕ} (p : Prepared n last f d a g e b out₀ w₀)
+    (h : Values n last f d a g e b out₀ w₀ out w z) where
+  pub last-fits : length out * 4 < 2 ^ 63 → Fits w64 (last + 1)
+  last-fits r = record { fits = omega (arith, p .inside, h .done .same) }
+
+  pub sizes-kept : PairSizes f d a g e b w
+  sizes-kept = record {
+    most-d = p .sizes .most-d;
+    most-e = p .sizes .most-e;
+    words-f = p .sizes .words-f;
+    words-g = p .sizes .words-g;
+    working = omega (arith, h .same, p .sizes .working);
+  }
+
+  -- the points up to B + 1 are words
+  pub point-fits : (j : ℕ) → z < last + j → T (leb j 2) → Fits w32 n → Fits w32 z
+  point-fits j l t r = record { fits = omega (arith, r .fits, leb→le j 2 t, differences-above (p .two) (p .apart)) }
+
+  module _ (l : z < last + 1) where
+    pub value-inside : z < length out
+    value-inside = omega (arith, p .inside, h .done .same)
+
+    pub values-next : {v z' : ℕ} {out' w' : List ℕ} → v ≡ value-at n f d a g e b z → Scratch w w' → out' ≡ set out z v → z' ≡ z + 1
+        → Values n last f d a g e b out₀ w₀ out' w' z'
+    values-next {v} {z'} {out'} {w'} ev s eo ez = record {
+      most = omega arith;
+      same = s .same ∙ h .same;
+      done = subst (λ (k : ℕ). Written (value-at n f d a g e b) 0 k out₀ out') (sym ez)
+          (subst (Written (value-at n f d a g e b) 0 (z + 1) out₀) (ap (λ (k : ℕ). set out k v) plus ∙ sym eo)
+          (written-step (h .done) (omega (arith, p .inside)) ev));
+    }
+      where
+        plus : 0 + z ≡ z
+        plus = omega arith
+
+module _ {n last d a e b z : ℕ} {f g out₀ w₀ out w : List ℕ} (h : Values n last f d a g e b out₀ w₀ out w z) where
+  pub values-end : last + 1 ≤ z → Written (value-at n f d a g e b) 0 (last + 1) out₀ out
+  values-end l = let e : z ≡ last + 1 = omega (arith, h .most) in rw e at (h .done)
+
+  pub values-scratch : Scratch w₀ w
+  values-scratch = record { same = h .same }
 
 module _ {n last d a e b : ℕ} {f g out w : List ℕ} (p : Prepared n last f d a g e b out w) where
-  pub point-fits : (z t : ℕ) → n < t → z ≤ last + 1 → z < t
-  point-fits z t l q = let h = differences-above (p .two) (p .apart) in omega arith
-
   module _ {out₁ : List ℕ} (v : Written (value-at n f d a g e b) 0 (last + 1) out out₁) where
     word : (k : ℕ) → k ≤ last → getD out₁ k 0 ≡ value-at n f d a g e b k
     word k l = ap (λ (x : ℕ). getD out₁ x 0) (sym (plus k)) ∙ v .mid k (omega arith)
@@ -89,3 +134,7 @@ module _ {n last d a e b : ℕ} {f g out w : List ℕ} (p : Prepared n last f d 
         where
           plus : (k : ℕ) → 0 + k ≡ k
           plus k = omega arith
+
+pub ruleset points = (needs, values-none, last-fits, sizes-kept, point-fits, value-inside, values-next, values-end, values-scratch)
+
+pub ruleset interpolations = (valued, in-y)

@@ -2,6 +2,7 @@
 --
 --   Reduced n k i x f g                      that, with the places that are left
 --   reduced-start, reduced-step, reduced-end    at the start, a term more, and at the end
+--   terms                                    the rules
 use mathlib.Core.Path.{_≡_, sym, ap, _∙_}
 use mathlib.Core.List.{List}
 use Prim.Native.Nat.{ℕ, min, _+_, _-_, _*_, _%_, _<_, _≤_}
@@ -13,7 +14,7 @@ use Rattle.definitions.specs.Polynomials.{coef, total, convolve}
 use Rattle.numbers.specs.Congruence.{Cong, c-refl, c-trans, c-eq, c-add, c-mod}
 use Rattle.convolution.specs.Carries.{wide}
 use Rattle.convolution.specs.Sums.{total-last}
-use Rattle.convolution.proofs.Terms.{Summed, summed-start, rest}
+use Rattle.convolution.proofs.Terms.{Summed, summed-start, rest, products}
 
 pub record Reduced (n k i x : ℕ) (f g : List ℕ) : Type 0 where
   pub most : i ≤ k + 1
@@ -25,21 +26,25 @@ nothing : {k i : ℕ} {f g : List ℕ} → Summed k i 0 0 f g → 0 ≡ total i 
 unfolding wide
 nothing s = s .sum
 
-pub reduced-start : (n k i : ℕ) (f g : List ℕ) → 1 ≤ n → 1 ≤ length g → i ≡ k + 1 - length g → Reduced n k i 0 f g
-reduced-start n k i f g l one e =
-    let s = summed-start k i f g one e in record { most = s .most; least = s .least; small = l; sum = c-eq (nothing s) }
+pub reduced-start : {n k i : ℕ} {f g : List ℕ} → i ≡ k + 1 - length g → (length g ≡ 0 → ⊥) → 1 ≤ n → Reduced n k i 0 f g
+reduced-start {n} {k} {i} {f} {g} e ne l = let s : Summed k i 0 0 f g = summed-start e ne in
+    record { most = s .most; least = s .least; small = l; sum = c-eq (nothing s) }
 
-pub reduced-step : {n k i x x' : ℕ} {f g : List ℕ} → 1 ≤ n → i < k + 1 → x' ≡ (x + coef f i * coef g (k - i)) % n → Reduced n k i x f g
-    → Reduced n k (i + 1) x' f g
-reduced-step {n} {k} {i} {x} {x'} {f} {g} one l e s =
+pub reduced-step : {n k i x x' i' l : ℕ} {f g : List ℕ} → Reduced n k i x f g → x' ≡ (x + coef f i * coef g (k - i)) % n
+    → l ≡ min (k + 1) (length f) → i < l → i' ≡ i + 1 → Reduced n k i' x' f g
+reduced-step {n} {k} {i} {x} {f = f} {g = g} s e el b ei =
     let F : ℕ → ℕ = λ (j : ℕ). coef f j * coef g (k - j) in
-    record {
+    rw ei (record {
       most = omega arith;
       least = omega (arith, s .least);
-      small = rw e (mod-lt (x + F i) one);
+      small = rw e (mod-lt (x + F i) (omega (arith, s .small)));
       sum = c-trans (c-eq e) (c-trans (c-mod (x + F i)) (c-trans (c-add (s .sum) (c-refl {a = F i}))
           (c-eq (sym (ap (λ (j : ℕ). total j F) (add-one i) ∙ total-last i F)))));
-    }
+    })
 
-pub reduced-end : {n k i x : ℕ} {f g : List ℕ} → min (k + 1) (length f) ≤ i → Reduced n k i x f g → x ≡ convolve (coef f) (coef g) k % n
-reduced-end {n} {k} {i} {x} {f} {g} b s = sym (mod-eq-of-lt (s .small)) ∙ s .sum .same ∙ ap (λ (z : ℕ). z % n) (sym (rest k i f g (s .most) b))
+pub reduced-end : {n k i x l : ℕ} {f g : List ℕ} → Reduced n k i x f g → l ≡ min (k + 1) (length f) → l ≤ i
+    → x ≡ convolve (coef f) (coef g) k % n
+reduced-end {n} {k} {i} {f = f} {g = g} s el b =
+    sym (mod-eq-of-lt (s .small)) ∙ s .sum .same ∙ ap (λ (z : ℕ). z % n) (sym (rest k i f g (s .most) (omega arith)))
+
+pub ruleset terms = (products, reduced-start, reduced-step, reduced-end)

@@ -1,51 +1,49 @@
-// The quick attempt at the reduced resultant in words of 64 bits. The 32-bit twin `reduced_quick` has the description and the laws; here
-// Euclid works by rows, and words are as they are.
+// The quick attempt at the reduced resultant in words of 64 bits. The 32-bit twin `reduced_quick` has the description, the laws and the
+// rules of the proofs; here every word stands for itself.
 //
-//   put        a number times the words of a window, in a lent buffer, with zeros above
+//   m          the modulus, found once
+//
+//   settle     the cofactors of 1, if the constant is a unit
 //   ordered    the quick attempt where f is not the longer of the two
+//   quick      the quick attempt
 //   attempt    both attempts, the quick one first
-ghost use Prim.Native.Nat.{_+_, _≤_};
+ghost use Prim.Native.Nat.{_≤_};
 ghost use lib.ListN.{length};
 ghost use Rattle.windows.specs.Window.{Scratch};
 ghost use Rattle.wide_reduction.specs.Moduli.{Ready};
+ghost use Rattle.wide_modulus.specs.Plain.{plain};
+ghost use Rattle.wide_euclid_steps.specs.Stages.{ending-of};
+ghost use Rattle.wide_multiplier_words.specs.Words.{HandAsked};
 ghost use Rattle.wide_reduced_attempt.specs.Attempts.{AttemptAsked, Attempted};
-ghost use Rattle.multiplier_words.specs.Words.{Put};
-ghost use Rattle.reduced_quick.specs.Quick.{QuickAsked, Tried};
+ghost use Rattle.reduced_quick.specs.Quick.{QuickAsked, Settled, Tried};
+use wide_euclid_steps::Ending;
 use wide_reduction::Reciprocal;
 use wide_residue::Attempt;
 
-// u[j] = c * w[at + j], for j < len, and 0 above.
-fn put(u: &mut [u64], w: &[u64], m: Reciprocal, c: u64, at: usize, len: usize)
-    requires { ⌜ Ready m ⌝ }
-    requires { ⌜ (at + len ≤ length (now w)) × (len ≤ length (now u)) ⌝ }
-    ensures { λ _. ⌜ Put (m .n) c at len (now (w .entry)) (now (u .entry)) (now (u .exit)) ⌝ }
+// A last constant that is a unit gives the cofactors of 1 by one inverse: true, and they are in u and v. Otherwise false, and u and v are
+// as found. r is where Euclid ended, h the number of words of a multiplier.
+fn settle(u: &mut [u64], v: &mut [u64], w: &[u64], m: Reciprocal, r: Ending, h: usize) -> bool
+    requires { ⌜ HandAsked m r h h (now w) (now u) (now v) ⌝ }
+    ensures { λ x. ⌜ Settled (plain m) (ending-of r) h (now (w .entry)) (now (u .entry)) (now (v .entry)) (now (u .exit))
+        (now (v .exit)) x ⌝ }
 {
-    wide_windows::wipe(u);
-    let mut j: usize = 0;
-    while j < len {
-        u[j] = wide_reduction::product(m, c, w[at + j]);
-        j += 1;
-    }
-}
-
-// A last constant that is a unit gives D = 1 and the cofactors by one inverse: true, and u and v are the cofactors. Otherwise false, and
-// u and v are as found.
-fn ordered(u: &mut [u64], v: &mut [u64], w: &mut [u64], n: u64, f: &[u64], g: &[u64]) -> bool
-    requires { ⌜ (QuickAsked n (now f) (now g) (now u) (now v) (now w)) × (length (now f) ≤ length (now g)) ⌝ }
-    ensures { λ r. ⌜ Tried n (now (f .entry)) (now (g .entry)) (now (u .entry)) (now (v .entry)) (now (u .exit)) (now (v .exit)) r ⌝ }
-    ensures { λ _. ⌜ Scratch (now (w .entry)) (now (w .exit)) ⌝ }
-{
-    let x = wide_cofactor_euclid::multipliers(w, n, f, g);
-    let a = x.a;
-    let i = wide_bezout::cofactor(n, w[a]);
+    let c = wide_modulus::leave(m, r.c);
+    let i = wide_bezout::cofactor(m.n, c);
     if i.g != 1 {
         return false;
     }
-    let m = wide_reduction::modulus_of(n);
-    let h = g.len();
-    put(u, w, m, i.s, a + h, h);
-    put(v, w, m, i.s, a + (h + h), h);
+    wide_multiplier_words::hand_out(u, v, w, m, r, i.s, h, h);
     true
+}
+
+// D = 1 with its cofactors, or false, where f is not the longer.
+fn ordered(u: &mut [u64], v: &mut [u64], w: &mut [u64], m: Reciprocal, f: &[u64], g: &[u64]) -> bool
+    requires { ⌜ (Ready m) × ((QuickAsked (m .n) (now f) (now g) (now u) (now v) (now w)) × (length (now f) ≤ length (now g))) ⌝ }
+    ensures { λ r. ⌜ Tried (m .n) (now (f .entry)) (now (g .entry)) (now (u .entry)) (now (v .entry)) (now (u .exit)) (now (v .exit)) r ⌝ }
+    ensures { λ _. ⌜ Scratch (now (w .entry)) (now (w .exit)) ⌝ }
+{
+    let r = wide_euclid_multipliers::multipliers(w, m, f, g);
+    settle(u, v, w, m, r, g.len())
 }
 
 // The same for polynomials in any order.
@@ -54,10 +52,11 @@ fn quick(u: &mut [u64], v: &mut [u64], w: &mut [u64], n: u64, f: &[u64], g: &[u6
     ensures { λ r. ⌜ Tried n (now (f .entry)) (now (g .entry)) (now (u .entry)) (now (v .entry)) (now (u .exit)) (now (v .exit)) r ⌝ }
     ensures { λ _. ⌜ Scratch (now (w .entry)) (now (w .exit)) ⌝ }
 {
+    let m = wide_reduction::modulus_of(n);
     if f.len() <= g.len() {
-        return ordered(u, v, w, n, f, g);
+        return ordered(u, v, w, m, f, g);
     }
-    ordered(v, u, w, n, g, f)
+    ordered(v, u, w, m, g, f)
 }
 
 // The reduced resultant of f and g with its cofactors, or n as a product of two coprime factors: quick, otherwise by the general attempt.

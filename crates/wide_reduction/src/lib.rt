@@ -2,7 +2,8 @@
 // services answer for n below 2^63 alone, and only there the reciprocal is used; for larger n a product is made by doubling, so that no
 // function above this crate has to ask how large n is.
 //
-//   Reciprocal, modulus_of     n, and for n below 2^63 the two digits v1, v0 of 2^128 / n and r, which is 2^64 less v1 n
+//   Reciprocal, modulus_of     n, and for n below 2^63 the two digits v1, v0 of 2^128 / n and r, which is 2^64 less v1 n; for odd n what
+//                           `wide_montgomery` needs of it as well
 //   residue, sum            x modulo n; a + b modulo n, of residues
 //   multiplier              what a factor c that is used often comes with: its fraction of n
 //   scaled                  c y modulo n, with c's fraction
@@ -15,15 +16,18 @@
 ghost use mathlib.Core.Path.{_≡_};
 ghost use Prim.Native.Nat.{_+_, _-_, _*_, _/_, _%_, _^_, _<_, _≤_};
 ghost use Rattle.words.specs.Fractions.{Fraction};
-ghost use Rattle.wide_words.specs.Reciprocals.{Halved};
+ghost use Rattle.wide_words.specs.Reciprocals.{Digit, Less};
 ghost use Rattle.wide_reduction.specs.Moduli.{Ready};
 
-// What is found once for a modulus n: `Ready` says that v1, v0 and r belong to it.
+// What is found once for a modulus n: `Ready` says that v1, v0 and r belong to it, and that k is 0, or n is odd and below 2^63, k its
+// inverse modulo 2^64 and s 2^128 modulo n.
 pub struct Reciprocal {
     pub n: u64,
     pub r: u64,
     pub v1: u64,
     pub v0: u64,
+    pub k: u64,
+    pub s: u64,
 }
 
 // A quotient and what is left.
@@ -32,51 +36,42 @@ struct Parts {
     x: u64,
 }
 
-// The lower half of a b, a function of its own as `reduction::high` is: the back end makes one multiplication of it.
-fn low(a: u64, b: u64) -> u64
-    ensures { λ r. ⌜ r ≡ (a * b) % 2 ^ 64 ⌝ }
+// a + c, less n where something stays left.
+fn less(n: u64, q: u64, a: u64, c: u64) -> Parts
+    requires { ⌜ (q < 2 ^ 63) × ((c ≤ n) × (a + c ≤ n + n)) ⌝ }
+    ensures { λ r. ⌜ Less n q (a + c) (r .q) (r .x) ⌝ }
 {
-    let a0 = a % 4294967296;
-    let a1 = a / 4294967296;
-    let b0 = b % 4294967296;
-    let b1 = b / 4294967296;
-    let s = (a1 * b0) % 4294967296 + (a0 * b1) % 4294967296;
-    std::num::wrapping_add_u64(a0 * b0, s % 4294967296 * 4294967296)
+    let b = n - c;
+    if a <= b {
+        return Parts { q, x: a + c };
+    }
+    Parts { q: q + 1, x: a - b }
 }
 
-// One binary digit more of a quotient by n: what is left is doubled, and n is taken off where something stays left.
-fn halve(n: u64, q: u64, x: u64) -> Parts
-    requires { ⌜ (1 ≤ x) × ((x ≤ n) × ((n < 2 ^ 63) × (q < 2 ^ 63))) ⌝ }
-    ensures { λ r. ⌜ Halved n q x (r .q) (r .x) ⌝ }
+// One digit of a quotient by n in the base 2^32, by the upper half of n and one more: q is at most two too small, and a + c is left.
+fn digit(n: u64, x: u64) -> Parts
+    requires { ⌜ (2 ^ 63 ≤ n) × ((1 ≤ x) × (x ≤ n)) ⌝ }
+    ensures { λ r. ⌜ Digit 4294967296 n x (r .q) (r .x) ⌝ }
 {
-    let y = x + x;
-    if y <= n {
-        return Parts { q: q + q, x: y };
-    }
-    Parts {
-        q: q + q + 1,
-        x: y - n,
-    }
+    let h = n / 4294967296 + 1;
+    let q = x / h;
+    let a = x % h * 4294967296;
+    let c = q * (4294967296 - n % 4294967296);
+    let p = less(n, q, c, 0);
+    less(n, p.q, a, p.x)
 }
 
-// r 2^64 / n, rounded so that something is left.
-fn fraction(n: u64, r: u64) -> u64
-    requires { ⌜ (1 ≤ r) × ((r ≤ n) × (n < 2 ^ 63)) ⌝ }
-    ensures { λ q. ⌜ (q * n < r * 2 ^ 64) × (r * 2 ^ 64 ≤ q * n + n) ⌝ }
+// x 2^64 / n, rounded so that something is left, for n of 2^63 and more: two digits in the base 2^32.
+fn fraction(n: u64, x: u64) -> u64
+    requires { ⌜ (2 ^ 63 ≤ n) × ((1 ≤ x) × (x ≤ n)) ⌝ }
+    ensures { λ q. ⌜ (q * n < x * 2 ^ 64) × (x * 2 ^ 64 ≤ q * n + n) ⌝ }
 {
-    let mut q: u64 = 0;
-    let mut x = r;
-    let mut k: u64 = 0;
-    while k < 64 {
-        let p = halve(n, q, x);
-        q = p.q;
-        x = p.x;
-        k += 1;
-    }
-    q
+    let p = digit(n, x);
+    let r = digit(n, p.x);
+    p.q * 4294967296 + r.q
 }
 
-// n with its reciprocal.
+// n with its reciprocal. The fraction of n is that of v1 n, which is 2^63 or more. What the second digit leaves is 2^128 modulo n.
 pub fn modulus_of(n: u64) -> Reciprocal
     requires { ⌜ 1 ≤ n ⌝ }
     ensures { λ m. ⌜ (Ready m) × (m .n ≡ n) ⌝ }
@@ -87,15 +82,21 @@ pub fn modulus_of(n: u64) -> Reciprocal
             r: 0,
             v1: 0,
             v0: 0,
+            k: 0,
+            s: 0,
         };
     }
     let v1 = 18446744073709551615 / n;
     let r = 18446744073709551615 % n + 1;
+    let v0 = fraction(v1 * n, v1 * r);
+    let k = wide_montgomery::inverse_of(n);
     Reciprocal {
         n,
         r,
         v1,
-        v0: fraction(n, r),
+        v0,
+        k,
+        s: std::num::wrapping_sub_u64(0, wide_montgomery::low(v0, n)),
     }
 }
 
@@ -105,20 +106,19 @@ pub fn multiplier(m: Reciprocal, c: u64) -> u64
     ensures { λ w. ⌜ Fraction (2 ^ 64) (m .n) c w ⌝ }
 {
     let w = c * m.v1 + reduction::high(c, m.v0);
-    let p = std::num::wrapping_sub_u64(0, low(w, m.n));
+    let p = std::num::wrapping_sub_u64(0, wide_montgomery::low(w, m.n));
     if p <= m.n {
         return w;
     }
     w + 1
 }
 
-// s modulo n, for s below 2 n: by the sign of s - n, since a comparison would become a branch.
+// s modulo n, for s below 2 n.
 fn fold(n: u64, s: u64) -> u64
     requires { ⌜ (n < 2 ^ 63) × (s < n + n) ⌝ }
     ensures { λ r. ⌜ r ≡ s % n ⌝ }
 {
-    let y = std::num::wrapping_sub_u64(s, n);
-    std::num::wrapping_add_u64(y, y / 9223372036854775808 * n)
+    wide_montgomery::minus(n, s, n)
 }
 
 // c y, where w is c's fraction of n.
@@ -127,7 +127,10 @@ pub fn scaled(m: Reciprocal, c: u64, w: u64, y: u64) -> u64
     ensures { λ r. ⌜ r ≡ (c * y) % m .n ⌝ }
 {
     let q = reduction::high(w, y);
-    fold(m.n, std::num::wrapping_sub_u64(low(c, y), low(q, m.n)))
+    fold(
+        m.n,
+        std::num::wrapping_sub_u64(wide_montgomery::low(c, y), wide_montgomery::low(q, m.n)),
+    )
 }
 
 // x modulo n; a residue costs no division.
@@ -187,7 +190,7 @@ pub fn product(m: Reciprocal, a: u64, b: u64) -> u64
     if m.n >= 9223372036854775808 {
         return doubled(m.n, a, b);
     }
-    reduce_wide(m, reduction::high(a, b), low(a, b))
+    reduce_wide(m, reduction::high(a, b), wide_montgomery::low(a, b))
 }
 
 // x + a b modulo n.

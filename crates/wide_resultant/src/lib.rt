@@ -15,11 +15,11 @@ ghost use Prim.Native.Nat.{_≤_};
 ghost use lib.ListN.{length};
 ghost use Rattle.definitions.specs.Resultants.{resultant};
 ghost use Rattle.windows.specs.Window.{Scratch};
-ghost use Rattle.wide_resultant_pseudo.specs.Standing.{TriedAnswer};
+ghost use Rattle.wide_euclid_steps.specs.Stages.{TriedAnswer};
 ghost use Rattle.wide_resultant_steps.specs.AttemptAnswers.{ValueOrSplit};
 ghost use Rattle.resultant.specs.Sizes.{RunSizes};
+use wide_euclid_steps::Tried;
 use wide_residue::Attempt;
-use wide_resultant_pseudo::Tried;
 
 // f and g are loaded modulo n, f first.
 fn general(w: &mut [u64], n: u64, f: &[u64], g: &[u64]) -> Attempt
@@ -40,9 +40,10 @@ fn tried(w: &mut [u64], n: u64, f: &[u64], g: &[u64]) -> Tried
 {
     let l = f.len();
     let m = g.len();
-    wide_windows::load(w, 0, f, n);
-    wide_windows::load(w, l, g, n);
-    wide_resultant_pseudo::attempt(w, n, 0, l - 1, l, m - 1)
+    let r = wide_reduction::modulus_of(n);
+    wide_modulus_windows::load(w, 0, f, r);
+    wide_modulus_windows::load(w, l, g, r);
+    wide_resultant_euclid::attempt(w, r, 0, l - 1, l, m - 1)
 }
 
 // Some leading word is no unit, and x is their product: it splits n, or the general attempt goes on from the sent words.

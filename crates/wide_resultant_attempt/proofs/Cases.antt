@@ -1,40 +1,27 @@
--- The answers of the two enums of this width, taken apart by the arm that the code is in.
+-- The rules of the 32-bit twin, with the arms of the enums of this width.
 --
---   unit-at, degree-at, splits-at, nilpotents-at    of the highest coefficient that is not nilpotent
---   value-at, split-at                   of an attempt
---   attempts                             the rules
+--   unit-at, degree-at    of the highest coefficient that is not nilpotent, where a premise leaves its place open
+--   attempts, products    the rules
 use mathlib.Core.Path.{_≡_, subst}
 use mathlib.Core.List.{List}
 use Prim.Native.Nat.{ℕ, _<_}
-use Rattle.wide_residue.specs.declared.Attempt.{Attempt}
-use Rattle.wide_residue.specs.declared.Attempt.the-variants.{Value, Splits}
+use Rattle.wide_residue.proofs.Cases.{readings}
 use Rattle.wide_window_factor.specs.declared.Highest.{Highest}
-use Rattle.wide_window_factor.specs.declared.Highest.the-variants.{UnitAt as UnitAt', Splits as SplitsAt, AllNilpotent}
-use Rattle.wide_window_factor.specs.Factors.{HighestOf, LeadingUnit, AllNilpotents}
-use Rattle.wide_resultant_steps.specs.AttemptAnswers.{ValueOrSplit}
-use Rattle.resultant_attempt.proofs.Rules.{attempt, first-of, lead-below-degree}
+use Rattle.wide_window_factor.specs.declared.Highest.the-variants.{UnitAt as UnitAt'}
+use Rattle.wide_window_factor.specs.Factors.{HighestOf, LeadingUnit}
+use Rattle.wide_window_factor.proofs.Cases.{highest}
+use Rattle.resultant_steps.proofs.Contents.{first-of}
 use Rattle.resultant_attempt.specs.Stages.{Stacked}
+use Rattle.resultant_attempt.proofs.Rules.{lead-below-degree}
+use Rattle.resultant_attempt.proofs.Cases as narrow
 
-module _ (n : ℕ) (f : List ℕ) (h : Highest) (p : HighestOf n f h) where
-  pub unit-at : (t i : ℕ) → h ≡ UnitAt' t i → LeadingUnit n t i f
-  unit-at t i e = subst (HighestOf n f) e p
-
-  pub splits-at : (x a b : ℕ) → h ≡ SplitsAt a b → ValueOrSplit n x (Splits a b)
-  splits-at x a b e = subst (HighestOf n f) e p
-
-  pub nilpotents-at : h ≡ AllNilpotent → AllNilpotents n f
-  nilpotents-at e = subst (HighestOf n f) e p
+pub unit-at : (n : ℕ) (f : List ℕ) (h : Highest) → HighestOf n f h → (t i : ℕ) → h ≡ UnitAt' t i → LeadingUnit n t i f
+unit-at n f h p t i e = subst (HighestOf n f) e p
 
 pub degree-at : {n d e t i : ℕ} {w : List ℕ} (h : Highest) → Stacked n d e w → HighestOf n (first-of d e w) h → h ≡ UnitAt' t i
-    → (t ≡ d → ⊥)
-    → t < d
+    → (t ≡ d → ⊥) → t < d
 degree-at {n} {d} {e} {t} {i} h st p q ne = lead-below-degree st (unit-at n _ h p t i q) ne
 
-module _ (n x : ℕ) (r : Attempt) (p : ValueOrSplit n x r) where
-  pub value-at : (y : ℕ) → r ≡ Value y → ValueOrSplit n x (Value y)
-  value-at y e = subst (ValueOrSplit n x) e p
+pub ruleset attempts = (unit-at, degree-at, narrow.attempts, highest, readings)
 
-  pub split-at : (z a b : ℕ) → r ≡ Splits a b → ValueOrSplit n z (Splits a b)
-  split-at z a b e = subst (ValueOrSplit n x) e p
-
-pub ruleset attempts = (attempt, unit-at, degree-at, splits-at, nilpotents-at, value-at, split-at)
+pub ruleset products = (narrow.products, readings)

@@ -1,40 +1,27 @@
--- The answers of the two enums of this width, taken apart by the arm that the code is in.
+-- The answers of the two enums of this width in the arm that the code is in, read as those of words of 32 bits: with these rules beside
+-- them, the rules of `window_factor` serve.
 --
---   unit-kind, splits-kind, nilpotent-kind    of the kind of a residue
---   unit-at, splits-at, nilpotents-at         of the highest coefficient that is not nilpotent
---   kinds, highest                            the rules
-use mathlib.Core.Path.{_≡_, subst}
-use mathlib.Core.List.{List}
+--   unit-at-read, splits-at-read, nilpotents-read    of the highest coefficient that is not nilpotent
+--   kinds, highest                                   the rules
+use mathlib.Core.Path.{_≡_, ap}
 use Prim.Native.Nat.{ℕ}
-use Rattle.definitions.specs.Residues.{Inverse, IsNilpotent}
-use Rattle.wide_residue.specs.declared.Kind.{Kind}
-use Rattle.wide_residue.specs.declared.Kind.the-variants.{Unit as Unit', Nilpotent, Splits as Splits'}
-use Rattle.wide_residue.specs.Kinds.{KindOf}
+use Rattle.wide_residue.proofs.Cases.{readings}
+use Rattle.window_factor.specs.declared.Highest.the-variants.{UnitAt as NarrowUnitAt, Splits as NarrowSplits}
+use Rattle.window_factor.specs.declared.Highest.the-variants.{AllNilpotent as NarrowNilpotent}
+use Rattle.window_factor.proofs.Cases as narrow
 use Rattle.wide_window_factor.specs.declared.Highest.{Highest}
-use Rattle.wide_window_factor.specs.declared.Highest.the-variants.{UnitAt as UnitAt', Splits as SplitsAt, AllNilpotent}
-use Rattle.wide_window_factor.specs.Factors.{HighestOf, LeadingUnit, SplitOf, AllNilpotents}
-use Rattle.window_factor.proofs.Leads.{leads, split-of}
+use Rattle.wide_window_factor.specs.declared.Highest.the-variants.{UnitAt as UnitAt', Splits, AllNilpotent}
+use Rattle.wide_window_factor.specs.Readings.{highest-of}
 
-module _ (n a : ℕ) (r : Kind) (p : KindOf n a r) where
-  pub unit-kind : (i : ℕ) → r ≡ Unit' i → Inverse n a i
-  unit-kind i e = subst (KindOf n a) e p
+pub unit-at-read : {h : Highest} {t i : ℕ} → h ≡ UnitAt' t i → highest-of h ≡ NarrowUnitAt t i
+unit-at-read e = ap highest-of e
 
-  pub splits-kind : (x y : ℕ) → r ≡ Splits' x y → SplitOf n x y
-  splits-kind x y e = split-of (subst (KindOf n a) e p)
+pub splits-at-read : {h : Highest} {p q : ℕ} → h ≡ Splits p q → highest-of h ≡ NarrowSplits p q
+splits-at-read e = ap highest-of e
 
-  pub nilpotent-kind : r ≡ Nilpotent → IsNilpotent n a
-  nilpotent-kind e = subst (KindOf n a) e p
+pub nilpotents-read : {h : Highest} → h ≡ AllNilpotent → highest-of h ≡ NarrowNilpotent
+nilpotents-read e = ap highest-of e
 
-module _ (n : ℕ) (f : List ℕ) (h : Highest) (p : HighestOf n f h) where
-  pub unit-at : (t i : ℕ) → h ≡ UnitAt' t i → LeadingUnit n t i f
-  unit-at t i e = subst (HighestOf n f) e p
+pub ruleset kinds = (narrow.kinds, readings)
 
-  pub splits-at : (x y : ℕ) → h ≡ SplitsAt x y → SplitOf n x y
-  splits-at x y e = subst (HighestOf n f) e p
-
-  pub nilpotents-at : h ≡ AllNilpotent → AllNilpotents n f
-  nilpotents-at e = subst (HighestOf n f) e p
-
-pub ruleset kinds = (leads, unit-kind, splits-kind, nilpotent-kind)
-
-pub ruleset highest = (unit-at, splits-at, nilpotents-at)
+pub ruleset highest = (narrow.highest, unit-at-read, splits-at-read, nilpotents-read)

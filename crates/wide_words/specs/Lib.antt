@@ -1,3 +1,4 @@
 pub mod Halves
 pub mod Reciprocals
 pub mod Doubling
+pub mod Montgomery

@@ -6,19 +6,23 @@
 --   fold-none, fold-once       s below 2 n modulo n
 --   sum-less, sum-is           the sum of two residues
 --   factor-residue, times-residue     a factor may be reduced first
---   Halved, Dividing           one binary digit more of a quotient, and k of them
+--   Digit, digits-…            a digit of a quotient in the base b, and two of them
+--   Less                       n taken off once, where something stays left
+--   digit-…                    a digit in the base 2^32 by the upper half of n, for n of 2^63 and more
+--   multiple-…, reciprocal-is    the fraction of n is that of n v₁, which is at least half of the base
 --   IsReciprocal B n r v₁ v₀   B² / n, rounded so that something is left, has the digits v₁ and v₀; r is B less v₁ n
+--   square-is                  what the second digit leaves is B² modulo n
 --   two-words                  two words are a sum of two words modulo n
 --   multiplier-…               the fraction of a factor, from the reciprocal
-use mathlib.Core.Path.{_≡_, sym, ap, ap₂, _∙_}
+use mathlib.Core.Path.{_≡_, refl, sym, ap, ap₂, _∙_}
 use Prim.Native.Nat.{ℕ, _+_, _-_, _*_, _/_, _%_, _^_, _<_, _≤_}
-use native.Mathlib.Nat.{mul-le-mul-left, mul-le-mul-right, le-of-mul-le-mul-right, lt-of-mul-lt-mul-right, mul-le-mul, pow-suc}
+use native.Mathlib.Nat.{mul-le-mul-left, mul-le-mul-right, le-of-mul-le-mul-right, lt-of-mul-lt-mul-right, mul-le-mul}
 use native.Mathlib.Nat.{add-mul-mod-self-right, mul-mod-left, add-mod, add-mod-mod, mod-lt, mod-eq-of-lt, div-mul-le-self}
 use native.Mathlib.Nat.{lt-div-mul-add, div-add-mod'}
-use native.Mathlib.Numerals.{add-one}
 use native.Mathlib.Omega.{arith}
-use lib.Pow.{pow-mono}
+use native.Mathlib.Decide.{decLt}
 use Rattle.numbers.specs.Congruence.{Cong, c-refl, c-sym, c-trans, c-eq, c-add, c-mul, c-mod, c-cancel}
+use Rattle.wide_words.specs.Montgomery.{IsSquare}
 use Rattle.words.specs.Fractions.{Fraction, scaled-least, scaled-most}
 
 pub remainder : (n N q r : ℕ) → r + q * n ≡ N → r < n → r ≡ N % n
@@ -72,31 +76,86 @@ factor-residue n c k e x y = c-add (c-refl {a = x}) (c-mul (c-trans (c-eq e) (c-
 pub times-residue : (n c k : ℕ) → k ≡ c % n → (x y : ℕ) → (k * y) % n ≡ (c * y) % n
 times-residue n c k e x y = c-mul (c-trans (c-eq e) (c-mod c)) (c-refl {a = y}) .same
 
--- one binary digit more of a quotient: something stays left
-pub record Halved (n q x q' x' : ℕ) : Type 0 where
-  pub sum : q' * n + x' ≡ 2 * (q * n + x)
+-- one digit in the base b of a quotient by n: something stays left
+pub record Digit (b n x q x' : ℕ) : Type 0 where
+  pub sum : q * n + x' ≡ x * b
   pub some : 1 ≤ x'
   pub most : x' ≤ n
 
--- k binary digits of r / n
-pub record Dividing (n r k q x : ℕ) : Type 0 where
-  pub sum : q * n + x ≡ r * 2 ^ k
-  pub some : 1 ≤ x
+pub digit-less : {b n x q x' : ℕ} → Digit b n x q x' → x ≤ n → q < b
+digit-less {b} {n} {x} {q} d l = lt-of-mul-lt-mul-right n (let e = d .sum in let s = d .some in omega (arith, mul-le-mul-right b l))
+
+-- two digits
+module _ {b B n x q x' q' y v : ℕ} (d : Digit b n x q x') (e : Digit b n x' q' y) (square : B ≡ b * b) (ev : v ≡ q * b + q') where
+  both : v * n + y ≡ x * B
+  both = rw (ev, square) (omega (arith, e .sum, ap (λ (z : ℕ). z * b) (d .sum)))
+
+  pub digits-under : v * n < x * B
+  digits-under = let s = both in omega (arith, e .some)
+
+  pub digits-over : x * B ≤ v * n + n
+  digits-over = let s = both in omega (arith, e .most)
+
+-- n is taken off where something stays left
+pub record Less (n q s q' x : ℕ) : Type 0 where
+  pub sum : q' * n + x ≡ q * n + s
+  pub some : 1 ≤ s → 1 ≤ x
   pub most : x ≤ n
 
-pub dividing-start : (n r : ℕ) → 1 ≤ r → r ≤ n → Dividing n r 0 0 r
-dividing-start n r s l = record { sum = omega arith; some = s; most = l }
+-- a digit in the base 2^32 by the upper half of n, one more: it is at most two too small, and a + c is left
+module _ {n x : ℕ} (large : 2 ^ 63 ≤ n) (word : n < 2 ^ 64) (least : 1 ≤ x) (most : x ≤ n) where
+  rest : x % (n / 4294967296 + 1) < n / 4294967296 + 1
+  rest = mod-lt x (omega arith)
 
-pub dividing-step : {n r k q x q' x' : ℕ} → Dividing n r k q x → Halved n q x q' x' → Dividing n r (k + 1) q' x'
-dividing-step {n} {r} {k} d h = record { sum = h .sum ∙ ap (λ (z : ℕ). 2 * z) (d .sum) ∙ twice; some = h .some; most = h .most }
-  where
-    twice : 2 * (r * 2 ^ k) ≡ r * 2 ^ (k + 1)
-    twice = sym (ap (λ (z : ℕ). r * z) (ap (λ (z : ℕ). 2 ^ z) (add-one k) ∙ pow-suc 2 k) ∙ omega arith)
+  pub digit-first : x % (n / 4294967296 + 1) * 4294967296 ≤ n
+  digit-first = let r = rest in omega arith
 
--- the digits so far are below 2 ^ j, j at least their number
-pub dividing-fits : {n r k q x : ℕ} (j : ℕ) → r ≤ n → k ≤ j → Dividing n r k q x → q < 2 ^ j
-dividing-fits {n} {r} {k} {q} {x} j l h d =
-    lt-of-mul-lt-mul-right n (let e = d .sum in let s = d .some in let z : 2 ^ k ≤ 2 ^ j = pow-mono h in omega (arith, mul-le-mul l z))
+  quotient-less : x / (n / 4294967296 + 1) < 4294967296
+  quotient-less =
+      lt-of-mul-lt-mul-right (n / 4294967296 + 1) (let e = div-add-mod' x (n / 4294967296 + 1) in omega arith)
+
+  pub digit-word : x / (n / 4294967296 + 1) < 2 ^ 63
+  digit-word = let l = quotient-less in omega arith
+
+  pub digit-second : x / (n / 4294967296 + 1) * (4294967296 - n % 4294967296) < 2 ^ 64
+  digit-second = let l = quotient-less in
+      omega (
+        arith,
+        mul-le-mul {n₁ = x / (n / 4294967296 + 1)} {m₁ = 4294967296 - n % 4294967296} {n₂ = 4294967295} {m₂ = 4294967296}
+            (omega arith) (omega arith),
+      )
+
+  module _ {q c q₁ c₁ : ℕ} (f : Less n q (c + 0) q₁ c₁) (eq : q ≡ x / (n / 4294967296 + 1))
+      (ec : c ≡ q * (4294967296 - n % 4294967296)) where
+    pub digit-next : q₁ < 2 ^ 63
+    digit-next = lt-of-mul-lt-mul-right n (let l = quotient-less in let m : c < 2 ^ 64 = rw (ec, eq) digit-second in
+        let e = f .sum in omega (arith, mul-le-mul-right n (let h : q ≤ 4294967295 = omega arith in h)))
+
+    pub digit-is : {a q₂ x₂ : ℕ} → Less n q₁ (a + c₁) q₂ x₂ → a ≡ x % (n / 4294967296 + 1) * 4294967296 → Digit 4294967296 n x q₂ x₂
+    digit-is {a} {q₂} {x₂} g ea = record {
+      sum = let e = left in omega (arith, f .sum, g .sum);
+      some = g .some (some (decLt 0 c));
+      most = g .most;
+    }
+      where
+        whole : q * (n / 4294967296 + 1) + x % (n / 4294967296 + 1) ≡ x
+        whole = rw eq (div-add-mod' x (n / 4294967296 + 1))
+
+        left : q * n + (a + c) ≡ x * 4294967296
+        left = go (n / 4294967296) (n % 4294967296) (4294967296 - n % 4294967296) (x % (n / 4294967296 + 1)) (omega arith) (omega arith)
+            ea ec whole
+          where
+            go : (u v k r : ℕ) → n ≡ u * 4294967296 + v → v + k ≡ 4294967296 → a ≡ r * 4294967296 → c ≡ q * k → q * (u + 1) + r ≡ x
+                → q * n + (a + c) ≡ x * 4294967296
+            go u v k r en ek ea' ec' ex = let f = ap (λ (z : ℕ). q * z) ek in rw (en, ea', ec', ← ex) (omega arith)
+
+        some : Dec (0 < c) → 1 ≤ a + c₁
+        some (yes l) = omega (arith, f .some (omega arith))
+        some (no l) =
+            let f : q * 1 ≤ q * (4294967296 - n % 4294967296) = mul-le-mul-left q (omega arith) in
+            let z : q ≡ 0 = omega arith in
+            let e : 0 * (n / 4294967296 + 1) + x % (n / 4294967296 + 1) ≡ x = rw (← z) whole in
+            omega arith
 
 pub record IsReciprocal (B n r v₁ v₀ : ℕ) : Type 0 where
   pub pos : 1 ≤ n
@@ -111,17 +170,35 @@ pub record IsReciprocal (B n r v₁ v₀ : ℕ) : Type 0 where
 pub rest-fits : (t n : ℕ) → 1 ≤ n → t % n + 1 ≤ n
 rest-fits t n l = let h = mod-lt t l in omega arith
 
-pub reciprocal-is : (t n v₀ : ℕ) → 1 ≤ n → n + n < t + 1 → v₀ * n < (t % n + 1) * (t + 1) → (t % n + 1) * (t + 1) ≤ v₀ * n + n
-    → IsReciprocal (t + 1) n (t % n + 1) (t / n) v₀
-reciprocal-is t n v₀ l h u o = record {
-  pos = l;
-  half = h;
-  rest = let e = div-add-mod' t n in omega arith;
-  some = omega arith;
-  most = rest-fits t n l;
-  under = u;
-  over = o;
-}
+-- n times v₁ is at least half of the base, and its fraction is that of n
+module _ (t n : ℕ) (pos : 1 ≤ n) (half : n + n < t + 1) where
+  quotient : t / n * n + (t % n + 1) ≡ t + 1
+  quotient = let e = div-add-mod' t n in omega arith
+
+  pub multiple-large : t + 1 ≤ t / n * n + t / n * n
+  multiple-large = let e = quotient in let h = rest-fits t n pos in omega arith
+
+  some-digit : 1 ≤ t / n
+  some-digit = lt-of-mul-lt-mul-right n (let e = quotient in let h = rest-fits t n pos in omega arith)
+
+  pub multiple-some : 1 ≤ t / n * (t % n + 1)
+  multiple-some = mul-le-mul {n₁ = 1} {m₁ = 1} some-digit (omega arith)
+
+  pub multiple-most : t / n * (t % n + 1) ≤ t / n * n
+  multiple-most = mul-le-mul-left (t / n) (rest-fits t n pos)
+
+  pub reciprocal-is : (v₀ : ℕ) → v₀ * (t / n * n) < t / n * (t % n + 1) * (t + 1)
+      → t / n * (t % n + 1) * (t + 1) ≤ v₀ * (t / n * n) + t / n * n
+      → IsReciprocal (t + 1) n (t % n + 1) (t / n) v₀
+  reciprocal-is v₀ u o = record {
+    pos = pos;
+    half = half;
+    rest = quotient;
+    some = omega arith;
+    most = rest-fits t n pos;
+    under = lt-of-mul-lt-mul-right (t / n) (omega arith);
+    over = le-of-mul-le-mul-right {k = t / n} (omega arith) (omega (arith, some-digit));
+  }
 
 module _ {B n r v₁ v₀ : ℕ} (m : IsReciprocal B n r v₁ v₀) where
   pub base-fraction : Fraction B n r v₀
@@ -133,6 +210,17 @@ module _ {B n r v₁ v₀ : ℕ} (m : IsReciprocal B n r v₁ v₀) where
   -- the base is r modulo n
   pub base : Cong n B r
   base = record { same = ap (λ (x : ℕ). x % n) (sym (m .rest) ∙ (omega arith)) ∙ add-mul-mod-self-right r v₁ n }
+
+  -- what the second digit leaves is B² modulo n
+  pub square-is : {s : ℕ} (w : ℕ) → w ≡ (v₀ * n) % B → (s + w) % B ≡ 0 → s < B → IsSquare B n s
+  square-is {s} w ew es l = record {
+    most = let e = left in let o = m .over in omega arith;
+    is = c-trans (c-trans (record { same = sym (add-mul-mod-self-right s v₀ n) }) (c-eq left)) (c-mul (c-sym base) c-refl);
+  }
+    where
+      left : s + v₀ * n ≡ r * B
+      left = let u = m .under in let o = m .over in let b = m .half in
+          wrapped B (r * B) (v₀ * n) s (omega arith) (omega arith) l (ap (λ (x : ℕ). (s + x) % B) (sym ew) ∙ es ∙ sym (mul-mod-left r B))
 
   -- the base is r modulo n, so two words are a sum of two words
   pub two-words : (hi lo : ℕ) → (r * hi + 1 * lo) % n ≡ (hi * B + lo) % n

@@ -4,7 +4,9 @@
 --   Steps, KeptSteps                 the invariants of the two loops
 --   word-most, pair-asked, last-…    what the places in between ask
 --   steps-…, kept-…                  the start, a turn, and the ends
---   divisions, words, lasts          the rules; `words` where a word is subtracted from n or written second, `lasts` before the last word
+--   …-of                             a division by a modulus that is n
+--   divisions, words, lasts, moduli  the rules; `words` where a word is subtracted from n or written second, `lasts` before the last word,
+--                                    `moduli` where the record of n is found
 use mathlib.Core.Path.{_≡_, refl, sym, ap, subst, _∙_}
 use mathlib.Core.List.{List}
 use Prim.Native.Nat.{ℕ, _+_, _-_, _*_, _%_, _≤_, _<_}
@@ -12,7 +14,8 @@ use native.Mathlib.Omega.{arith}
 use native.Mathlib.Nat.{le-of-lt, mod-lt}
 use borrow.Author.Needs.{needs}
 use lib.ListN.{length, getD, set, length-set}
-use Rattle.windows.specs.Window.{Moved, addMul, Clear, PairAsked, Paired}
+use Rattle.windows.specs.Window.{Moved, addMul, Clear, Below, PairAsked, Paired}
+use Rattle.windows.proofs.Leaf.{apart-at}
 use Rattle.window_division.specs.Remainders.{DivisionSizes, Pair, Remainder, Quotient}
 use Rattle.window_division.proofs.Turns.{Dividing, dividing-start, dividing-step, dividing-end}
 use Rattle.window_division.proofs.Double.{double-step}
@@ -38,17 +41,29 @@ module _ (n a d b e s : ℕ) (w : List ℕ) (sz : DivisionSizes n a d b e w) (pr
   kept-start = record { steps = steps-start; kept = keeping-start _ _ _ _ _ _ _ (omega (arith, sz .near)) (pr .second) }
 
 module _ (n a d b e s : ℕ) (w₀ w : List ℕ) (x : Steps n a d b e w₀ w s) (sz : DivisionSizes n a d b e w₀) (pr : Pair n a d b e w₀) where
-  pub pair-asked : (m : ℕ) → 1 < s → PairAsked n (n - m) a (b + (s - 2)) d w
-  pair-asked m h = record {
+  asked-at : (t m : ℕ) → d + t ≤ e + 1 → PairAsked n (n - m) a (b + t) d w
+  asked-at t m h = record {
     modulus = sz .modulus;
     factor = omega arith;
     source = omega (arith, sz .divisor, x .done .around .same);
-    target = omega (arith, sz .dividend, x .most, x .done .around .same);
-    apart = record { ok = λ i j p q e. pr .apart .ok i (s - 2 + j) (omega arith) (omega (arith, x .most)) (omega arith) };
+    target = omega (arith, sz .dividend, x .done .around .same);
+    apart = record { ok = λ i j p q e. pr .apart .ok i (t + j) (omega arith) (omega arith) (omega arith) };
     below = record {
-      at = λ k l. let z : b + (s - 2 + k) ≡ b + (s - 2) + k = omega arith in
-          subst (λ (y : ℕ). getD w y 0 < n) z (x .done .below .at (s - 2 + k) (omega (arith, x .most)));
+      at = λ k l. let z : b + (t + k) ≡ b + t + k = omega arith in
+          subst (λ (y : ℕ). getD w y 0 < n) z (x .done .below .at (t + k) (omega arith));
     };
+  }
+
+  pub pair-asked : (m : ℕ) → 1 < s → PairAsked n (n - m) a (b + (s - 2)) d w
+  pair-asked m h = asked-at (s - 2) m (omega (arith, x .most))
+
+  pub last-asked : (m : ℕ) → s ≤ 1 → PairAsked n (n - m) a (b + 0) d w
+  last-asked m h = asked-at 0 m (omega (arith, sz .near))
+
+  -- the divisor is as it was
+  pub divisor-below : Below n a d w
+  divisor-below = record {
+    at = λ k l. subst (λ (y : ℕ). y < n) (sym (apart-at (pr .apart) (x .done .around) k (omega arith))) (pr .first .at k (omega arith));
   }
 
   pub last-source : a + d ≤ length w
@@ -116,7 +131,24 @@ pub kept-end : (n a d b e s : ℕ) (w₀ w : List ℕ) → KeptSteps n a d b e w
     → Quotient n a d b e w₀ w
 kept-end n a d b e s w₀ w x sz z = keeping-end n a d b e s w₀ w z (sz .near) (sz .dividend) (x .kept)
 
-pub ruleset steps = (steps-start, pair-asked, steps-next, steps-last, steps-end)
+-- the same for a modulus that is n
+module _ (n n' a d b e : ℕ) (w : List ℕ) (is : n' ≡ n) where
+  pub sizes-of : DivisionSizes n a d b e w → DivisionSizes n' a d b e w
+  sizes-of s = rw is s
+
+  pub pair-of : Pair n a d b e w → Pair n' a d b e w
+  pair-of p = rw is p
+
+  pub unit-of : (x : ℕ) → x % n ≡ 1 % n → x % n' ≡ 1 % n'
+  unit-of x u = rw is u
+
+  pub remainder-of : (w' : List ℕ) → Remainder n' a d b e w w' → Remainder n a d b e w w'
+  remainder-of w' r = rw is at r
+
+  pub quotient-of : (w' : List ℕ) → Quotient n' a d b e w w' → Quotient n a d b e w w'
+  quotient-of w' r = rw is at r
+
+pub ruleset steps = (steps-start, pair-asked, last-asked, divisor-below, steps-next, steps-last, steps-end)
 
 pub ruleset quotients = (kept-start, kept-next, kept-last, last-length, kept-end)
 
@@ -125,3 +157,5 @@ pub ruleset divisions = (needs, steps, quotients)
 pub ruleset lasts = (tt, last-source, last-target, last-clear)
 
 pub ruleset words = (tt, word-most, second-write)
+
+pub ruleset moduli = (tt, sizes-of, pair-of, unit-of, remainder-of, quotient-of)

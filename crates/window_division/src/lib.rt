@@ -3,57 +3,80 @@
 //   a, d   the divisor: d + 1 words from a on
 //   b, e   the dividend: e + 1 words from b on, where remainder and quotient are left
 //   i      the inverse of the divisor's leading word
-//   s      how many words of the quotient are still to come; c and k, or c and m, are the next two of them
+//   m      the record of the modulus n
+//   s      how many words of the quotient are still to come; c and k, or c and q, are the next two of them
 //
-//   divide          the remainder alone
-//   divide_keeping  the remainder and the quotient
+//   divide, divide_by                  the remainder alone, by n and by its record
+//   divide_keeping, divide_keeping_by  the remainder and the quotient
 ghost use mathlib.Core.Path.{_≡_};
 ghost use Prim.Native.Nat.{_+_, _*_, _%_};
 ghost use lib.ListN.{getD};
+ghost use Rattle.modulus.specs.Values.{Known};
 ghost use Rattle.window_division.specs.Remainders.{DivisionSizes, Pair, Remainder, Quotient};
+use modulus::Modulus;
 
 // The remainder, d words, stands at b; the words after it, where the quotient would stand, are residues of no further meaning.
 // Two quotient words share one reduction a word.
+pub fn divide_by(w: &mut [u32], m: Modulus, a: usize, d: usize, b: usize, e: usize, i: u32)
+    requires { ⌜ (Known m) × (DivisionSizes (m .n) a d b e (now w)) ⌝ }
+    requires { ⌜ (Pair (m .n) a d b e (now w)) × ((i * getD (now w) (a + d) 0) % m .n ≡ 1 % m .n) ⌝ }
+    ensures { λ _. ⌜ Remainder (m .n) a d b e (now (w .entry)) (now (w .exit)) ⌝ }
+{
+    let n = m.n;
+    let mut s = e + 1 - d;
+    while 1 < s {
+        s -= 2;
+        let c = modulus::multiply(m, i, w[b + (d + s + 1)]);
+        let t = modulus::multiply_add(m, w[b + (d + s)], n - c, w[a + (d - 1)]);
+        let k = modulus::multiply(m, i, t);
+        modulus_windows::add_pair(w, m, n - c, n - k, a, b + s, d);
+    }
+    if s == 0 {
+        return;
+    }
+    let c = modulus::multiply(m, i, w[b + (d + 0)]);
+    modulus_windows::add_scaled(w, m, n - c, a, b + 0, d);
+}
+
 pub fn divide(w: &mut [u32], n: u32, a: usize, d: usize, b: usize, e: usize, i: u32)
     requires { ⌜ DivisionSizes n a d b e (now w) ⌝ }
     requires { ⌜ (Pair n a d b e (now w)) × ((i * getD (now w) (a + d) 0) % n ≡ 1 % n) ⌝ }
     ensures { λ _. ⌜ Remainder n a d b e (now (w .entry)) (now (w .exit)) ⌝ }
 {
+    let m = modulus::modulus_of(n);
+    divide_by(w, m, a, d, b, e, i);
+}
+
+// As `divide_by`, with the quotient kept: the remainder, d words, at b, and the e + 1 - d words of the quotient after it.
+pub fn divide_keeping_by(w: &mut [u32], m: Modulus, a: usize, d: usize, b: usize, e: usize, i: u32)
+    requires { ⌜ (Known m) × (DivisionSizes (m .n) a d b e (now w)) ⌝ }
+    requires { ⌜ (Pair (m .n) a d b e (now w)) × ((i * getD (now w) (a + d) 0) % m .n ≡ 1 % m .n) ⌝ }
+    ensures { λ _. ⌜ Quotient (m .n) a d b e (now (w .entry)) (now (w .exit)) ⌝ }
+{
+    let n = m.n;
     let mut s = e + 1 - d;
     while 1 < s {
         s -= 2;
-        let c = arithmetic::mul_mod(n, i, w[b + (d + s + 1)]);
-        let t = arithmetic::mul_add_mod(n, w[b + (d + s)], n - c, w[a + (d - 1)]);
-        let k = arithmetic::mul_mod(n, i, t);
-        windows::add_pair(w, n, n - c, n - k, a, b + s, d);
+        let c = modulus::multiply(m, i, w[b + (d + s + 1)]);
+        let t = modulus::multiply_add(m, w[b + (d + s)], n - c, w[a + (d - 1)]);
+        let q = modulus::multiply(m, i, t);
+        modulus_windows::add_pair(w, m, n - c, n - q, a, b + s, d);
+        w[b + (d + s + 1)] = c;
+        w[b + (d + s)] = q;
     }
     if s == 0 {
         return;
     }
-    let c = arithmetic::mul_mod(n, i, w[b + (d + 0)]);
-    windows::add_scaled(w, n, n - c, a, b + 0, d);
+    let c = modulus::multiply(m, i, w[b + (d + 0)]);
+    modulus_windows::add_scaled(w, m, n - c, a, b + 0, d);
+    w[b + (d + 0)] = c;
 }
 
-// As `divide`, with the quotient kept: the remainder, d words, at b, and the e + 1 - d words of the quotient after it.
 pub fn divide_keeping(w: &mut [u32], n: u32, a: usize, d: usize, b: usize, e: usize, i: u32)
     requires { ⌜ DivisionSizes n a d b e (now w) ⌝ }
     requires { ⌜ (Pair n a d b e (now w)) × ((i * getD (now w) (a + d) 0) % n ≡ 1 % n) ⌝ }
     ensures { λ _. ⌜ Quotient n a d b e (now (w .entry)) (now (w .exit)) ⌝ }
 {
-    let mut s = e + 1 - d;
-    while 1 < s {
-        s -= 2;
-        let c = arithmetic::mul_mod(n, i, w[b + (d + s + 1)]);
-        let t = arithmetic::mul_add_mod(n, w[b + (d + s)], n - c, w[a + (d - 1)]);
-        let m = arithmetic::mul_mod(n, i, t);
-        windows::add_pair(w, n, n - c, n - m, a, b + s, d);
-        w[b + (d + s + 1)] = c;
-        w[b + (d + s)] = m;
-    }
-    if s == 0 {
-        return;
-    }
-    let c = arithmetic::mul_mod(n, i, w[b + (d + 0)]);
-    windows::add_scaled(w, n, n - c, a, b + 0, d);
-    w[b + (d + 0)] = c;
+    let m = modulus::modulus_of(n);
+    divide_keeping_by(w, m, a, d, b, e, i);
 }

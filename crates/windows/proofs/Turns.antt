@@ -3,21 +3,23 @@
 --
 --   Moving, Writing, Pairing, Passed, Dividing, Filled    the invariants, with their start, turn and end
 --   none-reached                                          the test that a loop makes of its residues fails
---   leaves                                                the rules
+--   leaves, masked                                        the rules; `masked` where n is a power of two, or is asked for one
 use mathlib.Core.Path.{_≡_, refl, sym, ap, subst, _∙_}
+use mathlib.Core.Bool.{Bool, true}
 use mathlib.Core.List.{List, _++_, append-nil}
 use Prim.Native.Nat.{ℕ, _+_, _-_, _*_, _%_, _≤_, _<_}
-use native.Mathlib.Nat.{mul-one, mod-eq-of-lt}
+use native.Mathlib.Nat.{mul-one, mod-eq-of-lt, add-zero, zero-add}
 use native.Mathlib.Omega.{arith}
 use borrow.Author.Count.{below-more}
 use borrow.Author.Fill.{fill-more}
 use borrow.Author.Needs.{needs}
 use lib.ListN.{length, getD, set, drop, replicate, length-set, drop-of-length-le}
 use Rattle.numbers.specs.Divisors.{IsGcd}
+use Rattle.reduction.specs.Powers.{PowerOfTwo, PowerTest}
 use Rattle.reduction.proofs.Reciprocals.{modulo, never}
 use Rattle.definitions.specs.Polynomials.{coef}
 use Rattle.windows.specs.Window.{Moved, Clear, Apart, Written, Reversed, Loaded}
-use Rattle.windows.specs.Window.{Paired, PairAsked, behind, Zeros, Content, second, reduced-by}
+use Rattle.windows.specs.Window.{Paired, PairAsked, behind, Zeros, Content, second, reduced-by, addMul, mulBy}
 use Rattle.windows.proofs.Leaf.{moved-none, moved-step, written-none, written-step, written-source, written-reversed, written-loaded}
 use Rattle.windows.proofs.Pairs.{paired-none, paired-step, source, next-behind}
 use Rattle.windows.proofs.Contents.{Common, common-none, common-step, common-end, common-one}
@@ -190,6 +192,21 @@ filled-none w = record { most = omega arith; same = refl; done = refl }
 pub own-residue : (x n : ℕ) → x < n → x ≡ x % n
 own-residue x n l = sym (mod-eq-of-lt l)
 
+-- ---- powers of two
+
+pub power-told : {n : ℕ} {r : Bool} → r ≡ true → PowerTest n r → PowerOfTwo n
+power-told {n} e t = subst (PowerTest n) e t
+
+module _ (n c : ℕ) {src dst len j j' : ℕ} {w₀ w w' : List ℕ} (free : Clear src dst len) (fit : dst + len ≤ length w₀) (l : j < len) where
+  pub added-masked : (r : ℕ) → Moving (addMul n c) src dst len w₀ w j
+      → r ≡ (getD w (dst + j) 0 + c * getD w (src + j) 0 + 0 * 0) % n → w' ≡ set w (dst + j) r → j' ≡ j + 1
+      → Moving (addMul n c) src dst len w₀ w' j'
+  added-masked r m er ew ej = moving-by m free fit l n n r _ er refl ew (ap (λ (z : ℕ). z % n) (add-zero _)) ej
+
+  pub scaled-masked : (r : ℕ) → Moving (mulBy n c) src dst len w₀ w j → r ≡ (0 + c * getD w (src + j) 0 + 0 * 0) % n
+      → w' ≡ set w (dst + j) r → j' ≡ j + 1 → Moving (mulBy n c) src dst len w₀ w' j'
+  scaled-masked r m er ew ej = moving-by m free fit l n n r _ er refl ew (ap (λ (z : ℕ). z % n) (add-zero _ ∙ zero-add _)) ej
+
 pub ruleset moves = (moving-none, moving-next, moving-by, moving-end, clear-own, one-product, none-reached)
 
 pub ruleset writes = (writing-none, writing-next, backwards-next, backwards-end, loading-end)
@@ -201,3 +218,5 @@ pub ruleset reads = (passed-none, passed-next, passed-found, passed-end, dividin
 pub ruleset fills = (filled-none, filled-next, filled-end, own-residue)
 
 pub ruleset leaves = (needs, moves, writes, pairs, reads, fills)
+
+pub ruleset masked = (leaves, power-told, added-masked, scaled-masked)

@@ -1,25 +1,39 @@
 // Leaves over windows of one lent buffer: places src and dst of one slice, len words each.
 //
-//   add_scaled, add_pair, scale, copy, copy_reversed    words made of those of another window
+//   add_scaled, add_pair, scale                         words made of those of another window, times multipliers
+//   ..._by, ..._masked                                  the same with the reciprocal of n, and for a power of two
+//   copy, copy_reversed                                 words of another window
 //   divide_words, reduce_words, clear, wipe             words made of themselves, or zeros
 //   residue, load                                       words of a lent polynomial, as residues
 //   zeros, content                                      what a polynomial's words have in front, and in common
 //
 // The loops that reduce a word find the reciprocal of n once and divide no more. Where such a loop tests a residue against n, the
-// test fails always: it keeps the back end from vector code, which has no upper half of a product.
+// test fails always: it keeps the back end from vector code, which has no upper half of a product. Modulo a power of two the low bits of
+// a sum are enough: those loops become vector code.
 ghost use mathlib.Core.Path.{_≡_};
 ghost use Prim.Native.Nat.{_+_, _-_, _%_, _<_, _≤_};
 ghost use lib.ListN.{length, replicate};
+ghost use Rattle.reduction.specs.Moduli.{Ready};
+ghost use Rattle.reduction.specs.Powers.{PowerOfTwo};
 ghost use Rattle.windows.specs.Window.{Moved, Clear, addMul, mulBy, second, quotient-by, reduced-by};
 ghost use Rattle.windows.specs.Window.{zeroed, PairAsked, Paired, Apart, Zeros, Content, Reversed, Loaded};
+use reduction::Reciprocal;
 
-// w[dst + j] += c * w[src + j], for j < len.
-pub fn add_scaled(w: &mut [u32], n: u32, c: u32, src: usize, dst: usize, len: usize)
-    requires { ⌜ (1 ≤ n) × ((src + len ≤ length (now w)) × (dst + len ≤ length (now w))) ⌝ }
+// w[dst + j] += c * w[src + j], for j < len, with the reciprocal of n.
+pub fn add_scaled_by(
+    w: &mut [u32],
+    n: u32,
+    m: Reciprocal,
+    c: u32,
+    src: usize,
+    dst: usize,
+    len: usize,
+)
+    requires { ⌜ (1 ≤ n) × ((Ready m) × (m .n ≡ n)) ⌝ }
+    requires { ⌜ (src + len ≤ length (now w)) × (dst + len ≤ length (now w)) ⌝ }
     requires { ⌜ Clear src dst len ⌝ }
     ensures { λ _. ⌜ Moved (addMul n c) src dst len (now (w .entry)) (now (w .exit)) ⌝ }
 {
-    let m = reduction::modulus_of(n);
     let mut j: usize = 0;
     while j < len {
         let r = reduction::add_product(m, w[dst + j], c, w[src + j]);
@@ -31,13 +45,41 @@ pub fn add_scaled(w: &mut [u32], n: u32, c: u32, src: usize, dst: usize, len: us
     }
 }
 
-// w[dst + j] = c * w[src + j], for j < len.
-pub fn scale(w: &mut [u32], n: u32, c: u32, src: usize, dst: usize, len: usize)
+// The same for a power n of two.
+pub fn add_scaled_masked(w: &mut [u32], n: u32, c: u32, src: usize, dst: usize, len: usize)
+    requires { ⌜ PowerOfTwo n ⌝ }
+    requires { ⌜ (src + len ≤ length (now w)) × (dst + len ≤ length (now w)) ⌝ }
+    requires { ⌜ Clear src dst len ⌝ }
+    ensures { λ _. ⌜ Moved (addMul n c) src dst len (now (w .entry)) (now (w .exit)) ⌝ }
+{
+    let mut j: usize = 0;
+    while j < len {
+        w[dst + j] = reduction::sum_masked(n, w[dst + j], c, w[src + j], 0, 0);
+        j += 1;
+    }
+}
+
+// w[dst + j] += c * w[src + j], for j < len.
+pub fn add_scaled(w: &mut [u32], n: u32, c: u32, src: usize, dst: usize, len: usize)
     requires { ⌜ (1 ≤ n) × ((src + len ≤ length (now w)) × (dst + len ≤ length (now w))) ⌝ }
+    requires { ⌜ Clear src dst len ⌝ }
+    ensures { λ _. ⌜ Moved (addMul n c) src dst len (now (w .entry)) (now (w .exit)) ⌝ }
+{
+    if reduction::power_of_two(n) {
+        add_scaled_masked(w, n, c, src, dst, len);
+        return;
+    }
+    let m = reduction::modulus_of(n);
+    add_scaled_by(w, n, m, c, src, dst, len);
+}
+
+// w[dst + j] = c * w[src + j], for j < len, with the reciprocal of n.
+pub fn scale_by(w: &mut [u32], n: u32, m: Reciprocal, c: u32, src: usize, dst: usize, len: usize)
+    requires { ⌜ (1 ≤ n) × ((Ready m) × (m .n ≡ n)) ⌝ }
+    requires { ⌜ (src + len ≤ length (now w)) × (dst + len ≤ length (now w)) ⌝ }
     requires { ⌜ Clear src dst len ⌝ }
     ensures { λ _. ⌜ Moved (mulBy n c) src dst len (now (w .entry)) (now (w .exit)) ⌝ }
 {
-    let m = reduction::modulus_of(n);
     let mut j: usize = 0;
     while j < len {
         let r = reduction::product(m, c, w[src + j]);
@@ -47,6 +89,34 @@ pub fn scale(w: &mut [u32], n: u32, c: u32, src: usize, dst: usize, len: usize)
         w[dst + j] = r;
         j += 1;
     }
+}
+
+// The same for a power n of two.
+pub fn scale_masked(w: &mut [u32], n: u32, c: u32, src: usize, dst: usize, len: usize)
+    requires { ⌜ PowerOfTwo n ⌝ }
+    requires { ⌜ (src + len ≤ length (now w)) × (dst + len ≤ length (now w)) ⌝ }
+    requires { ⌜ Clear src dst len ⌝ }
+    ensures { λ _. ⌜ Moved (mulBy n c) src dst len (now (w .entry)) (now (w .exit)) ⌝ }
+{
+    let mut j: usize = 0;
+    while j < len {
+        w[dst + j] = reduction::sum_masked(n, 0, c, w[src + j], 0, 0);
+        j += 1;
+    }
+}
+
+// w[dst + j] = c * w[src + j], for j < len.
+pub fn scale(w: &mut [u32], n: u32, c: u32, src: usize, dst: usize, len: usize)
+    requires { ⌜ (1 ≤ n) × ((src + len ≤ length (now w)) × (dst + len ≤ length (now w))) ⌝ }
+    requires { ⌜ Clear src dst len ⌝ }
+    ensures { λ _. ⌜ Moved (mulBy n c) src dst len (now (w .entry)) (now (w .exit)) ⌝ }
+{
+    if reduction::power_of_two(n) {
+        scale_masked(w, n, c, src, dst, len);
+        return;
+    }
+    let m = reduction::modulus_of(n);
+    scale_by(w, n, m, c, src, dst, len);
 }
 
 // w[dst + j] = w[src + j], for j < len.
@@ -76,12 +146,22 @@ pub fn zeros(s: &[u32]) -> usize
     j
 }
 
-// w[dst + j] += c * w[src + j - 1] + m * w[src + j], for j < len, one reduction a word; the word before the first counts as 0.
-pub fn add_pair(w: &mut [u32], n: u32, c: u32, m: u32, src: usize, dst: usize, len: usize)
+// w[dst + j] += c * w[src + j - 1] + m * w[src + j], for j < len, one reduction a word, with the reciprocal of n; the word before the first
+// counts as 0.
+pub fn add_pair_by(
+    w: &mut [u32],
+    n: u32,
+    modulus: Reciprocal,
+    c: u32,
+    m: u32,
+    src: usize,
+    dst: usize,
+    len: usize,
+)
+    requires { ⌜ (Ready modulus) × (modulus .n ≡ n) ⌝ }
     requires { ⌜ PairAsked n m src dst len (now w) ⌝ }
     ensures { λ _. ⌜ Paired n c m src dst len (now (w .entry)) (now (w .exit)) ⌝ }
 {
-    let modulus = reduction::modulus_of(n);
     let mut j: usize = 0;
     let mut y: u32 = 0;
     while j < len {
@@ -94,6 +174,35 @@ pub fn add_pair(w: &mut [u32], n: u32, c: u32, m: u32, src: usize, dst: usize, l
         y = z;
         j += 1;
     }
+}
+
+// The same for a power n of two.
+pub fn add_pair_masked(w: &mut [u32], n: u32, c: u32, m: u32, src: usize, dst: usize, len: usize)
+    requires { ⌜ PowerOfTwo n ⌝ }
+    requires { ⌜ PairAsked n m src dst len (now w) ⌝ }
+    ensures { λ _. ⌜ Paired n c m src dst len (now (w .entry)) (now (w .exit)) ⌝ }
+{
+    let mut j: usize = 0;
+    let mut y: u32 = 0;
+    while j < len {
+        let z = w[src + j];
+        w[dst + j] = reduction::sum_masked(n, w[dst + j], c, y, m, z);
+        y = z;
+        j += 1;
+    }
+}
+
+// w[dst + j] += c * w[src + j - 1] + m * w[src + j], for j < len; the word before the first counts as 0.
+pub fn add_pair(w: &mut [u32], n: u32, c: u32, m: u32, src: usize, dst: usize, len: usize)
+    requires { ⌜ PairAsked n m src dst len (now w) ⌝ }
+    ensures { λ _. ⌜ Paired n c m src dst len (now (w .entry)) (now (w .exit)) ⌝ }
+{
+    if reduction::power_of_two(n) {
+        add_pair_masked(w, n, c, m, src, dst, len);
+        return;
+    }
+    let modulus = reduction::modulus_of(n);
+    add_pair_by(w, n, modulus, c, m, src, dst, len);
 }
 
 // The greatest common divisor of n and of every word of s.

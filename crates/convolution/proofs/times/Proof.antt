@@ -1,10 +1,7 @@
-use Rattle.words.specs.Digits.{product-fits}
 use borrow.Author.Needs.{needs}
+use Rattle.convolution.proofs.Terms.{products}
 use Rattle.convolution.proofs.times.Statement.{statement}
 use Rattle.convolution.proofs.times.Tie as tie
 
-mul-result : tie.Need-mul-result
-mul-result c = record { fits = product-fits (search needs) (search needs) }
-
 pub times-spec : {M : Type 1} → statement M
-times-spec = tie.close (tie.spec mul-result (λ c. search needs))
+times-spec = tie.close (tie.spec (λ c. search products) (λ c. search needs))

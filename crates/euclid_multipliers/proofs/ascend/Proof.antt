@@ -30,9 +30,10 @@ read-requires c κs =
 
 loop-again : tie.Need-loop-again Inv-loop μ-loop
 loop-again c =
-    let s = c .before .before .before .before .before .before .before .before .before .pre in
-    raising-next (s .1) (c .before .before .before .before .before .before .before .loop .inv) _ refl (omega arith) (s .0 .1)
-    (c .before .before .before .before .read .ensures) (c .before .before .lift .ensures)
+    let r = c .before .before .before .before in
+    let l = r .before .before .before in
+    let s = l .before .before .pre in
+    raising-next (s .1) (l .loop .inv) _ refl (omega arith) (s .0 .1) (r .read .ensures) (c .before .before .lift .ensures)
 
 returns : tie.Need-returns Inv-loop μ-loop
 returns c =

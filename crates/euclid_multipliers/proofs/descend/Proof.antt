@@ -1,5 +1,5 @@
 use Rattle.euclid_multipliers.specs.Ways.{Descending}
-use Rattle.euclid_multipliers.proofs.Descents.{descending-none, write-asked, descending-next, descended}
+use Rattle.euclid_multipliers.proofs.Descents.{write-asked, descents}
 use Rattle.resultant_euclid.proofs.Steps.{leads-same}
 use Prim.Native.Nat.{_+_}
 use native.Mathlib.Omega.{arith}
@@ -15,22 +15,25 @@ abbrev μ-loop : tie.MeasureT-loop
 
 mul-write : tie.Need-mul-write Inv-loop μ-loop
 mul-write c =
-    let g = c .before .before .before .before .before .before .before .loop .inv in
+    let a = c .before .before .before .before in
+    let g = a .before .before .before .loop .inv in
     omega (arith, g .room, leads-same (g .leads))
 
 add-write-2 : tie.Need-add-write-2 Inv-loop μ-loop
 add-write-2 c =
-    let g = c .before .before .before .before .before .before .before .loop .inv in
+    let a = c .before .before .before .before in
+    let g = a .before .before .before .loop .inv in
     omega (arith, g .room, leads-same (g .leads))
 
 write-requires : tie.Need-write-requires Inv-loop μ-loop
 write-requires c κs =
-    write-asked (c .before .before .before .before .before .before .before .loop .inv) (c .before .before .before .step .ensures .1)
-    (omega arith)
+    let a = c .before .before .before in
+    write-asked (a .before .before .before .before .loop .inv) (a .step .ensures .1) (omega arith)
 
 add-j : tie.Need-add-j Inv-loop μ-loop
 add-j c =
-    let g = c .before .before .before .before .before .before .before .before .before .before .loop .inv in
+    let a = c .before .before .before .before .before in
+    let g = a .before .before .before .before .before .loop .inv in
     omega (arith, g .room, leads-same (g .leads))
 
 same-length : tie.Need-same-length Inv-loop μ-loop
@@ -42,7 +45,7 @@ descend-spec =
     (tie.spec
     Inv-loop
     μ-loop
-    (λ c. search (needs, descending-none))
+    (λ c. search descents)
     (λ c κs. search needs)
     (λ c. search needs)
     mul-write
@@ -50,6 +53,6 @@ descend-spec =
     write-requires
     add-j
     (λ c. search needs)
-    (λ c. search (needs, descending-next))
+    (λ c. search descents)
     same-length
-    (λ c. search (needs, descended)))
+    (λ c. search descents))

@@ -1,3 +1,4 @@
+use Rattle.euclid_steps.specs.Plain.{known-sound}
 use Rattle.euclid_multipliers.proofs.Rounds.{rises}
 use Rattle.euclid_multipliers.proofs.Finishing.{multiplied, scratched}
 use mathlib.Core.Path.{refl}
@@ -5,12 +6,14 @@ use borrow.Author.Needs.{needs}
 use Rattle.euclid_multipliers.proofs.multipliers.Statement.{statement}
 use Rattle.euclid_multipliers.proofs.multipliers.Tie as tie
 
+-- too many places for a search: the rules are applied to what the four calls promise
 ascend-requires : tie.Need-ascend-requires
 ascend-requires c κs =
     let b = c .before .before .before in
     let d = b .before .before .before .before .before in
-    let s = d .before .before .before .before .before .before .before .before .before .pre .0 in
-    (s, rises (s .0) (d .descend .ensures) (b .bottom .ensures))
+    let a = d .before .before .before .before in
+    let s = a .before .before .before .before .before .pre in
+    (s .0, rises (known-sound (s .0 .0)) (d .descend .ensures) (b .bottom .ensures) refl)
 
 returns : tie.Need-returns
 returns c =
@@ -18,9 +21,10 @@ returns c =
     let b = r .before .before .before .before in
     let d = b .before .before .before .before .before in
     let a = d .before .before .before .before in
-    let s = a .before .before .before .before .before .pre in (
-      multiplied (s .0 .0) (s .0 .1) (s .1) (a .start .ensures) (d .descend .ensures) (b .bottom .ensures) (r .ascend .ensures) refl,
-      scratched (s .0 .0) (s .0 .1) (s .1) (a .start .ensures) (d .descend .ensures) (b .bottom .ensures) (r .ascend .ensures),
+    let s = a .before .before .before .before .before .pre in
+    let k = known-sound (s .0 .0) in (
+      multiplied k (s .0 .1) (s .1) (a .start .ensures) (d .descend .ensures) (b .bottom .ensures) (r .ascend .ensures) refl,
+      scratched k (s .0 .1) (s .1) (a .start .ensures) (d .descend .ensures) (b .bottom .ensures) (r .ascend .ensures),
     )
 
 pub multipliers-spec : {M : Type 1} → statement M

@@ -1,5 +1,4 @@
-use borrow.Author.Needs.{needs}
-use Rattle.factor_places.proofs.Refusing.{leaving}
+use Rattle.refusals.proofs.Cascade.{cascade}
 use Rattle.factor_places.proofs.leaving_refusal.Statement.{statement}
 use Rattle.factor_places.proofs.leaving_refusal.Tie as tie
 
@@ -7,4 +6,5 @@ pub leaving-refusal-spec : {M : Type 1} → statement M
 leaving-refusal-spec =
     tie.close
     (tie.spec
-    (λ c κs. search needs) (λ c. search leaving) (λ c κs. search needs) (λ c. search leaving) (λ c. search leaving))
+    (λ c κs. search cascade) (λ c. search cascade depth 4) (λ c κs. search cascade) (λ c. search cascade depth 4)
+    (λ c. search cascade depth 4))

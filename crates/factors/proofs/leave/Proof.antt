@@ -1,5 +1,4 @@
-use borrow.Author.Needs.{needs}
-use Rattle.factors.proofs.Services.{leave-refused, leave-answered, place-held}
+use Rattle.factors.proofs.Services.{calling}
 use Rattle.factors.proofs.leave.Statement.{statement}
 use Rattle.factors.proofs.leave.Tie as tie
 
@@ -7,4 +6,4 @@ pub leave-spec : {M : Type 1} → statement M
 leave-spec =
     tie.close
     (tie.spec
-    (λ c κs. search needs) (λ c. search leave-refused) (λ c κs. search needs) (λ c κs. search place-held) (λ c. search leave-answered))
+    (λ c κs. search calling) (λ c. search calling) (λ c κs. search calling) (λ c κs. search calling) (λ c. search calling))

@@ -1,7 +1,9 @@
-use borrow.Author.Needs.{needs}
-use Rattle.frame_pieces.specs.Inputs.{came-some}
+use Rattle.frame_pieces.proofs.Holding.{pieces}
 use Rattle.frame_pieces.proofs.what_came.Statement.{statement}
 use Rattle.frame_pieces.proofs.what_came.Tie as tie
 
 pub what-came-spec : {M : Type 1} → statement M
-what-came-spec = tie.close (tie.spec (λ c. search needs) (λ c. search came-some))
+what-came-spec =
+    tie.close
+    (tie.spec
+    (λ c. search pieces) (λ c. search pieces))

@@ -7,17 +7,6 @@ pub either-spec : {M : Type 1} → statement M
 either-spec =
     tie.close
     (tie.spec
-    (λ c κs. search needs)
-    (λ c. search needs)
-    (λ c. search needs)
-    (λ c κs. search needs)
-    (λ c. search needs)
-    (λ c. search needs)
-    (λ c. search needs)
-    (λ c. search (needs, turned-fits))
-    (λ c κs. search (needs, turned-below))
-    (λ c. search needs)
-    (λ c. search needs)
-    (λ c. search (needs, turned-value))
-    (λ c. search needs)
-    (λ c. search needs))
+    (λ c κs. search needs) (λ c. search needs) (λ c. search needs) (λ c κs. search needs) (λ c. search needs) (λ c. search needs)
+    (λ c. search needs) (λ c. search (needs, turned-fits)) (λ c κs. search (needs, turned-below)) (λ c. search needs)
+    (λ c. search needs) (λ c. search (needs, turned-value)) (λ c. search needs) (λ c. search needs))

@@ -8,15 +8,6 @@ pub euclid-first-spec : {M : Type 1} → statement M
 euclid-first-spec =
     tie.close
     (tie.spec
-    (λ c. search needs)
-    (λ c. search needs)
-    (λ c. search needs)
-    (λ c. search needs)
-    (λ c κs. search needs)
-    (λ c. search needs)
-    (λ c. search needs)
-    (λ c κs. search (needs, job-back))
-    (λ c. search needs)
-    (λ c. search (needs, value-found, few-back))
-    (λ c. search needs)
-    (λ c. search (needs, all-back)))
+    (λ c. search needs) (λ c. search needs) (λ c. search needs) (λ c. search needs) (λ c κs. search needs) (λ c. search needs)
+    (λ c. search needs) (λ c κs. search (needs, job-back)) (λ c. search needs) (λ c. search (needs, value-found, few-back))
+    (λ c. search needs) (λ c. search (needs, all-back)))

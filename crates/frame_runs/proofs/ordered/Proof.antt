@@ -7,11 +7,5 @@ pub ordered-spec : {M : Type 1} → statement M
 ordered-spec =
     tie.close
     (tie.spec
-    (λ c κs. search needs)
-    (λ c κs. search needs)
-    (λ c κs. search needs)
-    (λ c. search needs)
-    (λ c. search needs)
-    (λ c κs. search (needs, found-two, entered-placed))
-    (λ c. search needs)
-    (λ c. search (needs, entered-answer)))
+    (λ c κs. search needs) (λ c κs. search needs) (λ c κs. search needs) (λ c. search needs) (λ c. search needs)
+    (λ c κs. search (needs, found-two, entered-placed)) (λ c. search needs) (λ c. search (needs, entered-answer)))

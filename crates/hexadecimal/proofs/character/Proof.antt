@@ -1,14 +1,9 @@
-use borrow.Author.Tests.{lt-ltb, le-ltb}
-use borrow.Author.Needs.{needs}
+use Rattle.hexadecimal.proofs.Spelling.{writes}
 use Rattle.hexadecimal.proofs.character.Statement.{statement}
 use Rattle.hexadecimal.proofs.character.Tie as tie
 
-returns : tie.Need-returns
-returns c = simp (lt-ltb _ _ (c .if1 .taken))
-
-returns-2 : tie.Need-returns-2
-returns-2 c = simp (le-ltb _ _ (c .if1 .left))
-
 pub character-spec : {M : Type 1} → statement M
 character-spec =
-    tie.close (tie.spec (λ c. search needs) (λ c. search needs) returns (λ c. search needs) (λ c. search needs) returns-2)
+    tie.close
+    (tie.spec
+    (λ c. search writes) (λ c. search writes) (λ c. search writes) (λ c. search writes) (λ c. search writes) (λ c. search writes))

@@ -1,10 +1,7 @@
-use Rattle.multiplier_steps.proofs.Lifting.{ended}
+use Rattle.multiplier_steps.proofs.Lifting.{backs}
 use borrow.Author.Needs.{needs}
 use Rattle.multiplier_steps.proofs.bottom.Statement.{statement}
 use Rattle.multiplier_steps.proofs.bottom.Tie as tie
-
-returns : tie.Need-returns
-returns c = search (needs, ended)
 
 pub bottom-spec : {M : Type 1} → statement M
 bottom-spec =
@@ -15,4 +12,4 @@ bottom-spec =
     (λ c κs. search needs)
     (λ c. search needs)
     (λ c. search needs)
-    returns)
+    (λ c. search backs))

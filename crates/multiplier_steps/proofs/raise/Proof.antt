@@ -1,19 +1,7 @@
-use Rattle.multiplier_steps.proofs.Lifting.{raising, raised}
+use Rattle.multiplier_steps.proofs.Lifting.{raising, backs}
 use borrow.Author.Needs.{needs}
 use Rattle.multiplier_steps.proofs.raise.Statement.{statement}
 use Rattle.multiplier_steps.proofs.raise.Tie as tie
-
-combine-requires : tie.Need-combine-requires
-combine-requires c κs = (
-  search raising,
-  (
-    (search raising, (search raising, (search raising, search raising))),
-    (search raising, (search raising, search raising)),
-  ),
-)
-
-returns : tie.Need-returns
-returns c = search (needs, raised)
 
 pub raise-spec : {M : Type 1} → statement M
 raise-spec =
@@ -24,6 +12,12 @@ raise-spec =
     (λ c κs. search needs)
     (λ c. search needs)
     (λ c. search needs)
-    combine-requires
+    (λ c κs. (
+      search raising,
+      (
+        (search raising, (search raising, (search raising, search raising))),
+        (search raising, (search raising, search raising)),
+      ),
+    ))
     (λ c. search needs)
-    returns)
+    (λ c. search backs))

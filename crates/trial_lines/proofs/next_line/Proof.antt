@@ -9,7 +9,7 @@ pub next-line-spec : {M : Type 1} → statement M
 next-line-spec =
     tie.close
     (tie.spec
-    (λ line₀ k₀ line k. (k ≤ length line₀) × (length line ≡ length line₀))
-    (λ line₀ k₀ line k. length line₀ - k)
+    (λ line₀ l₀ line l. (l ≤ length line₀) × (length line ≡ length line₀))
+    (λ line₀ l₀ line l. length line₀ - l)
     (λ c. search needs) (λ c κs. search needs) (λ c. search needs) (λ c. search needs) (λ c. search needs) (λ c. search needs)
-    (λ c. search needs) (λ c. search needs) (λ c. search needs) (λ c. search needs) (λ c. search needs) (λ c. search needs))
+    (λ c. search needs) (λ c. search needs) (λ c. search needs))

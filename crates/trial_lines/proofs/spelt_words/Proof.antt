@@ -9,8 +9,8 @@ pub spelt-words-spec : {M : Type 1} → statement M
 spelt-words-spec =
     tie.close
     (tie.spec
-    (λ text at words₀ k₀ i₀ words k i. FrontWritten words₀ words k)
-    (λ text at words₀ k₀ i₀ words k i. length words₀ - k)
+    (λ text at words₀ count₀ i₀ words count i. FrontWritten words₀ words count)
+    (λ text at words₀ count₀ i₀ words count i. length words₀ - count)
+    (λ c. search turns) (λ c κs. search turns) (λ c. search turns) (λ c. search turns) (λ c. search turns) (λ c κs. search turns)
     (λ c. search turns) (λ c. search turns) (λ c. search turns) (λ c. search turns) (λ c. search turns) (λ c. search turns)
-    (λ c. search turns) (λ c κs. search turns) (λ c. search turns) (λ c. search turns) (λ c. search turns) (λ c. search turns)
-    (λ c. search turns) (λ c. search turns) (λ c. search turns) (λ c. search turns))
+    (λ c. search turns) (λ c. search turns))

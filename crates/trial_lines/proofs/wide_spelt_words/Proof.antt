@@ -9,8 +9,8 @@ pub wide-spelt-words-spec : {M : Type 1} → statement M
 wide-spelt-words-spec =
     tie.close
     (tie.spec
-    (λ text at words₀ k₀ i₀ words k i. FrontWritten words₀ words k)
-    (λ text at words₀ k₀ i₀ words k i. length words₀ - k)
+    (λ text at words₀ got₀ i₀ words got i. FrontWritten words₀ words got)
+    (λ text at words₀ got₀ i₀ words got i. length words₀ - got)
+    (λ c. search turns) (λ c κs. search turns) (λ c. search turns) (λ c. search turns) (λ c. search turns) (λ c κs. search turns)
     (λ c. search turns) (λ c. search turns) (λ c. search turns) (λ c. search turns) (λ c. search turns) (λ c. search turns)
-    (λ c. search turns) (λ c κs. search turns) (λ c. search turns) (λ c. search turns) (λ c. search turns) (λ c. search turns)
-    (λ c. search turns) (λ c. search turns) (λ c. search turns) (λ c. search turns))
+    (λ c. search turns) (λ c. search turns))

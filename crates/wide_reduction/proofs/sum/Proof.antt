@@ -1,6 +1,4 @@
-use borrow.Author.Needs.{needs}
-use native.Mathlib.Omega.{arith}
-use Rattle.wide_words.specs.Doubling.{added-low, added-high}
+use Rattle.wide_reduction.proofs.Rules.{rules}
 use Rattle.wide_reduction.proofs.sum.Statement.{statement}
 use Rattle.wide_reduction.proofs.sum.Tie as tie
 
@@ -8,7 +6,4 @@ pub sum-spec : {M : Type 1} → statement M
 sum-spec =
     tie.close
     (tie.spec
-    (λ c. search needs)
-    (λ c. search needs)
-    (λ c. added-low _ _ _ (c .before .pre .0) (c .before .pre .1) (c .if1 .taken))
-    (λ c. added-high _ _ _ (c .before .pre .0) (c .before .pre .1) (omega arith)))
+    (λ c. search rules) (λ c. search rules) (λ c. search rules) (λ c. search rules))

@@ -1,7 +1,7 @@
 use mathlib.Core.Path.{subst}
 use Rattle.definitions.specs.Resultants.{resultant}
-use Rattle.wide_resultant_pseudo.specs.declared.Tried.{Tried}
-use Rattle.wide_resultant_pseudo.specs.Standing.{TriedAnswer}
+use Rattle.wide_euclid_steps.specs.declared.Tried.{Tried}
+use Rattle.wide_euclid_steps.specs.Stages.{TriedAnswer}
 use borrow.Author.Needs.{needs}
 use Rattle.wide_resultant.proofs.ordered.Statement.{statement}
 use Rattle.wide_resultant.proofs.ordered.Tie as tie

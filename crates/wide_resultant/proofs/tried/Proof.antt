@@ -1,23 +1,34 @@
-use Rattle.resultant.proofs.Loading.{pair-asked, loaded-tried}
-use Rattle.wide_resultant_pseudo.specs.Standing.{tried-of}
+use Rattle.resultant.proofs.Entering.{placed-found, tried-found}
+use Rattle.wide_euclid_steps.specs.Stages.{tried-of}
+use mathlib.Core.Path.{refl}
 use borrow.Author.Needs.{needs}
 use Rattle.wide_resultant.proofs.tried.Statement.{statement}
 use Rattle.wide_resultant.proofs.tried.Tie as tie
 
+-- a search for the two loads breaks off, so the rules are applied to them
 attempt-requires : tie.Need-attempt-requires
-attempt-requires c κs = let s = c .before .before .before .before .before .before .before .before .before .before .before .before .args in
-    let p = c .before .before .before .before .before .before .before .before .before .before .before .before .pre in
-    pair-asked (s .n) (s .f .now) (s .g .now) (s .w .now) (c .before .before .before .before .before .before .before .load .last .0) (c .before .before .before .load2 .last .0) (p .0) (p .1 .0) (p .1 .1) (c .before .before .before .before .before .before .before .load .ensures) (c .before .before .before .load2 .ensures)
+attempt-requires c κs =
+    let b = c .before .before .before in
+    let a = b .before .before .before .before in (
+      (search needs, search needs),
+      placed-found (a .load .ensures) (b .load2 .ensures) refl (search needs) (search needs) (search needs),
+    )
 
 returns : tie.Need-returns
-returns c = let s = c .before .before .before .before .before .before .before .before .before .before .before .before .before .before .before .args in
-    let p = c .before .before .before .before .before .before .before .before .before .before .before .before .before .before .before .pre in
-    loaded-tried (s .n) (s .f .now) (s .g .now) (s .w .now) (c .before .before .before .before .before .before .before .before .before .before .load .last .0) (c .before .before .before .before .before .before .load2 .last .0) (p .0) (p .1 .0) (p .1 .1) (c .before .before .before .before .before .before .before .before .before .before .load .ensures) (c .before .before .before .before .before .before .load2 .ensures) (tried-of (c .before .before .attempt .result)) (c .before .before .attempt .ensures .0)
+returns c =
+    let e = c .before .before in
+    let b = e .before .before .before .before in
+    let a = b .before .before .before .before in
+    let m = a .before .before in
+    let s = m .before .before .before .before .pre in
+    tried-found (tried-of (e .attempt .result)) (a .load .ensures) (b .load2 .ensures) (m .modulus-of .ensures .1) (s .0) (s .1 .0)
+    (s .1 .1) (e .attempt .ensures .0)
 
 pub tried-spec : {M : Type 1} → statement M
 tried-spec =
     tie.close
     (tie.spec
+    (λ c κs. search needs)
     (λ c κs. search needs)
     (λ c κs. search needs)
     (λ c. search needs)

@@ -1,7 +1,6 @@
 use borrow.Author.Needs.{needs}
 use Prim.Native.Nat.{_+_, _*_}
-use Rattle.resultant_attempt.proofs.Rules.{factors-answer}
-use Rattle.wide_resultant_attempt.proofs.Cases.{attempts, value-at}
+use Rattle.wide_resultant_attempt.proofs.Cases.{attempts, products}
 use Rattle.wide_arithmetic.proofs as arithmetic
 use Rattle.wide_bezout.proofs as bezout
 use Rattle.wide_window_division.proofs as division
@@ -66,14 +65,7 @@ pub +by-content+dropped+euclid+factors+from-below+monic-part+primitive+reversed+
     (λ c κs. (search attempts, search attempts)) (λ c κs. (search attempts, search attempts)) (λ c. search needs) (λ c. search needs)
     (λ c κs. (search attempts, (search attempts, (search attempts, search attempts)))) (λ c κs. search needs) (λ c. search needs)
     (λ c. search needs)
-    (λ c. let p = c .before .before .before .before .before .before .before .before .before .before .before .before .before .before
-    .before .before .before .pre .1 .0 in
-    let u = c .before .before .before .before .before .before .before .before .before .before .before .before .before .before
-    .unit-times-monic in
-    let h = c .before .before .before .before .before .before .before .before .before .before .monic-part .ensures in
-    factors-answer (p .0) (p .1) (u .kept .0) (u .ensures) (h .1)
-    (value-at _ _ _ (h .0) _ (c .before .before .before .before .before .before .y .given .1))
-    (c .before .before .before .unit-part .ensures) (c .times .ensures))
+    (λ c. search products)
     (λ c. search needs) (λ c. search attempts))
     (λ t. cycle.Lts-from_below.spec (
       _,

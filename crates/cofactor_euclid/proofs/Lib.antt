@@ -1,3 +1,0 @@
-pub mod Written
-pub mod Stepping
-pub mod Starting

@@ -1,0 +1,69 @@
+-- Multiples of words that are added to others: entered multipliers make of words as they are what the multipliers themselves make.
+--
+--   formed-of                   where words can be held, the record has what the reductions need
+--   paired-held, moved-held     what the held loop makes, with 1 entered for the words at dst
+--   same-modulus, clear-of      what the other loops ask
+--   additions                   the rules
+use mathlib.Core.Path.{_≡_, refl, ap, subst, _∙_}
+use mathlib.Core.List.{List}
+use Prim.Native.Nat.{ℕ, _+_, _*_, _%_, _≤_, _<_}
+use native.Mathlib.Nat.{one-mul, zero-mul, add-zero, le-of-lt}
+use native.Mathlib.Omega.{arith}
+use lib.ListN.{length, getD}
+use Rattle.numbers.specs.Congruence.{Cong, c-refl, c-trans, c-eq, c-mod, c-add, c-mul}
+use Rattle.windows.specs.Window.{Clear, Apart, Below, PairAsked, Paired, Moved, Written, addMul, behind}
+use Rattle.windows.proofs.Turns.{power-told}
+use Rattle.window_combining.specs.Combined.{combination}
+use Rattle.montgomery.specs.Held.{plain, Formed}
+use Rattle.montgomery.specs.Turning.{plain-none}
+use Rattle.montgomery.specs.declared.Form.{Form}
+use Rattle.modulus.specs.declared.Modulus.{Modulus}
+use Rattle.reduction.specs.Moduli.{Ready}
+use Rattle.reduction.specs.declared.Reciprocal.{Reciprocal}
+use Rattle.modulus.specs.Values.{Known, value, form, reciprocal}
+use Rattle.modulus.proofs.Valuing.{value-held}
+
+pub formed-of : {m : Modulus} {f : Form} → Known m → (m .held ≡ 0 → ⊥) → f ≡ form m → Formed f
+formed-of k h e = rw e (k .formed h)
+
+-- what an entered multiplier is modulo n
+entered : (m : Modulus) (a x : ℕ) → (m .held ≡ 0 → ⊥) → value m x ≡ a % m .n → Cong (m .n) (plain (m .n) x) a
+entered m a x h e = c-trans (c-eq (subst (λ (u : ℕ → ℕ). u x ≡ a % m .n) (value-held m h) e)) (c-mod a)
+
+module _ (m : Modulus) (known : Known m) (held : m .held ≡ 0 → ⊥) {src dst len : ℕ} {w w' : List ℕ} where
+  pub paired-held : (l x y c e : ℕ)
+      → Written (combination (m .n) (plain (m .n) l) (plain (m .n) x) (plain (m .n) y) src dst w) dst len w w'
+      → value m l ≡ 1 % m .n → value m x ≡ c % m .n → value m y ≡ e % m .n → Paired (m .n) c e src dst len w w'
+  unfolding combination
+  paired-held l x y c e wr hl hx hy = record {
+    same = wr .same;
+    low = wr .low;
+    mid = λ i g. wr .mid i g ∙ c-add (c-add (c-trans (c-mul (entered m 1 l held hl) c-refl) (c-eq (one-mul _)))
+        (c-mul (entered m c x held hx) c-refl)) (c-mul (entered m e y held hy) c-refl) .same;
+    high = wr .high;
+  }
+
+  pub moved-held : (l x c : ℕ)
+      → Written (combination (m .n) (plain (m .n) l) (plain (m .n) 0) (plain (m .n) x) src dst w) dst len w w'
+      → value m l ≡ 1 % m .n → value m x ≡ c % m .n → Moved (addMul (m .n) c) src dst len w w'
+  unfolding combination
+  moved-held l x c wr hl hx = record {
+    same = wr .same;
+    low = wr .low;
+    mid = λ i g. wr .mid i g ∙ c-add (c-trans (c-add (c-trans (c-mul (entered m 1 l held hl) c-refl) (c-eq (one-mul _)))
+        (c-eq (ap (λ (z : ℕ). z * behind (λ (k : ℕ). getD w (src + k) 0) i) (plain-none (m .n) (known .formed held .fits .odd))
+        ∙ zero-mul _))) (c-eq (add-zero _))) (c-mul (entered m c x held hx) c-refl) .same;
+    high = wr .high;
+  }
+
+pub clear-of : {n e src dst len : ℕ} {w : List ℕ} → PairAsked n e src dst len w → Clear src dst len
+clear-of a = record { ok = λ i j p q h. a .apart .ok i j q (omega arith) h }
+
+pub none-most : (n : ℕ) → 0 ≤ n
+none-most n = omega arith
+
+pub same-modulus : {m : Modulus} {r : Reciprocal} → Known m → r ≡ reciprocal m → Ready r
+same-modulus k e = rw e (k .ready)
+
+-- `additions` at the returns and the calls; the rest are `needs`
+pub ruleset additions = (tt, refl, le-of-lt, none-most, power-told, formed-of, same-modulus, clear-of, paired-held, moved-held)

@@ -1,0 +1,10 @@
+use Rattle.wide_modulus.proofs.Answering.{answers}
+use Rattle.wide_modulus.proofs.enter.Statement.{statement}
+use Rattle.wide_modulus.proofs.enter.Tie as tie
+
+pub enter-spec : {M : Type 1} → statement M
+enter-spec =
+    tie.close
+    (tie.spec
+    (λ c κs. search answers)
+    (λ c. search answers))

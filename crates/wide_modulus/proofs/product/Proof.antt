@@ -1,0 +1,10 @@
+use Rattle.wide_modulus.proofs.Answering.{answers}
+use Rattle.wide_modulus.proofs.product.Statement.{statement}
+use Rattle.wide_modulus.proofs.product.Tie as tie
+
+pub product-spec : {M : Type 1} → statement M
+product-spec =
+    tie.close
+    (tie.spec
+    (λ c κs. search answers)
+    (λ c. search answers))

@@ -1,0 +1,10 @@
+use Rattle.wide_modulus.proofs.Answering.{answers}
+use Rattle.wide_modulus.proofs.times.Statement.{statement}
+use Rattle.wide_modulus.proofs.times.Tie as tie
+
+pub times-spec : {M : Type 1} → statement M
+times-spec =
+    tie.close
+    (tie.spec
+    (λ c κs. search answers)
+    (λ c. search answers))
