@@ -1,9 +1,8 @@
 -- Multiples of words that are added to others: entered multipliers make of words as they are what the multipliers themselves make.
 --
---   formed-of                   where words can be held, the record has what the reductions need
---   paired-held, moved-held     what the held loop makes, with 1 entered for the words at dst
---   same-modulus, clear-of      what the other loops ask
---   additions                   the rules
+--   paired-held, moved-held, scaled-entered    what the held loops make, with 1 entered for the words at dst
+--   clear-of                                   what the other loops ask
+--   additions                                  the rules
 use mathlib.Core.Path.{_≡_, refl, ap, subst, _∙_}
 use mathlib.Core.List.{List}
 use Prim.Native.Nat.{ℕ, _+_, _*_, _%_, _≤_, _<_}
@@ -14,17 +13,11 @@ use Rattle.numbers.specs.Congruence.{Cong, c-refl, c-trans, c-eq, c-mod, c-add,
 use Rattle.windows.specs.Window.{Clear, Apart, Below, PairAsked, Paired, Moved, Written, addMul, mulBy, behind}
 use Rattle.windows.proofs.Turns.{power-told}
 use Rattle.window_combining.specs.Combined.{combination}
-use Rattle.montgomery.specs.Held.{plain, Formed}
+use Rattle.montgomery.specs.Held.{plain}
 use Rattle.montgomery.specs.Turning.{plain-none}
-use Rattle.montgomery.specs.declared.Form.{Form}
 use Rattle.modulus.specs.declared.Modulus.{Modulus}
-use Rattle.reduction.specs.Moduli.{Ready}
-use Rattle.reduction.specs.declared.Reciprocal.{Reciprocal}
-use Rattle.modulus.specs.Values.{Known, value, form, reciprocal}
-use Rattle.modulus.proofs.Valuing.{value-held}
-
-pub formed-of : {m : Modulus} {f : Form} → Known m → (m .held ≡ 0 → ⊥) → f ≡ form m → Formed f
-formed-of k h e = rw e (k .formed h)
+use Rattle.modulus.specs.Values.{Known, value}
+use Rattle.modulus.proofs.Valuing.{value-held, formed-of, ready-of}
 
 -- what an entered multiplier is modulo n
 entered : (m : Modulus) (a x : ℕ) → (m .held ≡ 0 → ⊥) → value m x ≡ a % m .n → Cong (m .n) (plain (m .n) x) a
@@ -71,8 +64,5 @@ clear-of a = record { ok = λ i j p q h. a .apart .ok i j q (omega arith) h }
 pub none-most : (n : ℕ) → 0 ≤ n
 none-most n = omega arith
 
-pub same-modulus : {m : Modulus} {r : Reciprocal} → Known m → r ≡ reciprocal m → Ready r
-same-modulus k e = rw e (k .ready)
-
 -- `additions` at the returns and the calls; the rest are `needs`
-pub ruleset additions = (tt, refl, le-of-lt, none-most, power-told, formed-of, same-modulus, clear-of, paired-held, moved-held, scaled-entered)
+pub ruleset additions = (tt, refl, le-of-lt, none-most, power-told, formed-of, ready-of, clear-of, paired-held, moved-held, scaled-entered)

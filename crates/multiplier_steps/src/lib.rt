@@ -64,7 +64,7 @@ fn combine_back(
 {
     let n = m.n;
     if m.held != 0 {
-        held_windows::combine_pair(
+        modulus_windows::combine_pair_held(
             w,
             Form {
                 n,
