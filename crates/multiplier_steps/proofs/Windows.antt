@@ -15,13 +15,10 @@ use Rattle.definitions.specs.Polynomials.{coef, convolve}
 use Rattle.numbers.specs.Congruence.{Cong, c-refl, c-sym, c-trans, c-eq, c-add, c-mul}
 use Rattle.windows.specs.Window.{piece, Written, Around, Apart, behind}
 use Rattle.windows.proofs.Leaf.{lt-or-le, piece-at, piece-over, piece-same, apart-at}
+use Rattle.windows.proofs.Pairs.{behind-same}
 use Rattle.window_division.proofs.Turns.{spot, risen, risen-at, risen-low, convolve-spot}
 use Rattle.window_combining.specs.Combined.{combination}
 use Rattle.euclid_steps.specs.Steps.{Mixture, Added, two, convolve-two}
-
-behind-same : (F G : ℕ → ℕ) (k : ℕ) → ((j : ℕ) → j < k → F j ≡ G j) → behind F k ≡ behind G k
-behind-same F G zero h = refl
-behind-same F G (suc k) h = h k (omega arith)
 
 behind-nil : (F : ℕ → ℕ) (d k : ℕ) → ((j : ℕ) → d ≤ j → F j ≡ 0) → d + 1 ≤ k → behind F k ≡ 0
 behind-nil F d zero h l = refl
