@@ -8,7 +8,7 @@
 --   formed-of, ready-of          what the record has for each form
 --   left-…, entered-…, product-…, times-…, three-…, sum-…, difference-…
 --                                what each form's operation answers, of what the words stand for
---   answers                      the rules
+--   answers, plain-answers       the rules; those of words as they are, whatever n is
 use mathlib.Core.Path.{_≡_, refl, sym, ap, ap₂, subst, _∙_}
 use Prim.Native.Nat.{ℕ, zero, suc, _+_, _-_, _*_, _%_, _^_, _≤_, _<_}
 use native.Mathlib.Omega.{arith}
@@ -45,6 +45,9 @@ by-form m P h p = go (m .held) refl
     go (suc j) e =
         let f : m .held ≡ 0 → ⊥ = λ z. omega arith in
         subst P (sym (value-held m f)) (h f)
+
+nothing : (s t : ℕ) → s + t + 0 * 0 ≡ s + t
+nothing s t = omega arith
 
 module _ (m : Modulus) (k : Known m) where
   odd : (m .held ≡ 0 → ⊥) → m .n % 2 ≡ 1
@@ -102,23 +105,14 @@ module _ (m : Modulus) (k : Known m) where
   entered-held a r e h =
       subst (λ (u : ℕ → ℕ). u r ≡ a % m .n) (sym (value-held m e)) (ap (plain (m .n)) h ∙ leave-enter (m .n) (odd e) a)
 
-  pub entered-plain : (a r : ℕ) → m .held ≡ 0 → r ≡ a % m .n → value m r ≡ a % m .n
-  entered-plain a r e h = subst (λ (u : ℕ → ℕ). u r ≡ a % m .n) (sym (value-plain m e)) h
-
   pub product-held : (x y r : ℕ) → (m .held ≡ 0 → ⊥) → r ≡ plain (m .n) (x * y) → value m r ≡ (value m x * value m y) % m .n
   product-held x y r e h =
       subst (λ (u : ℕ → ℕ). u r ≡ (u x * u y) % m .n) (sym (value-held m e)) (ap (plain (m .n)) h ∙ plain-product (m .n) (odd e) x y)
-
-  pub product-plain : (x y r : ℕ) → m .held ≡ 0 → r ≡ (x * y) % m .n → value m r ≡ (value m x * value m y) % m .n
-  product-plain x y r e h = subst (λ (u : ℕ → ℕ). u r ≡ (u x * u y) % m .n) (sym (value-plain m e)) h
 
   pub times-held : (x a r : ℕ) → (m .held ≡ 0 → ⊥) → r ≡ plain (m .n) (x * a) → r ≡ (value m x * a) % m .n
   times-held x a r e h =
       subst (λ (u : ℕ → ℕ). r ≡ (u x * a) % m .n) (sym (value-held m e))
       (is (plain-word r (x * a) e h) (c-trans (c-eq h) (plain-mul (m .n) (odd e) x a)))
-
-  pub times-plain : (x a r : ℕ) → m .held ≡ 0 → r ≡ (x * a) % m .n → r ≡ (value m x * a) % m .n
-  times-plain x a r e h = subst (λ (u : ℕ → ℕ). r ≡ (u x * a) % m .n) (sym (value-plain m e)) h
 
   -- a word that is the sum of words, or their difference, stands for that of what they stand for
   added : (x y r : ℕ) → r < m .n → Cong (m .n) r (x + y) → value m r ≡ (value m x + value m y) % m .n
@@ -145,33 +139,42 @@ module _ (m : Modulus) (k : Known m) where
     pub difference-under : x < y → r ≡ x + (m .n - y) → value m r ≡ (value m x + (m .n - value m y)) % m .n
     difference-under h e = less x y r (omega arith) (omega arith) (c-eq e)
 
-  -- l x + c y, where c is n - b, with multipliers that are held or not
-  three : (l x b y r : ℕ) → b < m .n → r ≡ (value m l * x + value m (m .n - b) * y + value m 0 * 0) % m .n
-      → value m r ≡ (value m l * value m x + (m .n - value m b) * value m y) % m .n
-  three l x b y r lb h =
-      ap (value m) h ∙ value-three (value m l) x (value m (m .n - b)) y (value m 0) 0
-      ∙ c-trans (c-add (c-add c-refl (c-mul (value-negative b (omega arith)) c-refl))
-      (c-eq (ap₂ (λ (s t : ℕ). s * t) value-none value-none))) (c-eq (nothing _ _)) .same
-    where
-      nothing : (s t : ℕ) → s + t + 0 * 0 ≡ s + t
-      nothing s t = omega arith
-
+  -- l x + c y, where c is n - b, with held multipliers
   pub three-held : (l x b y r : ℕ) → (m .held ≡ 0 → ⊥) → b < m .n
       → r ≡ (plain (m .n) l * x + plain (m .n) (m .n - b) * y + plain (m .n) 0 * 0) % m .n
       → value m r ≡ (value m l * value m x + (m .n - value m b) * value m y) % m .n
   three-held l x b y r e lb h =
-      three l x b y r lb (subst (λ (u : ℕ → ℕ). r ≡ (u l * x + u (m .n - b) * y + u 0 * 0) % m .n) (sym (value-held m e)) h)
-
-  pub three-plain : (l x b y r : ℕ) → m .held ≡ 0 → b < m .n → r ≡ (l * x + (m .n - b) * y + 0 * 0) % m .n
-      → value m r ≡ (value m l * value m x + (m .n - value m b) * value m y) % m .n
-  three-plain l x b y r e lb h =
-      three l x b y r lb (subst (λ (u : ℕ → ℕ). r ≡ (u l * x + u (m .n - b) * y + u 0 * 0) % m .n) (sym (value-plain m e)) h)
+      ap (value m) (subst (λ (u : ℕ → ℕ). r ≡ (u l * x + u (m .n - b) * y + u 0 * 0) % m .n) (sym (value-held m e)) h)
+      ∙ value-three (value m l) x (value m (m .n - b)) y (value m 0) 0
+      ∙ c-trans (c-add (c-add c-refl (c-mul (value-negative b (le-of-lt lb)) c-refl))
+      (c-eq (ap₂ (λ (s t : ℕ). s * t) value-none value-none))) (c-eq (nothing _ _)) .same
 
 pub left-held : (m : Modulus) (x r : ℕ) → (m .held ≡ 0 → ⊥) → r ≡ plain (m .n) x → r ≡ value m x
 left-held m x r e h = h ∙ ap (λ (u : ℕ → ℕ). u x) (sym (value-held m e))
 
-pub left-plain : (m : Modulus) (x : ℕ) → m .held ≡ 0 → x ≡ value m x
-left-plain m x e = ap (λ (u : ℕ → ℕ). u x) (sym (value-plain m e))
+-- words as they are, whatever n is
+module _ (m : Modulus) (e : m .held ≡ 0) where
+  own : (P : (ℕ → ℕ) → Type 0) → P (λ (x : ℕ). x) → P (value m)
+  own P h = subst P (sym (value-plain m e)) h
+
+  pub left-plain : (x : ℕ) → x ≡ value m x
+  left-plain x = own (λ (u : ℕ → ℕ). x ≡ u x) refl
+
+  pub entered-plain : (a r : ℕ) → r ≡ a % m .n → value m r ≡ a % m .n
+  entered-plain a r h = own (λ (u : ℕ → ℕ). u r ≡ a % m .n) h
+
+  pub product-plain : (x y r : ℕ) → r ≡ (x * y) % m .n → value m r ≡ (value m x * value m y) % m .n
+  product-plain x y r h = own (λ (u : ℕ → ℕ). u r ≡ (u x * u y) % m .n) h
+
+  pub times-plain : (x a r : ℕ) → r ≡ (x * a) % m .n → r ≡ (value m x * a) % m .n
+  times-plain x a r h = own (λ (u : ℕ → ℕ). r ≡ (u x * a) % m .n) h
+
+  pub difference-plain : (x y r : ℕ) → r ≡ (x + (m .n - y)) % m .n → value m r ≡ (value m x + (m .n - value m y)) % m .n
+  difference-plain x y r h = own (λ (u : ℕ → ℕ). u r ≡ (u x + (m .n - u y)) % m .n) h
+
+  pub three-plain : (l x b y r : ℕ) → r ≡ (l * x + (m .n - b) * y + 0 * 0) % m .n
+      → value m r ≡ (value m l * value m x + (m .n - value m b) * value m y) % m .n
+  three-plain l x b y r h = own (λ (u : ℕ → ℕ). u r ≡ (u l * u x + (m .n - u b) * u y) % m .n) (h ∙ ap (λ (z : ℕ). z % m .n) (nothing _ _))
 
 pub formed-of : {m : Modulus} {f : Form} → Known m → (m .held ≡ 0 → ⊥) → f ≡ form m → Formed f
 formed-of k h e = rw e (k .formed h)
@@ -179,8 +182,10 @@ formed-of k h e = rw e (k .formed h)
 pub ready-of : {m : Modulus} {r : Reciprocal} → Known m → r ≡ reciprocal m → Ready r
 ready-of k e = rw e (k .ready)
 
-pub ruleset words = (word-below, plain-word, held-word, left-held, left-plain, entered-held, entered-plain, product-held, product-plain)
+pub ruleset held-answers = (word-below, plain-word, held-word, left-held, entered-held, product-held, times-held, three-held)
 
-pub ruleset numbers = (times-held, times-plain, sum-over, sum-under, difference-over, difference-under, three-held, three-plain)
+pub ruleset plain-answers = (left-plain, entered-plain, product-plain, times-plain, difference-plain, three-plain)
 
-pub ruleset answers = (needs, le-of-lt, formed-of, ready-of, words, numbers)
+pub ruleset sums = (sum-over, sum-under, difference-over, difference-under)
+
+pub ruleset answers = (needs, le-of-lt, formed-of, ready-of, sums, held-answers, plain-answers)
