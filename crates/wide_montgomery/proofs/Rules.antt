@@ -1,7 +1,7 @@
 -- The rules of the proofs of this crate, over plain numbers: `search rules` finds them by the facts that the code provides.
 --
 --   minus-is                        a difference known by its sign
---   newton, six-steps, no-inverse   a step of the inverse; six of them; an even n has none
+--   newton, five-steps, no-inverse  a step of the inverse; five of them; an even n has none
 --   carried-…                       the carry of a sum of words
 --   product-is, added-fits, added-is    a product of two words; what is added to it
 --   multiple-most, redc-is          the multiple of n, and what is left of two words without it
@@ -16,9 +16,10 @@ use native.Mathlib.Omega.{arith}
 use borrow.Author.Needs.{needs}
 use Rattle.numbers.specs.Congruence.{Cong, c-refl, c-sym, c-trans, c-eq, c-add, c-mod}
 use Rattle.words.specs.Digits.{low-low, high-low, low-high}
+use Rattle.reduction.specs.Newton.{Refined, refined, odd-square}
 use Rattle.wide_words.specs.Halves.{low-is}
 use Rattle.wide_words.specs.Reciprocals.{remainder}
-use Rattle.wide_words.specs.Montgomery.{IsForm, Refined, refined, multiple-below, multiple-reduced, held-is}
+use Rattle.wide_words.specs.Montgomery.{IsForm, multiple-below, multiple-reduced, held-is}
 use Rattle.wide_words.specs.Montgomery.{high-less, high-room, high-most, two-products, product-most}
 use Rattle.wide_montgomery.specs.Forms.{Formed, Squared, Held, Reduced, Inverse, Carried, Factors}
 use Rattle.wide_montgomery.specs.Forms.{open-form, open-square, open-reduced, shut-held, shut-reduced, shut-inverse}
@@ -48,20 +49,19 @@ newton n m x y r ex ey er = refined (2 ^ 64) n m x y r ex ey er
 pub no-inverse : (n : ℕ) → Inverse n 0
 no-inverse n = record { unit = λ h. absurd (h refl) }
 
-pub six-steps : {n m₁ m₂ m₃ m₄ m₅ m₆ : ℕ} → Refined (2 ^ 64) n 1 m₁ → Refined (2 ^ 64) n m₁ m₂ → Refined (2 ^ 64) n m₂ m₃
-    → Refined (2 ^ 64) n m₃ m₄ → Refined (2 ^ 64) n m₄ m₅ → Refined (2 ^ 64) n m₅ m₆ → (n % 2 ≡ 0 → ⊥) → Inverse n m₆
-six-steps {n} {m₁} {m₂} {m₃} {m₄} {m₅} {m₆} a b c d e f odd =
-    let one : n % 2 ≡ 1 = omega arith in
+pub five-steps : {n m₁ m₂ m₃ m₄ m₅ : ℕ} → Refined (2 ^ 64) n n m₁ → Refined (2 ^ 64) n m₁ m₂ → Refined (2 ^ 64) n m₂ m₃
+    → Refined (2 ^ 64) n m₃ m₄ → Refined (2 ^ 64) n m₄ m₅ → (n % 2 ≡ 0 → ⊥) → Inverse n m₅
+five-steps {n} a b c d e odd =
     shut-inverse (
-    f .at 4294967296 (2 ^ 64) (omega arith) (omega arith) (dvd-mul-right 4294967296 4294967296) (dvd-refl (2 ^ 64)) (dvd-refl (2 ^ 64))
-    (e .at 65536 4294967296 (omega arith) (omega arith) (dvd-mul-right 65536 281474976710656) (dvd-mul-right 4294967296 4294967296)
-    (dvd-refl 4294967296)
-    (d .at 256 65536 (omega arith) (omega arith) (dvd-mul-right 256 72057594037927936) (dvd-mul-right 65536 281474976710656)
-    (dvd-refl 65536)
-    (c .at 16 256 (omega arith) (omega arith) (dvd-mul-right 16 1152921504606846976) (dvd-mul-right 256 72057594037927936) (dvd-refl 256)
-    (b .at 4 16 (omega arith) (omega arith) (dvd-mul-right 4 4611686018427387904) (dvd-mul-right 16 1152921504606846976) (dvd-refl 16)
-    (a .at 2 4 (omega arith) (omega arith) (dvd-mul-right 2 9223372036854775808) (dvd-mul-right 4 4611686018427387904) (dvd-refl 4)
-    (c-trans (c-eq (mul-one n)) (record { same = one }))))))))
+    e .at 281474976710656 (2 ^ 64) (omega arith) (omega arith) (dvd-mul-right 281474976710656 65536) (dvd-refl (2 ^ 64))
+    (dvd-mul-right (2 ^ 64) 4294967296)
+    (d .at 16777216 281474976710656 (omega arith) (omega arith) (dvd-mul-right 16777216 1099511627776)
+    (dvd-mul-right 281474976710656 65536) (dvd-refl 281474976710656)
+    (c .at 4096 16777216 (omega arith) (omega arith) (dvd-mul-right 4096 4503599627370496) (dvd-mul-right 16777216 1099511627776)
+    (dvd-refl 16777216)
+    (b .at 64 4096 (omega arith) (omega arith) (dvd-mul-right 64 288230376151711744) (dvd-mul-right 4096 4503599627370496) (dvd-refl 4096)
+    (a .at 8 64 (omega arith) (omega arith) (dvd-mul-right 8 2305843009213693952) (dvd-mul-right 64 288230376151711744) (dvd-refl 64)
+    (odd-square n (omega arith)))))))
 
 -- ---- sums of products
 
@@ -224,7 +224,7 @@ module _ {n k : ℕ} (f : Formed n k) where
 
 pub ruleset words = (minus-is, sign-fits, low-fits, high-fits, mixed-fits, low-half)
 
-pub ruleset inverses = (newton, no-inverse, six-steps)
+pub ruleset inverses = (newton, no-inverse, five-steps)
 
 pub ruleset carries = (carried-some, carried-none, product-is, half-fits, added-fits, added-is)
 

@@ -12,7 +12,7 @@
 //   t, u, v sums of products, of two words
 ghost use mathlib.Core.Path.{_≡_};
 ghost use Prim.Native.Nat.{_+_, _-_, _*_, _/_, _%_, _^_, _<_, _≤_};
-ghost use Rattle.wide_words.specs.Montgomery.{Refined};
+ghost use Rattle.reduction.specs.Newton.{Refined};
 ghost use Rattle.wide_montgomery.specs.Forms.{Formed, Squared, Held, Reduced, Inverse, Carried, Factors};
 
 // hi 2^64 + lo.
@@ -49,14 +49,14 @@ fn refine(n: u64, m: u64) -> u64
     low(m, std::num::wrapping_sub_u64(2, low(n, m)))
 }
 
-// The inverse of n modulo 2^64, 0 if there is none: 1 is one modulo 2, and then modulo 4, 16, 256, 2^16, 2^32 and 2^64.
+// The inverse of n modulo 2^64, 0 if there is none: n is its own modulo 8, and then come 2^6, 2^12, 2^24, 2^48 and 2^64.
 pub fn inverse_of(n: u64) -> u64
     ensures { λ r. ⌜ Inverse n r ⌝ }
 {
     if n % 2 == 0 {
         return 0;
     }
-    refine(n, refine(n, refine(n, refine(n, refine(n, refine(n, 1))))))
+    refine(n, refine(n, refine(n, refine(n, refine(n, n)))))
 }
 
 // 1, where the sum s of p and another number wrapped.
