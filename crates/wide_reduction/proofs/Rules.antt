@@ -1,4 +1,4 @@
--- The rules of the proofs of this crate: `search rules` finds them by the facts that the code provides.
+-- The rules of the proofs of this crate, a set for each group of functions: `search` finds them by the facts that the code provides.
 --
 --   digit-…, fraction-…, multiple-…, ready-…    the reciprocal
 --   factor-…                          the fraction of a factor
@@ -190,18 +190,16 @@ sum-after n a b x r er ex = er ∙ ap (λ (u : ℕ). (u + b) % n) ex ∙ mod-add
 pub sum-third : (n a b c x y r : ℕ) → r ≡ (y + c) % n → y ≡ (x + b) % n → x ≡ a % n → r ≡ (a + b + c) % n
 sum-third n a b c x y r er ey ex = sum-after n (a + b) c y r er (sum-after n a b x y ey ex)
 
-pub ruleset quotients = (digit-word, digit-second, digit-part, digit-room, digit-both, digit-next, digit-is)
+pub ruleset quotients = (needs, digit-word, digit-second, digit-part, digit-room, digit-both, digit-next, digit-is)
 
-pub ruleset fractions = (fraction-part, fraction-fits, digits-under, digits-over)
+pub ruleset fractions = (needs, fraction-part, fraction-fits, digits-under, digits-over)
 
-pub ruleset reciprocals = (rest-word, multiple-word, multiple-high, multiple-least, multiple-below, multiple-fits, ready-large, ready-small)
+pub ruleset reciprocals = (needs, rest-word, multiple-word, multiple-high, multiple-least, multiple-below, multiple-fits, ready-large, ready-small)
 
-pub ruleset factors = (factor-product, factor-sum, factor-none, factor-fits, factor-once)
+pub ruleset factors = (needs, factor-product, factor-sum, factor-none, factor-fits, factor-once)
 
-pub ruleset products = (whole-residue, left-less, left-is, high-fraction, low-fraction, parts-less, parts-fit, parts-are, words-are)
+pub ruleset products = (needs, whole-residue, left-less, left-is, high-fraction, low-fraction, parts-less, parts-fit, parts-are, words-are)
 
 pub ruleset large = (needs, large-below, large-within, large-some, large-most, large-less, large-is)
 
-pub ruleset sums = (own-residue, sum-low, sum-high, residue-below, sum-residues, sum-after, sum-third)
-
-pub ruleset rules = (needs, quotients, fractions, reciprocals, factors, products, sums)
+pub ruleset sums = (needs, own-residue, sum-low, sum-high, residue-below, sum-residues, sum-after, sum-third)
