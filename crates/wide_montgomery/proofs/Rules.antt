@@ -15,8 +15,8 @@ use native.Mathlib.Decide.{decLt}
 use native.Mathlib.Omega.{arith}
 use borrow.Author.Needs.{needs}
 use Rattle.numbers.specs.Congruence.{Cong, c-refl, c-sym, c-trans, c-eq, c-add, c-mod}
-use Rattle.words.specs.Digits.{low-low, high-low, low-high}
 use Rattle.reduction.specs.Newton.{Refined, refined, odd-square}
+use Rattle.reduction.proofs.Reducing.{sign-fits, low-fits, high-fits, mixed-fits}
 use Rattle.wide_words.specs.Halves.{low-is}
 use Rattle.wide_words.specs.Reciprocals.{remainder}
 use Rattle.wide_words.specs.Montgomery.{IsForm, multiple-below, multiple-reduced, held-is}
@@ -94,20 +94,6 @@ module _ (hi a b h : ℕ) (room : hi + a * b / 2 ^ 64 + 1 < 2 ^ 64) (eh : h ≡ 
       go (no l) = let e = c .none (omega arith) in omega arith
 
 -- ---- what fits a word
-
-pub sign-fits : (y n : ℕ) → y < 2 ^ 64 → n < 2 ^ 63 → y / 9223372036854775808 * n < 2 ^ 64
-sign-fits y n ly ln =
-    omega (arith, mul-le-mul-right n (let h : y / 9223372036854775808 ≤ 1 = omega arith in h))
-
-module _ (a b : ℕ) (ha : a < 2 ^ 64) (hb : b < 2 ^ 64) where
-  pub low-fits : (a % 4294967296) * (b % 4294967296) < 2 ^ 64
-  low-fits = omega (arith, low-low ha hb)
-
-  pub high-fits : (a / 4294967296) * (b % 4294967296) < 2 ^ 64
-  high-fits = omega (arith, high-low ha hb)
-
-  pub mixed-fits : (a % 4294967296) * (b / 4294967296) < 2 ^ 64
-  mixed-fits = omega (arith, low-high ha hb)
 
 pub low-half : (a b r : ℕ)
     → r ≡ ((a % 4294967296) * (b % 4294967296)
