@@ -5,6 +5,7 @@
 //   minus                 a - b modulo n
 //   inverse_of            the inverse of n modulo 2^64, or 0
 //   enter                 a multiplier, held
+//   sum_two               x + c y + e z modulo n, the multipliers c and e held
 //   sum_three             l x + c y + e z modulo n, the multipliers l, c and e held
 //
 //   k       the inverse of n modulo 2^64
@@ -109,6 +110,17 @@ pub fn enter(n: u64, k: u64, s: u64, a: u64) -> u64
 {
     let t = product(a, s);
     redc(n, k, t.hi, t.lo)
+}
+
+// x + c y + e z, with c and e held; y and z are any words.
+pub fn sum_two(n: u64, k: u64, x: u64, c: u64, y: u64, e: u64, z: u64) -> u64
+    requires { ⌜ (Formed n k) × ((x ≤ n) × ((c < n) × (e < n))) ⌝ }
+    ensures { λ r. ⌜ Reduced n (x * 2 ^ 64 + c * y + e * z) r ⌝ }
+{
+    let t = product(c, y);
+    let u = add_product(t, e, z);
+    let p = redc(n, k, u.hi, u.lo);
+    minus(n, x, n - p)
 }
 
 // l x + c y + e z, with l, c and e held; x is any word.
