@@ -29,14 +29,20 @@ low-fits m y h = product-fits h (omega arith)
 pub four-steps : {a m₁ m₂ m₃ m₄ : ℕ} → Refined 4294967296 a a m₁ → Refined 4294967296 a m₁ m₂ → Refined 4294967296 a m₂ m₃
     → Refined 4294967296 a m₃ m₄ → a % 2 ≡ 1 → (a * m₄) % 4294967296 ≡ 1
 four-steps {a} {m₁} {m₂} {m₃} {m₄} b c d e odd =
-    e .at 16777216 4294967296 (omega arith) (omega arith) (dvd-mul-right 16777216 256) (dvd-refl 4294967296) (dvd-mul-right 4294967296 65536)
+    e .at 16777216 4294967296 (omega arith) (omega arith) (dvd-mul-right 16777216 256) (dvd-refl 4294967296)
+    (dvd-mul-right 4294967296 65536)
     (d .at 4096 16777216 (omega arith) (omega arith) (dvd-mul-right 4096 1048576) (dvd-mul-right 16777216 256) (dvd-refl 16777216)
     (c .at 64 4096 (omega arith) (omega arith) (dvd-mul-right 64 67108864) (dvd-mul-right 4096 1048576) (dvd-refl 4096)
-    (b .at 8 64 (omega arith) (omega arith) (dvd-mul-right 8 536870912) (dvd-mul-right 64 67108864) (dvd-refl 64) (odd-square a odd)))) .same
+    (b .at 8 64 (omega arith) (omega arith) (dvd-mul-right 8 536870912) (dvd-mul-right 64 67108864) (dvd-refl 64)
+    (odd-square a odd)))) .same
 
 pub inverse-cofactor : {B n a s : ℕ} (r : ℕ) → PowerIn B n → (a * r) % B ≡ 1 → s ≡ bitAnd r (n - 1) → GcdCofactor n a 1 s
 inverse-cofactor {B} {n} {a} {s} r p e es = record {
-  gcd = record { left = one-dvd n; right = one-dvd a; most = λ d dn da. dvd-c (c-trans (c-sym (c-dvd dn one)) (c-zero (dvd-trans d da (dvd-mul-right a r)))) };
+  gcd = record {
+    left = one-dvd n;
+    right = one-dvd a;
+    most = λ d dn da. dvd-c (c-trans (c-sym (c-dvd dn one)) (c-zero (dvd-trans d da (dvd-mul-right a r))));
+  };
   at-most = rw low (le-of-lt (mod-lt r (p .pos)));
   bezout = c-trans (c-mul (c-trans (c-eq low) (c-mod r)) (c-refl {a = a})) (c-trans (c-eq (mul-comm r a)) one) .same;
 }

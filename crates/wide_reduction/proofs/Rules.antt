@@ -194,7 +194,9 @@ pub ruleset quotients = (needs, digit-word, digit-second, digit-part, digit-room
 
 pub ruleset fractions = (needs, fraction-part, fraction-fits, digits-under, digits-over)
 
-pub ruleset reciprocals = (needs, rest-word, multiple-word, multiple-high, multiple-least, multiple-below, multiple-fits, ready-large, ready-small)
+pub ruleset multiples = (rest-word, multiple-word, multiple-high, multiple-least, multiple-below, multiple-fits)
+
+pub ruleset reciprocals = (needs, multiples, ready-large, ready-small)
 
 pub ruleset factors = (needs, factor-product, factor-sum, factor-none, factor-fits, factor-once)
 

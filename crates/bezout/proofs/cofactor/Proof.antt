@@ -6,4 +6,5 @@ pub cofactor-spec : {M : Type 1} → statement M
 cofactor-spec =
     tie.close
     (tie.spec
-    (λ c κs. search inverses) (λ c κs. search inverses) (λ c. search inverses) (λ c. search inverses) (λ c κs. search inverses) (λ c. search inverses))
+    (λ c κs. search inverses) (λ c κs. search inverses) (λ c. search inverses)
+    (λ c. search inverses) (λ c κs. search inverses) (λ c. search inverses))

@@ -6,5 +6,6 @@ pub sum-two-spec : {M : Type 1} → statement M
 sum-two-spec =
     tie.close
     (tie.spec
-    (λ c. search reducing) (λ c. search reducing) (λ c. search reducing) (λ c. search reducing) (λ c. search reducing) (λ c κs. search reducing)
+    (λ c. search reducing) (λ c. search reducing) (λ c. search reducing)
+    (λ c. search reducing) (λ c. search reducing) (λ c κs. search reducing)
     (λ c κs. search reducing) (λ c. search reducing))

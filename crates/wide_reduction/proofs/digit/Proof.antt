@@ -6,5 +6,6 @@ pub digit-spec : {M : Type 1} → statement M
 digit-spec =
     tie.close
     (tie.spec
-    (λ c. search quotients) (λ c. search quotients) (λ c. search quotients) (λ c. search quotients) (λ c. search quotients) (λ c. search quotients)
+    (λ c. search quotients) (λ c. search quotients) (λ c. search quotients)
+    (λ c. search quotients) (λ c. search quotients) (λ c. search quotients)
     (λ c κs. search quotients) (λ c κs. search quotients) (λ c. search quotients))

@@ -6,5 +6,7 @@ pub modulus-of-spec : {M : Type 1} → statement M
 modulus-of-spec =
     tie.close
     (tie.spec
-    (λ c. search reciprocals) (λ c. search reciprocals) (λ c. search reciprocals) (λ c. search reciprocals) (λ c. search reciprocals) (λ c. search reciprocals)
-    (λ c κs. search reciprocals) (λ c κs. search reciprocals) (λ c κs. search reciprocals) (λ c κs. search reciprocals) (λ c. search reciprocals))
+    (λ c. search reciprocals) (λ c. search reciprocals) (λ c. search reciprocals)
+    (λ c. search reciprocals) (λ c. search reciprocals) (λ c. search reciprocals)
+    (λ c κs. search reciprocals) (λ c κs. search reciprocals) (λ c κs. search reciprocals)
+    (λ c κs. search reciprocals) (λ c. search reciprocals))

@@ -6,4 +6,5 @@ pub product-spec : {M : Type 1} → statement M
 product-spec =
     tie.close
     (tie.spec
-    (λ c κs. search products) (λ c κs. search products) (λ c κs. search products) (λ c. search products) (λ c κs. search products) (λ c. search products))
+    (λ c κs. search products) (λ c κs. search products) (λ c κs. search products)
+    (λ c. search products) (λ c κs. search products) (λ c. search products))
