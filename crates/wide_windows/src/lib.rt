@@ -92,7 +92,7 @@ pub fn zeros(s: &[u64]) -> usize
     j
 }
 
-// w[dst + j] += c * w[src + j - 1] + e * w[src + j], for j < len; the word before the first counts as 0. By the fractions of c and e: any n.
+// w[dst + j] += c * w[src + j - 1] + e * w[src + j], for j < len; the word before the first counts as 0. By fractions: any n.
 fn add_pair_plain(
     w: &mut [u64],
     n: u64,
