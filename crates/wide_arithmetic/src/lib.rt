@@ -6,6 +6,9 @@
 //   power           x to the power k
 ghost use mathlib.Core.Path.{_≡_};
 ghost use Prim.Native.Nat.{ℕ, _+_, _-_, _*_, _%_, _^_, _<_, _≤_};
+ghost use Rattle.arithmetic.specs.Powers.{TimesDigit};
+ghost use Rattle.wide_reduction.specs.Moduli.{Ready};
+use wide_reduction::Reciprocal;
 
 // x modulo n.
 pub fn reduce(n: u64, x: u64) -> u64
@@ -60,6 +63,17 @@ pub fn mul_add_mod(n: u64, a: u64, c: u64, b: u64) -> u64
     wide_reduction::add_product(m, a, c, b)
 }
 
+// r y where the last binary digit of j is 1, else r.
+fn times_digit(m: Reciprocal, r: u64, y: u64, j: usize) -> u64
+    requires { ⌜ Ready m ⌝ }
+    ensures { λ t. ⌜ TimesDigit (m .n) r y j t ⌝ }
+{
+    if j % 2 == 1 {
+        return wide_reduction::product(m, r, y);
+    }
+    r
+}
+
 // x to the power k, by squaring; a square, which the engine asks for most, at once.
 pub fn power(n: u64, x: u64, k: usize) -> u64
     requires { ⌜ 1 ≤ n ⌝ }
@@ -73,9 +87,7 @@ pub fn power(n: u64, x: u64, k: usize) -> u64
     let mut y = x;
     let mut j = k;
     while 0 < j {
-        if j % 2 == 1 {
-            r = wide_reduction::product(m, r, y);
-        }
+        r = times_digit(m, r, y, j);
         y = wide_reduction::product(m, y, y);
         j = j / 2;
     }

@@ -1,4 +1,4 @@
-// Greatest common divisors by Euclid's algorithm, with a cofactor modulo n.
+// Greatest common divisors by Euclid's algorithm, with a cofactor modulo n; modulo powers of two by an inverse modulo 2^64.
 //
 //   gcd         the greatest common divisor
 //   cofactor    that of n and a, with s such that s a is it modulo n
@@ -26,7 +26,7 @@ pub fn gcd(a: u64, b: u64) -> u64
 }
 
 // gcd(n, a), with s such that s a is it modulo n. The cofactors' signs alternate and none passes n, so nothing is reduced.
-pub fn cofactor(n: u64, a: u64) -> Bezout
+fn euclid(n: u64, a: u64) -> Bezout
     requires { ⌜ 1 ≤ n ⌝ }
     ensures { λ r. ⌜ GcdCofactor n a (r .g) (r .s) ⌝ }
 {
@@ -49,4 +49,21 @@ pub fn cofactor(n: u64, a: u64) -> Bezout
         return Bezout { g: x, s: n - s };
     }
     Bezout { g: x, s }
+}
+
+// gcd(n, a), with s such that s a is it modulo n: for odd a and a power n of two the low bits of the inverse modulo 2^64.
+pub fn cofactor(n: u64, a: u64) -> Bezout
+    requires { ⌜ 1 ≤ n ⌝ }
+    ensures { λ r. ⌜ GcdCofactor n a (r .g) (r .s) ⌝ }
+{
+    if n & (n - 1) == 0 {
+        let k = wide_montgomery::inverse_of(a);
+        if k != 0 {
+            return Bezout {
+                g: 1,
+                s: k & (n - 1),
+            };
+        }
+    }
+    euclid(n, a)
 }

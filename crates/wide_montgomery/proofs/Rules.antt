@@ -1,24 +1,25 @@
 -- The rules of the proofs of this crate, over plain numbers: `search rules` finds them by the facts that the code provides.
 --
 --   minus-is                        a difference known by its sign
---   newton, six-steps, no-inverse   a step of the inverse; six of them; an even n has none
+--   newton, five-steps, no-inverse  a step of the inverse; five of them; an even n has none
 --   carried-…                       the carry of a sum of words
 --   product-is, added-fits, added-is    a product of two words; what is added to it
 --   multiple-most, redc-is          the multiple of n, and what is left of two words without it
---   entered-…, three-…, two-…       a multiplier entered; what fits on the way of a sum of products, and what it is
---   rules, sums                     the rules
+--   entered-…, three-…, pair-…      a multiplier entered; what fits on the way of a sum of products, and what it is
+--   rules, sums, pairs              the rules
 use mathlib.Core.Path.{_≡_, refl, sym, ap, ap₂, _∙_}
 use Prim.Native.Nat.{ℕ, _+_, _-_, _*_, _/_, _%_, _^_, _<_, _≤_, _∣_}
 use native.Mathlib.Nat.{add-zero, mod-lt, mod-self, zero-mod, mod-eq-of-lt, mul-one, div-add-mod'}
-use native.Mathlib.Nat.{dvd-mul-right, dvd-refl, mul-le-mul, mul-le-mul-right}
+use native.Mathlib.Nat.{dvd-mul-right, dvd-refl, mul-le-mul-left, mul-le-mul-right, le-of-lt}
 use native.Mathlib.Decide.{decLt}
 use native.Mathlib.Omega.{arith}
 use borrow.Author.Needs.{needs}
-use Rattle.numbers.specs.Congruence.{Cong, c-refl, c-sym, c-trans, c-eq, c-add, c-mod}
-use Rattle.words.specs.Digits.{low-low, high-low, low-high}
+use Rattle.numbers.specs.Congruence.{Cong, c-refl, c-sym, c-trans, c-eq, c-add, c-mul, c-mod}
+use Rattle.reduction.specs.Newton.{Refined, refined, odd-square}
+use Rattle.reduction.proofs.Reducing.{sign-fits, low-fits, high-fits, mixed-fits}
 use Rattle.wide_words.specs.Halves.{low-is}
 use Rattle.wide_words.specs.Reciprocals.{remainder}
-use Rattle.wide_words.specs.Montgomery.{IsForm, Refined, refined, multiple-below, multiple-reduced, held-is}
+use Rattle.wide_words.specs.Montgomery.{IsForm, multiple-below, multiple-reduced, held-is}
 use Rattle.wide_words.specs.Montgomery.{high-less, high-room, high-most, two-products, product-most}
 use Rattle.wide_montgomery.specs.Forms.{Formed, Squared, Held, Reduced, Inverse, Carried, Factors}
 use Rattle.wide_montgomery.specs.Forms.{open-form, open-square, open-reduced, shut-held, shut-reduced, shut-inverse}
@@ -48,20 +49,19 @@ newton n m x y r ex ey er = refined (2 ^ 64) n m x y r ex ey er
 pub no-inverse : (n : ℕ) → Inverse n 0
 no-inverse n = record { unit = λ h. absurd (h refl) }
 
-pub six-steps : {n m₁ m₂ m₃ m₄ m₅ m₆ : ℕ} → Refined (2 ^ 64) n 1 m₁ → Refined (2 ^ 64) n m₁ m₂ → Refined (2 ^ 64) n m₂ m₃
-    → Refined (2 ^ 64) n m₃ m₄ → Refined (2 ^ 64) n m₄ m₅ → Refined (2 ^ 64) n m₅ m₆ → (n % 2 ≡ 0 → ⊥) → Inverse n m₆
-six-steps {n} {m₁} {m₂} {m₃} {m₄} {m₅} {m₆} a b c d e f odd =
-    let one : n % 2 ≡ 1 = omega arith in
+pub five-steps : {n m₁ m₂ m₃ m₄ m₅ : ℕ} → Refined (2 ^ 64) n n m₁ → Refined (2 ^ 64) n m₁ m₂ → Refined (2 ^ 64) n m₂ m₃
+    → Refined (2 ^ 64) n m₃ m₄ → Refined (2 ^ 64) n m₄ m₅ → (n % 2 ≡ 0 → ⊥) → Inverse n m₅
+five-steps {n} a b c d e odd =
     shut-inverse (
-    f .at 4294967296 (2 ^ 64) (omega arith) (omega arith) (dvd-mul-right 4294967296 4294967296) (dvd-refl (2 ^ 64)) (dvd-refl (2 ^ 64))
-    (e .at 65536 4294967296 (omega arith) (omega arith) (dvd-mul-right 65536 281474976710656) (dvd-mul-right 4294967296 4294967296)
-    (dvd-refl 4294967296)
-    (d .at 256 65536 (omega arith) (omega arith) (dvd-mul-right 256 72057594037927936) (dvd-mul-right 65536 281474976710656)
-    (dvd-refl 65536)
-    (c .at 16 256 (omega arith) (omega arith) (dvd-mul-right 16 1152921504606846976) (dvd-mul-right 256 72057594037927936) (dvd-refl 256)
-    (b .at 4 16 (omega arith) (omega arith) (dvd-mul-right 4 4611686018427387904) (dvd-mul-right 16 1152921504606846976) (dvd-refl 16)
-    (a .at 2 4 (omega arith) (omega arith) (dvd-mul-right 2 9223372036854775808) (dvd-mul-right 4 4611686018427387904) (dvd-refl 4)
-    (c-trans (c-eq (mul-one n)) (record { same = one }))))))))
+    e .at 281474976710656 (2 ^ 64) (omega arith) (omega arith) (dvd-mul-right 281474976710656 65536) (dvd-refl (2 ^ 64))
+    (dvd-mul-right (2 ^ 64) 4294967296)
+    (d .at 16777216 281474976710656 (omega arith) (omega arith) (dvd-mul-right 16777216 1099511627776)
+    (dvd-mul-right 281474976710656 65536) (dvd-refl 281474976710656)
+    (c .at 4096 16777216 (omega arith) (omega arith) (dvd-mul-right 4096 4503599627370496) (dvd-mul-right 16777216 1099511627776)
+    (dvd-refl 16777216)
+    (b .at 64 4096 (omega arith) (omega arith) (dvd-mul-right 64 288230376151711744) (dvd-mul-right 4096 4503599627370496) (dvd-refl 4096)
+    (a .at 8 64 (omega arith) (omega arith) (dvd-mul-right 8 2305843009213693952) (dvd-mul-right 64 288230376151711744) (dvd-refl 64)
+    (odd-square n (omega arith)))))))
 
 -- ---- sums of products
 
@@ -94,20 +94,6 @@ module _ (hi a b h : ℕ) (room : hi + a * b / 2 ^ 64 + 1 < 2 ^ 64) (eh : h ≡ 
       go (no l) = let e = c .none (omega arith) in omega arith
 
 -- ---- what fits a word
-
-pub sign-fits : (y n : ℕ) → y < 2 ^ 64 → n < 2 ^ 63 → y / 9223372036854775808 * n < 2 ^ 64
-sign-fits y n ly ln =
-    omega (arith, mul-le-mul-right n (let h : y / 9223372036854775808 ≤ 1 = omega arith in h))
-
-module _ (a b : ℕ) (ha : a < 2 ^ 64) (hb : b < 2 ^ 64) where
-  pub low-fits : (a % 4294967296) * (b % 4294967296) < 2 ^ 64
-  low-fits = omega (arith, low-low ha hb)
-
-  pub high-fits : (a / 4294967296) * (b % 4294967296) < 2 ^ 64
-  high-fits = omega (arith, high-low ha hb)
-
-  pub mixed-fits : (a % 4294967296) * (b / 4294967296) < 2 ^ 64
-  mixed-fits = omega (arith, low-high ha hb)
 
 pub low-half : (a b r : ℕ)
     → r ≡ ((a % 4294967296) * (b % 4294967296)
@@ -200,36 +186,54 @@ module _ {n k : ℕ} (f : Formed n k) where
             → Reduced n (l * x + c * y + e * z) r
         three-is vh vl r ev d = rw (ev ∙ ap (λ (i : ℕ). i + e * z) (eu ∙ ap (λ (i : ℕ). i + c * y) et)) at d
 
-    module _ (x : ℕ) (lx : x ≤ n) where
-      two : x * 2 ^ 64 + 0 ≤ n * 2 ^ 64
-      two = go (2 ^ 64)
-        where
-          go : (B : ℕ) → x * B + 0 ≤ n * B
-          go B = omega (arith, mul-le-mul-right B lx)
+  -- two products of a held multiplier and any word, and a number that is added when they are reduced
+  module _ (th tl c y e z : ℕ) (et : th * 2 ^ 64 + tl ≡ c * y) (lc : c < n) (le : e < n) (ly : y < 2 ^ 64) (lz : z < 2 ^ 64) where
+    pair : th * 2 ^ 64 + tl + e * z < (n + n) * 2 ^ 64
+    pair = rw et (go (2 ^ 64) (omega arith) (mul-le-mul-left c (le-of-lt ly)) (mul-le-mul-left e (le-of-lt lz)))
+      where
+        go : (B : ℕ) → 0 < B → c * y ≤ c * B → e * z ≤ e * B → c * y + e * z < (n + n) * B
+        go B pos a b = omega (arith, mul-le-mul-right B lc, mul-le-mul-right B le)
 
-      pub two-second : x + c * y / 2 ^ 64 + 1 < 2 ^ 64
-      two-second = room-second x 0 two
+    pub pair-room : th + e * z / 2 ^ 64 + 1 < 2 ^ 64
+    pair-room = high-room (2 ^ 64) n th tl (e * z) (open-form f .half) pair
 
-      module _ (uh ul : ℕ) (eu : uh * 2 ^ 64 + ul ≡ x * 2 ^ 64 + 0 + c * y) where
-        pub two-third : uh + e * z / 2 ^ 64 + 1 < 2 ^ 64
-        two-third = room-third x 0 two uh ul eu
+  module _ (uh ul th tl c y e z : ℕ) (eu : uh * 2 ^ 64 + ul ≡ th * 2 ^ 64 + tl + e * z) (et : th * 2 ^ 64 + tl ≡ c * y) where
+    pub pair-less : c < n → e < n → y < 2 ^ 64 → z < 2 ^ 64 → uh < n + n
+    pair-less lc le ly lz =
+        let h = high-less (2 ^ 64) n uh ul 0 (rw eu (omega (arith, pair th tl c y e z et lc le ly lz))) in omega arith
 
-        pub two-less : (vh vl : ℕ) → vh * 2 ^ 64 + vl ≡ uh * 2 ^ 64 + ul + e * z → vh < n + n
-        two-less vh vl ev = total-less x 0 two uh ul eu vh vl ev
+    pub pair-is : (x p r : ℕ) → Reduced n (uh * 2 ^ 64 + ul) p → r ≡ (x + (n - (n - p))) % n → Reduced n (x * 2 ^ 64 + c * y + e * z) r
+    pair-is x p r d er =
+        let l = open-reduced d .below in
+        shut-reduced (record {
+          below = rw er (mod-lt _ (open-form f .pos));
+          is = c-trans (c-mul (c-trans (c-eq er) (c-trans (c-mod _) (c-eq {b = x + p} (omega arith)))) (c-refl {a = 2 ^ 64}))
+              (c-trans (c-eq {b = x * 2 ^ 64 + p * 2 ^ 64} (omega arith)) (c-trans (c-add (c-refl {a = x * 2 ^ 64}) (open-reduced d .is))
+              (c-eq (ap (λ (i : ℕ). x * 2 ^ 64 + i) (eu ∙ ap (λ (i : ℕ). i + e * z) et) ∙ turn (c * y) (e * z)))));
+        })
+      where
+        turn : (u v : ℕ) → x * 2 ^ 64 + (u + v) ≡ x * 2 ^ 64 + u + v
+        turn u v = omega arith
 
-        pub two-is : (vh vl r : ℕ) → vh * 2 ^ 64 + vl ≡ uh * 2 ^ 64 + ul + e * z → Reduced n (vh * 2 ^ 64 + vl) r
-            → Reduced n (x * 2 ^ 64 + c * y + e * z) r
-        two-is vh vl r ev d =
-            rw (ev ∙ ap (λ (i : ℕ). i + e * z) (eu ∙ ap (λ (i : ℕ). i + c * y) (add-zero (x * 2 ^ 64)))) at d
+  pub within : {t r : ℕ} → Reduced n t r → r ≤ n
+  within d = let l = below d in omega arith
+
+  pub negative-most : (p : ℕ) → n - p ≤ n
+  negative-most p = omega arith
+
+  pub negative-room : {t p x : ℕ} → Reduced n t p → x ≤ n → x < n + (n - p)
+  negative-room d h = let l = below d in omega arith
 
 pub ruleset words = (minus-is, sign-fits, low-fits, high-fits, mixed-fits, low-half)
 
-pub ruleset inverses = (newton, no-inverse, six-steps)
+pub ruleset inverses = (newton, no-inverse, five-steps)
 
 pub ruleset carries = (carried-some, carried-none, product-is, half-fits, added-fits, added-is)
 
 pub ruleset reductions = (form-small, residue-less, multiple-most, redc-is, below, entered-less, entered)
 
-pub ruleset sums = (three-second, three-third, three-less, three-is, two-second, two-third, two-less, two-is)
+pub ruleset sums = (three-second, three-third, three-less, three-is)
+
+pub ruleset pairs = (form-small, within, negative-most, negative-room, pair-room, pair-less, pair-is)
 
 pub ruleset rules = (needs, words, inverses, carries, reductions)

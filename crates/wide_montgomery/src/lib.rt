@@ -5,6 +5,7 @@
 //   minus                 a - b modulo n
 //   inverse_of            the inverse of n modulo 2^64, or 0
 //   enter                 a multiplier, held
+//   sum_two               x + c y + e z modulo n, the multipliers c and e held
 //   sum_three             l x + c y + e z modulo n, the multipliers l, c and e held
 //
 //   k       the inverse of n modulo 2^64
@@ -12,7 +13,7 @@
 //   t, u, v sums of products, of two words
 ghost use mathlib.Core.Path.{_≡_};
 ghost use Prim.Native.Nat.{_+_, _-_, _*_, _/_, _%_, _^_, _<_, _≤_};
-ghost use Rattle.wide_words.specs.Montgomery.{Refined};
+ghost use Rattle.reduction.specs.Newton.{Refined};
 ghost use Rattle.wide_montgomery.specs.Forms.{Formed, Squared, Held, Reduced, Inverse, Carried, Factors};
 
 // hi 2^64 + lo.
@@ -49,14 +50,14 @@ fn refine(n: u64, m: u64) -> u64
     low(m, std::num::wrapping_sub_u64(2, low(n, m)))
 }
 
-// The inverse of n modulo 2^64, 0 if there is none: 1 is one modulo 2, and then modulo 4, 16, 256, 2^16, 2^32 and 2^64.
+// The inverse of n modulo 2^64, 0 if there is none: n is its own modulo 8, and then come 2^6, 2^12, 2^24, 2^48 and 2^64.
 pub fn inverse_of(n: u64) -> u64
     ensures { λ r. ⌜ Inverse n r ⌝ }
 {
     if n % 2 == 0 {
         return 0;
     }
-    refine(n, refine(n, refine(n, refine(n, refine(n, refine(n, 1))))))
+    refine(n, refine(n, refine(n, refine(n, refine(n, n)))))
 }
 
 // 1, where the sum s of p and another number wrapped.
@@ -109,6 +110,17 @@ pub fn enter(n: u64, k: u64, s: u64, a: u64) -> u64
 {
     let t = product(a, s);
     redc(n, k, t.hi, t.lo)
+}
+
+// x + c y + e z, with c and e held; y and z are any words.
+pub fn sum_two(n: u64, k: u64, x: u64, c: u64, y: u64, e: u64, z: u64) -> u64
+    requires { ⌜ (Formed n k) × ((x ≤ n) × ((c < n) × (e < n))) ⌝ }
+    ensures { λ r. ⌜ Reduced n (x * 2 ^ 64 + c * y + e * z) r ⌝ }
+{
+    let t = product(c, y);
+    let u = add_product(t, e, z);
+    let p = redc(n, k, u.hi, u.lo);
+    minus(n, x, n - p)
 }
 
 // l x + c y + e z, with l, c and e held; x is any word.

@@ -1,21 +1,22 @@
--- The rules of the proofs of this crate: `search rules` finds them by the facts that the code provides.
+-- The rules of the proofs of this crate, a set for each group of functions: `search` finds them by the facts that the code provides.
 --
 --   digit-…, fraction-…, multiple-…, ready-…    the reciprocal
 --   factor-…                          the fraction of a factor
 --   whole-residue, left-less, left-is    what a product leaves, below 2 n
 --   …-fraction, parts-…               two words modulo n
+--   large-…                           two words modulo n of 2^63 and more
 --   own-residue, residue-below, sum-…    residues and their sums
 use mathlib.Core.Path.{_≡_, refl, sym, ap, ap₂, _∙_}
 use Prim.Native.Nat.{ℕ, _+_, _-_, _*_, _/_, _%_, _^_, _<_, _≤_}
-use native.Mathlib.Nat.{mod-lt, mod-eq-of-lt, mod-add-mod, div-add-mod', div-mul-le-self}
+use native.Mathlib.Nat.{mod-lt, mod-eq-of-lt, mod-add-mod, div-add-mod', div-mul-le-self, dvd-mul-left}
 use native.Mathlib.Omega.{arith}
 use borrow.Author.Needs.{needs}
+use Rattle.numbers.specs.Congruence.{Cong, c-refl, c-sym, c-trans, c-eq, c-add, c-mul, c-mod, c-neg, c-cancel, c-zero}
 use Rattle.words.specs.Fractions.{Fraction}
-use Rattle.wide_words.specs.Doubling.{added-low, added-high}
 use Rattle.wide_words.specs.Reciprocals.{Digit, Less, IsReciprocal, digit-first, digit-word, digit-second}
 use Rattle.wide_words.specs.Reciprocals.{digit-next, digit-is, digit-less, digits-under, digits-over, rest-fits, multiple-large}
 use Rattle.wide_words.specs.Reciprocals.{multiple-some, multiple-most, reciprocal-is, square-is, product-fits, quotient-fits}
-use Rattle.wide_words.specs.Reciprocals.{multiplier-none, multiplier-once}
+use Rattle.wide_words.specs.Reciprocals.{multiplier-none, multiplier-once, remainder}
 use Rattle.wide_words.specs.Reciprocals.{multiplier-fits, scaled-less, scaled-is, sum-less, sum-is, two-words, base-fraction, unit-fraction}
 use Rattle.wide_montgomery.specs.Forms.{Inverse, open-inverse, shut-form, shut-square}
 use Rattle.wide_reduction.specs.Moduli.{Ready, open-ready, shut}
@@ -129,16 +130,53 @@ pub words-are : (n a b h t r : ℕ) → h ≡ a * b / 2 ^ 64 → t ≡ (a * b) %
 words-are n a b h t r eh et er =
     er ∙ ap (λ (x : ℕ). x % n) (ap₂ (λ (x y : ℕ). x * 2 ^ 64 + y) eh et ∙ div-add-mod' (a * b) (2 ^ 64))
 
+-- ---- two words modulo a large n
+
+module _ {n : ℕ} (large : 2 ^ 63 ≤ n) where
+  pub large-below : (t y : ℕ) → y ≡ t % n → y < n
+  large-below t y e = rw e (mod-lt t (omega arith))
+
+  pub large-within : (t y : ℕ) → y ≡ t % n → y ≤ n
+  large-within t y e = let l = large-below t y e in omega arith
+
+  pub large-some : (t y : ℕ) → y ≡ t % n → 1 ≤ n - y
+  large-some t y e = let l = large-below t y e in omega arith
+
+  module _ (x q k p : ℕ) (under : q * n < x * 2 ^ 64) (over : x * 2 ^ 64 ≤ q * n + n) (ek : k ≡ (q * n) % 2 ^ 64)
+      (ep : (p + k) % 2 ^ 64 ≡ 0) (fits : p < 2 ^ 64) (word : n < 2 ^ 64) where
+    large-left : p + q * n ≡ x * 2 ^ 64
+    large-left = omega arith
+
+    pub large-most : p ≤ n
+    large-most = let e = large-left in omega arith
+
+    pub large-less : n - p < n
+    large-less = let e = large-left in omega arith
+
+    pub large-is : (h y t z r : ℕ) → y ≡ h % n → x ≡ n - y → z ≡ t % n → r ≡ (n - p + z) % n → r ≡ (h * 2 ^ 64 + t) % n
+    large-is h y t z r ey ex ez er = er ∙ c-add turned (c-trans (c-eq ez) (c-mod t)) .same
+      where
+        none : Cong n ((h + x) * 2 ^ 64) 0
+        none = c-mul (c-trans (c-eq (ap (λ (u : ℕ). h + u) (ex ∙ ap (λ (u : ℕ). n - u) ey))) (c-neg n h (omega arith))) c-refl
+
+        turned : Cong n (n - p) (h * 2 ^ 64)
+        turned =
+            let e = large-left in
+            let l = large-most in
+            c-cancel (p + q * n) (omega arith)
+            (c-trans (c-eq {b = (q + 1) * n} (omega arith))
+            (c-trans (c-zero (dvd-mul-left n (q + 1))) (c-trans (c-sym none) (c-eq {b = h * 2 ^ 64 + (p + q * n)} (omega arith)))))
+
 -- ---- sums
 
 pub own-residue : (x n : ℕ) → x < n → x ≡ x % n
 own-residue x n l = sym (mod-eq-of-lt l)
 
 pub sum-low : (n a b : ℕ) → a < n - b → a < n → b < n → a + b ≡ (a + b) % n
-sum-low n a b l la lb = added-low n a b la lb l
+sum-low n a b l la lb = sym (mod-eq-of-lt (omega arith))
 
 pub sum-high : (n a b r : ℕ) → n - b ≤ a → a < n → b < n → r ≡ a - (n - b) → r ≡ (a + b) % n
-sum-high n a b r l la lb e = e ∙ added-high n a b la lb l
+sum-high n a b r l la lb e = remainder n (a + b) 1 r (omega arith) (omega arith)
 
 pub residue-below : {m : Reciprocal} (x y : ℕ) → Ready m → y ≡ x % m .n → y < m .n
 residue-below x y ready e = rw e (mod-lt x (ready .pos))
@@ -152,16 +190,18 @@ sum-after n a b x r er ex = er ∙ ap (λ (u : ℕ). (u + b) % n) ex ∙ mod-add
 pub sum-third : (n a b c x y r : ℕ) → r ≡ (y + c) % n → y ≡ (x + b) % n → x ≡ a % n → r ≡ (a + b + c) % n
 sum-third n a b c x y r er ey ex = sum-after n (a + b) c y r er (sum-after n a b x y ey ex)
 
-pub ruleset quotients = (digit-word, digit-second, digit-part, digit-room, digit-both, digit-next, digit-is)
+pub ruleset quotients = (needs, digit-word, digit-second, digit-part, digit-room, digit-both, digit-next, digit-is)
 
-pub ruleset fractions = (fraction-part, fraction-fits, digits-under, digits-over)
+pub ruleset fractions = (needs, fraction-part, fraction-fits, digits-under, digits-over)
 
-pub ruleset reciprocals = (rest-word, multiple-word, multiple-high, multiple-least, multiple-below, multiple-fits, ready-large, ready-small)
+pub ruleset multiples = (rest-word, multiple-word, multiple-high, multiple-least, multiple-below, multiple-fits)
 
-pub ruleset factors = (factor-product, factor-sum, factor-none, factor-fits, factor-once)
+pub ruleset reciprocals = (needs, multiples, ready-large, ready-small)
 
-pub ruleset products = (whole-residue, left-less, left-is, high-fraction, low-fraction, parts-less, parts-fit, parts-are, words-are)
+pub ruleset factors = (needs, factor-product, factor-sum, factor-none, factor-fits, factor-once)
 
-pub ruleset sums = (own-residue, sum-low, sum-high, residue-below, sum-residues, sum-after, sum-third)
+pub ruleset products = (needs, whole-residue, left-less, left-is, high-fraction, low-fraction, parts-less, parts-fit, parts-are, words-are)
 
-pub ruleset rules = (needs, quotients, fractions, reciprocals, factors, products, sums)
+pub ruleset large = (needs, large-below, large-within, large-some, large-most, large-less, large-is)
+
+pub ruleset sums = (needs, own-residue, sum-low, sum-high, residue-below, sum-residues, sum-after, sum-third)

@@ -1,6 +1,6 @@
 // Reduction modulo n, n of 64 bits, without division: a modulus comes with its reciprocal, found once, two digits in the base 2^64. The
-// services answer for n below 2^63 alone, and only there the reciprocal is used; for larger n a product is made by doubling, so that no
-// function above this crate has to ask how large n is.
+// services answer for n below 2^63 alone, and only there the reciprocal is used; for larger n a product is divided digit by digit, so that
+// no function above this crate has to ask how large n is.
 //
 //   Reciprocal, modulus_of     n, and for n below 2^63 the two digits v1, v0 of 2^128 / n and r, which is 2^64 less v1 n; for odd n what
 //                           `wide_montgomery` needs of it as well
@@ -164,22 +164,16 @@ fn reduce_wide(m: Reciprocal, h: u64, t: u64) -> u64
     fold(m.n, scaled(m, m.r, m.v0, h) + scaled(m, 1, m.v1, t))
 }
 
-// a b modulo n by doubling, for any n.
-fn doubled(n: u64, a: u64, b: u64) -> u64
-    requires { ⌜ 1 ≤ n ⌝ }
-    ensures { λ r. ⌜ r ≡ (a * b) % n ⌝ }
+// h 2^64 + t modulo n, for n of 2^63 and more: what is left of -h 2^64 without a multiple of n is from 1 to n.
+fn reduce_large(n: u64, h: u64, t: u64) -> u64
+    requires { ⌜ 2 ^ 63 ≤ n ⌝ }
+    ensures { λ r. ⌜ r ≡ (h * 2 ^ 64 + t) % n ⌝ }
 {
-    let mut r: u64 = 0;
-    let mut y = residue(n, a);
-    let mut k = b;
-    while 0 < k {
-        if k % 2 == 1 {
-            r = sum(n, r, y);
-        }
-        y = sum(n, y, y);
-        k = k / 2;
-    }
-    r
+    let x = n - residue(n, h);
+    let q = fraction(n, x);
+    let p = std::num::wrapping_sub_u64(0, wide_montgomery::low(q, n));
+    let y = residue(n, t);
+    sum(n, n - p, y)
 }
 
 // a b modulo n.
@@ -187,10 +181,12 @@ pub fn product(m: Reciprocal, a: u64, b: u64) -> u64
     requires { ⌜ Ready m ⌝ }
     ensures { λ r. ⌜ r ≡ (a * b) % m .n ⌝ }
 {
+    let h = reduction::high(a, b);
+    let t = wide_montgomery::low(a, b);
     if m.n >= 9223372036854775808 {
-        return doubled(m.n, a, b);
+        return reduce_large(m.n, h, t);
     }
-    reduce_wide(m, reduction::high(a, b), wide_montgomery::low(a, b))
+    reduce_wide(m, h, t)
 }
 
 // x + a b modulo n.

@@ -6,10 +6,12 @@
 //   residue, load                                       words of a lent polynomial, as residues
 //   zeros, content                                      what a polynomial's words have in front, and in common
 //
-// The loops that multiply find the fraction of a multiplier once and divide no more; those that only reduce find the reciprocal of n.
+// The loops that multiply find the fraction of a multiplier once and divide no more; those that only reduce find the reciprocal of n. Two
+// multipliers at a time are held where n is odd, and a word then costs one reduction.
 ghost use mathlib.Core.Path.{_≡_};
 ghost use Prim.Native.Nat.{_+_, _-_, _%_, _<_, _≤_};
 ghost use lib.ListN.{length, replicate};
+ghost use Rattle.wide_montgomery.specs.Forms.{Formed, Squared};
 ghost use Rattle.wide_reduction.specs.Moduli.{Ready};
 ghost use Rattle.windows.specs.Window.{Moved, Clear, addMul, mulBy, second, quotient-by, reduced-by};
 ghost use Rattle.windows.specs.Window.{zeroed, PairAsked, Paired, Apart, Zeros, Content, Reversed, Loaded};
@@ -90,8 +92,8 @@ pub fn zeros(s: &[u64]) -> usize
     j
 }
 
-// w[dst + j] += c * w[src + j - 1] + e * w[src + j], for j < len, with the reciprocal of n; the word before the first counts as 0.
-pub fn add_pair_by(
+// w[dst + j] += c * w[src + j - 1] + e * w[src + j], for j < len; the word before the first counts as 0. By fractions: any n.
+fn add_pair_plain(
     w: &mut [u64],
     n: u64,
     m: Reciprocal,
@@ -116,6 +118,56 @@ pub fn add_pair_by(
         y = z;
         j += 1;
     }
+}
+
+// The same with c and e held, by one reduction a word: odd n.
+fn add_pair_held(
+    w: &mut [u64],
+    n: u64,
+    k: u64,
+    s: u64,
+    c: u64,
+    e: u64,
+    src: usize,
+    dst: usize,
+    len: usize,
+)
+    requires { ⌜ (Formed n k) × (Squared n s) ⌝ }
+    requires { ⌜ PairAsked n e src dst len (now w) ⌝ }
+    ensures { λ _. ⌜ Paired n c e src dst len (now (w .entry)) (now (w .exit)) ⌝ }
+{
+    let f = wide_montgomery::enter(n, k, s, c);
+    let g = wide_montgomery::enter(n, k, s, e);
+    let mut j: usize = 0;
+    let mut y: u64 = 0;
+    while j < len {
+        let z = w[src + j];
+        w[dst + j] = wide_montgomery::sum_two(n, k, w[dst + j], f, y, g, z);
+        y = z;
+        j += 1;
+    }
+}
+
+// w[dst + j] += c * w[src + j - 1] + e * w[src + j], for j < len, with the reciprocal of n; the word before the first counts as 0.
+pub fn add_pair_by(
+    w: &mut [u64],
+    n: u64,
+    m: Reciprocal,
+    c: u64,
+    e: u64,
+    src: usize,
+    dst: usize,
+    len: usize,
+)
+    requires { ⌜ (Ready m) × (m .n ≡ n) ⌝ }
+    requires { ⌜ PairAsked n e src dst len (now w) ⌝ }
+    ensures { λ _. ⌜ Paired n c e src dst len (now (w .entry)) (now (w .exit)) ⌝ }
+{
+    if m.k == 0 {
+        add_pair_plain(w, n, m, c, e, src, dst, len);
+        return;
+    }
+    add_pair_held(w, n, m.k, m.s, c, e, src, dst, len);
 }
 
 // The greatest common divisor of n and of every word of s.

@@ -1,4 +1,3 @@
 pub mod Halves
 pub mod Reciprocals
-pub mod Doubling
 pub mod Montgomery

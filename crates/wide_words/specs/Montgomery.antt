@@ -10,7 +10,6 @@
 --   held-is               a product with B², reduced, is a multiplier held
 --   three-held, two-held  sums of words with held multipliers, reduced, are the sums with the multipliers
 --   high-less, high-room, high-most, two-products, product-most    what the high word of a sum of products is below
---   Refined, refined      Newton's step: an inverse modulo the square of what m is an inverse modulo
 use mathlib.Core.Path.{_≡_, sym, ap, _∙_}
 use Prim.Native.Nat.{ℕ, _+_, _*_, _/_, _%_, _<_, _≤_, _∣_}
 use native.Mathlib.Nat.{mod-lt, mod-eq-of-lt, mul-one, zero-add, div-add-mod', dvd-mul-right, dvd-trans}
@@ -122,34 +121,3 @@ two-products {B} {n} {c} {y} {e} {z} pos half lc ly le lz =
 
 pub product-most : {B n c y : ℕ} → c ≤ n → y < B → c * y ≤ n * B
 product-most {B} {n} {c} {y} l h = mul-le-mul {n₁ = c} {m₁ = y} {n₂ = n} {m₂ = B} l (omega arith)
-
--- m (2 - n m) is an inverse of n modulo b, if m is one modulo a and b divides a²
-pub record Refined (B n m r : ℕ) : Type 0 where
-  pub at : (a b : ℕ) → 2 ≤ a → 1 ≤ b → a ∣ B → b ∣ B → b ∣ a * a → Cong a (n * m) 1 → Cong b (n * r) 1
-
-pub refined : (B n m x y r : ℕ) → x ≡ (n * m) % B → (y + x) % B ≡ 2 % B → r ≡ (m * y) % B → Refined B n m r
-refined B n m x y r ex ey er = record { at = step }
-  where
-    step : (a b : ℕ) → 2 ≤ a → 1 ≤ b → a ∣ B → b ∣ B → b ∣ a * a → Cong a (n * m) 1 → Cong b (n * r) 1
-    step a b two one ha hb hab h = ends (x / a) (ap (λ (z : ℕ). x / a * a + z) (sym left) ∙ div-add-mod' x a)
-      where
-        ax : Cong B x (n * m)
-        ax = c-trans (c-eq ex) (c-mod (n * m))
-
-        left : x % a ≡ 1
-        left = c-trans (c-dvd ha ax) h .same ∙ mod-eq-of-lt (omega arith)
-
-        product : Cong B (n * r) (x * y)
-        product =
-            c-trans (c-mul (c-refl {a = n}) (c-trans (c-eq er) (c-mod (m * y))))
-            (c-trans (c-eq {b = n * m * y} (simp ring)) (c-mul (c-sym ax) (c-refl {a = y})))
-
-        ends : (j : ℕ) → j * a + 1 ≡ x → Cong b (n * r) 1
-        ends j e =
-            c-cancel (x * x) one
-            (c-trans (c-add (c-dvd hb product) (c-refl {a = x * x}))
-            (c-trans (c-eq {b = x * (y + x)} (omega arith))
-            (c-trans (c-mul (c-refl {a = x}) (c-dvd hb (record { same = ey })))
-            (c-trans (c-eq {b = x * 2 + 0} (omega arith))
-            (c-trans (c-add (c-refl {a = x * 2}) (c-sym (c-zero (dvd-trans b hab (dvd-mul-right (a * a) (j * j))))))
-            (c-eq (rw (← e) (omega arith))))))))

@@ -6,4 +6,5 @@ use Rattle.wide_arithmetic.proofs.mul_mod.Tie as tie
 pub mul-mod-spec : {M : Type 1} → statement M
 mul-mod-spec =
     tie.close
-    (tie.spec (λ c κs. search needs) (λ c κs. search needs) (λ c. modulo _ (c .before .modulus-of .ensures .1) (c .product .ensures)))
+    (tie.spec
+    (λ c κs. search needs) (λ c κs. search needs) (λ c. search (needs, modulo)))

@@ -6,5 +6,5 @@ pub inverse-of-spec : {M : Type 1} → statement M
 inverse-of-spec =
     tie.close
     (tie.spec
-    (λ c. search rules) (λ c κs. search rules) (λ c κs. search rules) (λ c κs. search rules) (λ c κs. search rules)
-    (λ c κs. search rules) (λ c κs. search rules) (λ c. search rules))
+    (λ c. search rules) (λ c κs. search rules) (λ c κs. search rules) (λ c κs. search rules) (λ c κs. search rules) (λ c κs. search rules)
+    (λ c. search rules))

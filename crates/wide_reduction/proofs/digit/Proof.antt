@@ -1,4 +1,4 @@
-use Rattle.wide_reduction.proofs.Rules.{rules}
+use Rattle.wide_reduction.proofs.Rules.{quotients}
 use Rattle.wide_reduction.proofs.digit.Statement.{statement}
 use Rattle.wide_reduction.proofs.digit.Tie as tie
 
@@ -6,5 +6,6 @@ pub digit-spec : {M : Type 1} → statement M
 digit-spec =
     tie.close
     (tie.spec
-    (λ c. search rules) (λ c. search rules) (λ c. search rules) (λ c. search rules) (λ c. search rules) (λ c. search rules)
-    (λ c κs. search rules) (λ c κs. search rules) (λ c. search rules))
+    (λ c. search quotients) (λ c. search quotients) (λ c. search quotients)
+    (λ c. search quotients) (λ c. search quotients) (λ c. search quotients)
+    (λ c κs. search quotients) (λ c κs. search quotients) (λ c. search quotients))

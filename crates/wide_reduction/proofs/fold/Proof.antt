@@ -1,4 +1,4 @@
-use Rattle.wide_reduction.proofs.Rules.{rules}
+use Rattle.wide_reduction.proofs.Rules.{products}
 use Rattle.wide_reduction.proofs.fold.Statement.{statement}
 use Rattle.wide_reduction.proofs.fold.Tie as tie
 
@@ -6,4 +6,4 @@ pub fold-spec : {M : Type 1} → statement M
 fold-spec =
     tie.close
     (tie.spec
-    (λ c κs. search rules) (λ c. search rules))
+    (λ c κs. search products) (λ c. search products))

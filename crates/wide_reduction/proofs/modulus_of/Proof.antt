@@ -1,4 +1,4 @@
-use Rattle.wide_reduction.proofs.Rules.{rules}
+use Rattle.wide_reduction.proofs.Rules.{reciprocals}
 use Rattle.wide_reduction.proofs.modulus_of.Statement.{statement}
 use Rattle.wide_reduction.proofs.modulus_of.Tie as tie
 
@@ -6,5 +6,7 @@ pub modulus-of-spec : {M : Type 1} → statement M
 modulus-of-spec =
     tie.close
     (tie.spec
-    (λ c. search rules) (λ c. search rules) (λ c. search rules) (λ c. search rules) (λ c. search rules) (λ c. search rules)
-    (λ c κs. search rules) (λ c κs. search rules) (λ c κs. search rules) (λ c κs. search rules) (λ c. search rules))
+    (λ c. search reciprocals) (λ c. search reciprocals) (λ c. search reciprocals)
+    (λ c. search reciprocals) (λ c. search reciprocals) (λ c. search reciprocals)
+    (λ c κs. search reciprocals) (λ c κs. search reciprocals) (λ c κs. search reciprocals)
+    (λ c κs. search reciprocals) (λ c. search reciprocals))

@@ -1,4 +1,4 @@
-use Rattle.wide_reduction.proofs.Rules.{rules}
+use Rattle.wide_reduction.proofs.Rules.{factors}
 use Rattle.wide_reduction.proofs.multiplier.Statement.{statement}
 use Rattle.wide_reduction.proofs.multiplier.Tie as tie
 
@@ -6,5 +6,5 @@ pub multiplier-spec : {M : Type 1} → statement M
 multiplier-spec =
     tie.close
     (tie.spec
-    (λ c. search rules) (λ c κs. search rules) (λ c. search rules) (λ c κs. search rules) (λ c κs. search rules)
-    (λ c. search rules) (λ c. search rules) (λ c. search rules))
+    (λ c. search factors) (λ c κs. search factors) (λ c. search factors) (λ c κs. search factors) (λ c κs. search factors)
+    (λ c. search factors) (λ c. search factors) (λ c. search factors))

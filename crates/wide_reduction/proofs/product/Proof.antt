@@ -1,4 +1,4 @@
-use Rattle.wide_reduction.proofs.Rules.{rules}
+use Rattle.wide_reduction.proofs.Rules.{products}
 use Rattle.wide_reduction.proofs.product.Statement.{statement}
 use Rattle.wide_reduction.proofs.product.Tie as tie
 
@@ -6,5 +6,5 @@ pub product-spec : {M : Type 1} → statement M
 product-spec =
     tie.close
     (tie.spec
-    (λ c κs. search rules) (λ c. search rules) (λ c κs. search rules) (λ c κs. search rules) (λ c κs. search rules)
-    (λ c. search rules))
+    (λ c κs. search products) (λ c κs. search products) (λ c κs. search products)
+    (λ c. search products) (λ c κs. search products) (λ c. search products))

@@ -1,4 +1,4 @@
-use Rattle.wide_reduction.proofs.Rules.{rules}
+use Rattle.wide_reduction.proofs.Rules.{products}
 use Rattle.wide_reduction.proofs.reduce_wide.Statement.{statement}
 use Rattle.wide_reduction.proofs.reduce_wide.Tie as tie
 
@@ -6,4 +6,4 @@ pub reduce-wide-spec : {M : Type 1} → statement M
 reduce-wide-spec =
     tie.close
     (tie.spec
-    (λ c κs. search rules) (λ c κs. search rules) (λ c. search rules) (λ c κs. search rules) (λ c. search rules))
+    (λ c κs. search products) (λ c κs. search products) (λ c. search products) (λ c κs. search products) (λ c. search products))

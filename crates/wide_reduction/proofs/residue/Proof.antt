@@ -1,4 +1,4 @@
-use Rattle.wide_reduction.proofs.Rules.{rules}
+use Rattle.wide_reduction.proofs.Rules.{sums}
 use Rattle.wide_reduction.proofs.residue.Statement.{statement}
 use Rattle.wide_reduction.proofs.residue.Tie as tie
 
@@ -6,4 +6,4 @@ pub residue-spec : {M : Type 1} → statement M
 residue-spec =
     tie.close
     (tie.spec
-    (λ c. search rules) (λ c. search rules) (λ c. search rules))
+    (λ c. search sums) (λ c. search sums) (λ c. search sums))
