@@ -2,6 +2,7 @@
 --
 --   Handing, Trailing           the invariants of `hand_out` and `leading_place`, with their start, turn and end
 --   words-given, words-done     unit times monic in the working buffer: what is asked, and what it hands out
+--   record-given, record-done   the same by the record of the modulus
 --   factoring                   the rules
 use mathlib.Core.Path.{_≡_, refl, sym, ap, _∙_}
 use mathlib.Core.Bool.{Bool, true, false, not}
@@ -93,10 +94,18 @@ module _ {n t i : ℕ} {f u h work w₁ : List ℕ} (a : FactorsAsked n t i f u 
         factors-of n (length f - 1) t i f work w₁ w₂ _ _ (a .modulus) fits (a .room) (a .residues) (a .lead) ld fc _ _ (a .length-u)
         (a .length-h) eu eh
 
+-- the same by the record of the modulus, whose n' is n
+module _ {n n' d t : ℕ} {w : List ℕ} where
+  pub record-given : {i : ℕ} → Given n d t i w → n' ≡ n → Given n' d t i w
+  record-given g is = rw is g
+
+  pub record-done : {w' : List ℕ} → Factored n' d t w w' → n' ≡ n → Factored n d t w w'
+  record-done f is = rw is at f
+
 pub ruleset hands = (within-piece, beyond-piece, handing-none, handing-next, handing-end)
 
 pub ruleset trails = (trailing-none, trailing-found, trailing-next, trailing-end)
 
 pub ruleset words = (words-within, words-room, words-given, words-wiped, words-done)
 
-pub ruleset factoring = (needs, hands, trails, words)
+pub ruleset factoring = (needs, hands, trails, words, record-given, record-done)

@@ -12,6 +12,7 @@ use native.Mathlib.Omega.{arith}
 use native.Mathlib.Nat.{mul-assoc, mul-comm, mul-one, mod-eq-of-lt}
 use lib.ListN.{length, getD}
 use lib.Pow.{pow-add}
+use borrow.Author.Needs.{needs}
 use Rattle.numbers.specs.Congruence.{Cong, c-refl, c-trans, c-eq, c-mod, c-mul}
 use Rattle.definitions.specs.Polynomials.{coef, deg}
 use Rattle.definitions.specs.Resultants.{resultant}
@@ -21,7 +22,7 @@ use Rattle.windows.specs.Window.{piece}
 use Rattle.windows.proofs.Leaf.{lt-or-le, piece-at, piece-over, piece-length}
 use Rattle.residue.specs.declared.Attempt.{Attempt}
 use Rattle.modulus.specs.declared.Modulus.{Modulus}
-use Rattle.modulus.specs.Values.{Known, value, values, ModulusOf}
+use Rattle.modulus.specs.Values.{Known, value, values}
 use Rattle.modulus.proofs.Valuing.{value-none, value-scaled}
 use Rattle.modulus_windows.specs.Standing.{Entered}
 use Rattle.modulus_windows.proofs.Forms.{values-length, values-at}
@@ -74,7 +75,7 @@ module _ (m : Modulus) (f g w w₁ w₂ : List ℕ) (two : 2 ≤ m .n) (s : RunS
     working = omega (arith, s .working, values-length m w);
   }
 
-  pub words-placed : PairPlaced (m .n) 0 (length f - 1) (length f) (length g - 1) w₂
+  words-placed : PairPlaced (m .n) 0 (length f - 1) (length f) (length g - 1) w₂
   words-placed =
       placed-words m f g w w₁ w₂ (s .least-f) (s .least-g) lf lg
       (pair-asked (m .n) f g (values m w) (values m w₁) (values m w₂) two sizes near (lf .stands) (lg .stands))
@@ -92,7 +93,7 @@ module _ (m : Modulus) (f g w w₁ w₂ : List ℕ) (two : 2 ≤ m .n) (s : RunS
         pair = words-placed .pair;
       }
 
-  pub entered-tried : (r : Tried) → TriedAnswer (m .n)
+  entered-tried : (r : Tried) → TriedAnswer (m .n)
       (resultant (m .n) (piece (values m w₂) 0 (length f - 1 + 1)) (piece (values m w₂) (length f) (length g - 1 + 1))) r
       → TriedAnswer (m .n) (resultant (m .n) f g) r
   entered-tried = loaded-tried (m .n) f g (values m w) (values m w₁) (values m w₂) two sizes near (lf .stands) (lg .stands)
@@ -137,6 +138,8 @@ tried-found {n} {m} {f} {g} {w} {w₁} {w₂} r lf lg is two s near t =
     subst (λ (z : ℕ). TriedAnswer z (resultant z f g) r) is (entered-tried m f g w w₁ w₂ (omega arith) s near lf lg r t)
 
 -- the modulus of the record is the one that was asked for
-pub found-answer : {n : ℕ} {m : Modulus} (f g : List ℕ) (r : Attempt) → ModulusOf n m → ValueOrSplit (m .n) (resultant (m .n) f g) r
+pub found-answer : {n n' : ℕ} (f g : List ℕ) (r : Attempt) → ValueOrSplit n' (resultant n' f g) r → n' ≡ n
     → ValueOrSplit n (resultant n f g) r
-found-answer f g r found h = subst (λ (z : ℕ). ValueOrSplit z (resultant z f g) r) (found .is) h
+found-answer f g r h is = subst (λ (z : ℕ). ValueOrSplit z (resultant z f g) r) is h
+
+pub ruleset entering = (needs, room-placed, placed-found, tried-found, entered-answer, found-answer)

@@ -74,20 +74,26 @@ module _ {n d e : ℕ} {w : List ℕ} (st : Stacked n d e w) where
     pub whole-answer : c ≡ n → ValueOrSplit n (resultant n (piece w (e + 1) (d + 1)) (piece w 0 (e + 1))) (Value 0)
     whole-answer = content-whole n c d e w w' (st .two) (st .one) (st .near) (stacked-fits n d e w st) (st .below) cl
 
-    pub cleared-stacked : (c ≡ n → ⊥) → Stacked (n / c) d e w'
-    cleared-stacked ne = cleared-asked n c d e w w' st cl ne .0
+    pub cleared-some : (c ≡ n → ⊥) → 1 ≤ n / c
+    cleared-some ne = omega (arith, cleared-asked n c d e w w' st cl ne .0 .two)
 
-    pub cleared-primitive : (c ≡ n → ⊥) → Primitive (n / c) (piece w' (e + 1) (d + 1))
-    cleared-primitive ne = cleared-asked n c d e w w' st cl ne .1
+    -- n' is the modulus that is left
+    module _ {n' : ℕ} (ne : c ≡ n → ⊥) (is : n' ≡ n / c) where
+      pub cleared-stacked : Stacked n' d e w'
+      cleared-stacked = rw is (cleared-asked n c d e w w' st cl ne .0)
 
-    module _ {r : Attempt} (a : ValueOrSplit (n / c) (resultant (n / c) (piece w' (e + 1) (d + 1)) (piece w' 0 (e + 1))) r) where
+      pub cleared-primitive : Primitive n' (piece w' (e + 1) (d + 1))
+      cleared-primitive = rw is (cleared-asked n c d e w w' st cl ne .1)
+
+    module _ {n' : ℕ} {r : Attempt} (a : ValueOrSplit n' (resultant n' (piece w' (e + 1) (d + 1)) (piece w' 0 (e + 1))) r)
+        (is : n' ≡ n / c) where
       pub lifted-asked : Partial n r
-      lifted-asked = record { m = n / c; divides = cleared-divides n c d e w w' cl; answer = record { x = _; is = a } }
+      lifted-asked = record { m = n'; divides = rw is (cleared-divides n c d e w w' cl); answer = record { x = _; is = a } }
 
       pub content-answer : {p : ℕ} {s u : Attempt} → (c ≡ n → ⊥) → p ≡ (c ^ e) % n → Lifted n r s → Follows n (λ x. (p * x) % n) s u
           → ValueOrSplit n (resultant n (piece w (e + 1) (d + 1)) (piece w 0 (e + 1))) u
       content-answer {p} ne hp li fo =
-          followed fo (li .at _ _ (cleared-divides n c d e w w' cl) a)
+          followed fo (li .at _ _ (cleared-divides n c d e w w' cl) (rw is at a))
           (content-times n c d e w w' (st .two) (st .one) (st .near) (stacked-fits n d e w st) (st .below) cl ne p hp)
 
 -- ---- a leading word that is 0
@@ -218,7 +224,9 @@ module _ {n d e t : ℕ} {w ys : List ℕ} (st : Stacked n d e w) (lt : t < d) (
 
 pub ruleset degrees = (same-degree, lower-degree, factor-degree, unit-degree, positive, difference-positive)
 
-pub ruleset contents = (clear-asked, cleared-positive, whole-answer, cleared-stacked, cleared-primitive, lifted-asked, content-answer)
+pub ruleset contents = (clear-asked, cleared-positive, cleared-some, whole-answer, cleared-stacked, cleared-primitive, lifted-asked)
+
+pub ruleset answers = (content-answer)
 
 pub ruleset divisions = (
   sign-asked,
@@ -248,4 +256,4 @@ pub ruleset leads = (lead-lent, lead-step-asked, nilpotent-answer)
 
 pub ruleset factors = (given-room, given-lead, monic-part-asked, monic-lead-asked, unit-part-asked, unit-constant-asked)
 
-pub ruleset attempt = (needs, degrees, contents, divisions, copies, parts, leads, factors)
+pub ruleset attempt = (needs, degrees, contents, answers, divisions, copies, parts, leads, factors)

@@ -13,6 +13,7 @@ ghost use Rattle.definitions.specs.Polynomials.{coef, tabulate, UnitTimesMonic}
 ghost use Rattle.refusals.specs.Refusals.{short, first-refusal};
 ghost use Rattle.wide_refusals.specs.Wide.{wide};
 ghost use Rattle.windows.specs.Window.{piece};
+ghost use Rattle.wide_window_factor.specs.Factors.{Given, Factored};
 ghost use Rattle.polynomial_tests.specs.UnitTests.{is-nilpotent, lead-place};
 ghost use Rattle.polynomial_factors.specs.Stages.{FactorsAsked};
 ghost use Rattle.polynomial_factors.specs.FactorsService.{UnitTimesMonicAnswer};
@@ -74,6 +75,16 @@ pub fn hand_out(out: &mut [u64], w: &[u64], a: usize, len: usize)
 
 // ---- unit times monic
 
+// f of degree d at 0 is a unit polynomial times a monic one of degree t, as `window_factor` has it. The record of n is found here, once.
+fn factor_loaded(work: &mut [u64], n: u64, d: usize, t: usize, i: u64)
+    requires { ⌜ (2 ≤ n) × ((t ≤ d) × (d + 1 + (t + 1 + (d + 1)) ≤ length (now work))) ⌝ }
+    requires { ⌜ Given n d t i (now work) ⌝ }
+    ensures { λ _. ⌜ Factored n d t (now (work .entry)) (now (work .exit)) ⌝ }
+{
+    let m = wide_reduction::modulus_of(n);
+    wide_window_factor::unit_times_monic(work, m, d, t, i);
+}
+
 // f = u h, where coefficient t has the inverse i and those above it are nilpotent; u and h have as many words as f.
 fn factor_words(n: u64, f: &[u64], t: usize, i: u64, u: &mut [u64], h: &mut [u64], work: &mut [u64])
     requires { ⌜ FactorsAsked n t i (now f) (now u) (now h) (now work) ⌝ }
@@ -82,7 +93,7 @@ fn factor_words(n: u64, f: &[u64], t: usize, i: u64, u: &mut [u64], h: &mut [u64
 {
     let d = f.len() - 1;
     wide_windows::load(work, 0, f, n);
-    wide_window_factor::unit_times_monic(work, n, d, t, i);
+    factor_loaded(work, n, d, t, i);
     hand_out(u, work, d + 1 + (t + 1) + t, d + 1 - t);
     hand_out(h, work, d + 1, t + 1);
     wide_windows::wipe(work);

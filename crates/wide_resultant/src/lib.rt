@@ -1,7 +1,8 @@
 // The resultant of two polynomials modulo n, in their sent degrees, words of 64 bits. The 32-bit twin `resultant` has the laws.
 //
-//   f, g   the sent words; l and m are their numbers
-//   w      the working window: f from 0 on, g after it, and the attempt's room from l + m on
+//   f, g   the sent words; l and k are their numbers
+//   m      the record of the modulus n
+//   w      the working window: f from 0 on, g after it, and the attempt's room from l + k on
 //
 //   run      the resultant; a split of n is worked on each factor and joined
 //   once     one attempt
@@ -15,80 +16,82 @@ ghost use Prim.Native.Nat.{_≤_};
 ghost use lib.ListN.{length};
 ghost use Rattle.definitions.specs.Resultants.{resultant};
 ghost use Rattle.windows.specs.Window.{Scratch};
+ghost use Rattle.wide_reduction.specs.Moduli.{Ready};
 ghost use Rattle.wide_euclid_steps.specs.Stages.{TriedAnswer};
 ghost use Rattle.wide_resultant_steps.specs.AttemptAnswers.{ValueOrSplit};
 ghost use Rattle.resultant.specs.Sizes.{RunSizes};
 use wide_euclid_steps::Tried;
+use wide_reduction::Reciprocal;
 use wide_residue::Attempt;
 
 // f and g are loaded modulo n, f first.
-fn general(w: &mut [u64], n: u64, f: &[u64], g: &[u64]) -> Attempt
-    requires { ⌜ (2 ≤ n) × (RunSizes (now f) (now g) (now w) × (length (now f) ≤ length (now g))) ⌝ }
-    ensures { λ r. ⌜ ValueOrSplit n (resultant n (now (f .entry)) (now (g .entry))) r ⌝ }
+fn general(w: &mut [u64], m: Reciprocal, f: &[u64], g: &[u64]) -> Attempt
+    requires { ⌜ ((Ready m) × (2 ≤ m .n)) × (RunSizes (now f) (now g) (now w) × (length (now f) ≤ length (now g))) ⌝ }
+    ensures { λ r. ⌜ ValueOrSplit (m .n) (resultant (m .n) (now (f .entry)) (now (g .entry))) r ⌝ }
 {
     let l = f.len();
-    let m = g.len();
-    wide_windows::load(w, 0, f, n);
-    wide_windows::load(w, l, g, n);
-    wide_resultant_attempt::euclid(w, n, 0, l - 1, l, m - 1, l + m)
+    let k = g.len();
+    wide_windows::load(w, 0, f, m.n);
+    wide_windows::load(w, l, g, m.n);
+    wide_resultant_attempt::euclid(w, m, 0, l - 1, l, k - 1, l + k)
 }
 
 // The same by Euclid without inverses.
-fn tried(w: &mut [u64], n: u64, f: &[u64], g: &[u64]) -> Tried
-    requires { ⌜ (2 ≤ n) × (RunSizes (now f) (now g) (now w) × (length (now f) ≤ length (now g))) ⌝ }
-    ensures { λ r. ⌜ TriedAnswer n (resultant n (now (f .entry)) (now (g .entry))) r ⌝ }
+fn tried(w: &mut [u64], m: Reciprocal, f: &[u64], g: &[u64]) -> Tried
+    requires { ⌜ ((Ready m) × (2 ≤ m .n)) × (RunSizes (now f) (now g) (now w) × (length (now f) ≤ length (now g))) ⌝ }
+    ensures { λ r. ⌜ TriedAnswer (m .n) (resultant (m .n) (now (f .entry)) (now (g .entry))) r ⌝ }
 {
     let l = f.len();
-    let m = g.len();
-    let r = wide_reduction::modulus_of(n);
-    wide_modulus_windows::load(w, 0, f, r);
-    wide_modulus_windows::load(w, l, g, r);
-    wide_resultant_euclid::attempt(w, r, 0, l - 1, l, m - 1)
+    let k = g.len();
+    wide_modulus_windows::load(w, 0, f, m);
+    wide_modulus_windows::load(w, l, g, m);
+    wide_resultant_euclid::attempt(w, m, 0, l - 1, l, k - 1)
 }
 
 // Some leading word is no unit, and x is their product: it splits n, or the general attempt goes on from the sent words.
-fn settled(w: &mut [u64], n: u64, f: &[u64], g: &[u64], x: u64) -> Attempt
-    requires { ⌜ (2 ≤ n) × (RunSizes (now f) (now g) (now w) × (length (now f) ≤ length (now g))) ⌝ }
-    ensures { λ r. ⌜ ValueOrSplit n (resultant n (now (f .entry)) (now (g .entry))) r ⌝ }
+fn settled(w: &mut [u64], m: Reciprocal, f: &[u64], g: &[u64], x: u64) -> Attempt
+    requires { ⌜ ((Ready m) × (2 ≤ m .n)) × (RunSizes (now f) (now g) (now w) × (length (now f) ≤ length (now g))) ⌝ }
+    ensures { λ r. ⌜ ValueOrSplit (m .n) (resultant (m .n) (now (f .entry)) (now (g .entry))) r ⌝ }
 {
-    match wide_residue::kind_of(n, x) {
+    match wide_residue::kind_of(m.n, x) {
         wide_residue::Kind::Splits(p, q) => Attempt::Splits(p, q),
-        wide_residue::Kind::Unit(_) => general(w, n, f, g),
-        wide_residue::Kind::Nilpotent => general(w, n, f, g),
+        wide_residue::Kind::Unit(_) => general(w, m, f, g),
+        wide_residue::Kind::Nilpotent => general(w, m, f, g),
     }
 }
 
 // Euclid without inverses first.
-fn ordered(w: &mut [u64], n: u64, f: &[u64], g: &[u64]) -> Attempt
-    requires { ⌜ (2 ≤ n) × (RunSizes (now f) (now g) (now w) × (length (now f) ≤ length (now g))) ⌝ }
-    ensures { λ r. ⌜ ValueOrSplit n (resultant n (now (f .entry)) (now (g .entry))) r ⌝ }
+fn ordered(w: &mut [u64], m: Reciprocal, f: &[u64], g: &[u64]) -> Attempt
+    requires { ⌜ ((Ready m) × (2 ≤ m .n)) × (RunSizes (now f) (now g) (now w) × (length (now f) ≤ length (now g))) ⌝ }
+    ensures { λ r. ⌜ ValueOrSplit (m .n) (resultant (m .n) (now (f .entry)) (now (g .entry))) r ⌝ }
 {
-    match tried(w, n, f, g) {
+    match tried(w, m, f, g) {
         Tried::Value(v) => Attempt::Value(v),
-        Tried::NotUnit(x) => settled(w, n, f, g, x),
+        Tried::NotUnit(x) => settled(w, m, f, g, x),
     }
 }
 
 // A swap costs the sign (-1)^(d e).
-fn swapped(w: &mut [u64], n: u64, f: &[u64], g: &[u64]) -> Attempt
-    requires { ⌜ (2 ≤ n) × (RunSizes (now f) (now g) (now w) × (length (now g) ≤ length (now f))) ⌝ }
-    ensures { λ r. ⌜ ValueOrSplit n (resultant n (now (f .entry)) (now (g .entry))) r ⌝ }
+fn swapped(w: &mut [u64], m: Reciprocal, f: &[u64], g: &[u64]) -> Attempt
+    requires { ⌜ ((Ready m) × (2 ≤ m .n)) × (RunSizes (now f) (now g) (now w) × (length (now g) ≤ length (now f))) ⌝ }
+    ensures { λ r. ⌜ ValueOrSplit (m .n) (resultant (m .n) (now (f .entry)) (now (g .entry))) r ⌝ }
 {
     let l = f.len();
-    let m = g.len();
-    let r = ordered(w, n, g, f);
-    wide_resultant_steps::times_sign(n, l - 1, m - 1, r)
+    let k = g.len();
+    let r = ordered(w, m, g, f);
+    wide_resultant_steps::times_sign(m.n, l - 1, k - 1, r)
 }
 
-// The one with fewer words goes first.
+// The modulus is found, once. The polynomial with fewer words goes first.
 fn once(w: &mut [u64], n: u64, f: &[u64], g: &[u64]) -> Attempt
     requires { ⌜ (2 ≤ n) × RunSizes (now f) (now g) (now w) ⌝ }
     ensures { λ r. ⌜ ValueOrSplit n (resultant n (now (f .entry)) (now (g .entry))) r ⌝ }
 {
+    let m = wide_reduction::modulus_of(n);
     if f.len() <= g.len() {
-        return ordered(w, n, f, g);
+        return ordered(w, m, f, g);
     }
-    swapped(w, n, f, g)
+    swapped(w, m, f, g)
 }
 
 // "At a splitting coefficient, each of the two factors is worked as a modulus of its own, and the answers are joined by the

@@ -3,8 +3,8 @@
 --   round-sizes, round-pair, round-lead    what `divide_copy` asks of the division
 --   round, round-one, round-left           what comes of it
 --   RoundHolds, Nearing                    what the loop keeps of the buffer
---   enter, again, leave                    the loop's first turn, a turn, and its end
---   rounds, turns                          the rules of `divide_copy` and of the loop
+--   enter, again, leave                    the loop's first turn, a turn, and its end; again-… what a turn asks of `add_scaled`
+--   rounds, turns, addings                 the rules of `divide_copy`, of the loop and of `add_scaled` in it
 use mathlib.Core.Path.{_≡_, sym, ap, ap₂, subst, fun-ext, _∙_}
 use mathlib.Core.List.{List}
 use mathlib.Core.Logic.{_⊎_, inl, inr, ⊎-elim}
@@ -22,7 +22,7 @@ use Rattle.numbers.specs.Congruence.{Cong, c-trans, c-eq, c-mod}
 use Rattle.numbers.specs.Nilpotents.{InRadical, nilpotent-radical, radical-nilpotent}
 use Rattle.definitions.specs.Polynomials.{coef, convolve, constant, Multiplied, UnitPolynomial}
 use Rattle.convolution.specs.Sums.{convolve-comm, convolve-constant}
-use Rattle.windows.specs.Window.{piece, Moved, addMul, mulBy, second, Below, Around, Zeros}
+use Rattle.windows.specs.Window.{piece, Moved, addMul, mulBy, second, Below, PairAsked, Around, Zeros}
 use Rattle.windows.proofs.Leaf.{lt-or-le, piece-at, piece-over}
 use Rattle.windows.proofs.Lift.{piece-low, piece-equal, around-none, around-trans, around-wide, moved-around, moved-copy, below-is}
 use Rattle.windows.proofs.Parts.{mid-at}
@@ -268,6 +268,7 @@ round-left n d t z w w' g r zs = record {
 
 pub record Nearing (n d t i : ℕ) (w₀ : List ℕ) (k : ℕ) (w : List ℕ) : Type 0 where
   pub two : 2 ≤ n
+  pub small : i < n
   pub within : t ≤ d
   pub fits : d + 1 + (t + 1 + (d + 1)) ≤ length w
   pub unit : (i * coef (piece w₀ 0 (d + 1)) t) % n ≡ 1 % n
@@ -279,6 +280,7 @@ pub enter : (n d t i : ℕ) (w w₀ : List ℕ) → Given n d t i w → Moved (m
     → d + 1 + (t + 1 + (d + 1)) ≤ length w → Nearing n d t i w₀ 0 w₀
 enter n d t i w w₀ g sc two td fits = record {
   two = two;
+  small = g .small;
   within = td;
   fits = omega (arith, sc .same);
   unit = ap (λ (F : List ℕ). (i * coef F t) % n) (begun .poly) ∙ g .unit;
@@ -308,10 +310,27 @@ module _ (n d t i k : ℕ) (w₀ w : List ℕ) (x : Nearing n d t i w₀ k w) wh
   turn-fits B h = fits-le (let l = held-less (omega (arith, x .two)) (x .holds) in omega arith) h
 
   module _ (z : ℕ) (w₃ : List ℕ) (r : RoundLeft n d t z w w₃) where
+    -- what the remainder is added by
+    module _ {n' src len : ℕ} {w' : List ℕ} (en : n' ≡ n) (es : src ≡ d + 1 + (t + 1)) (el : len ≡ t) (ew : w' ≡ w₃) where
+      pub again-asked : {i' dst : ℕ} → i' ≡ i → dst ≡ d + 1 → PairAsked n' i' src dst len w'
+      again-asked ei ed = rw (en, ei, es, ed, el, ew) (record {
+        modulus = omega (arith, x .two);
+        factor = omega (arith, x .small);
+        source = omega (arith, r .round .around .same, x .fits, x .within);
+        target = omega (arith, r .round .around .same, x .fits);
+        apart = record { ok = λ a b p q e. omega arith };
+        below = below-is n (d + 1) (d + 1) t w w₃ (λ j l. r .round .around .low (d + 1 + j) (omega arith))
+            (record { at = λ j l. x .holds .below .at j (omega arith) });
+      })
+
+      pub again-below : Below n' src len w'
+      again-below = rw (en, es, el, ew) (record { at = λ j l. r .round .below .at j (omega (arith, x .within)) })
+
     pub again : (k' : ℕ) (w₄ : List ℕ) → (z ≡ t → ⊥) → Moved (addMul n i) (d + 1 + (t + 1)) (d + 1) t w₃ w₄ → k' ≡ k + 1
         → Nearing n d t i w₀ k' w₄
     again k' w₄ ne mv e = rw e (record {
       two = x .two;
+      small = x .small;
       within = x .within;
       fits = omega (arith, mv .same, r .round .around .same, x .fits);
       unit = x .unit;
@@ -336,3 +355,5 @@ module _ (n d t i k : ℕ) (w₀ w : List ℕ) (x : Nearing n d t i w₀ k w) wh
 pub ruleset rounds = (needs, round-sizes, round-pair, round-lead, round, round-one, round-left)
 
 pub ruleset turns = (tt, enter, turn-asked, turn-less, turn-fits, leave, again)
+
+pub ruleset addings = (again-asked, again-below)
