@@ -18,7 +18,16 @@ use wide_reduction::Reciprocal;
 
 // The remainder, d words, stands at b; the words after it, where the quotient would stand, are residues of no further meaning.
 // Two quotient words are worked in one pass.
-fn divide_by(w: &mut [u64], n: u64, r: Reciprocal, a: usize, d: usize, b: usize, e: usize, i: u64)
+pub fn divide_by(
+    w: &mut [u64],
+    n: u64,
+    r: Reciprocal,
+    a: usize,
+    d: usize,
+    b: usize,
+    e: usize,
+    i: u64,
+)
     requires { ⌜ (Ready r) × (r .n ≡ n) ⌝ }
     requires { ⌜ DivisionSizes n a d b e (now w) ⌝ }
     requires { ⌜ (Pair n a d b e (now w)) × ((i * getD (now w) (a + d) 0) % n ≡ 1 % n) ⌝ }
@@ -49,7 +58,7 @@ pub fn divide(w: &mut [u64], n: u64, a: usize, d: usize, b: usize, e: usize, i: 
 }
 
 // As `divide_by`, with the quotient kept: the remainder, d words, at b, and the e + 1 - d words of the quotient after it.
-fn divide_keeping_by(
+pub fn divide_keeping_by(
     w: &mut [u64],
     n: u64,
     r: Reciprocal,
