@@ -11,7 +11,7 @@ use native.Mathlib.Nat.{one-mul, zero-mul, add-zero, le-of-lt}
 use native.Mathlib.Omega.{arith}
 use lib.ListN.{length, getD}
 use Rattle.numbers.specs.Congruence.{Cong, c-refl, c-trans, c-eq, c-mod, c-add, c-mul}
-use Rattle.windows.specs.Window.{Clear, Apart, Below, PairAsked, Paired, Moved, Written, addMul, behind}
+use Rattle.windows.specs.Window.{Clear, Apart, Below, PairAsked, Paired, Moved, Written, addMul, mulBy, behind}
 use Rattle.windows.proofs.Turns.{power-told}
 use Rattle.window_combining.specs.Combined.{combination}
 use Rattle.montgomery.specs.Held.{plain, Formed}
@@ -56,6 +56,15 @@ module _ (m : Modulus) (known : Known m) (held : m .held ≡ 0 → ⊥) {src dst
     high = wr .high;
   }
 
+  pub scaled-entered : (x c : ℕ) → Moved (mulBy (m .n) (plain (m .n) x)) src dst len w w' → value m x ≡ c % m .n
+      → Moved (mulBy (m .n) c) src dst len w w'
+  scaled-entered x c mv hx = record {
+    same = mv .same;
+    low = mv .low;
+    mid = λ i g. mv .mid i g ∙ c-mul (entered m c x held hx) c-refl .same;
+    high = mv .high;
+  }
+
 pub clear-of : {n e src dst len : ℕ} {w : List ℕ} → PairAsked n e src dst len w → Clear src dst len
 clear-of a = record { ok = λ i j p q h. a .apart .ok i j q (omega arith) h }
 
@@ -66,4 +75,4 @@ pub same-modulus : {m : Modulus} {r : Reciprocal} → Known m → r ≡ reciproc
 same-modulus k e = rw e (k .ready)
 
 -- `additions` at the returns and the calls; the rest are `needs`
-pub ruleset additions = (tt, refl, le-of-lt, none-most, power-told, formed-of, same-modulus, clear-of, paired-held, moved-held)
+pub ruleset additions = (tt, refl, le-of-lt, none-most, power-told, formed-of, same-modulus, clear-of, paired-held, moved-held, scaled-entered)

@@ -1,5 +1,5 @@
 // The word loops of Euclid's steps over the record of a modulus: one test of the form at the top, and a loop for each form behind it. The
-// contracts but the last two are about what the words stand for, and say that the words stay residues.
+// contracts but the last three are about what the words stand for, and say that the words stay residues.
 //
 //   combine_pair    the words at dst, times l, less c and e times the words at src
 //   combine         the same with e alone
@@ -8,12 +8,13 @@
 //
 //   add_pair, add_scaled    multiples of the words at src added to the words at dst, words and multipliers as they are: where words can be
 //                           held, the multipliers are entered and the words are not
+//   set_scaled              a multiple of the words at src, words and multiplier as they are
 //
 //   m          the modulus
 //   l, c, e    words below n
 ghost use Prim.Native.Nat.{_+_, _-_, _<_, _≤_};
 ghost use lib.ListN.{length};
-ghost use Rattle.windows.specs.Window.{Clear, Apart, Below, PairAsked, Paired, Moved, addMul};
+ghost use Rattle.windows.specs.Window.{Clear, Apart, Below, PairAsked, Paired, Moved, addMul, mulBy};
 ghost use Rattle.window_combining.specs.Combined.{combination};
 ghost use Rattle.modulus.specs.Values.{Known, value, values};
 ghost use Rattle.modulus_windows.specs.Standing.{Wrote, Scaled, Entered};
@@ -239,6 +240,44 @@ pub fn add_scaled(w: &mut [u32], m: Modulus, c: u32, src: usize, dst: usize, len
         return;
     }
     windows::add_scaled_by(
+        w,
+        n,
+        Reciprocal {
+            n,
+            v: m.v,
+            c: m.c as u64,
+        },
+        c,
+        src,
+        dst,
+        len,
+    );
+}
+
+// w[dst + j] = c * w[src + j], for j < len.
+pub fn set_scaled(w: &mut [u32], m: Modulus, c: u32, src: usize, dst: usize, len: usize)
+    requires { ⌜ Known m ⌝ }
+    requires { ⌜ (src + len ≤ length (now w)) × (dst + len ≤ length (now w)) ⌝ }
+    requires { ⌜ Clear src dst len ⌝ }
+    ensures { λ _. ⌜ Moved (mulBy (m .n) c) src dst len (now (w .entry)) (now (w .exit)) ⌝ }
+{
+    let n = m.n;
+    if m.held != 0 {
+        let x = modulus::enter(m, c);
+        let form = Form {
+            n,
+            k: m.negative,
+            m: m.inverse,
+            r2: m.c,
+        };
+        held_windows::scale(w, form, x, src, dst, len);
+        return;
+    }
+    if reduction::power_of_two(n) {
+        windows::scale_masked(w, n, c, src, dst, len);
+        return;
+    }
+    windows::scale_by(
         w,
         n,
         Reciprocal {

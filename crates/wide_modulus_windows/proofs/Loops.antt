@@ -1,18 +1,22 @@
 -- What the word loops make, of words that stand for themselves.
 --
 --   loops    the rules
-use mathlib.Core.Path.{_≡_, sym, subst}
+use mathlib.Core.Path.{_≡_, refl, sym, subst}
 use mathlib.Core.List.{List}
-use Prim.Native.Nat.{ℕ, _+_, _-_, _%_, _≤_, _<_}
+use Prim.Native.Nat.{ℕ, _+_, _-_, _*_, _%_, _≤_, _<_}
 use native.Mathlib.Nat.{mod-lt}
-use lib.ListN.{length, getD}
+use lib.ListN.{length, getD, set}
 use borrow.Author.Needs.{needs}
-use Rattle.windows.specs.Window.{Below, Written, Moved, mulBy, Loaded}
+use Rattle.windows.specs.Window.{Below, Clear, Written, Moved, mulBy, Loaded}
 use Rattle.windows.proofs.Leaf.{written-around, loaded-around}
 use Rattle.windows.proofs.Lift.{moved-around}
+use Rattle.windows.proofs.Turns.{Moving, moving-none, moving-by, moving-end}
 use Rattle.window_combining.specs.Combined.{combination}
 use Rattle.modulus.specs.Values.{value, values}
 use Rattle.modulus_windows.specs.Standing.{Wrote, Scaled, Entered}
+use Rattle.modulus_windows.proofs.Adding.{clear-of}
+use Rattle.wide_multipliers.specs.Multipliers.{IsMultiplier}
+use Rattle.wide_windows.proofs.Multiples.{times-multiplier}
 use Rattle.euclid_steps.specs.Plain.{plainly, plain-words}
 
 reduced-below : (n a l : ℕ) (F : ℕ → ℕ) (w : List ℕ) → 1 ≤ n → ((i : ℕ) → i < l → getD w (a + i) 0 ≡ F i % n) → Below n a l w
@@ -56,4 +60,10 @@ entered {n} {a} {f} {w} {w'} pos ld = record {
   stands = plain-words n (λ u v. Loaded n a f (v w) (v w')) ld;
 }
 
-pub ruleset loops = (needs, wrote, wrote-one, scaled, entered)
+-- a turn of set_scaled: the product by the multiplier is one by the word that it stands for
+pub scaling : {n c src dst len j j' : ℕ} {w₀ w w' : List ℕ} (c' f r : ℕ) → Moving (mulBy n c) src dst len w₀ w j → Clear src dst len
+    → dst + len ≤ length w₀ → j < len → IsMultiplier n c c' f → r ≡ (c' * getD w (src + j) 0) % n → w' ≡ set w (dst + j) r → j' ≡ j + 1
+    → Moving (mulBy n c) src dst len w₀ w' j'
+scaling c' f r m free fit l i er ew ej = moving-by m free fit l _ _ r _ er refl ew (times-multiplier _ i refl) ej
+
+pub ruleset loops = (needs, wrote, wrote-one, scaled, entered, clear-of, scaling, moving-none, moving-end)

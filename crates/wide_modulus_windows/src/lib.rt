@@ -6,11 +6,13 @@
 //   scale           words times c
 //   load            the words of a lent polynomial, entered
 //
+//   add_pair, add_scaled, set_scaled    multiples of the words at src, added to the words at dst or in their place
+//
 //   m          the modulus with its reciprocal
 //   l, c, e    words below n
 ghost use Prim.Native.Nat.{_+_, _-_, _<_, _≤_};
 ghost use lib.ListN.{length};
-ghost use Rattle.windows.specs.Window.{Clear, Apart, Below};
+ghost use Rattle.windows.specs.Window.{Clear, Apart, Below, PairAsked, Paired, Moved, addMul, mulBy};
 ghost use Rattle.window_combining.specs.Combined.{combination};
 ghost use Rattle.modulus.specs.Values.{value, values};
 ghost use Rattle.modulus_windows.specs.Standing.{Wrote, Scaled, Entered};
@@ -58,7 +60,7 @@ pub fn scale(w: &mut [u64], m: Reciprocal, c: u64, src: usize, dst: usize, len: 
     requires { ⌜ Clear src dst len ⌝ }
     ensures { λ _. ⌜ Scaled (plain m) c src dst len (now (w .entry)) (now (w .exit)) ⌝ }
 {
-    wide_windows::scale(w, m.n, c, src, dst, len);
+    set_scaled(w, m, c, src, dst, len);
 }
 
 // w[at + j] = f[j], for each word of f, whatever it is.
@@ -67,4 +69,37 @@ pub fn load(w: &mut [u64], at: usize, f: &[u64], m: Reciprocal)
     ensures { λ _. ⌜ Entered (plain m) at (now (f .entry)) (now (w .entry)) (now (w .exit)) ⌝ }
 {
     wide_windows::load(w, at, f, m.n);
+}
+
+// w[dst + j] += c * w[src + j - 1] + e * w[src + j], for j < len; the word before the first counts as 0.
+pub fn add_pair(w: &mut [u64], m: Reciprocal, c: u64, e: u64, src: usize, dst: usize, len: usize)
+    requires { ⌜ Ready m ⌝ }
+    requires { ⌜ (PairAsked (m .n) e src dst len (now w)) × (Below (m .n) src len (now w)) ⌝ }
+    ensures { λ _. ⌜ Paired (m .n) c e src dst len (now (w .entry)) (now (w .exit)) ⌝ }
+{
+    wide_windows::add_pair_by(w, m.n, m, c, e, src, dst, len);
+}
+
+// w[dst + j] += c * w[src + j], for j < len.
+pub fn add_scaled(w: &mut [u64], m: Reciprocal, c: u64, src: usize, dst: usize, len: usize)
+    requires { ⌜ Ready m ⌝ }
+    requires { ⌜ (PairAsked (m .n) c src dst len (now w)) × (Below (m .n) src len (now w)) ⌝ }
+    ensures { λ _. ⌜ Moved (addMul (m .n) c) src dst len (now (w .entry)) (now (w .exit)) ⌝ }
+{
+    wide_windows::add_scaled_by(w, m.n, m, c, src, dst, len);
+}
+
+// w[dst + j] = c * w[src + j], for j < len.
+pub fn set_scaled(w: &mut [u64], m: Reciprocal, c: u64, src: usize, dst: usize, len: usize)
+    requires { ⌜ Ready m ⌝ }
+    requires { ⌜ (src + len ≤ length (now w)) × (dst + len ≤ length (now w)) ⌝ }
+    requires { ⌜ Clear src dst len ⌝ }
+    ensures { λ _. ⌜ Moved (mulBy (m .n) c) src dst len (now (w .entry)) (now (w .exit)) ⌝ }
+{
+    let f = wide_multipliers::multiplier_of(m, c);
+    let mut j: usize = 0;
+    while j < len {
+        w[dst + j] = wide_multipliers::times(m, f, w[src + j]);
+        j += 1;
+    }
 }
