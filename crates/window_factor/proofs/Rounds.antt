@@ -3,7 +3,7 @@
 --   round-sizes, round-pair, round-lead    what `divide_copy` asks of the division
 --   round, round-one, round-left           what comes of it
 --   RoundHolds, Nearing                    what the loop keeps of the buffer
---   enter, again, leave                    the loop's first turn, a turn, and its end
+--   enter, again, leave                    the loop's first turn, a turn, and its end; again-… what a turn asks of `add_scaled`
 --   rounds, turns                          the rules of `divide_copy` and of the loop
 use mathlib.Core.Path.{_≡_, sym, ap, ap₂, subst, fun-ext, _∙_}
 use mathlib.Core.List.{List}
@@ -22,7 +22,7 @@ use Rattle.numbers.specs.Congruence.{Cong, c-trans, c-eq, c-mod}
 use Rattle.numbers.specs.Nilpotents.{InRadical, nilpotent-radical, radical-nilpotent}
 use Rattle.definitions.specs.Polynomials.{coef, convolve, constant, Multiplied, UnitPolynomial}
 use Rattle.convolution.specs.Sums.{convolve-comm, convolve-constant}
-use Rattle.windows.specs.Window.{piece, Moved, addMul, mulBy, second, Below, Around, Zeros}
+use Rattle.windows.specs.Window.{piece, Moved, addMul, mulBy, second, Below, PairAsked, Around, Zeros}
 use Rattle.windows.proofs.Leaf.{lt-or-le, piece-at, piece-over}
 use Rattle.windows.proofs.Lift.{piece-low, piece-equal, around-none, around-trans, around-wide, moved-around, moved-copy, below-is}
 use Rattle.windows.proofs.Parts.{mid-at}
@@ -268,6 +268,7 @@ round-left n d t z w w' g r zs = record {
 
 pub record Nearing (n d t i : ℕ) (w₀ : List ℕ) (k : ℕ) (w : List ℕ) : Type 0 where
   pub two : 2 ≤ n
+  pub small : i < n
   pub within : t ≤ d
   pub fits : d + 1 + (t + 1 + (d + 1)) ≤ length w
   pub unit : (i * coef (piece w₀ 0 (d + 1)) t) % n ≡ 1 % n
@@ -279,6 +280,7 @@ pub enter : (n d t i : ℕ) (w w₀ : List ℕ) → Given n d t i w → Moved (m
     → d + 1 + (t + 1 + (d + 1)) ≤ length w → Nearing n d t i w₀ 0 w₀
 enter n d t i w w₀ g sc two td fits = record {
   two = two;
+  small = g .small;
   within = td;
   fits = omega (arith, sc .same);
   unit = ap (λ (F : List ℕ). (i * coef F t) % n) (begun .poly) ∙ g .unit;
@@ -308,10 +310,30 @@ module _ (n d t i k : ℕ) (w₀ w : List ℕ) (x : Nearing n d t i w₀ k w) wh
   turn-fits B h = fits-le (let l = held-less (omega (arith, x .two)) (x .holds) in omega arith) h
 
   module _ (z : ℕ) (w₃ : List ℕ) (r : RoundLeft n d t z w w₃) where
+    asked : PairAsked n i (d + 1 + (t + 1)) (d + 1) t w₃
+    asked = record {
+      modulus = omega (arith, x .two);
+      factor = omega (arith, x .small);
+      source = omega (arith, r .round .around .same, x .fits, x .within);
+      target = omega (arith, r .round .around .same, x .fits);
+      apart = record { ok = λ a b p q e. omega arith };
+      below = below-is n (d + 1) (d + 1) t w w₃ (λ j l. r .round .around .low (d + 1 + j) (omega arith))
+          (record { at = λ j l. x .holds .below .at j (omega arith) });
+    }
+
+    module _ {n' src len : ℕ} {v : List ℕ} (en : n' ≡ n) (es : src ≡ d + 1 + (t + 1)) (el : len ≡ t) (ev : v ≡ w₃) where
+      -- what the remainder is added by
+      pub again-asked : {i' dst : ℕ} → i' ≡ i → dst ≡ d + 1 → PairAsked n' i' src dst len v
+      again-asked ei ed = rw (en, es, el, ev, ei, ed) asked
+
+      pub again-below : Below n' src len v
+      again-below = rw (en, es, el, ev) (record { at = λ j l. r .round .below .at j (omega (arith, x .within)) })
+
     pub again : (k' : ℕ) (w₄ : List ℕ) → (z ≡ t → ⊥) → Moved (addMul n i) (d + 1 + (t + 1)) (d + 1) t w₃ w₄ → k' ≡ k + 1
         → Nearing n d t i w₀ k' w₄
     again k' w₄ ne mv e = rw e (record {
       two = x .two;
+      small = x .small;
       within = x .within;
       fits = omega (arith, mv .same, r .round .around .same, x .fits);
       unit = x .unit;
@@ -334,5 +356,7 @@ module _ (n d t i k : ℕ) (w₀ w : List ℕ) (x : Nearing n d t i w₀ k w) wh
         same = sym (piece-low (moved-around sc) 0 (d + 1) (omega arith) (omega (arith, x .fits, x .around .same, sc .same)))
 
 pub ruleset rounds = (needs, round-sizes, round-pair, round-lead, round, round-one, round-left)
+
+pub ruleset agains = (tt, again-asked, again-below)
 
 pub ruleset turns = (tt, enter, turn-asked, turn-less, turn-fits, leave, again)

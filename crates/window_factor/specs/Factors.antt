@@ -44,6 +44,7 @@ HighestOf n f AllNilpotent = AllNilpotents n f
 -- ---- unit times monic: f of d + 1 words, H of t + 1 words, room for the division of f by H
 
 pub record Given (n d t i : ℕ) (w : List ℕ) : Type 0 where
+  pub small : i < n
   pub below : Below n 0 (d + 1) w
   pub unit : (i * coef (piece w 0 (d + 1)) t) % n ≡ 1 % n
   pub nilpotent : (k : ℕ) → t < k → IsNilpotent n (coef (piece w 0 (d + 1)) k)
