@@ -16,7 +16,7 @@ use lib.ListN.{length, getD, set, length-set}
 use lib.Seq.{getD-set-same, getD-set-other}
 use Rattle.numbers.specs.Congruence.{Cong, c-refl, c-trans, c-eq, c-add}
 use Rattle.definitions.specs.Polynomials.{coef, convolve, Divided}
-use Rattle.windows.specs.Window.{piece, Moved, addMul, Below, Around, Apart, Clear, PairAsked, Paired, behind}
+use Rattle.windows.specs.Window.{piece, Moved, addMul, Below, Around, Apart, PairAsked, Paired, behind}
 use Rattle.windows.proofs.Leaf.{lt-or-le, piece-at, piece-over, apart-at}
 use Rattle.window_division.proofs.Turns.{convolve-none, convolve-add, convolve-spot, spot, spot-off, spot-low, spot-at, risen, risen-at}
 use Rattle.window_division.proofs.Turns.{risen-low, back}
@@ -368,15 +368,6 @@ module _ (n p lp q lq dst j : ℕ) (w₀ w : List ℕ) (x : Taking n p lp q lq d
             (omega (arith, room .product, x .done .around .same)) refl mv is;
       })
 
-  pub last-source : q + lq ≤ length w
-  last-source = omega (arith, room .second, x .done .around .same)
-
-  pub last-target : (j ≡ lp → ⊥) → dst + j + lq ≤ length w
-  last-target ne = omega (arith, room .product, room .some-second, x .most, x .done .around .same)
-
-  pub last-clear : (j ≡ lp → ⊥) → Clear q (dst + j) lq
-  last-clear ne = record { ok = λ i k a b e. fs .apart-second .ok i (j + k) b (omega (arith, x .most)) (omega arith) }
-
   pub taking-last : (w' : List ℕ) → (j ≡ lp → ⊥) → lp ≤ j + 1 → Moved (addMul n (n - getD w (p + j) 0)) q (dst + j) lq w w'
       → Subtracted n p lp q lq dst w₀ w'
   taking-last w' ne h mv =
@@ -384,8 +375,6 @@ module _ (n p lp q lq dst j : ℕ) (w₀ w : List ℕ) (x : Taking n p lp q lq d
       (subtracting-one _ _ _ _ _ _ _ j _ w₀ w (room .modulus) (room .some-second) (fs .apart-first) (fs .apart-second)
       (small j (omega (arith, x .most))) refl (x .done) w' (omega (arith, x .most)) (omega (arith, x .most, room .some-second)) mv)
 
-pub ruleset mosts = (first-most, second-most, last-most)
+pub ruleset asked = (first-most, second-most, last-most, pair-asked, last-asked, factor-below)
 
-pub ruleset asked = (tt, pair-asked, last-asked, factor-below, last-source, last-target, last-clear)
-
-pub ruleset subtractions = (needs, mosts, asked, taking-start, taking-next, taking-end, taking-last)
+pub ruleset subtractions = (needs, asked, taking-start, taking-next, taking-end, taking-last)

@@ -29,7 +29,7 @@ pub fn sub_product(
     while j + 1 < lp {
         let b = w[p + j];
         let c = w[p + (j + 1)];
-        wide_windows::add_pair_by(w, n, m, n - c, n - b, q, dst + j, lq);
+        wide_modulus_windows::add_pair(w, m, n - c, n - b, q, dst + j, lq);
         let top = wide_reduction::add_product(m, w[dst + (j + lq)], n - c, w[q + (lq - 1)]);
         w[dst + (j + lq)] = top;
         j += 2;
@@ -38,7 +38,7 @@ pub fn sub_product(
         return;
     }
     let b = w[p + j];
-    wide_windows::add_scaled_by(w, n, m, n - b, q, dst + j, lq);
+    wide_modulus_windows::add_scaled(w, m, n - b, q, dst + j, lq);
 }
 
 // As `sub_product`, modulo the monic polynomial of degree t at 0 where t words do not hold what is left. Answers the number of
