@@ -13,8 +13,8 @@ use mathlib.Core.List.{List, map}
 use mathlib.Core.Logic.{⊎-elim}
 use Prim.Native.Nat.{ℕ, zero, suc, _+_, _*_, _/_, _%_, _^_, _≤_, _<_, _∣_}
 use native.Mathlib.Omega.{arith}
-use native.Mathlib.Nat.{mod-eq-of-lt, zero-mod, zero-add, zero-mul, mul-zero, mul-one, one-mul, mul-comm, mul-assoc, dvd-mod-iff, dvd-mul-left}
-use native.Mathlib.Nat.{dvd-mul-left-of-dvd, mul-div-cancel'}
+use native.Mathlib.Nat.{mod-eq-of-lt, zero-mod, zero-add, zero-mul, mul-zero, mul-one, one-mul, mul-comm, mul-assoc, dvd-mod-iff}
+use native.Mathlib.Nat.{dvd-mul-left, dvd-mul-left-of-dvd, mul-div-cancel'}
 use lib.ListN.{length, getD, List·getD-map}
 use Rattle.definitions.specs.Residues.{IsUnit, IsNilpotent}
 use Rattle.definitions.specs.Polynomials.{coef, convolve}
@@ -123,7 +123,8 @@ value-times m x = go (m .held) (m .n)
     go : (h n : ℕ) → Cong n (value-by h n x) (x * value-by h n 1)
     go zero n = c-eq (sym (mul-one x))
     go (suc h) n =
-        c-trans (c-mod _) (c-mul (c-refl {a = x}) (c-trans (c-eq (sym (one-mul ((n / 2 + 1) ^ 32)))) (c-sym (c-mod (1 * (n / 2 + 1) ^ 32)))))
+        c-trans (c-mod _)
+        (c-mul (c-refl {a = x}) (c-trans (c-eq (sym (one-mul ((n / 2 + 1) ^ 32)))) (c-sym (c-mod (1 * (n / 2 + 1) ^ 32)))))
 
 value-none : (m : Modulus) → value m 0 ≡ 0
 unfolding value plain

@@ -12,7 +12,8 @@ use Rattle.definitions.specs.Polynomials.{coef, constant, Divided}
 use Rattle.windows.specs.Window.{piece, Below, Around}
 use Rattle.reduced_multipliers.specs.Leads.{NegatedInverse}
 
--- lz residues at zp lie before the unit polynomial at up; above it is room for its inverse twice and for the product, and x holds the quotient
+-- lz residues at zp lie before the unit polynomial at up; above it is room for its inverse twice and for the product, and x holds the
+-- quotient
 pub record OverRoom (n up k zp lz : ℕ) (w x : List ℕ) : Type 0 where
   pub modulus : 2 ≤ n
   pub some : 1 ≤ lz
