@@ -40,6 +40,11 @@ module _ (n : ℕ) (f : List ℕ) (h : Highest) where
   pub nilpotents-at : h ≡ AllNilpotent → HighestOf n f h → AllNilpotents n f
   nilpotents-at e = subst (HighestOf n f) e
 
+-- the modulus has a record of its own
+pub core-told : (n ν c d e : ℕ) (w x y x₁ y₁ : List ℕ) (s : Attempt) → CoreAnswer ν d e w x y x₁ y₁ s → ν ≡ n / c
+    → CoreAnswer (n / c) d e w x y x₁ y₁ s
+core-told n ν c d e w x y x₁ y₁ s z h = subst (λ (v : ℕ). CoreAnswer v d e w x y x₁ y₁ s) h z
+
 module _ (n c r t i : ℕ) (a b x y w x₁ y₁ : List ℕ) (s : Attempt) where
   abbrev answer : Attempt → Type 0
   answer s = CoreAnswer (n / c) (length a - 1) (length b - 1) w x y x₁ y₁ s
@@ -47,7 +52,7 @@ module _ (n c r t i : ℕ) (a b x y w x₁ y₁ : List ℕ) (s : Attempt) where
   pub over-word : (D m : ℕ) → s ≡ Value D → OverAsked n c r t i a b x y w → answer s → n < m → c * D < m
   over-word D m e o z l = product-word o (subst answer e z) l
 
-  pub leave-at : (D : ℕ) → s ≡ Value D → OverAsked n c r t i a b x y w → answer s → BothLeave n r x₁ y₁
+  pub leave-at : (D : ℕ) → s ≡ Value D → OverAsked n c r t i a b x y w → answer s → BothLeave n x₁ y₁
   leave-at D e o z = leaving o (subst answer e z)
 
   pub over-found : (x₂ y₂ : List ℕ) (D : ℕ) → s ≡ Value D → OverAsked n c r t i a b x y w → answer s → Left n r x₁ x₂ → Left n r y₁ y₂

@@ -17,7 +17,6 @@ use Prim.Native.Nat.{ℕ, max, _+_, _-_, _*_, _/_, _%_, _<_, _≤_, _∣_}
 use lib.ListN.{length, getD}
 use Rattle.definitions.specs.Residues.{K, IsUnit, IsNilpotent}
 use Rattle.definitions.specs.Polynomials.{coef, L}
-use Rattle.montgomery.specs.Held.{Fits}
 use Rattle.windows.specs.Window.{piece}
 use Rattle.window_factor.specs.Factors.{SplitOf, LeadingUnit}
 use Rattle.reduced_units.specs.States.{Splitter}
@@ -34,11 +33,9 @@ pub record CommonContent (n : ℕ) (f g : List ℕ) (c : ℕ) : Type 0 where
   pub divides-g : (k : ℕ) → c ∣ coef g k % n
   pub greatest : (x : ℕ) → x ∣ n → ((k : ℕ) → x ∣ coef f k % n) → ((k : ℕ) → x ∣ coef g k % n) → x ∣ c
 
--- A polynomial held as R f is another polynomial modulo n, and R is a unit: the words are those of r f and r g, r a unit, and 1 unless
--- n has the form
+-- A polynomial held as r f is another polynomial modulo n, and r is a unit: the words are those of r f and r g
 pub record PairLoaded (n r j : ℕ) (f g w w' : List ℕ) : Type 0 where
   pub unit : IsUnit n r
-  pub form : (r ≡ 1 → ⊥) → Fits n
   pub same : length w' ≡ length w
   pub first : (k : ℕ) → k < length f → getD w' k 0 ≡ (r * coef f k) % n
   pub second : (k : ℕ) → k < length g → getD w' (j + k) 0 ≡ (r * coef g k) % n
@@ -48,20 +45,19 @@ pub record PairLoaded (n r j : ℕ) (f g w w' : List ℕ) : Type 0 where
 -- as the core of an attempt wants them; of the words after these nothing is promised
 pub record Arranged (n c r : ℕ) (a b w w' : List ℕ) : Type 0 where
   pub unit : IsUnit n r
-  pub form : (r ≡ 1 → ⊥) → Fits n
   pub same : length w' ≡ length w
   pub first : (k : ℕ) → k < length a → getD w' (length b + k) 0 ≡ ((r * coef a k) % n) / c
   pub second : (k : ℕ) → k < length b → getD w' k 0 ≡ ((r * coef b k) % n) / c
 
--- words that are residues; r is 1 unless n has the form
-pub record LeaveAsked (n r : ℕ) (x : List ℕ) : Type 0 where
-  pub form : (r ≡ 1 → ⊥) → Fits n
+-- words that are residues
+pub record LeaveAsked (n : ℕ) (x : List ℕ) : Type 0 where
+  pub positive : 1 ≤ n
   pub below : (k : ℕ) → coef x k < n
 
 -- the same of both cofactors
-pub record BothLeave (n r : ℕ) (x y : List ℕ) : Type 0 where
-  pub first : LeaveAsked n r x
-  pub second : LeaveAsked n r y
+pub record BothLeave (n : ℕ) (x y : List ℕ) : Type 0 where
+  pub first : LeaveAsked n x
+  pub second : LeaveAsked n y
 
 -- cofactors leave times R: each word times r
 pub record Left (n r : ℕ) (x x' : List ℕ) : Type 0 where

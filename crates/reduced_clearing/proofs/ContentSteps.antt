@@ -1,6 +1,5 @@
 -- The content c of B is taken out: B over c, the multiplier of A times c, A modulo ν / c. The facts are those of the code, which reads B
--- as a
--- part of the window.
+-- as a part of the window.
 --
 --   part                         the a words from p on, as the code lends them
 --   none-solved, none-kept       B is 0 modulo ν

@@ -1,17 +1,18 @@
 -- The unit factor of B is taken out: B is monic of degree s, and its multiplier is over the unit. Together with the content this is what
--- the
--- clearing promises.
+-- the clearing promises.
 --
 --   unit-…, monic-…, taken-…    the unit factor alone
 --   both-…, last-…              the content and then the unit factor
 --   cleared-…                   the same, as the clearing promises it
---   monics, units, contents     the rules of `take_monic`, `clear_unit` and `clear_contents`
+--   over-…                      the same modulo ν / c, where that has a record of its own
+--   monics, units, moduli, contents    the rules of `take_monic`, `clear_unit`, `modulus_over` with `clear_over`, and `clear_contents`
 use mathlib.Core.Path.{_≡_, refl, sym, ap, ap₂, subst, _∙_, fun-ext}
 use mathlib.Core.List.{List, []}
 use mathlib.Core.Logic.{⊎-elim}
 use Prim.Native.Nat.{ℕ, zero, suc, _+_, _-_, _*_, _/_, _%_, _≤_, _<_, _∣_}
 use native.Mathlib.Omega.{arith}
-use native.Mathlib.Nat.{mul-one, mul-assoc, mul-pos, dvd-trans, dvd-mul-left, dvd-mul-right, le-of-dvd, add-zero, pos-of-ne-zero}
+use native.Mathlib.Nat.{div-one, mul-one, mul-assoc, mul-pos, dvd-trans, dvd-mul-left, dvd-mul-right, le-of-dvd, add-zero, pos-of-ne-zero}
+use borrow.Author.Needs.{needs}
 use lib.ListN.{length, getD}
 use Rattle.definitions.specs.Residues.{IsUnit, IsNilpotent, Coprime}
 use Rattle.definitions.specs.Polynomials.{coef, constant}
@@ -232,6 +233,18 @@ kept-same x w = record { same = refl; low = λ k h. refl }
 
 -- ---- the content and the unit factor, as the clearing promises them
 
+-- the modulus does not change where the content is 1
+pub over-one : {n c : ℕ} → c ≡ 1 → n ≡ n / c
+over-one {n} e = rw e (sym (div-one n))
+
+-- nor does anything else where the record is that of ν
+module _ (n ν ν' a l : ℕ) (P : Places) (w : List ℕ) where
+  pub over-asked : UnitAsked n ν P a l w → ν' ≡ ν → UnitAsked n ν' P a l w
+  over-asked x e = rw e x
+
+  pub over-clears : (c : ℕ) (w' : List ℕ) (r : Clearing) → UnitClears n ν' c P a l w w' r → ν' ≡ ν → UnitClears n ν c P a l w w' r
+  over-clears c w' r x e = subst (λ (y : ℕ). UnitClears n y c P a l w w' r) e x
+
 module _ (n ν a l c : ℕ) (P : Places) (w w₁ : List ℕ) (st : StageAt n ν P a a l w) (ct : Content ν (part w (P .pb) a) c) (ne : c ≡ ν → ⊥)
     (tk : ContentTaken n ν c (P .t) (P .pa) a (P .pb) (P .al) w w₁) where
   pub cleared-asked : UnitAsked n (ν / c) P a l w₁
@@ -256,5 +269,7 @@ cleared-kept n ν t pa a pb al be l c w w₁ w₂ st ct ne tk k = kept-trans (co
 pub ruleset monics = (tt, taken-kept, taken-next, taken-last, taken-last-kept)
 
 pub ruleset units = (tt, monic-asked, never-nilpotent, kept-same)
+
+pub ruleset moduli = (needs, over-one, over-asked, over-clears)
 
 pub ruleset contents = (tt, none-solved, none-kept, content-positive, content-asked, cleared-asked, cleared, cleared-kept)

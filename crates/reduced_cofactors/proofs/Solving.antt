@@ -304,6 +304,7 @@ module _ {n d e t D : ℕ} {w w' x y : List ℕ} (sp : CoreSpace n d e w x y) (o
     above = sp .above;
     degree = one;
     near = omega arith;
+    second = record { at = λ k h. subst (λ (x : ℕ). x < n) (sym (word k h)) (fa .second .at k h) };
     room = omega (arith, fd .same, sp .room, bound (K n));
     long-x = omega (arith, sp .long-x, cofactor-fits n d e (d - t) (sp .above) (omega arith));
     long-y = omega (arith, sp .long-y, degree-fits n d e t (sp .above) within);
@@ -313,6 +314,9 @@ module _ {n d e t D : ℕ} {w w' x y : List ℕ} (sp : CoreSpace n d e w x y) (o
     unit = subst (UnitPolynomial n) (sym (fd .first)) (fa .unit);
   }
     where
+      word : (k : ℕ) → k < e + 1 → getD w' (0 + k) 0 ≡ getD w (0 + k) 0
+      word k h = sym (piece-at w' 0 (e + 1) k h) ∙ ap (λ (f : List ℕ). coef f k) (fd .second) ∙ piece-at w 0 (e + 1) k h
+
       bound : (k : ℕ) → k * (d - t) ≤ k * d
       bound k = mul-le-mul-left k (omega arith)
 
@@ -378,6 +382,7 @@ module _ {n d e t i : ℕ} {w x y : List ℕ} (asked : CoreAsked n d e t i w x y
 
   pub core-given : Given n d t i (midOf (e + 1) span w)
   core-given = record {
+    small = asked .lead .inverse .below;
     below = record {
       at = λ k h. subst (λ (x : ℕ). x < n) (sym (was (e + 1) span w core-inside (e + 1 + k) (0 + k) (omega arith)
           (omega arith))) (asked .first .at k h);

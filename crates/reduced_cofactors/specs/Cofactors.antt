@@ -62,6 +62,7 @@ pub record FinishAsked (n e q t k : ℕ) (w x y : List ℕ) : Type 0 where
   pub above : 2 ≤ n
   pub degree : 1 ≤ t
   pub near : e + 1 + (k + 1) ≤ q
+  pub second : Below n 0 (e + 1) w
   pub room : q + 2 * (t + 1) + (t + e + 1) + ((k + 1) + (2 * (K n * k + 1) + (e + 1))) ≤ length w
   pub long-x : (K n - 1) * k + (e + 1) ≤ length x
   pub long-y : t ≤ length y
@@ -75,6 +76,7 @@ pub record DivideAsked (n e q t k : ℕ) (w : List ℕ) : Type 0 where
   pub above : 2 ≤ n
   pub degree : 1 ≤ t
   pub near : e + 1 + (k + 1) ≤ q
+  pub second : Below n 0 (e + 1) w
   pub room : q + 2 * (t + 1) + (t + e + 1) + (k + 1) ≤ length w
   pub below-h : Below n q (t + 1) w
   pub lead : getD w (q + t) 0 ≡ 1

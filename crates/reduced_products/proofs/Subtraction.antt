@@ -2,7 +2,7 @@
 --
 --   Taking          the invariant of the loop
 --   taking-…        its start, turn and ends
---   pair-asked, first-…, second-…, last-…    what the places in between ask
+--   pair-asked, first-…, second-…, factor-below, last-…    what the places in between ask
 --   subtractions    the rules
 use mathlib.Core.Path.{_≡_, refl, sym, ap, ap₂, subst, _∙_, fun-ext}
 use mathlib.Core.List.{List}
@@ -16,7 +16,7 @@ use lib.ListN.{length, getD, set, length-set}
 use lib.Seq.{getD-set-same, getD-set-other}
 use Rattle.numbers.specs.Congruence.{Cong, c-refl, c-trans, c-eq, c-add}
 use Rattle.definitions.specs.Polynomials.{coef, convolve, Divided}
-use Rattle.windows.specs.Window.{piece, Moved, addMul, Below, Around, Apart, Clear, PairAsked, Paired, behind}
+use Rattle.windows.specs.Window.{piece, Moved, addMul, Below, Around, Apart, PairAsked, Paired, behind}
 use Rattle.windows.proofs.Leaf.{lt-or-le, piece-at, piece-over, apart-at}
 use Rattle.window_division.proofs.Turns.{convolve-none, convolve-add, convolve-spot, spot, spot-off, spot-low, spot-at, risen, risen-at}
 use Rattle.window_division.proofs.Turns.{risen-low, back}
@@ -334,14 +334,26 @@ module _ (n p lp q lq dst j : ℕ) (w₀ w : List ℕ) (x : Taking n p lp q lq d
   pub last-most : (j ≡ lp → ⊥) → getD w (p + j) 0 ≤ n
   last-most ne = le-of-lt (small j (omega (arith, x .most)))
 
-  pub pair-asked : (m : ℕ) → j + 1 < lp → PairAsked n (n - m) q (dst + j) lq w
-  pair-asked m h = record {
+  asked-at : (m : ℕ) → j < lp → PairAsked n (n - m) q (dst + j) lq w
+  asked-at m h = record {
     modulus = room .modulus;
     factor = omega arith;
     source = omega (arith, room .second, x .done .around .same);
     target = omega (arith, room .product, x .done .around .same);
     apart = turn-apart (fs .apart-second) j (omega arith);
     below = turn-below (x .done) (omega arith);
+  }
+
+  pub pair-asked : (m : ℕ) → j + 1 < lp → PairAsked n (n - m) q (dst + j) lq w
+  pair-asked m h = asked-at m (omega arith)
+
+  pub last-asked : (m : ℕ) → (j ≡ lp → ⊥) → PairAsked n (n - m) q (dst + j) lq w
+  last-asked m ne = asked-at m (omega (arith, x .most))
+
+  -- the second factor is as it was
+  pub factor-below : Below n q lq w
+  factor-below = record {
+    at = λ k l. subst (λ (y : ℕ). y < n) (sym (apart-at (fs .apart-second) (x .done .around) k l)) (fs .second .at k l);
   }
 
   pub taking-next : (v j' : ℕ) (w' w'' : List ℕ) → j + 1 < lp
@@ -356,15 +368,6 @@ module _ (n p lp q lq dst j : ℕ) (w₀ w : List ℕ) (x : Taking n p lp q lq d
             (omega (arith, room .product, x .done .around .same)) refl mv is;
       })
 
-  pub last-source : q + lq ≤ length w
-  last-source = omega (arith, room .second, x .done .around .same)
-
-  pub last-target : (j ≡ lp → ⊥) → dst + j + lq ≤ length w
-  last-target ne = omega (arith, room .product, room .some-second, x .most, x .done .around .same)
-
-  pub last-clear : (j ≡ lp → ⊥) → Clear q (dst + j) lq
-  last-clear ne = record { ok = λ i k a b e. fs .apart-second .ok i (j + k) b (omega (arith, x .most)) (omega arith) }
-
   pub taking-last : (w' : List ℕ) → (j ≡ lp → ⊥) → lp ≤ j + 1 → Moved (addMul n (n - getD w (p + j) 0)) q (dst + j) lq w w'
       → Subtracted n p lp q lq dst w₀ w'
   taking-last w' ne h mv =
@@ -372,6 +375,6 @@ module _ (n p lp q lq dst j : ℕ) (w₀ w : List ℕ) (x : Taking n p lp q lq d
       (subtracting-one _ _ _ _ _ _ _ j _ w₀ w (room .modulus) (room .some-second) (fs .apart-first) (fs .apart-second)
       (small j (omega (arith, x .most))) refl (x .done) w' (omega (arith, x .most)) (omega (arith, x .most, room .some-second)) mv)
 
-pub ruleset asked = (first-most, second-most, last-most, pair-asked, last-source, last-target, last-clear)
+pub ruleset asked = (first-most, second-most, last-most, pair-asked, last-asked, factor-below)
 
 pub ruleset subtractions = (needs, asked, taking-start, taking-next, taking-end, taking-last)

@@ -2,7 +2,7 @@
 -- lp + lq - 1 words, is taken from the words at dst.
 --
 --   ProductRoom n p lp q lq dst w    the factors have words, and these and the product's words stand in the buffer
---   Factors n p lp q lq dst w    the factors are apart from the words at dst; residues at p and dst
+--   Factors n p lp q lq dst w    the factors are apart from the words at dst; all of them residues
 --   FactorsModulo n t p lp q lq dst w    the same, with a monic polynomial of degree t at 0, before dst
 --   Subtracted n p lp q lq dst w w'    the words at dst have lost the product
 --   MonicAtZero n t w            the monic polynomial of degree t at 0 of a stage's window
@@ -27,6 +27,7 @@ pub record ProductRoom (n p lp q lq dst : ℕ) (w : List ℕ) : Type 0 where
 -- no word of a factor is one of those that lose the product, and what is read and written are residues
 pub record Factors (n p lp q lq dst : ℕ) (w : List ℕ) : Type 0 where
   pub first : Below n p lp w
+  pub second : Below n q lq w
   pub product : Below n dst (lp + lq - 1) w
   pub apart-first : Apart p lp dst (lp + lq - 1)
   pub apart-second : Apart q lq dst (lp + lq - 1)

@@ -59,6 +59,8 @@ module _ {n up k zp lz len : ℕ} {w w₁ x₀ : List ℕ} (asked : OverRoom n u
     pub over-factors : Factors n (up + (k + 1)) len zp lz (up + (k + 1) + len) w₂
     over-factors = record {
       first = below-apart (apart-low (up + (k + 1)) len (up + (k + 1) + len) (len + lz - 1) (omega arith)) cleared (ng .below);
+      second = below-apart (apart-low zp lz (up + (k + 1) + len) (len + lz - 1) (omega arith)) cleared
+          (below-apart (apart-low zp lz (up + (k + 1)) len (omega arith)) (ng .around) (asked .below));
       product = record { at = λ i h. subst (λ (x : ℕ). x < n) (sym (cl .mid i h)) (omega arith) };
       apart-first = apart-low (up + (k + 1)) len (up + (k + 1) + len) (len + lz - 1) (omega arith);
       apart-second = apart-low zp lz (up + (k + 1) + len) (len + lz - 1) (omega arith);
@@ -169,6 +171,7 @@ module _ {n e q t v : ℕ} {w w₁ : List ℕ} (c : ℕ) (asked : QuotientRoom n
   factors : Factors n (q + (t + 1)) t 0 (e + 1) (q + 2 * (t + 1)) (set w₁ (q + 2 * (t + 1)) v)
   factors = record {
     first = below-apart (apart-low (q + (t + 1)) t (q + 2 * (t + 1)) (t + e + 1) (omega arith)) quotient-start below-v;
+    second = below-apart (apart-low 0 (e + 1) (q + 2 * (t + 1)) (t + e + 1) (omega arith)) quotient-start (asked .second);
     product = record { at = λ k h. below-start .at k (omega arith) };
     apart-first = apart-low (q + (t + 1)) t (q + 2 * (t + 1)) (t + (e + 1) - 1) (omega arith);
     apart-second = apart-low 0 (e + 1) (q + 2 * (t + 1)) (t + (e + 1) - 1) (omega arith);
@@ -276,6 +279,7 @@ module _ {n e q t v : ℕ} {w w₁ : List ℕ} (c : ℕ) (asked : QuotientRoom n
           low = λ k h. dv .around .low k h ∙ later .low k h ∙ quotient-start .low k h;
           high = λ k h. dv .around .high k (omega arith) ∙ later .high k h ∙ quotient-start .high k h;
         };
+        below = dv .below;
         s = piece (set w₁ (q + 2 * (t + 1)) v) (q + 2 * (t + 1)) (t + (e + 1) - 1);
         r = piece w₃ (q + 2 * (t + 1)) (t + e + 1);
         start = start-at;

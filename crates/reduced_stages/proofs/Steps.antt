@@ -98,6 +98,7 @@ module _ {n ν a b i l : ℕ} {p : Places} {w : List ℕ} (asked : DivisionAsked
         at = λ k h. lower (subst (λ (x : ℕ). getD w₁ x 0 < ν) (sym (add-assoc pa b k)) (dv .below .at (b + k)
             (omega arith)));
       };
+      second = record { at = λ k h. below-apart apart-be (dv .around) (st .beta .below) .at k (omega (arith, st .most)) };
       product = record {
         at = λ k h. below-apart apart-al (dv .around) (st .alpha .below) .at k
             (omega (arith, st .within, st .most, st .some));

@@ -29,9 +29,13 @@ module _ (n t x len be l y : ℕ) (w w₁ : List ℕ) (asked : OverAsked n t x l
   over-monic : MonicAtZero n t w₁
   over-monic = monic-apart (omega arith) cleared (asked .monic)
 
+  mu₁ : Multiplier n t be l w₁
+  mu₁ = multiplier-apart (apart-low be (2 * (t + 1)) y (len + t) (omega arith)) cleared (asked .multiplier)
+
   over-factors : Factors n x len be l y w₁
   over-factors = record {
     first = below-apart (apart-low x len y (len + t) (asked .last)) cleared (asked .below);
+    second = record { at = λ k h. mu₁ .below .at k (omega arith) };
     product = record { at = λ k h. subst (λ (z : ℕ). z < n) (sym (cl .mid k (omega arith))) (asked .positive) };
     apart-first = apart-low x len y (len + l - 1) (asked .last);
     apart-second = apart-low be l y (len + l - 1) (omega arith);
@@ -49,9 +53,6 @@ module _ (n t x len be l y : ℕ) (w w₁ : List ℕ) (asked : OverAsked n t x l
 
   pub over-modulo : FactorsModulo n t x len be l y w₁
   over-modulo = record { factors = over-factors; degree = asked .degree; after = omega arith; monic = over-monic }
-
-  mu₁ : Multiplier n t be l w₁
-  mu₁ = multiplier-apart (apart-low be (2 * (t + 1)) y (len + t) (omega arith)) cleared (asked .multiplier)
 
   module _ (r : ℕ) (w₂ w₃ : List ℕ) (tk : TakenFrom n t x len be l y r w₁ w₂) (cp : Moved second y be t w₂ w₃) where
     -- the words of the product, as a polynomial

@@ -40,6 +40,11 @@ module _ (n : ℕ) (f : List ℕ) (h : Highest) where
   pub nilpotents-at : h ≡ AllNilpotent → HighestOf n f h → AllNilpotents n f
   nilpotents-at e = subst (HighestOf n f) e
 
+-- the modulus has a record of its own
+pub core-told : (n ν c d e : ℕ) (w x y x₁ y₁ : List ℕ) (s : Attempt) → CoreAnswer ν d e w x y x₁ y₁ s → ν ≡ n / c
+    → CoreAnswer (n / c) d e w x y x₁ y₁ s
+core-told n ν c d e w x y x₁ y₁ s z h = subst (λ (v : ℕ). CoreAnswer v d e w x y x₁ y₁ s) h z
+
 module _ (n c t i : ℕ) (a b x y w x₁ y₁ : List ℕ) (s : Attempt) where
   abbrev answer : Attempt → Type 0
   answer s = CoreAnswer (n / c) (length a - 1) (length b - 1) w x y x₁ y₁ s

@@ -87,7 +87,7 @@ fn over_content(
     }
 }
 
-// What the core comes to there, modulo n / c.
+// What the core comes to there, modulo n / c, whose record is found here.
 fn core_over(
     x: &mut [u64],
     y: &mut [u64],
@@ -104,7 +104,8 @@ fn core_over(
         (now (y .entry)) (now (x .exit)) (now (y .exit)) z ⌝ }
     ensures { λ _. ⌜ Scratch (now (w .entry)) (now (w .exit)) ⌝ }
 {
-    wide_reduced_cofactors::core(x, y, w, n / c, a.len() - 1, b.len() - 1, t, i)
+    let m = wide_reduction::modulus_of(n / c);
+    wide_reduced_cofactors::core(x, y, w, m, a.len() - 1, b.len() - 1, t, i)
 }
 
 // n as a product of two coprime factors, from two coprime divisors: what n has in common with p, and the rest. The first two cases are

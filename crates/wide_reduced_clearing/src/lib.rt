@@ -2,12 +2,16 @@
 // description and the laws.
 //
 //   Clearing          what it comes to
+//   modulus_over      the modulus over a content
 //   clear_contents    the content, then the unit factor
-ghost use Prim.Native.Nat.{_+_};
+ghost use mathlib.Core.Path.{_≡_};
+ghost use Prim.Native.Nat.{_+_, _/_, _≤_};
+ghost use Rattle.wide_reduction.specs.Moduli.{Ready};
 ghost use Rattle.windows.specs.Window.{Kept};
 ghost use Rattle.reduced_units.specs.States.{StageAt};
 ghost use Rattle.wide_reduced_clearing.specs.Clearings.{ContentAsked, ContentTaken, MonicAsked, UnitAsked, UnitClears, Clears};
 use reduced_units::Places;
+use wide_reduction::Reciprocal;
 
 // What the clearing of contents and unit factors comes to: the reduced resultant; two coprime divisors of the modulus; or the content,
 // the degree of the second polynomial, monic now, and the words of the multipliers, for the division stage.
@@ -18,11 +22,11 @@ pub enum Clearing {
 }
 
 // B over its content c, the multiplier of A times c, and A modulo v / c.
-fn take_content(w: &mut [u64], n: u64, v: u64, c: u64, p: Places, a: usize)
-    requires { ⌜ ContentAsked n v c p a (now w) ⌝ }
-    ensures { λ _. ⌜ ContentTaken n v c (p .t) (p .pa) a (p .pb) (p .al) (now (w .entry)) (now (w .exit)) ⌝ }
+fn take_content(w: &mut [u64], m: Reciprocal, v: u64, c: u64, p: Places, a: usize)
+    requires { ⌜ (Ready m) × (ContentAsked (m .n) v c p a (now w)) ⌝ }
+    ensures { λ _. ⌜ ContentTaken (m .n) v c (p .t) (p .pa) a (p .pb) (p .al) (now (w .entry)) (now (w .exit)) ⌝ }
 {
-    wide_windows::scale(w, n, c, p.al, p.al, 2 * (p.t + 1));
+    wide_modulus_windows::set_scaled(w, m, c, p.al, p.al, 2 * (p.t + 1));
     wide_windows::divide_words(w, c, p.pb, a);
     wide_windows::reduce_words(w, v / c, p.pa, a + 1);
 }
@@ -31,8 +35,8 @@ fn take_content(w: &mut [u64], n: u64, v: u64, c: u64, p: Places, a: usize)
 // that was taken out before.
 fn take_monic(
     w: &mut [u64],
-    n: u64,
-    v: u64,
+    m: Reciprocal,
+    v: Reciprocal,
     c: u64,
     p: Places,
     a: usize,
@@ -40,44 +44,89 @@ fn take_monic(
     s: usize,
     i: u64,
 ) -> Clearing
-    requires { ⌜ MonicAsked n v p a l s i (now w) ⌝ }
-    ensures { λ r. ⌜ UnitClears n v c p a l (now (w .entry)) (now (w .exit)) r ⌝ }
+    requires { ⌜ (Ready m) × ((Ready v) × (MonicAsked (m .n) (v .n) p a l s i (now w))) ⌝ }
+    ensures { λ r. ⌜ UnitClears (m .n) (v .n) c p a l (now (w .entry)) (now (w .exit)) r ⌝ }
     ensures { λ _. ⌜ Kept (p .t + 1) (now (w .entry)) (now (w .exit)) ⌝ }
 {
-    let m = wide_reduced_units::take_unit(w, n, v, p, a, l, s, i);
+    let k = wide_reduced_units::take_unit(w, m, v, p, a, l, s, i);
     if s == 0 {
         wide_windows::copy(w, p.be, p.t + 1, p.t);
         return Clearing::Done(c);
     }
-    Clearing::Next(c, s, m)
+    Clearing::Next(c, s, k)
 }
 
 // The same where the coefficients of B are not all nilpotent.
-fn clear_unit(w: &mut [u64], n: u64, v: u64, c: u64, p: Places, a: usize, l: usize) -> Clearing
-    requires { ⌜ UnitAsked n v p a l (now w) ⌝ }
-    ensures { λ r. ⌜ UnitClears n v c p a l (now (w .entry)) (now (w .exit)) r ⌝ }
+fn clear_unit(
+    w: &mut [u64],
+    m: Reciprocal,
+    v: Reciprocal,
+    c: u64,
+    p: Places,
+    a: usize,
+    l: usize,
+) -> Clearing
+    requires { ⌜ (Ready m) × ((Ready v) × (UnitAsked (m .n) (v .n) p a l (now w))) ⌝ }
+    ensures { λ r. ⌜ UnitClears (m .n) (v .n) c p a l (now (w .entry)) (now (w .exit)) r ⌝ }
     ensures { λ _. ⌜ Kept (p .t + 1) (now (w .entry)) (now (w .exit)) ⌝ }
 {
     let pb = p.pb;
-    match wide_window_factor::highest_of(&w[pb..pb + a], v) {
-        wide_window_factor::Highest::UnitAt(s, i) => take_monic(w, n, v, c, p, a, l, s, i),
+    match wide_window_factor::highest_of(&w[pb..pb + a], v.n) {
+        wide_window_factor::Highest::UnitAt(s, i) => take_monic(w, m, v, c, p, a, l, s, i),
         wide_window_factor::Highest::Splits(f, g) => Clearing::Parts(f, g),
-        wide_window_factor::Highest::AllNilpotent => Clearing::Done(v),
+        wide_window_factor::Highest::AllNilpotent => Clearing::Done(v.n),
     }
 }
 
+// The modulus over a content c of it: the record where it changes, and v itself where it does not.
+pub fn modulus_over(v: Reciprocal, c: u64) -> Reciprocal
+    requires { ⌜ (Ready v) × ((1 ≤ c) × (1 ≤ v .n / c)) ⌝ }
+    ensures { λ r. ⌜ (Ready r) × (r .n ≡ v .n / c) ⌝ }
+{
+    if c == 1 {
+        return v;
+    }
+    wide_reduction::modulus_of(v.n / c)
+}
+
+// The unit factor of B where its content c was taken out, and the modulus is v / c.
+fn clear_over(
+    w: &mut [u64],
+    m: Reciprocal,
+    v: Reciprocal,
+    c: u64,
+    p: Places,
+    a: usize,
+    l: usize,
+) -> Clearing
+    requires { ⌜ (Ready m) × ((Ready v) × (1 ≤ c)) ⌝ }
+    requires { ⌜ UnitAsked (m .n) (v .n / c) p a l (now w) ⌝ }
+    ensures { λ r. ⌜ UnitClears (m .n) (v .n / c) c p a l (now (w .entry)) (now (w .exit)) r ⌝ }
+    ensures { λ _. ⌜ Kept (p .t + 1) (now (w .entry)) (now (w .exit)) ⌝ }
+{
+    let r = modulus_over(v, c);
+    clear_unit(w, m, r, c, p, a, l)
+}
+
 // The content of B is taken out of it and of the modulus, then the unit factor of B.
-pub fn clear_contents(w: &mut [u64], n: u64, v: u64, p: Places, a: usize, l: usize) -> Clearing
-    requires { ⌜ StageAt n v p a a l (now w) ⌝ }
-    ensures { λ r. ⌜ Clears n v p a (now (w .entry)) (now (w .exit)) r ⌝ }
+pub fn clear_contents(
+    w: &mut [u64],
+    m: Reciprocal,
+    v: Reciprocal,
+    p: Places,
+    a: usize,
+    l: usize,
+) -> Clearing
+    requires { ⌜ (Ready m) × ((Ready v) × (StageAt (m .n) (v .n) p a a l (now w))) ⌝ }
+    ensures { λ r. ⌜ Clears (m .n) (v .n) p a (now (w .entry)) (now (w .exit)) r ⌝ }
     ensures { λ _. ⌜ Kept (p .t + 1) (now (w .entry)) (now (w .exit)) ⌝ }
 {
     let pb = p.pb;
-    let c = wide_windows::content(&w[pb..pb + a], v);
-    if c == v {
+    let c = wide_windows::content(&w[pb..pb + a], v.n);
+    if c == v.n {
         wide_windows::clear(w, p.t + 1, p.t);
-        return Clearing::Done(v);
+        return Clearing::Done(v.n);
     }
-    take_content(w, n, v, c, p, a);
-    clear_unit(w, n, v / c, c, p, a, l)
+    take_content(w, m, v.n, c, p, a);
+    clear_over(w, m, v, c, p, a, l)
 }

@@ -7,17 +7,19 @@ ghost use Prim.Native.Nat.{_+_, _*_, _<_, _≤_};
 ghost use lib.ListN.{length};
 ghost use Rattle.definitions.specs.Residues.{K};
 ghost use Rattle.definitions.specs.Polynomials.{UnitPolynomial};
+ghost use Rattle.wide_reduction.specs.Moduli.{Ready};
 ghost use Rattle.windows.specs.Window.{piece};
 ghost use Rattle.wide_window_factor.specs.Factors.{LeadingUnit};
 ghost use Rattle.reduced_units.specs.States.{StageAt};
 ghost use Rattle.reduced_units.specs.Factorings.{SplitAsked, UnitSplit, Negated, OverAsked, OverUnit, UnitTaken};
 use reduced_units::Places;
+use wide_reduction::Reciprocal;
 
 // B of a words at pb, whose highest coefficient that is not nilpotent is that at s, with the inverse i: the monic factor of degree s
 // takes its place.
-fn split_unit(w: &mut [u64], v: u64, t: usize, pb: usize, a: usize, s: usize, i: u64)
-    requires { ⌜ SplitAsked v t pb a s i (now w) ⌝ }
-    ensures { λ _. ⌜ UnitSplit v t pb a s (now (w .entry)) (now (w .exit)) ⌝ }
+fn split_unit(w: &mut [u64], v: Reciprocal, t: usize, pb: usize, a: usize, s: usize, i: u64)
+    requires { ⌜ (Ready v) × (SplitAsked (v .n) t pb a s i (now w)) ⌝ }
+    ensures { λ _. ⌜ UnitSplit (v .n) t pb a s (now (w .entry)) (now (w .exit)) ⌝ }
 {
     let b = 8 * (t + 1);
     wide_windows::copy(w, pb, b, a);
@@ -40,7 +42,7 @@ pub fn negate_inverse(w: &mut [u64], v: u64, x: usize, k: usize) -> usize
 // number of its words.
 fn over_unit(
     w: &mut [u64],
-    n: u64,
+    m: Reciprocal,
     t: usize,
     x: usize,
     len: usize,
@@ -48,11 +50,11 @@ fn over_unit(
     l: usize,
     y: usize,
 ) -> usize
-    requires { ⌜ OverAsked n t x len be l y (now w) ⌝ }
-    ensures { λ r. ⌜ OverUnit n t x len be l y r (now (w .entry)) (now (w .exit)) ⌝ }
+    requires { ⌜ (Ready m) × (OverAsked (m .n) t x len be l y (now w)) ⌝ }
+    ensures { λ r. ⌜ OverUnit (m .n) t x len be l y r (now (w .entry)) (now (w .exit)) ⌝ }
 {
     wide_windows::clear(w, y, len + t);
-    let r = wide_reduced_products::take_product(w, n, t, x, len, be, l, y);
+    let r = wide_reduced_products::take_product(w, m, t, x, len, be, l, y);
     wide_windows::copy(w, y, be, t);
     r
 }
@@ -61,16 +63,17 @@ fn over_unit(
 // the inverse i. Answers the number of words of the multiplier.
 pub fn take_unit(
     w: &mut [u64],
-    n: u64,
-    v: u64,
+    m: Reciprocal,
+    v: Reciprocal,
     p: Places,
     a: usize,
     l: usize,
     s: usize,
     i: u64,
 ) -> usize
-    requires { ⌜ (StageAt n v p a a l (now w)) × ((s < a) × (LeadingUnit v s i (piece (now w) (p .pb) a))) ⌝ }
-    ensures { λ r. ⌜ UnitTaken n v (p .t) (p .pb) a (p .be) s l r (now (w .entry)) (now (w .exit)) ⌝ }
+    requires { ⌜ (Ready m) × (Ready v) ⌝ }
+    requires { ⌜ (StageAt (m .n) (v .n) p a a l (now w)) × ((s < a) × (LeadingUnit (v .n) s i (piece (now w) (p .pb) a))) ⌝ }
+    ensures { λ r. ⌜ UnitTaken (m .n) (v .n) (p .t) (p .pb) a (p .be) s l r (now (w .entry)) (now (w .exit)) ⌝ }
 {
     let t = p.t;
     let pb = p.pb;
@@ -78,6 +81,6 @@ pub fn take_unit(
     split_unit(w, v, t, pb, a, s, i);
     let x = 8 * (t + 1) + (a + (s + 1) + s);
     let k = a - 1 - s;
-    let len = negate_inverse(w, v, x, k);
-    over_unit(w, n, t, x + (k + 1), len, be, l, x + (k + 1) + len)
+    let len = negate_inverse(w, v.n, x, k);
+    over_unit(w, m, t, x + (k + 1), len, be, l, x + (k + 1) + len)
 }
