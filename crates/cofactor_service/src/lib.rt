@@ -16,7 +16,8 @@ fn room_refusal(d: usize, e: usize, first: usize, second: usize, working: usize)
     requires { ⌜ (d ≤ 48) × (e ≤ 48) ⌝ }
     ensures { λ r. ⌜ r ≡ first-refusal (room-refusals narrow d e first second working) ⌝ }
 {
-    if d + e < 1 {
+    let total = d + e;
+    if total < 1 {
         return 9;
     }
     if first < e {
