@@ -1,76 +1,60 @@
 -- The promise of the cofactors of the resultant at each place where the service returns.
 --
---   refused-two, both-constant, first-short, second-short, work-short, none-applies     the status, by the test that applies
---   passed               what is known once no refusal applies
---   refused, done        the answer
+--   refused-two, later-told      the status, from the tests in their order
+--   some-first, …, few-second    what is known after 1, 2 and 3
+--   passed                       what is known once no refusal applies
+--   first-some, second-some, first-fits, second-fits, asked     what the run asks then
+--   refused, done                the answer
+--   returning                    the rules
 use mathlib.Core.Path.{_≡_, refl, sym, ap, subst, _∙_}
-use mathlib.Core.List.{List, [], _∷_, _++_}
-use Prim.Native.Nat.{ℕ, zero, suc, _+_, _-_, _≤_, _<_}
+use mathlib.Core.List.{List, _++_}
+use Prim.Native.Nat.{ℕ, zero, suc, _+_, _-_, _≤_}
 use native.Mathlib.Numerals.{sub-one}
 use native.Mathlib.Omega.{arith}
 use lib.ListN.{length, take, replicate}
 use lib.Seq.{length-take-le}
+use borrow.Author.Needs.{needs}
 use borrow.Rule.Slice.PartMut.{postOf}
 use Rattle.definitions.specs.Polynomials.{deg}
 use Rattle.definitions.specs.Resultants.{resultant, Combination}
-use Rattle.refusals.specs.Refusals.{narrow, Tested, short, first-refusal, refusals-two, left}
+use Rattle.windows.specs.Window.{Scratch}
+use Rattle.refusals.specs.Refusals.{narrow, first-refusal, refusals-two, left}
 use Rattle.refusals.specs.Conditions.{Passed, status-zero, accepted-two}
+use Rattle.refusals.proofs.Cascade.{below-bound}
 use Rattle.refusals.proofs.Degrees.{degrees-are}
-use Rattle.refusals.proofs.Statuses.{refused-early, passed-on, too-short, long-enough, refused-value, answered-value, left-refused}
+use Rattle.refusals.proofs.Statuses.{refused-early, passed-on, refused-value, answered-value, left-refused}
 use Rattle.answers.specs.Cofactors.{held}
 use Rattle.cofactor_band.specs.Bands.{CofactorsAsked, ResultantCofactors}
-use Rattle.cofactor_service.specs.CofactorService.{cofactor-refusals, cofactor-status, cofactor-conditions, cofactor-listed}
-use Rattle.cofactor_service.specs.CofactorService.{CofactorsLeft, CofactorAnswer}
+use Rattle.cofactor_service.specs.CofactorService.{room-refusals, cofactor-refusals, CofactorTold}
+use Rattle.cofactor_service.specs.CofactorService.{cofactor-conditions, cofactor-listed, CofactorsLeft, CofactorAnswer}
 
 -- ---- the status
 
-module _ (n : ℕ) (f g : List ℕ) (lu lv l : ℕ) (s : ℕ) (e : s ≡ first-refusal (refusals-two narrow n f g)) where
-  later : ℕ → ℕ → List Tested
-  later d e = (9, short (d + e) 1) ∷ (6, short lu e) ∷ (6, short lv d) ∷ (7, short l 8192) ∷ []
+module _ (n : ℕ) (f g : List ℕ) (lu lv l s : ℕ) (e : s ≡ first-refusal (refusals-two narrow n f g)) where
+  pub refused-two : (s ≡ 0 → ⊥) → CofactorTold narrow n f g lu lv l s
+  refused-two z = record { is = refused-early (refusals-two narrow n f g) (room-refusals narrow (deg f) (deg g) lu lv l) s e z }
 
-  pub refused-two : (s ≡ 0 → ⊥) → s ≡ cofactor-status narrow n f g lu lv l
-  unfolding later
-  refused-two z = refused-early (refusals-two narrow n f g) (later (deg f) (deg g)) s e z
+  -- the degrees as the code has them
+  pub later-told : {t : ℕ} → s ≡ 0 → t ≡ first-refusal (room-refusals narrow (length f - 1) (length g - 1) lu lv l)
+      → CofactorTold narrow n f g lu lv l t
+  later-told {t} z h = record {
+    is = passed-on (refusals-two narrow n f g) (room-refusals narrow (deg f) (deg g) lu lv l) s t e z
+        (subst (λ (i : ℕ). t ≡ first-refusal (room-refusals narrow i (deg g) lu lv l)) (sub-one (length f))
+        (subst (λ (i : ℕ). t ≡ first-refusal (room-refusals narrow (length f - 1) i lu lv l)) (sub-one (length g)) h));
+  }
 
-  module _ (z : s ≡ 0) where
-    pub some : (1 ≤ length f) × (1 ≤ length g)
-    some = let a = accepted-two narrow n f g (sym e ∙ z) in (a .0 .some, a .1 .some)
+module _ (B n : ℕ) (f g : List ℕ) (s : ℕ) (e : s ≡ first-refusal (refusals-two (below-bound B) n f g)) (z : s ≡ 0) where
+  pub some-first : 1 ≤ length f
+  some-first = accepted-two (below-bound B) n f g (sym e ∙ z) .0 .some
 
-    found : (t : ℕ) → t ≡ first-refusal (later (length f - 1) (length g - 1)) → t ≡ cofactor-status narrow n f g lu lv l
-    unfolding later
-    found t h =
-        passed-on (refusals-two narrow n f g) (later (deg f) (deg g)) s t e z
-        (subst (λ (i : ℕ). t ≡ first-refusal (later i (deg g))) (sub-one (length f))
-        (subst (λ (i : ℕ). t ≡ first-refusal (later (length f - 1) i)) (sub-one (length g)) h))
+  pub some-second : 1 ≤ length g
+  some-second = accepted-two (below-bound B) n f g (sym e ∙ z) .1 .some
 
-    pub both-constant : length f - 1 + (length g - 1) < 1 → 9 ≡ cofactor-status narrow n f g lu lv l
-    unfolding later
-    both-constant h = found 9 (too-short 8 (length f - 1 + (length g - 1)) 1
-        ((6, short lu (length g - 1)) ∷ (6, short lv (length f - 1)) ∷ (7, short l 8192) ∷ []) h)
+  pub few-first : length f - 1 ≤ 48
+  few-first = omega (arith, accepted-two (below-bound B) n f g (sym e ∙ z) .0 .few)
 
-    module _ (one : 1 ≤ length f - 1 + (length g - 1)) where
-      past : (t : ℕ) → t ≡ first-refusal ((6, short lu (length g - 1)) ∷ (6, short lv (length f - 1)) ∷ (7, short l 8192) ∷ [])
-          → t ≡ cofactor-status narrow n f g lu lv l
-      unfolding later
-      past t h = found t (long-enough 9 (length f - 1 + (length g - 1)) 1
-          ((6, short lu (length g - 1)) ∷ (6, short lv (length f - 1)) ∷ (7, short l 8192) ∷ []) t one h)
-
-      pub first-short : lu < length g - 1 → 6 ≡ cofactor-status narrow n f g lu lv l
-      first-short h = past 6 (too-short 5 lu (length g - 1) ((6, short lv (length f - 1)) ∷ (7, short l 8192) ∷ []) h)
-
-      module _ (a : length g - 1 ≤ lu) where
-        pub second-short : lv < length f - 1 → 6 ≡ cofactor-status narrow n f g lu lv l
-        second-short h = past 6 (long-enough 6 lu (length g - 1) ((6, short lv (length f - 1)) ∷ (7, short l 8192) ∷ []) 6 a
-            (too-short 5 lv (length f - 1) ((7, short l 8192) ∷ []) h))
-
-        module _ (b : length f - 1 ≤ lv) where
-          pub work-short : l < 8192 → 7 ≡ cofactor-status narrow n f g lu lv l
-          work-short h = past 7 (long-enough 6 lu (length g - 1) ((6, short lv (length f - 1)) ∷ (7, short l 8192) ∷ []) 7 a
-              (long-enough 6 lv (length f - 1) ((7, short l 8192) ∷ []) 7 b (too-short 6 l 8192 [] h)))
-
-          pub none-applies : 8192 ≤ l → 0 ≡ cofactor-status narrow n f g lu lv l
-          none-applies h = past 0 (long-enough 6 lu (length g - 1) ((6, short lv (length f - 1)) ∷ (7, short l 8192) ∷ []) 0 a
-              (long-enough 6 lv (length f - 1) ((7, short l 8192) ∷ []) 0 b (long-enough 7 l 8192 [] 0 h refl)))
+  pub few-second : length g - 1 ≤ 48
+  few-second = omega (arith, accepted-two (below-bound B) n f g (sym e ∙ z) .1 .few)
 
 -- ---- the answer
 
@@ -78,20 +62,27 @@ left-alone : (s n : ℕ) (f g u v : List ℕ) → (s ≡ 0 → ⊥) → Cofactor
 left-alone zero n f g u v z = absurd (z refl)
 left-alone (suc s) n f g u v z = record { first = refl; second = refl }
 
-module _ (n : ℕ) (f g u v work : List ℕ) (s : ℕ) (e : s ≡ cofactor-status narrow n f g (length u) (length v) (length work)) where
+module _ (n : ℕ) (f g u v work : List ℕ) (s : ℕ)
+    (told : CofactorTold narrow n f g (length u) (length v) (length work) s) where
   pub refused : (s ≡ 0 → ⊥) → CofactorAnswer narrow n f g u u v v work work 0 s
   refused z = record {
-    status-is = e;
+    status-is = told .is;
     value-is = refused-value s (resultant n f g) z;
     result = left-alone s n f g u v z;
     work-is = left-refused s work z;
   }
 
   module _ (z : s ≡ 0) where
-    pub passed : Passed (cofactor-conditions narrow n f g (length u) (length v) (length work))
+    passed : Passed (cofactor-conditions narrow n f g (length u) (length v) (length work))
     passed = status-zero (cofactor-refusals narrow n f g (length u) (length v) (length work))
         (cofactor-conditions narrow n f g (length u) (length v) (length work))
-        (cofactor-listed narrow n f g (length u) (length v) (length work)) .0 (sym e ∙ z)
+        (cofactor-listed narrow n f g (length u) (length v) (length work)) .0 (sym (told .is) ∙ z)
+
+    pub first-some : 1 ≤ length f
+    first-some = let p = passed in p .1 .0 .some
+
+    pub second-some : 1 ≤ length g
+    second-some = let p = passed in p .1 .1 .0 .some
 
     pub first-fits : length g - 1 ≤ length u
     first-fits = let p = passed in subst (λ (i : ℕ). i ≤ length u) (sym (sub-one (length g))) (p .1 .1 .1 .1 .1 .1 .0)
@@ -99,49 +90,54 @@ module _ (n : ℕ) (f g u v work : List ℕ) (s : ℕ) (e : s ≡ cofactor-statu
     pub second-fits : length f - 1 ≤ length v
     second-fits = let p = passed in subst (λ (i : ℕ). i ≤ length v) (sym (sub-one (length f))) (p .1 .1 .1 .1 .1 .1 .1 .0)
 
-    pub some-words : (1 ≤ length f) × (1 ≤ length g)
-    some-words = let p = passed in (p .1 .0 .some, p .1 .1 .0 .some)
+    length-u : (m : ℕ) → m ≡ length g - 1 → length (take m u) ≡ length g - 1
+    length-u m em = length-take-le m u (omega (arith, first-fits)) ∙ em
 
-    module _ (m k : ℕ) (em : m ≡ length g - 1) (ek : k ≡ length f - 1) where
-      pub asked : CofactorsAsked n f g (take m u) (take k v) work
-      asked =
-          let p = passed in
-          let lu = length-take-le m u (omega (arith, first-fits)) in
-          let lv = length-take-le k v (omega (arith, second-fits)) in
-          let total : 1 ≤ length f - 1 + (length g - 1) =
-          subst (λ (i : ℕ). 1 ≤ i) (sym (degrees-are f g)) (p .1 .1 .1 .1 .1 .0) in
-          record {
-            modulus = p .0 .least;
-            some-f = p .1 .0 .some;
-            few-f = p .1 .0 .few;
-            some-g = p .1 .1 .0 .some;
-            few-g = p .1 .1 .0 .few;
-            residues-f = p .1 .1 .1 .0;
-            residues-g = p .1 .1 .1 .1 .0;
-            degrees = omega (arith, p .1 .0 .some, p .1 .1 .0 .some, total);
-            first = omega (arith, lu, p .1 .1 .0 .some);
-            second = omega (arith, lv, p .1 .0 .some);
-            room = omega (arith, p .1 .1 .1 .1 .1 .1 .1 .1 .0);
-          }
+    length-v : (k : ℕ) → k ≡ length f - 1 → length (take k v) ≡ length f - 1
+    length-v k ek = length-take-le k v (omega (arith, second-fits)) ∙ ek
 
-      pub done : {x y work' : List ℕ} {r : ℕ} → length x ≡ length (take m u) → length y ≡ length (take k v) → ResultantCofactors n f g x y r
-          → work' ≡ replicate (length work) 0 → (value status : ℕ) → (value ≡ r) × (status ≡ 0)
-          → CofactorAnswer narrow n f g u (x ++ postOf 0 m u) v (y ++ postOf 0 k v) work work' value status
-      done {x} {y} {work'} {r} lx ly c ew value status i =
-          let p = held n m (deg g) u x (em ∙ sub-one (length g)) (passed .1 .1 .1 .1 .1 .1 .0)
-          (lx ∙ length-take-le m u (omega (arith, first-fits)) ∙ em ∙ sub-one (length g)) (c .first) in
-          let q = held n k (deg f) v y (ek ∙ sub-one (length f)) (passed .1 .1 .1 .1 .1 .1 .1 .0)
-          (ly ∙ length-take-le k v (omega (arith, second-fits)) ∙ ek ∙ sub-one (length f)) (c .second) in
-          record {
-            status-is = i .1 ∙ sym z ∙ e;
-            value-is = answered-value status (resultant n f g) value (i .1) (i .0 ∙ c .value);
-            result = subst (λ (t : ℕ). CofactorsLeft t n f g u (x ++ postOf 0 m u) v (y ++ postOf 0 k v)) (sym (i .1)) (record {
-              first = p .0;
-              second = q .0;
-              combination =
-                  subst (λ (h : List ℕ). Combination n f g h (take (deg f) (y ++ postOf 0 k v)) (resultant n f g)) (sym (p .1))
-                  (subst (λ (h : List ℕ). Combination n f g x h (resultant n f g)) (sym (q .1))
-                  (subst (λ (h : ℕ). Combination n f g x y h) (c .value) (c .combination)));
-            });
-            work-is = ew ∙ ap (λ (t : ℕ). left t work) (sym (i .1));
-          }
+    pub asked : {x y : List ℕ} → x ≡ take (length g - 1 - 0) u → y ≡ take (length f - 1 - 0) v → CofactorsAsked n f g x y work
+    asked {x} {y} ex ey =
+        let p = passed in
+        let lu = ap length ex ∙ length-u (length g - 1 - 0) (omega arith) in
+        let lv = ap length ey ∙ length-v (length f - 1 - 0) (omega arith) in
+        let total : 1 ≤ length f - 1 + (length g - 1) = subst (λ (i : ℕ). 1 ≤ i) (sym (degrees-are f g)) (p .1 .1 .1 .1 .1 .0) in
+        record {
+          modulus = p .0 .least;
+          some-f = p .1 .0 .some;
+          few-f = p .1 .0 .few;
+          some-g = p .1 .1 .0 .some;
+          few-g = p .1 .1 .0 .few;
+          residues-f = p .1 .1 .1 .0;
+          residues-g = p .1 .1 .1 .1 .0;
+          degrees = omega (arith, p .1 .0 .some, p .1 .1 .0 .some, total);
+          first = omega (arith, lu, p .1 .1 .0 .some);
+          second = omega (arith, lv, p .1 .0 .some);
+          room = omega (arith, p .1 .1 .1 .1 .1 .1 .1 .1 .0);
+        }
+
+    -- x and y stand for the first words of u and v
+    pub done : {u' v' work' : List ℕ} {value status : ℕ} (x y work₁ : List ℕ) (r : ℕ) → ResultantCofactors n f g x y r
+        → length x ≡ length (take (length g - 1 - 0) u) → length y ≡ length (take (length f - 1 - 0) v) → Scratch work work₁
+        → work' ≡ replicate (length work₁) 0 → value ≡ r → status ≡ 0 → u' ≡ x ++ postOf 0 (length g - 1 - 0) u
+        → v' ≡ y ++ postOf 0 (length f - 1 - 0) v → CofactorAnswer narrow n f g u u' v v' work work' value status
+    done {u'} {v'} {work'} {value} {status} x y work₁ r c lx ly sw ew er es eu ev =
+        let m : length g - 1 - 0 ≡ length g - 1 = omega arith in
+        let k : length f - 1 - 0 ≡ length f - 1 = omega arith in
+        let p = held n (length g - 1 - 0) (deg g) u x (m ∙ sub-one (length g)) (passed .1 .1 .1 .1 .1 .1 .0)
+        (lx ∙ length-u (length g - 1 - 0) m ∙ sub-one (length g)) (c .first) in
+        let q = held n (length f - 1 - 0) (deg f) v y (k ∙ sub-one (length f)) (passed .1 .1 .1 .1 .1 .1 .1 .0)
+        (ly ∙ length-v (length f - 1 - 0) k ∙ sub-one (length f)) (c .second) in
+        rw (eu, ev) (record {
+          status-is = es ∙ sym z ∙ told .is;
+          value-is = answered-value status (resultant n f g) value es (er ∙ c .value);
+          result = subst (λ (t : ℕ). CofactorsLeft t n f g u (x ++ postOf 0 (length g - 1 - 0) u) v (y ++ postOf 0 (length f - 1 - 0) v))
+              (sym es) (record {
+                first = p .0;
+                second = q .0;
+                combination = rw (p .1, q .1) (subst (λ (h : ℕ). Combination n f g x y h) (c .value) (c .combination));
+              });
+          work-is = ew ∙ ap (λ (l : ℕ). replicate l 0) (sw .same) ∙ ap (λ (t : ℕ). left t work) (sym es);
+        })
+
+pub ruleset returning = (needs, first-some, second-some, first-fits, second-fits, refused, asked, done)

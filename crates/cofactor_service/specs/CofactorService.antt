@@ -1,7 +1,8 @@
 -- What the cofactors of the resultant answer (02, W1), and what the service leaves in every lent word, over any width W. f and g are the
 -- polynomials sent, of degrees d and e; u and v are the buffers of the cofactors.
 --
---   cofactor-refusals, cofactor-status    the refusals in their order, and the number of the first that applies
+--   room-refusals, cofactor-refusals, cofactor-status    the refusals in their order, and the number of the first that applies
+--   CofactorTold                          the same as a record, for the code
 --   HoldsCofactors                        the buffers after an answer
 --   CofactorAnswer                        all that is promised of a call
 --   cofactor-listed                       each refusal under its condition and no other
@@ -19,13 +20,18 @@ use Rattle.refusals.specs.Conditions.{Listed, conditions-two, modulus-fails, le
 
 -- "It refuses with 9 the pair d = e = 0, tested after 3 and before 6, and 7 comes last": 1, 2, 3, 9, 6 of u before 6 of v, and 7;
 -- "Their buffers need e and d words". lu, lv and l are the lengths of the buffers
+abbrev pub room-refusals : Width → (d e lu lv l : ℕ) → List Tested
+room-refusals W d e lu lv l = (9, short (d + e) 1) ∷ (6, short lu e) ∷ (6, short lv d) ∷ (7, short l (W .working)) ∷ []
+
 abbrev pub cofactor-refusals : Width → ℕ → List ℕ → List ℕ → ℕ → ℕ → ℕ → List Tested
-cofactor-refusals W n f g lu lv l =
-    refusals-two W n f g
-    ++ ((9, short (deg f + deg g) 1) ∷ (6, short lu (deg g)) ∷ (6, short lv (deg f)) ∷ (7, short l (W .working)) ∷ [])
+cofactor-refusals W n f g lu lv l = refusals-two W n f g ++ room-refusals W (deg f) (deg g) lu lv l
 
 abbrev pub cofactor-status : Width → ℕ → List ℕ → List ℕ → ℕ → ℕ → ℕ → ℕ
 cofactor-status W n f g lu lv l = first-refusal (cofactor-refusals W n f g lu lv l)
+
+-- s is the first refusal that applies
+pub record CofactorTold (W : Width) (n : ℕ) (f g : List ℕ) (lu lv l s : ℕ) : Type 0 where
+  pub is : s ≡ cofactor-status W n f g lu lv l
 
 -- "u of e words and v of d words with uf + vg equal to the resultant modulo n"
 pub record HoldsCofactors (n : ℕ) (f g u u' v v' : List ℕ) : Type 0 where

@@ -24,14 +24,14 @@ use Rattle.definitions.specs.Polynomials.{coef, tabulate, Residues}
 use Rattle.definitions.specs.TwoVariables.{resultant-two, degree-two}
 use Rattle.numbers.specs.PrimeTable.{NoSmallPrime, none-differences}
 use Rattle.theory.specs.Words.{coef-tabulate, length-tabulate}
-use Rattle.refusals.specs.Refusals.{narrow, short, first-refusal, replaced}
+use Rattle.refusals.specs.Refusals.{narrow, short, replaced}
 use Rattle.refusals.specs.Conditions.{ServedModulus, status-zero, modulus-fails, words-fail, short-fails}
 use Rattle.refusals.specs.Fronts.{front-is}
 use Rattle.refusals.proofs.Cascade.{cascade}
 use Rattle.refusals.proofs.Statuses.{refused-early, passed-on, left-refused, replaced-refused}
 use Rattle.windows.specs.Window.{Written, Scratch}
 use Rattle.two_variables.specs.PairSizes.{Prepared}
-use Rattle.two_service.specs.TwoService.{two-sent, two-room, ServedShape, shape-fails, prime-fails, TwoAnswer}
+use Rattle.two_service.specs.TwoService.{two-sent, two-room, SentTold, RoomTold, ServedShape, shape-fails, prime-fails, TwoAnswer}
 
 -- the first words written: the list is replaced
 written-front : (F : ℕ → ℕ) (l : ℕ) (w w' : List ℕ) → l ≤ length w → Written F 0 l w w' → w' ≡ replaced 0 (tabulate l F) w
@@ -52,9 +52,8 @@ record TwoAccepted (n : ℕ) (f : List ℕ) (d a : ℕ) (g : List ℕ) (e b : �
   pub first : ServedShape d a f
   pub second : ServedShape e b g
 
-accepted : (n : ℕ) (f : List ℕ) (d a : ℕ) (g : List ℕ) (e b : ℕ) (s : ℕ) → s ≡ first-refusal (two-sent narrow n f d a g e b) → s ≡ 0
-    → TwoAccepted n f d a g e b
-accepted n f d a g e b s is z =
+accepted : {n : ℕ} {f : List ℕ} {d a : ℕ} {g : List ℕ} {e b s : ℕ} → SentTold narrow n f d a g e b s → s ≡ 0 → TwoAccepted n f d a g e b
+accepted {n} {f} {d} {a} {g} {e} {b} t z =
     let p = status-zero (two-sent narrow n f d a g e b)
     (ServedModulus narrow n ∷ ServedShape d a f ∷ ServedShape e b g ∷ Residues n f ∷ Residues n g ∷ []) (
       (omega arith, modulus-fails narrow n),
@@ -65,7 +64,7 @@ accepted n f d a g e b s is z =
           ((omega arith, words-fail n f), ((omega arith, words-fail n g), tt)),
         ),
       ),
-    ) .0 (sym is ∙ z) in
+    ) .0 (sym (t .is) ∙ z) in
     record { modulus = p .0 .least; first = p .1 .0; second = p .1 .1 .0 }
 
 record RoomAccepted (n B l m : ℕ) : Type 0 where
@@ -74,8 +73,8 @@ record RoomAccepted (n B l m : ℕ) : Type 0 where
   pub out : suc B ≤ l
   pub working : 8192 ≤ m
 
-room-accepted : (n B l m t : ℕ) → t ≡ first-refusal (two-room narrow n B l m) → t ≡ 0 → RoomAccepted n B l m
-room-accepted n B l m t is z =
+room-accepted : {n B l m t : ℕ} → RoomTold narrow n B l m t → t ≡ 0 → RoomAccepted n B l m
+room-accepted {n} {B} {l} {m} h z =
     let p = status-zero (two-room narrow n B l m) ((B ≤ 60) ∷ NoSmallPrime n B ∷ (suc B ≤ l) ∷ (8192 ≤ m) ∷ []) (
       (omega arith, short-fails 60 B),
       (
@@ -85,7 +84,7 @@ room-accepted n B l m t is z =
           ((omega arith, short-fails m 8192), tt),
         ),
       ),
-    ) .0 (sym is ∙ z) in
+    ) .0 (sym (h .is) ∙ z) in
     record { most = p .0; none = p .1 .0; out = p .1 .1 .0; working = p .1 .1 .1 .0 }
 
 -- a test of two that applies, and one that does not
@@ -118,40 +117,40 @@ one-of x y = omega arith
 pub other-of : (x y : ℕ) → y ≤ x + y
 other-of x y = omega arith
 
-module _ (n : ℕ) (f : List ℕ) (d a : ℕ) (g : List ℕ) (e b s : ℕ) (is : s ≡ first-refusal (two-sent narrow n f d a g e b)) (z : s ≡ 0)
+module _ {n : ℕ} {f : List ℕ} {d a : ℕ} {g : List ℕ} {e b s : ℕ} (told : SentTold narrow n f d a g e b s) (z : s ≡ 0)
     (x y : ℕ) (p : x ≤ d + e) (q : y ≤ a + b) where
   small : x * y ≤ 9216
   small =
-      let t = accepted n f d a g e b s is z in
+      let t = accepted told z in
       mul-le-mul {n₁ = x} {m₁ = y} {n₂ = 96} {m₂ = 96} (omega (arith, t .first, t .second)) (omega (arith, t .first, t .second))
 
   pub product-fits : Fits w64 (x * y)
   product-fits = record { fits = omega (arith, small) }
 
-pub sum-fits : (n : ℕ) (f : List ℕ) (d a : ℕ) (g : List ℕ) (e b s : ℕ) → s ≡ first-refusal (two-sent narrow n f d a g e b) → s ≡ 0
+pub sum-fits : {n : ℕ} {f : List ℕ} {d a : ℕ} {g : List ℕ} {e b s : ℕ} → SentTold narrow n f d a g e b s → s ≡ 0
     → (x y u v : ℕ) → x ≤ d + e → y ≤ a + b → u ≤ d + e → v ≤ a + b → Fits w64 (x * y + u * v)
-sum-fits n f d a g e b s is z x y u v p q r t = record {
-  fits = omega (arith, small n f d a g e b s is z x y p q, small n f d a g e b s is z u v r t);
-}
+sum-fits told z x y u v p q r t = record { fits = omega (arith, small told z x y p q, small told z u v r t) }
 
 -- the working buffer after an answer
 pub wiped : {w w₁ w₂ : List ℕ} → Scratch w w₁ → w₂ ≡ replicate (length w₁) 0 → w₂ ≡ replicate (length w) 0
 wiped s e = e ∙ ap (λ (l : ℕ). replicate l 0) (s .same)
 
-module _ {n : ℕ} {f : List ℕ} {d a : ℕ} {g : List ℕ} {e b : ℕ} {out work : List ℕ} (s : ℕ)
-    (is : s ≡ first-refusal (two-sent narrow n f d a g e b)) where
+module _ {n : ℕ} {f : List ℕ} {d a : ℕ} {g : List ℕ} {e b : ℕ} {out work : List ℕ} {s : ℕ}
+    (told : SentTold narrow n f d a g e b s) where
   pub refused-sent : (s ≡ 0 → ⊥) → TwoAnswer narrow n f d a g e b out out work work 0 s
   refused-sent z = record {
-    status-is = refused-early (two-sent narrow n f d a g e b) (two-room narrow n (degree-two d a e b) (length out) (length work)) s is z;
+    status-is = refused-early (two-sent narrow n f d a g e b) (two-room narrow n (degree-two d a e b) (length out) (length work)) s
+        (told .is) z;
     value-is = refl;
     out-is = replaced-refused s (tabulate (suc (degree-two d a e b)) (resultant-two n d a e b f g)) out z;
     work-is = left-refused s work z;
   }
 
-  module _ (z : s ≡ 0) {t : ℕ} (it : t ≡ first-refusal (two-room narrow n (degree-two d a e b) (length out) (length work))) where
+  module _ (z : s ≡ 0) {t : ℕ} (room : RoomTold narrow n (degree-two d a e b) (length out) (length work) t) where
     pub refused-room : (t ≡ 0 → ⊥) → TwoAnswer narrow n f d a g e b out out work work 0 t
     refused-room y = record {
-      status-is = passed-on (two-sent narrow n f d a g e b) (two-room narrow n (degree-two d a e b) (length out) (length work)) s t is z it;
+      status-is = passed-on (two-sent narrow n f d a g e b) (two-room narrow n (degree-two d a e b) (length out) (length work)) s t
+          (told .is) z (room .is);
       value-is = refl;
       out-is = replaced-refused t (tabulate (suc (degree-two d a e b)) (resultant-two n d a e b f g)) out y;
       work-is = left-refused t work y;
@@ -160,8 +159,8 @@ module _ {n : ℕ} {f : List ℕ} {d a : ℕ} {g : List ℕ} {e b : ℕ} {out wo
     -- the values, the evaluated pair and the run's room fit: 7538 of 8192 words
     pub prepared : t ≡ 0 → Prepared n (degree-two d a e b) f d a g e b out work
     prepared y =
-        let p = accepted n f d a g e b s is z in
-        let r = room-accepted n (degree-two d a e b) (length out) (length work) t it y in
+        let p = accepted told z in
+        let r = room-accepted room y in
         record {
           two = p .modulus;
           sizes = record {
@@ -179,11 +178,10 @@ module _ {n : ℕ} {f : List ℕ} {d a : ℕ} {g : List ℕ} {e b : ℕ} {out wo
     pub done : (y : t ≡ 0) {out' work' : List ℕ} → Written (resultant-two n d a e b f g) 0 (degree-two d a e b + 1) out out'
         → work' ≡ replicate (length work) 0 → TwoAnswer narrow n f d a g e b out out' work work' 0 0
     done y {out'} h k = record {
-      status-is = passed-on (two-sent narrow n f d a g e b) (two-room narrow n (degree-two d a e b) (length out) (length work)) s 0 is z
-          (sym y ∙ it);
+      status-is = passed-on (two-sent narrow n f d a g e b) (two-room narrow n (degree-two d a e b) (length out) (length work)) s 0
+          (told .is) z (sym y ∙ room .is);
       value-is = refl;
-      out-is = written-front (resultant-two n d a e b f g) (suc (degree-two d a e b)) out out'
-          (room-accepted n (degree-two d a e b) (length out) (length work) t it y .out)
+      out-is = written-front (resultant-two n d a e b f g) (suc (degree-two d a e b)) out out' (room-accepted room y .out)
           (subst (λ (l : ℕ). Written (resultant-two n d a e b f g) 0 l out out') (add-one (degree-two d a e b)) h);
       work-is = k;
     }

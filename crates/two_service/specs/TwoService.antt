@@ -5,6 +5,7 @@
 --   small-factor n b        some number from 2 to b divides n
 --   two-sent, two-room      the refusals of what is sent, and those of B and the buffers
 --   two-refusals, two-status    all of them in their order, and the number of the first that applies
+--   SentTold, RoomTold      the number of the first of each part that applies
 --   TwoAnswer               all that is promised of a call
 --   ServedShape, shape-fails, prime-fails    what passes the refusals 2 and 11
 --   two-listed              each refusal under its condition and no other
@@ -54,6 +55,13 @@ two-refusals W n f d a g e b l m = two-sent W n f d a g e b ++ two-room W n (deg
 
 abbrev pub two-status : Width → ℕ → List ℕ → (d a : ℕ) → List ℕ → (e b : ℕ) → (l m : ℕ) → ℕ
 two-status W n f d a g e b l m = first-refusal (two-refusals W n f d a g e b l m)
+
+-- s is the first refusal of what is sent; t is that of B and the buffers
+pub record SentTold (W : Width) (n : ℕ) (f : List ℕ) (d a : ℕ) (g : List ℕ) (e b s : ℕ) : Type 0 where
+  pub is : s ≡ first-refusal (two-sent W n f d a g e b)
+
+pub record RoomTold (W : Width) (n B l m t : ℕ) : Type 0 where
+  pub is : t ≡ first-refusal (two-room W n B l m)
 
 -- "The answer is the resultant in y, a polynomial in z of B + 1 words"; "words beyond are unchanged". The value is 0: the words are the
 -- answer.

@@ -11,14 +11,25 @@ ghost use Prim.Native.Nat.{_+_, _<_, _≤_};
 ghost use lib.ListN.{length, getD, replicate};
 ghost use Rattle.definitions.specs.TwoVariables.{resultant-two};
 ghost use Rattle.numbers.specs.PrimeTable.{table};
-ghost use Rattle.refusals.specs.Refusals.{narrow, first-refusal};
+ghost use Rattle.refusals.specs.Refusals.{narrow};
 ghost use Rattle.windows.specs.Window.{Written};
 ghost use Rattle.two_variables.specs.PairSizes.{Prepared};
-ghost use Rattle.two_service.specs.TwoService.{bad-shape, small-factor, two-sent, two-room, TwoAnswer};
+ghost use Rattle.two_service.specs.TwoService.{bad-shape, small-factor, SentTold, RoomTold, TwoAnswer};
 use refusals::Answer;
+use two_variables::Degrees;
+
+// The largest degree in y or in z, the largest B, and the words of the working buffer.
+const DEGREE: usize = 48;
+
+const LAST: usize = 60;
+
+const WORKING: usize = 8192;
+
+// How many primes there are up to 59.
+const COUNT: usize = 17;
 
 // "The primes up to 59 stand in a fixed table."
-const PRIMES: [u32; 17] = [
+const PRIMES: [u32; COUNT] = [
     2,
     3,
     5,
@@ -42,10 +53,10 @@ const PRIMES: [u32; 17] = [
 fn bad_shape(f: &[u32], d: usize, a: usize) -> bool
     ensures { λ r. ⌜ r ≡ bad-shape d a (now (f .entry)) ⌝ }
 {
-    if 48 < d {
+    if DEGREE < d {
         return true;
     }
-    if 48 < a {
+    if DEGREE < a {
         return true;
     }
     f.len() != (d + 1) * (a + 1)
@@ -53,7 +64,7 @@ fn bad_shape(f: &[u32], d: usize, a: usize) -> bool
 
 // Refusals 1, 2 and 3; 0 where none applies.
 fn sent_refusal(n: u32, f: &[u32], d: usize, a: usize, g: &[u32], e: usize, b: usize) -> u32
-    ensures { λ r. ⌜ r ≡ first-refusal (two-sent narrow n (now (f .entry)) d a (now (g .entry)) e b) ⌝ }
+    ensures { λ r. ⌜ SentTold narrow n (now (f .entry)) d a (now (g .entry)) e b r ⌝ }
 {
     if refusals::bad_modulus(n) {
         return 1;
@@ -87,7 +98,7 @@ fn prime_divides(n: u32, last: usize) -> bool
     ensures { λ r. ⌜ r ≡ small-factor n last ⌝ }
 {
     let mut i: usize = 0;
-    while i < 17 {
+    while i < COUNT {
         let p = prime(i);
         if last < p as usize {
             return false;
@@ -102,9 +113,9 @@ fn prime_divides(n: u32, last: usize) -> bool
 
 // Refusals 12, 11, 6 and 7; 0 where none applies. l and m are the lengths of the result buffer and of the working buffer.
 fn room_refusal(n: u32, last: usize, l: usize, m: usize) -> u32
-    ensures { λ r. ⌜ r ≡ first-refusal (two-room narrow n last l m) ⌝ }
+    ensures { λ r. ⌜ RoomTold narrow n last l m r ⌝ }
 {
-    if 60 < last {
+    if LAST < last {
         return 12;
     }
     if prime_divides(n, last) {
@@ -113,31 +124,20 @@ fn room_refusal(n: u32, last: usize, l: usize, m: usize) -> u32
     if l < last + 1 {
         return 6;
     }
-    if m < 8192 {
+    if m < WORKING {
         return 7;
     }
     0
 }
 
 // The answer in out, and zeros in the working buffer; last is B.
-fn served(
-    out: &mut [u32],
-    work: &mut [u32],
-    n: u32,
-    f: &[u32],
-    d: usize,
-    a: usize,
-    g: &[u32],
-    e: usize,
-    b: usize,
-    last: usize,
-)
-    requires { ⌜ Prepared n last (now f) d a (now g) e b (now out) (now work) ⌝ }
-    ensures { λ _. ⌜ Written (resultant-two n d a e b (now (f .entry)) (now (g .entry))) 0 (last + 1)
+fn served(out: &mut [u32], work: &mut [u32], n: u32, f: &[u32], g: &[u32], s: Degrees, last: usize)
+    requires { ⌜ Prepared n last (now f) (s .d) (s .a) (now g) (s .e) (s .b) (now out) (now work) ⌝ }
+    ensures { λ _. ⌜ Written (resultant-two n (s .d) (s .a) (s .e) (s .b) (now (f .entry)) (now (g .entry))) 0 (last + 1)
         (now (out .entry)) (now (out .exit)) ⌝ }
     ensures { λ _. ⌜ now (work .exit) ≡ replicate (length (now (work .entry))) 0 ⌝ }
 {
-    two_variables::resultant_in_y(out, work, n, f, d, a, g, e, b, last);
+    two_variables::resultant_in_y(out, work, n, f, g, s, last);
     windows::wipe(work);
 }
 
@@ -171,7 +171,7 @@ pub fn resultant_two(
             status: t,
         };
     }
-    served(out, work, n, f, d, a, g, e, b, last);
+    served(out, work, n, f, g, Degrees { d, a, e, b }, last);
     Answer {
         value: 0,
         status: 0,

@@ -2,6 +2,7 @@
 // polynomial in z with these values.
 //
 //   f, g       the sent words: d + 1 groups of a + 1 words, e + 1 groups of b + 1 words
+//   s          these four degrees
 //   z, last    a point, and the last one, B
 //   out        the values, then the words of the resultant
 //   w          the working window of the resultant's run
@@ -21,6 +22,17 @@ ghost use Rattle.definitions.specs.TwoVariables.{resultant-two};
 ghost use Rattle.theory.specs.TwoVariablesLaws.{evaluated};
 ghost use Rattle.windows.specs.Window.{piece, Written, Loaded, Scratch};
 ghost use Rattle.two_variables.specs.PairSizes.{PairSizes, InWords, Prepared, value-at};
+
+// The words of a polynomial in y: degrees are at most 48.
+const WORDS: usize = 49;
+
+// The degrees of f in y and in z, and those of g.
+pub struct Degrees {
+    pub d: usize,
+    pub a: usize,
+    pub e: usize,
+    pub b: usize,
+}
 
 // c 0 + c 1 z + c 2 z^2 + …, by Horner's rule.
 fn group_value(n: u32, c: &[u32], z: u32) -> u32
@@ -67,63 +79,41 @@ fn in_buffers(
     q: &mut [u32],
     n: u32,
     f: &[u32],
-    d: usize,
-    a: usize,
     g: &[u32],
-    e: usize,
-    b: usize,
+    s: Degrees,
     z: u32,
 ) -> u32
-    requires { ⌜ (2 ≤ n) × (PairSizes (now f) d a (now g) e b (now w) × ((length (now p) ≡ 49) × (length (now q) ≡ 49))) ⌝ }
-    ensures { λ r. ⌜ r ≡ value-at n (now (f .entry)) d a (now (g .entry)) e b z ⌝ }
+    requires { ⌜ (2 ≤ n) × (PairSizes (now f) (s .d) (s .a) (now g) (s .e) (s .b) (now w)
+        × ((length (now p) ≡ 49) × (length (now q) ≡ 49))) ⌝ }
+    ensures { λ r. ⌜ r ≡ value-at n (now (f .entry)) (s .d) (s .a) (now (g .entry)) (s .e) (s .b) z ⌝ }
     ensures { λ _. ⌜ Scratch (now (w .entry)) (now (w .exit)) ⌝ }
 {
-    evaluate(p, 0, n, f, d, a, z);
-    evaluate(q, 0, n, g, e, b, z);
-    first_words(w, n, p, d, q, e)
+    evaluate(p, 0, n, f, s.d, s.a, z);
+    evaluate(q, 0, n, g, s.e, s.b, z);
+    first_words(w, n, p, s.d, q, s.e)
 }
 
 // The resultant of the pair at z. The two polynomials are arguments of the run, so they stand beside its working window.
-fn at_point(
-    w: &mut [u32],
-    n: u32,
-    f: &[u32],
-    d: usize,
-    a: usize,
-    g: &[u32],
-    e: usize,
-    b: usize,
-    z: u32,
-) -> u32
-    requires { ⌜ (2 ≤ n) × PairSizes (now f) d a (now g) e b (now w) ⌝ }
-    ensures { λ r. ⌜ r ≡ value-at n (now (f .entry)) d a (now (g .entry)) e b z ⌝ }
+fn at_point(w: &mut [u32], n: u32, f: &[u32], g: &[u32], s: Degrees, z: u32) -> u32
+    requires { ⌜ (2 ≤ n) × PairSizes (now f) (s .d) (s .a) (now g) (s .e) (s .b) (now w) ⌝ }
+    ensures { λ r. ⌜ r ≡ value-at n (now (f .entry)) (s .d) (s .a) (now (g .entry)) (s .e) (s .b) z ⌝ }
     ensures { λ _. ⌜ Scratch (now (w .entry)) (now (w .exit)) ⌝ }
 {
-    let mut p = [0u32; 49];
-    let mut q = [0u32; 49];
-    in_buffers(w, &mut p, &mut q, n, f, d, a, g, e, b, z)
+    let mut p = [0u32; WORDS];
+    let mut q = [0u32; WORDS];
+    in_buffers(w, &mut p, &mut q, n, f, g, s, z)
 }
 
 // S86: "evaluate at 0 to B": word z of out is the resultant of the pair at z.
-fn values(
-    out: &mut [u32],
-    w: &mut [u32],
-    n: u32,
-    f: &[u32],
-    d: usize,
-    a: usize,
-    g: &[u32],
-    e: usize,
-    b: usize,
-    last: usize,
-)
-    requires { ⌜ Prepared n last (now f) d a (now g) e b (now out) (now w) ⌝ }
-    ensures { λ _. ⌜ Written (value-at n (now (f .entry)) d a (now (g .entry)) e b) 0 (last + 1) (now (out .entry)) (now (out .exit)) ⌝ }
+fn values(out: &mut [u32], w: &mut [u32], n: u32, f: &[u32], g: &[u32], s: Degrees, last: usize)
+    requires { ⌜ Prepared n last (now f) (s .d) (s .a) (now g) (s .e) (s .b) (now out) (now w) ⌝ }
+    ensures { λ _. ⌜ Written (value-at n (now (f .entry)) (s .d) (s .a) (now (g .entry)) (s .e) (s .b)) 0 (last + 1) (now (out .entry))
+        (now (out .exit)) ⌝ }
     ensures { λ _. ⌜ Scratch (now (w .entry)) (now (w .exit)) ⌝ }
 {
     let mut z: usize = 0;
     while z < last + 1 {
-        out[z] = at_point(w, n, f, d, a, g, e, b, z as u32);
+        out[z] = at_point(w, n, f, g, s, z as u32);
         z += 1;
     }
 }
@@ -134,18 +124,15 @@ pub fn resultant_in_y(
     w: &mut [u32],
     n: u32,
     f: &[u32],
-    d: usize,
-    a: usize,
     g: &[u32],
-    e: usize,
-    b: usize,
+    s: Degrees,
     last: usize,
 )
-    requires { ⌜ Prepared n last (now f) d a (now g) e b (now out) (now w) ⌝ }
-    ensures { λ _. ⌜ Written (resultant-two n d a e b (now (f .entry)) (now (g .entry))) 0 (last + 1)
+    requires { ⌜ Prepared n last (now f) (s .d) (s .a) (now g) (s .e) (s .b) (now out) (now w) ⌝ }
+    ensures { λ _. ⌜ Written (resultant-two n (s .d) (s .a) (s .e) (s .b) (now (f .entry)) (now (g .entry))) 0 (last + 1)
         (now (out .entry)) (now (out .exit)) ⌝ }
     ensures { λ _. ⌜ Scratch (now (w .entry)) (now (w .exit)) ⌝ }
 {
-    values(out, w, n, f, d, a, g, e, b, last);
+    values(out, w, n, f, g, s, last);
     interpolation::interpolate(out, n, last);
 }

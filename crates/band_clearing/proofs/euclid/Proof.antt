@@ -9,7 +9,7 @@ pub euclid-spec : {M : Type 1} → statement M
 euclid-spec =
     tie.close
     (tie.spec
-    (λ w₀ n i k b d e w. Turning n b d e i k w₀ w) (λ w₀ n i k b d e w. getD w (145 * k) 0)
+    (λ w₀ n i k s w. Turning n (s .b) (s .d) (s .e) i k w₀ w) (λ w₀ n i k s w. getD w (145 * k) 0)
     (λ c. search turnings) (λ c. search needs) (λ c. search needs) (λ c. search needs)
     (λ c κs. (search turnings, (search needs, search needs))) (λ c. search needs) (λ c. search needs) (λ c. search needs)
     (λ c. search needs) (λ c. search turnings) (λ c κs. (search turnings, (search turnings, search needs))) (λ c. search turnings)

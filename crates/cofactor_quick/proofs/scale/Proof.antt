@@ -1,4 +1,4 @@
-use Rattle.cofactor_quick.proofs.Knowing.{knows}
+use Rattle.cofactor_quick.proofs.QuickCofactors.{knows}
 use Rattle.cofactor_quick.proofs.scale.Statement.{statement}
 use Rattle.cofactor_quick.proofs.scale.Tie as tie
 

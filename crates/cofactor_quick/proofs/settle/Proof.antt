@@ -1,4 +1,4 @@
-use Rattle.cofactor_quick.proofs.Knowing.{knows}
+use Rattle.cofactor_quick.proofs.QuickCofactors.{knows}
 use Rattle.cofactor_quick.proofs.settle.Statement.{statement}
 use Rattle.cofactor_quick.proofs.settle.Tie as tie
 

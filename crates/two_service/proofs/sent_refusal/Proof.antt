@@ -7,6 +7,6 @@ pub sent-refusal-spec : {M : Type 1} → statement M
 sent-refusal-spec =
     tie.close
     (tie.spec
-    (λ c κs. search needs) (λ c. search cascade depth 12) (λ c κs. search needs) (λ c. search cascade depth 12) (λ c κs. search needs)
-    (λ c. search cascade depth 12) (λ c κs. search needs) (λ c. search cascade depth 12) (λ c κs. search needs)
-    (λ c. search cascade depth 12) (λ c. search cascade depth 12))
+    (λ c κs. search needs) (λ c. search cascade depth 13) (λ c κs. search needs) (λ c. search cascade depth 13) (λ c κs. search needs)
+    (λ c. search cascade depth 13) (λ c κs. search needs) (λ c. search cascade depth 13) (λ c κs. search needs)
+    (λ c. search cascade depth 13) (λ c. search cascade depth 13))

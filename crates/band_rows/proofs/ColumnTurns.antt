@@ -89,9 +89,6 @@ module _ (b dh r : ℕ) (h : List ℕ) (o p o' k k' : ℕ) (w w' : List ℕ) (lh
       go (no z) (yes t) =
           subst (λ (y : ℕ). y < n) (sym (window-same 0 b w w' i i (omega arith) (λ j l. e .others i j l z) c)) (old i c)
 
-  pub entered-kept : (o len : ℕ) → o + len ≤ 145 → (i c : ℕ) → i < r → window o len w' i c ≡ window o len w i c
-  entered-kept o len f i c l = window-same o len w w' i i f (λ j t. e .others i j t (λ y. omega arith)) c
-
 module _ (n : ℕ) (f g : List ℕ) (b d e : ℕ) (two : 2 ≤ n) (shape : Shape b d e) (lf : length f ≡ d + 1) (lg : length g ≡ e + 1)
     (rf : Residues n f) (rg : Residues n g) where
   lb : b ≤ 49
