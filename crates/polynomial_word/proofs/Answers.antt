@@ -3,7 +3,7 @@
 --   word-refused     a refusal of the product
 --   word-above       k above d + e
 --   word-done        word k is made
---   word-inside      it is a word of the buffer
+--   word-inside, some-inside     it is a word of the buffer, and so is the first
 --   word-ends        the rules
 use mathlib.Core.Path.{_≡_, refl, sym, ap, subst, _∙_}
 use mathlib.Core.Bool.{Bool, cond}
@@ -56,4 +56,7 @@ module _ (n s k : ℕ) (f g out : List ℕ) (is : s ≡ product-status narrow n 
   pub word-inside : s ≡ 0 → k < length f - 1 + (length g - 1) + 1 → k < length out
   word-inside z h = omega (arith, product-accepted narrow n s f g (length out) is z .room)
 
-pub ruleset word-ends = (needs, first-some, second-some, modulus-told, word-refused, word-above, word-done, word-inside)
+  pub some-inside : s ≡ 0 → 0 < length out
+  some-inside z = omega (arith, product-accepted narrow n s f g (length out) is z .room)
+
+pub ruleset word-ends = (needs, first-some, second-some, modulus-told, word-refused, word-above, word-done, word-inside, some-inside)
