@@ -39,25 +39,30 @@ module _ (W : Width) {n s : ℕ} {f g work : List ℕ} (e : s ≡ first-refusal 
     work-is = ew ∙ ap (λ (l : ℕ). replicate l 0) (sc .same) ∙ ap (λ (t : ℕ). left t work) (sym (i .1));
   }
 
--- whichever of the two comes first; the run needs 7538 of the words lent
+-- f and g, whichever of the two comes first
+pub data Order (f g : List ℕ) : List ℕ → List ℕ → Type 0 where
+  straight : Order f g f g
+  turned : Order f g g f
+
+sizes-in : {f g f' g' work : List ℕ} → Order f g f' g' → RunSizes f g work → RunSizes f' g' work
+sizes-in straight a = a
+sizes-in turned a =
+    record { least-f = a .least-g; most-f = a .most-g; least-g = a .least-f; most-g = a .most-f; working = a .working }
+
 module _ (B n s : ℕ) (f g : List ℕ) (e : s ≡ first-refusal (refusals-two (below-bound B) n f g)) (z : s ≡ 0) where
   pub modulus-two : 2 ≤ n
   modulus-two = accepted-two (below-bound B) n f g (sym e ∙ z) .0 .modulus
 
-  pub served : {work : List ℕ} (k : ℕ) → k ≤ length work → T (leb (resultant-room 48) k) → RunSizes f g work
-  served k h t =
+  -- the run needs 7538 of the words lent
+  pub served : {f' g' work : List ℕ} (k : ℕ) → k ≤ length work → T (leb (resultant-room 48) k) → Order f g f' g' → RunSizes f' g' work
+  served k h t o =
       let a = accepted-two (below-bound B) n f g (sym e ∙ z) in
-      record {
+      sizes-in o (record {
         least-f = a .0 .some;
         most-f = a .0 .few;
         least-g = a .1 .some;
         most-g = a .1 .few;
         working = omega (arith, leb→le (resultant-room 48) k t);
-      }
+      })
 
-  pub served-turned : {work : List ℕ} (k : ℕ) → k ≤ length work → T (leb (resultant-room 48) k) → RunSizes g f work
-  served-turned {work} k h t =
-      let a = served {work = work} k h t in
-      record { least-f = a .least-g; most-f = a .most-g; least-g = a .least-f; most-g = a .most-f; working = a .working }
-
-pub ruleset asked = (tt, modulus-two, served, served-turned)
+pub ruleset asked = (tt, modulus-two, served, straight, turned)

@@ -8,5 +8,5 @@ pub resultant-spec : {M : Type 1} → statement M
 resultant-spec =
     tie.close
     (tie.spec
-    (λ c κs. search needs) (λ c. search (refused narrow)) (λ c. search (work-short narrow)) (λ c κs. search asked) (λ c κs. search needs)
-    (λ c. search needs) (λ c. search (done narrow)))
+    (λ c κs. search needs) (λ c. search (refused narrow)) (λ c. search (work-short narrow)) (λ c κs. (search asked, search asked))
+    (λ c κs. search needs) (λ c. search needs) (λ c. search (done narrow)))
