@@ -3,7 +3,7 @@
 --   too-many, quotient-differs, remainder-is     the test's value at each place where it returns
 --   all-words                  all words are below n where the first k are, and there are no more than k
 --   as-many                    there are no more than the words of all pieces
---   first-served, second-served     what is known where neither of two lengths is refused
+--   pieces-told                what is known where neither of two lengths is refused
 --   sizes, pieces              the rules
 use mathlib.Core.Path.{_≡_, sym, ap, _∙_}
 use mathlib.Core.Bool.{Bool, true, not, cond}
@@ -62,16 +62,12 @@ all-words n k f r h l = h ∙ ap (all-below n) (take-all k f l)
 pub as-many : (d count l : ℕ) → ServedPieces d count l → l ≤ count * (d + 1) - 0
 as-many d count l s = omega (arith, s .words)
 
-module _ (d e count a b s : ℕ) (h : s ≡ first-refusal ((2, bad-pieces d count a) ∷ (2, bad-pieces e count b) ∷ [])) (z : s ≡ 0) where
-  both : ServedPieces d count a × (ServedPieces e count b × Unit {0})
-  both = status-zero ((2, bad-pieces d count a) ∷ (2, bad-pieces e count b) ∷ []) (ServedPieces d count a ∷ ServedPieces e count b ∷ [])
-      ((omega arith, pieces-fail d count a), ((omega arith, pieces-fail e count b), tt)) .0 (sym h ∙ z)
-
-  pub first-served : ServedPieces d count a
-  first-served = both .0
-
-  pub second-served : ServedPieces e count b
-  second-served = both .1 .0
+pub pieces-told : (d e count a b : ℕ) (s : ℕ) → s ≡ first-refusal ((2, bad-pieces d count a) ∷ (2, bad-pieces e count b) ∷ []) → s ≡ 0
+    → ServedPieces d count a × ServedPieces e count b
+pieces-told d e count a b s h z =
+    let p = status-zero ((2, bad-pieces d count a) ∷ (2, bad-pieces e count b) ∷ []) (ServedPieces d count a ∷ ServedPieces e count b ∷ [])
+    ((omega arith, pieces-fail d count a), ((omega arith, pieces-fail e count b), tt)) .0 (sym h ∙ z) in
+    (p .0, p .1 .0)
 
 pub ruleset sizes = (needs, too-many, quotient-differs, remainder-is)
 
