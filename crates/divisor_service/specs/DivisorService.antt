@@ -5,7 +5,6 @@
 --   DivisorAnswer                       all that is promised of a call
 --   divisor-listed                      each refusal under its condition and no other
 use mathlib.Core.Path.{_≡_}
-use mathlib.Core.Bool.{Bool}
 use mathlib.Core.List.{List, [], _∷_, _++_}
 use Prim.Native.Nat.{ℕ, zero, suc, _≤_}
 use native.Mathlib.Omega.{arith}
@@ -36,13 +35,4 @@ abbrev pub divisor-conditions : Width → ℕ → List ℕ → List ℕ → ℕ 
 divisor-conditions W n f g l = conditions-two W n f g ++ ((W .working ≤ l) ∷ [])
 
 pub divisor-listed : (W : Width) (n : ℕ) (f g : List ℕ) (l : ℕ) → Listed (divisor-refusals W n f g l) (divisor-conditions W n f g l)
-divisor-listed W n f g l = (
-  (omega arith, modulus-fails W n),
-  (
-    (omega arith, length-fails f),
-    (
-      (omega arith, length-fails g),
-      ((omega arith, words-fail n f), ((omega arith, words-fail n g), ((omega arith, short-fails l (W .working)), tt))),
-    ),
-  ),
-)
+divisor-listed W n f g l = search (arith, tt, modulus-fails, length-fails, words-fail, short-fails) depth 20

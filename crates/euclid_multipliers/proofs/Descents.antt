@@ -3,11 +3,11 @@
 --   piece-kept          what the words of a window stand for, in a buffer that changes elsewhere
 --   leads-kept          where a step leads, in such a buffer
 --   descending-none     no step yet
---   write-asked         what the log asks
+--   bit-told            what the log asks
 --   descending-next     one step more
 --   descended           the last step
 --   descents            the rules
-use mathlib.Core.Path.{_≡_, sym, _∙_, ap, subst}
+use mathlib.Core.Path.{_≡_, refl, sym, _∙_, ap, subst}
 use mathlib.Core.List.{List}
 use mathlib.Core.Bool.{Bool, true, false}
 use Prim.Native.Nat.{ℕ, _+_, _-_, _*_, _≤_, _<_}
@@ -95,6 +95,7 @@ module _ (m : Modulus) (sound : Sound m) where
 
   pub descending-none : (h : ℕ) (x : Stage) (w : List ℕ) → DescentAsked m h x w → Descending m h x w 0 x w
   descending-none h x w k = record {
+    same = refl;
     leads = leads-self m sound (k .standing);
     trail = trail-none m h w (f-at m x w) (g-at m x w) (x .d) (x .e);
     under-a = k .under-a;
@@ -112,12 +113,8 @@ placing-next h x z false la lb p = (omega (arith, p .0), omega (arith, p .1))
 abbrev pub kept : Stage → Stage → Logged
 kept y z = record { d = y .d; e = y .e; y = z .y; c = z .c; k = z .k; swap = z .swap }
 
-pub write-asked : {m : Modulus} {h j : ℕ} {x y z : Stage} {w v v₁ : List ℕ} → Descending m h x w j y v → Told m y v z v₁ → 1 ≤ y .d
-    → (h + h + 5 * j + 5 ≤ length v₁) × (bit (y .d) (y .e) (z .e) (z .swap) ≤ 1)
-write-asked {m} {h} {j} {x} {y} {z} {w} {v} {v₁} g t one = (
-  omega (arith, g .room, t .around .same, one),
-  bit-small (y .d) (y .e) (z .d) (z .e) (z .c) (z .swap) (t .falls),
-)
+pub bit-told : {m : Modulus} {y z : Stage} {v v₁ : List ℕ} → Told m y v z v₁ → bit (y .d) (y .e) (z .e) (z .swap) ≤ 1
+bit-told {m} {y} {z} t = bit-small (y .d) (y .e) (z .d) (z .e) (z .c) (z .swap) (t .falls)
 
 module _ {m : Modulus} {h j : ℕ} {x y z : Stage} {w v v₁ v₂ : List ℕ} (sound : Sound m) (g : Descending m h x w j y v) (one : 1 ≤ y .d)
     (s : Stepped m y v z v₁) (t : Told m y v z v₁) (ar : Around (h + h + 5 * j) 5 v₁ v₂)
@@ -166,6 +163,7 @@ module _ {m : Modulus} {h j : ℕ} {x y z : Stage} {w v v₁ v₂ : List ℕ} (s
 
   pub descending-next : (j' : ℕ) → j' ≡ j + 1 → Descending m h x w j' z v₂
   descending-next j' is = record {
+    same = ar .same ∙ t .around .same ∙ g .same;
     leads = leads-trans (g .leads) (leads-kept m sound y z v v₁ v₂ (ar .same) (s .0) first second);
     trail = trailed j' is;
     under-a = places .0;
@@ -178,6 +176,7 @@ pub descended : {m : Modulus} {h j : ℕ} {x y : Stage} {w v : List ℕ} {r : De
     → record { a = y .a; d = y .d; b = y .b; e = y .e; s = y .s; p = y .p; t = y .t; steps = j } ≡ r → Descended m h x w r v
 descended {m} {h} {j} {x} {y} {w} {v} g z is = subst (λ (r : Descent). Descended m h x w r v) is (record {
   descending = record {
+    same = g .same;
     leads = record {
       standing = record {
         placed = g .leads .standing .placed;
@@ -196,4 +195,4 @@ descended {m} {h} {j} {x} {y} {w} {v} g z is = subst (λ (r : Descent). Descende
   none = z;
 })
 
-pub ruleset descents = (needs, known-sound, plain-sound, descending-none, descending-next, descended)
+pub ruleset descents = (needs, known-sound, plain-sound, descending-none, bit-told, descending-next, descended)

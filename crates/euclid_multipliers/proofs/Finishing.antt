@@ -17,7 +17,7 @@ use Rattle.modulus.specs.Values.{value, values}
 use Rattle.resultant_turns.specs.Degrees.{deg-of}
 use Rattle.resultant_pseudo.specs.Standing.{Led, Descended as DescendedTo}
 use Rattle.resultant_pseudo.proofs.Stepping.{descended}
-use Rattle.resultant_euclid.proofs.Steps.{standing-values, leads-same}
+use Rattle.resultant_euclid.proofs.Steps.{standing-values}
 use Rattle.euclid_steps.specs.declared.Stage.{Stage}
 use Rattle.euclid_steps.specs.declared.Found.{Found}
 use Rattle.euclid_steps.specs.declared.Ending.{Ending}
@@ -133,4 +133,4 @@ module _ {m : Modulus} {f g w : List ℕ} {x : Stage} {w₁ : List ℕ} {y : Des
   multiplied e = subst (λ (o : Ending). Multiplied m f g o w₄) e (multiplied-at refl)
 
   pub scratched : Scratch w w₄
-  scratched = record { same = rs .same ∙ bt .around .same ∙ leads-same (ds .descending .leads) ∙ st .same }
+  scratched = record { same = rs .same ∙ bt .around .same ∙ ds .descending .same ∙ st .same }

@@ -2,8 +2,9 @@
 --
 --   reads-pair, reads-last, reads-turn, reads-drop        the step that the words tell
 --   bit-swap-none, bit-swap-one, bit-none, bit-one        what is kept of the degrees
+--   second-room, third-room, fourth-room, fifth-room      the places of the words
 --   log-around, log-stands                                the five words are written, and nothing else
---   logs                                                  the rules
+--   reading, bits, logs                                   the rules
 use mathlib.Core.Path.{_≡_, refl, _∙_, ap, ap₂}
 use mathlib.Core.List.{List}
 use mathlib.Core.Bool.{Bool, true, false}
@@ -112,6 +113,18 @@ module _ (at a b y c k : ℕ) (w : List ℕ) (room : at + 5 ≤ length w) where
   abbrev five : List ℕ
   five = set four (at + 4) k
 
+  pub second-room : at + 1 < length one
+  second-room = simp length-set (omega arith)
+
+  pub third-room : at + 2 < length two
+  third-room = simp length-set (omega arith)
+
+  pub fourth-room : at + 3 < length three
+  fourth-room = simp length-set (omega arith)
+
+  pub fifth-room : at + 4 < length four
+  fifth-room = simp length-set (omega arith)
+
   other : (i : ℕ) → ((j : ℕ) → j < 5 → i ≡ at + j → ⊥) → getD five i 0 ≡ getD w i 0
   other i h =
       getD-set-other four (at + 4) i k 0 (h 4 (omega arith)) ∙ getD-set-other three (at + 3) i c 0 (h 3 (omega arith))
@@ -148,16 +161,8 @@ module _ (at a b y c k : ℕ) (w : List ℕ) (room : at + 5 ≤ length w) where
       past-one : (i : ℕ) → i < at + 1 → getD five i 0 ≡ getD one i 0
       past-one i l = past-two i (omega arith) ∙ getD-set-other one (at + 1) i b 0 (λ e. omega arith)
 
-pub ruleset logs = (
-  needs,
-  reads-pair,
-  reads-last,
-  reads-turn,
-  reads-drop,
-  bit-swap-none,
-  bit-swap-one,
-  bit-none,
-  bit-one,
-  log-around,
-  log-stands,
-)
+pub ruleset reading = (needs, reads-pair, reads-last, reads-turn, reads-drop)
+
+pub ruleset bits = (needs, bit-swap-none, bit-swap-one, bit-none, bit-one)
+
+pub ruleset logs = (needs, second-room, third-room, fourth-room, fifth-room, log-around, log-stands)

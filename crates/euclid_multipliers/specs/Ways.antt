@@ -56,6 +56,7 @@ abbrev pub TrailTo : Modulus → ℕ → Stage → List ℕ → ℕ → Stage �
 TrailTo m h x w j y v = Trail m h v (f-at m x w) (g-at m x w) (x .d) (x .e) j (f-at m y v) (g-at m y v) (y .d) (y .e)
 
 pub record Descending (m : Modulus) (h : ℕ) (x : Stage) (w : List ℕ) (j : ℕ) (y : Stage) (v : List ℕ) : Type 0 where
+  pub same : length v ≡ length w
   pub leads : Leads m x w y v
   pub trail : TrailTo m h x w j y v
   pub under-a : y .a + h ≤ h + h
@@ -86,6 +87,7 @@ pub record Rises (m : Modulus) (h j : ℕ) (r : Found) (w : List ℕ) : Type 0 w
 
 pub record Raising (m : Modulus) (h j : ℕ) (r : Found) (w : List ℕ) (i : ℕ) (o : Found) (v : List ℕ) : Type 0 where
   pub same : length v ≡ length w
+  pub most : i ≤ j
   pub rising : (F₀ G₀ : ℕ → ℕ) (d₀ e₀ C : ℕ) → Rising m h F₀ G₀ d₀ e₀ C j r w → Rising m h F₀ G₀ d₀ e₀ C i o v
 
 abbrev pub Raised : Modulus → ℕ → ℕ → Found → List ℕ → Found → List ℕ → Type 0

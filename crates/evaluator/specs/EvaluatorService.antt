@@ -47,13 +47,4 @@ evaluator-conditions W n f g =
     ServedModulus W n ∷ ServedLength f ∷ ServedLength g ∷ (deg f + deg g ≤ 8) ∷ Residues n f ∷ Residues n g ∷ []
 
 pub evaluator-listed : (W : Width) (n : ℕ) (f g : List ℕ) → Listed (evaluator-refusals W n f g) (evaluator-conditions W n f g)
-evaluator-listed W n f g = (
-  (omega arith, modulus-fails W n),
-  (
-    (omega arith, length-fails f),
-    (
-      (omega arith, length-fails g),
-      ((omega arith, short-fails 8 (deg f + deg g)), ((omega arith, words-fail n f), ((omega arith, words-fail n g), tt))),
-    ),
-  ),
-)
+evaluator-listed W n f g = search (arith, tt, modulus-fails, length-fails, words-fail, short-fails) depth 20

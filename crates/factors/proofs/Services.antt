@@ -1,8 +1,9 @@
 -- The promise of each call at each place where it returns, from what the code hands over there.
 --
 --   arriving     the rules of `arrive_beside` and `arrive`
+--   serving      those of `arrive_served`
 --   calling      the rules of the other calls
-use mathlib.Core.Path.{_≡_, refl, sym, ap, _∙_}
+use mathlib.Core.Path.{_≡_, refl, sym, ap, subst, _∙_}
 use mathlib.Core.Bool.{Bool, true, false}
 use mathlib.Core.List.{List, [], _∷_, _++_}
 use Prim.Native.Nat.{ℕ, zero, suc, _-_, _≤_, _<_}
@@ -23,7 +24,7 @@ use Rattle.factors.specs.declared.Factors.{Factors}
 use Rattle.factors.specs.FactorsService.{served-length, held-h}
 use Rattle.factors.specs.FactorsService.{arrive-refusals, leave-refusals}
 use Rattle.factors.specs.FactorsService.{started, replaced-at, arrived, left-by}
-use Rattle.factors.specs.FactorsService.{StartAnswer, ArriveAnswer, LeaveAnswer, ReadingAnswer}
+use Rattle.factors.specs.FactorsService.{StartAnswer, ArriveAsked, ArriveAnswer, LeaveAnswer, ReadingAnswer}
 use Rattle.factors.specs.FactorsListed.{HeldNumber, arrive-conditions, arrive-listed, leave-listed}
 
 -- ---- reading
@@ -82,51 +83,59 @@ module _ (n : ℕ) (h : List ℕ) (t : ℕ) (e : t ≡ first-refusal (refusals-o
 
 -- ---- arrival
 
+unchanged : (s : Factors) (k : ℕ) (f : List ℕ) (x : ℕ) → (x ≡ 0 → ⊥) → s ≡ arrived x s k f
+unchanged s k f zero z = absurd (z refl)
+unchanged s k f (suc x) z = refl
+
 -- s is the state, h the polynomial that it holds, t what the refusals come to
-module _ (s : Factors) (k : ℕ) (f h work : List ℕ) (t : ℕ) (same : h ≡ held-h s)
+module _ {s : Factors} {k t : ℕ} {f h work : List ℕ} (same : h ≡ held-h s)
     (e : t ≡ first-refusal (arrival-tests narrow (s .n) (s .number) (s .degree) k f h (length work))) where
-  tests : t ≡ first-refusal (arrive-refusals narrow s k f (length work))
-  tests = e ∙ ap (λ (x : List ℕ). first-refusal (arrival-tests narrow (s .n) (s .number) (s .degree) k f x (length work))) same
-
-  unchanged : (x : ℕ) → (x ≡ 0 → ⊥) → s ≡ arrived x s k f
-  unchanged zero z = absurd (z refl)
-  unchanged (suc x) z = refl
-
   pub arrive-refused : (t ≡ 0 → ⊥) → ArriveAnswer narrow s k f work work s t
-  arrive-refused z = record { status-is = tests; factors-is = unchanged t z; work-is = left-refused t work z }
+  arrive-refused z = record {
+    status-is = e ∙ ap (λ (x : List ℕ). first-refusal (arrival-tests narrow (s .n) (s .number) (s .degree) k f x (length work))) same;
+    factors-is = unchanged s k f t z;
+    work-is = left-refused t work z;
+  }
 
-  module _ (z : t ≡ 0) where
-    passed : Passed (arrive-conditions narrow s k f (length work))
-    passed = status-zero (arrive-refusals narrow s k f (length work)) (arrive-conditions narrow s k f (length work))
-        (arrive-listed narrow s k f (length work)) .0 (sym tests ∙ z)
+  pub arrive-asked : t ≡ 0 → ArriveAsked s k f h work
+  arrive-asked z = record { same = same; none = sym e ∙ z }
 
-    pub arrive-some : 1 ≤ length f
-    arrive-some = passed .1 .0 .some
+module _ {s : Factors} {k : ℕ} {f h work : List ℕ} (a : ArriveAsked s k f h work) where
+  none : first-refusal (arrive-refusals narrow s k f (length work)) ≡ 0
+  none = subst (λ (x : List ℕ). first-refusal (arrival-tests narrow (s .n) (s .number) (s .degree) k f x (length work)) ≡ 0) (a .same)
+      (a .none)
 
-    pub arrive-fits : Fits w32 (length f - 1)
-    arrive-fits = record { fits = omega (arith, passed .1 .0 .few) }
+  passed : Passed (arrive-conditions narrow s k f (length work))
+  passed = status-zero (arrive-refusals narrow s k f (length work)) (arrive-conditions narrow s k f (length work))
+      (arrive-listed narrow s k f (length work)) .0 none
 
-    pub arrive-free : (i : ℕ) → i ≡ place-of 0 (s .number) → i < 16
-    arrive-free i p = omega (arith, p, passed .1 .1 .1 .1 .1 .1 .0 .free-place)
+  pub arrive-some : 1 ≤ length f
+  arrive-some = passed .1 .0 .some
 
-    -- the resultant is asked of the service, which tests what was tested
-    pub arrive-answered : {r : Factors} {work' : List ℕ} (x y i : ℕ) → ResultantAnswer narrow (s .n) f h work work' x y
-        → i ≡ place-of 0 (s .number) → r ≡ replaced-at s i k (length f - 1) x → ArriveAnswer narrow s k f work work' r 0
-    arrive-answered x y i a p q = record {
-      status-is = sym z ∙ tests;
-      factors-is = q ∙ rw (p, sub-one (length f), value);
-      work-is = a .work-is ∙ ap (λ (j : ℕ). left j work) zero-status;
-    }
-      where
-        zero-status : y ≡ 0
-        zero-status = a .status-is
-            ∙ sym (passed-on (refusals-two narrow (s .n) f h) ((7, short (length work) 8192) ∷ []) 0 0
-            (sym (front-passes (refusals-two narrow (s .n) f h)
-            ((14, taken k (s .number)) ∷ (13, full (deg f) (s .number) (s .degree)) ∷ (7, short (length work) 8192) ∷ []) (sym e ∙ z)))
-            refl (long-enough 7 (length work) 8192 [] 0 (passed .1 .1 .1 .1 .1 .1 .1 .0) refl))
+  pub arrive-fits : Fits w32 (length f - 1)
+  arrive-fits = record { fits = omega (arith, passed .1 .0 .few) }
 
-        value : x ≡ resultant (s .n) f (held-h s)
-        value = a .value-is ∙ rw (zero-status, same)
+  pub arrive-free : {i : ℕ} → i ≡ place-of 0 (s .number) → i < 16
+  arrive-free p = omega (arith, p, passed .1 .1 .1 .1 .1 .1 .0 .free-place)
+
+  -- the resultant is asked of the service, which tests what was tested
+  pub arrive-answered : {r : Factors} {work' : List ℕ} {x y i : ℕ} → ResultantAnswer narrow (s .n) f h work work' x y
+      → i ≡ place-of 0 (s .number) → r ≡ replaced-at s i k (length f - 1) x → ArriveAnswer narrow s k f work work' r 0
+  arrive-answered {r} {work'} {x} {y} {i} w p q = record {
+    status-is = sym none;
+    factors-is = q ∙ rw (p, sub-one (length f), value);
+    work-is = w .work-is ∙ ap (λ (j : ℕ). left j work) zero-status;
+  }
+    where
+      zero-status : y ≡ 0
+      zero-status = w .status-is
+          ∙ sym (passed-on (refusals-two narrow (s .n) f h) ((7, short (length work) 8192) ∷ []) 0 0
+          (sym (front-passes (refusals-two narrow (s .n) f h)
+          ((14, taken k (s .number)) ∷ (13, full (deg f) (s .number) (s .degree)) ∷ (7, short (length work) 8192) ∷ []) (a .none)))
+          refl (long-enough 7 (length work) 8192 [] 0 (passed .1 .1 .1 .1 .1 .1 .1 .0) refl))
+
+      value : x ≡ resultant (s .n) f (held-h s)
+      value = w .value-is ∙ rw (zero-status, a .same)
 
 pub held-room : (l : ℕ) (w : List ℕ) → l ≤ 49 → length w ≡ 49 → l ≤ length w
 held-room l w h e = omega arith
@@ -134,18 +143,12 @@ held-room l w h e = omega arith
 pub part-held : (s : Factors) (l : ℕ) → l ≡ served-length (s .len) → take (l - 0) (s .h) ≡ held-h s
 part-held s l e = let z : l - 0 ≡ l = omega arith in ap (λ (j : ℕ). take j (s .h)) (z ∙ e)
 
-pub ruleset arriving = (needs, arrive-refused, arrive-some, arrive-fits, arrive-free, arrive-answered, held-room, part-held)
+pub ruleset arriving = (needs, arrive-refused, arrive-asked, held-room, part-held)
 
-pub ruleset calling = (
-  needs,
-  read-refused,
-  read-modulus,
-  read-answered,
-  leave-refused,
-  leave-answered,
-  place-held,
-  start-refused,
-  start-answered,
-  start-length,
-  start-fits,
-)
+pub ruleset serving = (needs, arrive-some, arrive-fits, arrive-free, arrive-answered)
+
+pub ruleset reads = (read-refused, read-modulus, read-answered)
+
+pub ruleset leaves = (leave-refused, leave-answered, place-held)
+
+pub ruleset calling = (needs, reads, leaves, start-refused, start-answered, start-length, start-fits)

@@ -58,25 +58,8 @@ arrive-conditions W s k f l =
 
 pub arrive-listed : (W : Width) (s : Factors) (k : ℕ) (f : List ℕ) (l : ℕ)
     → Listed (arrive-refusals W s k f l) (arrive-conditions W s k f l)
-arrive-listed W s k f l = (
-  (omega arith, modulus-fails W (s .n)),
-  (
-    (omega arith, length-fails f),
-    (
-      (omega arith, length-fails (held-h s)),
-      (
-        (omega arith, words-fail (s .n) f),
-        (
-          (omega arith, words-fail (s .n) (held-h s)),
-          (
-            (omega arith, taken-fails k (s .number)),
-            ((omega arith, full-fails (deg f) (s .number) (s .degree)), ((omega arith, short-fails l (W .working)), tt)),
-          ),
-        ),
-      ),
-    ),
-  ),
-)
+arrive-listed W s k f l =
+    search (arith, tt, modulus-fails, length-fails, words-fail, taken-fails, full-fails, short-fails) depth 20
 
 pub leave-listed : (W : Width) (s : Factors) (k : ℕ)
     → Listed (leave-refusals W s k) (ServedModulus W (s .n) ∷ HeldNumber k (s .number) ∷ [])

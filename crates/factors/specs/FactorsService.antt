@@ -4,6 +4,7 @@
 --   started, arrived, left-by      the states that answered calls hand back, s or zeros after a refusal
 --   start-refusals, arrive-refusals, leave-refusals, reading-refusals     the refusals of each call in their order
 --   StartAnswer, ArriveAnswer, LeaveAnswer, ReadingAnswer      all that is promised of a call
+--   ArriveAsked            what an arrival asks that nothing refuses
 use mathlib.Core.Path.{_≡_}
 use mathlib.Core.Bool.{cond}
 use mathlib.Core.List.{List, [], _∷_, _++_}
@@ -12,7 +13,7 @@ use lib.Dec.{ltb}
 use lib.ListN.{length, take, set, replicate}
 use Rattle.definitions.specs.Polynomials.{deg}
 use Rattle.definitions.specs.Resultants.{resultant}
-use Rattle.refusals.specs.Refusals.{Width, Tested, bad-modulus, first-refusal, refusals-one, answered, left}
+use Rattle.refusals.specs.Refusals.{Width, narrow, Tested, bad-modulus, first-refusal, refusals-one, answered, left}
 use Rattle.factor_places.specs.Places.{place-of, multiplied, arrival-tests, leaving-tests}
 use Rattle.factors.specs.declared.Factors.{Factors}
 
@@ -84,6 +85,11 @@ left-by (suc t) s k = s
 pub record StartAnswer (W : Width) (n : ℕ) (h : List ℕ) (r : Factors) (status : ℕ) : Type 0 where
   pub status-is : status ≡ first-refusal (start-refusals W n h)
   pub factors-is : r ≡ started status n h
+
+-- h is the polynomial held, and nothing refuses the factor f
+pub record ArriveAsked (s : Factors) (k : ℕ) (f h work : List ℕ) : Type 0 where
+  pub same : h ≡ held-h s
+  pub none : first-refusal (arrival-tests narrow (s .n) (s .number) (s .degree) k f h (length work)) ≡ 0
 
 pub record ArriveAnswer (W : Width) (s : Factors) (k : ℕ) (f work work' : List ℕ) (r : Factors) (status : ℕ) : Type 0 where
   pub status-is : status ≡ first-refusal (arrive-refusals W s k f (length work))

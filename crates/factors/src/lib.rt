@@ -6,7 +6,7 @@
 //   Factors, Held                start, arrive, leave and read take and hand back the state by value; a status beside it
 //   padded, served_length        h with zeros above; how many of its words are read
 //   replaced_at                  the state with another factor, or none, in a place
-//   arrive_beside                an arrival, with h
+//   arrive_served, arrive_beside     an arrival, with h, that nothing refuses; one that may be refused
 //   start, arrive, leave, read   the services
 ghost use mathlib.Core.Path.{_≡_};
 ghost use Prim.Native.Nat.{_-_, _<_, _≤_};
@@ -14,7 +14,7 @@ ghost use mathlib.Core.List.{_++_};
 ghost use lib.ListN.{length, replicate};
 ghost use Rattle.refusals.specs.Refusals.{narrow};
 ghost use Rattle.factors.specs.FactorsService.{served-length, held-h, replaced-at};
-ghost use Rattle.factors.specs.FactorsService.{StartAnswer, ArriveAnswer, LeaveAnswer, ReadingAnswer};
+ghost use Rattle.factors.specs.FactorsService.{StartAnswer, ArriveAsked, ArriveAnswer, LeaveAnswer, ReadingAnswer};
 use refusals::Answer;
 
 // A place is free where its number is 0; degree 0 and resultant 1 stand there. h has len words, zeros above.
@@ -107,7 +107,19 @@ fn replaced_at(s: Factors, i: usize, k: u16, d: u32, x: u32) -> Factors
     }
 }
 
-// The factor f arrives where h is the polynomial held.
+// The factor f arrives where h is the polynomial held and nothing refuses it.
+fn arrive_served(s: Factors, k: u16, f: &[u32], h: &[u32], work: &mut [u32]) -> Factors
+    requires { ⌜ ArriveAsked s k (now f) (now h) (now work) ⌝ }
+    ensures { λ r. ⌜ ArriveAnswer narrow s k (now (f .entry)) (now (work .entry)) (now (work .exit)) r 0 ⌝ }
+{
+    let number = s.number;
+    let i = factor_places::place_of(number, 0);
+    let d = (f.len() - 1) as u32;
+    let a = resultant_service::resultant(s.n, f, h, work);
+    replaced_at(s, i, k, d, a.value)
+}
+
+// The factor f arrives, or is refused, where h is the polynomial held.
 fn arrive_beside(s: Factors, k: u16, f: &[u32], h: &[u32], work: &mut [u32]) -> Held
     requires { ⌜ now h ≡ held-h s ⌝ }
     ensures { λ r. ⌜ ArriveAnswer narrow s k (now (f .entry)) (now (work .entry)) (now (work .exit)) (r .factors) (r .status) ⌝ }
@@ -118,10 +130,7 @@ fn arrive_beside(s: Factors, k: u16, f: &[u32], h: &[u32], work: &mut [u32]) -> 
     if status != 0 {
         return Held { factors: s, status };
     }
-    let i = factor_places::place_of(number, 0);
-    let d = (f.len() - 1) as u32;
-    let a = resultant_service::resultant(s.n, f, h, work);
-    let factors = replaced_at(s, i, k, d, a.value);
+    let factors = arrive_served(s, k, f, h, work);
     Held { factors, status: 0 }
 }
 

@@ -51,18 +51,4 @@ division-conditions W n f g lq lr =
 pub division-listed : (W : Width) (n : ℕ) (f g : List ℕ) (lq lr : ℕ)
     → Listed (division-refusals W n f g lq lr) (division-conditions W n f g lq lr)
 division-listed W n f g lq lr =
-    let four = unit-fails n (coef g (deg g)) in
-    let six-q = short-fails lq (quotient-length (deg f) (deg g)) in
-    let six-r = short-fails lr (deg g) in (
-      (omega arith, modulus-fails W n),
-      (
-        (omega arith, length-fails f),
-        (
-          (omega arith, length-fails g),
-          (
-            (omega arith, words-fail n f),
-            ((omega arith, words-fail n g), ((omega arith, four), ((omega arith, six-q), ((omega arith, six-r), tt)))),
-          ),
-        ),
-      ),
-    )
+    search (arith, tt, modulus-fails, length-fails, words-fail, unit-fails, short-fails) depth 20

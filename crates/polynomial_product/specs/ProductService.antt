@@ -41,20 +41,5 @@ sent-conditions W n f g =
 abbrev pub product-conditions : Width → ℕ → List ℕ → List ℕ → ℕ → List (Type 0)
 product-conditions W n f g l = sent-conditions W n f g ++ ((suc (deg f + deg g) ≤ l) ∷ [])
 
-pub sent-listed : (W : Width) (n : ℕ) (f g : List ℕ) → Listed (product-sent W n f g) (sent-conditions W n f g)
-sent-listed W n f g = (
-  (omega arith, modulus-fails W n),
-  (
-    (omega arith, length-fails f),
-    (
-      (omega arith, length-fails g),
-      ((omega arith, short-fails 48 (deg f + deg g)), ((omega arith, words-fail n f), ((omega arith, words-fail n g), tt))),
-    ),
-  ),
-)
-
 pub product-listed : (W : Width) (n : ℕ) (f g : List ℕ) (l : ℕ) → Listed (product-refusals W n f g l) (product-conditions W n f g l)
-product-listed W n f g l =
-    let s = sent-listed W n f g in
-    let six = short-fails l (suc (deg f + deg g)) in
-    (s .0, (s .1 .0, (s .1 .1 .0, (s .1 .1 .1 .0, (s .1 .1 .1 .1 .0, (s .1 .1 .1 .1 .1 .0, ((omega arith, six), tt)))))))
+product-listed W n f g l = search (arith, tt, modulus-fails, length-fails, words-fail, short-fails) depth 20

@@ -4,7 +4,6 @@
 --   ResultantAnswer                         all that is promised of a call
 --   resultant-listed                        each refusal under its condition and no other
 use mathlib.Core.Path.{_≡_}
-use mathlib.Core.Bool.{Bool}
 use mathlib.Core.List.{List, [], _∷_, _++_}
 use Prim.Native.Nat.{ℕ, _≤_}
 use native.Mathlib.Omega.{arith}
@@ -30,13 +29,4 @@ abbrev pub resultant-conditions : Width → ℕ → List ℕ → List ℕ → �
 resultant-conditions W n f g l = conditions-two W n f g ++ ((W .working ≤ l) ∷ [])
 
 pub resultant-listed : (W : Width) (n : ℕ) (f g : List ℕ) (l : ℕ) → Listed (resultant-refusals W n f g l) (resultant-conditions W n f g l)
-resultant-listed W n f g l = (
-  (omega arith, modulus-fails W n),
-  (
-    (omega arith, length-fails f),
-    (
-      (omega arith, length-fails g),
-      ((omega arith, words-fail n f), ((omega arith, words-fail n g), ((omega arith, short-fails l (W .working)), tt))),
-    ),
-  ),
-)
+resultant-listed W n f g l = search (arith, tt, modulus-fails, length-fails, words-fail, short-fails) depth 20

@@ -1,45 +1,12 @@
--- The service's promise at each place where it returns, over any width W, and what the run asks.
-use mathlib.Core.Path.{_≡_, refl, sym, ap, subst, _∙_}
-use mathlib.Core.List.{List, [], _∷_}
-use Prim.Native.Nat.{ℕ, zero, suc, _≤_, _<_}
-use lib.ListN.{length, replicate}
-use Rattle.definitions.specs.Resultants.{Reduced}
-use Rattle.refusals.specs.Refusals.{Width, short, first-refusal, refusals-two, left}
+-- What the run asks, where nothing is refused.
+use mathlib.Core.Path.{_≡_, sym, _∙_}
+use mathlib.Core.List.{List}
+use Prim.Native.Nat.{ℕ, _≤_}
+use lib.ListN.{length}
+use Rattle.refusals.specs.Refusals.{first-refusal, refusals-two}
 use Rattle.refusals.specs.Conditions.{accepted-two}
-use Rattle.refusals.proofs.Statuses.{refused-early, passed-on, too-short, long-enough, left-refused}
-use Rattle.windows.specs.Window.{Scratch}
 use Rattle.wide_refusals.specs.Wide.{wide}
-use Rattle.divisor_service.specs.DivisorService.{DivisorAnswer, DivisorLeft}
 use Rattle.wide_divisor.specs.Shown.{DivisorAsked}
-
-nothing : (s n : ℕ) (f g : List ℕ) → (s ≡ 0 → ⊥) → DivisorLeft s n f g 0
-nothing zero n f g z = absurd (z refl)
-nothing (suc s) n f g z = refl
-
-module _ (W : Width) {n s : ℕ} {f g work : List ℕ} (e : s ≡ first-refusal (refusals-two W n f g)) where
-  pub refused : (s ≡ 0 → ⊥) → DivisorAnswer W n f g work work 0 s
-  refused z = record {
-    status-is = refused-early (refusals-two W n f g) ((7, short (length work) (W .working)) ∷ []) s e z;
-    result = nothing s n f g z;
-    work-is = left-refused s work z;
-  }
-
-  pub work-short : s ≡ 0 → length work < W .working → DivisorAnswer W n f g work work 0 7
-  work-short z h = record {
-    status-is = passed-on (refusals-two W n f g) ((7, short (length work) (W .working)) ∷ []) s 7 e z
-        (too-short 6 (length work) (W .working) [] h);
-    result = refl;
-    work-is = refl;
-  }
-
-  pub done : s ≡ 0 → W .working ≤ length work → {r x y : ℕ} {work₁ work' : List ℕ} → Reduced n f g r → Scratch work work₁
-      → work' ≡ replicate (length work₁) 0 → (x ≡ r) × (y ≡ 0) → DivisorAnswer W n f g work work' x y
-  done z h {r} {x} {y} {work₁} {work'} er sc ew i = record {
-    status-is = i .1 ∙ passed-on (refusals-two W n f g) ((7, short (length work) (W .working)) ∷ []) s 0 e z
-        (long-enough 7 (length work) (W .working) [] 0 h refl);
-    result = subst (λ (t : ℕ). DivisorLeft t n f g x) (sym (i .1)) (subst (Reduced n f g) (sym (i .0)) er);
-    work-is = ew ∙ ap (λ (l : ℕ). replicate l 0) (sc .same) ∙ ap (λ (t : ℕ). left t work) (sym (i .1));
-  }
 
 pub run-asked : {n s : ℕ} {f g work : List ℕ} → s ≡ first-refusal (refusals-two wide n f g) → s ≡ 0 → 16384 ≤ length work
     → DivisorAsked n f g work

@@ -1,6 +1,7 @@
 use borrow.Author.Needs.{needs}
 use Rattle.wide_refusals.specs.Wide.{wide}
-use Rattle.wide_divisor_service.proofs.Returning.{refused, work-short, done, run-asked}
+use Rattle.divisor_service.proofs.Returning.{refused, work-short, done}
+use Rattle.wide_divisor_service.proofs.Returning.{run-asked}
 use Rattle.wide_divisor_service.proofs.divisor.Statement.{statement}
 use Rattle.wide_divisor_service.proofs.divisor.Tie as tie
 
