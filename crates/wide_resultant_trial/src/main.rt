@@ -13,7 +13,6 @@ use trial_lines::put_count;
 use trial_lines::size;
 use trial_lines::spelt;
 use trial_lines::wide_ending;
-use trial_lines::wide_fill;
 use trial_lines::wide_put;
 use trial_lines::wide_put_answer;
 use trial_lines::wide_put_working;
@@ -163,10 +162,6 @@ fn pair_line(
 fn call(c: Sent, words: &[u64], p: &mut [u64], u: &mut [u64], v: &mut [u64], work: &mut [u64])
     requires { ⌜ c .f + c .g + c .h ≤ length (now words) ⌝ }
 {
-    wide_fill(p, WIDE_MARK);
-    wide_fill(u, WIDE_MARK);
-    wide_fill(v, WIDE_MARK);
-    wide_fill(work, WIDE_MARK);
     if c.service <= HOW_FAR {
         let first = c.f;
         pair_line(
@@ -185,22 +180,31 @@ fn call(c: Sent, words: &[u64], p: &mut [u64], u: &mut [u64], v: &mut [u64], wor
 
 // ---- the run
 
+// The buffers as they are lent, each word marked, with words to spare. The contracts give only the lengths.
+fn result_room() -> [u64; 3040]
+    ensures { λ r. ⌜ 3040 ≡ length r ⌝ }
+{
+    [WIDE_MARK; 3040]
+}
+
+fn working_room() -> [u64; 16400]
+    ensures { λ r. ⌜ 16400 ≡ length r ⌝ }
+{
+    [WIDE_MARK; 16400]
+}
+
 // The call with as much of each buffer as is lent.
-fn lend(
-    text: &[u8],
-    c: Sent,
-    words: &[u64],
-    p: &mut [u64],
-    u: &mut [u64],
-    v: &mut [u64],
-    work: &mut [u64],
-)
+fn lend(text: &[u8], c: Sent, words: &[u64])
     requires { ⌜ c .f + c .g + c .h ≤ length (now words) ⌝ }
 {
-    let lp = size(spelt(text, 24, 28), p.len());
-    let lu = size(spelt(text, 28, 32), u.len());
-    let lv = size(spelt(text, 32, 36), v.len());
-    let lw = size(spelt(text, 36, 40), work.len());
+    let lp = size(spelt(text, 24, 28), 64);
+    let lu = size(spelt(text, 28, 32), 3040);
+    let lv = size(spelt(text, 32, 36), 3040);
+    let lw = size(spelt(text, 36, 40), 16400);
+    let mut p = [WIDE_MARK; 64];
+    let mut u = result_room();
+    let mut v = result_room();
+    let mut work = working_room();
     call(
         c,
         words,
@@ -225,14 +229,7 @@ fn called(text: &[u8]) -> Sent
 }
 
 // The text of a call; whether it was one.
-fn try_text(
-    text: &[u8],
-    words: &mut [u64],
-    p: &mut [u64],
-    u: &mut [u64],
-    v: &mut [u64],
-    work: &mut [u64],
-) -> bool {
+fn try_text(text: &[u8], words: &mut [u64]) -> bool {
     if text.len() < HEAD {
         return false;
     }
@@ -240,61 +237,30 @@ fn try_text(
     if trial_lines::wide_spelt_words(text, HEAD, words) < c.f + c.g + c.h {
         return false;
     }
-    lend(text, c, words, p, u, v, work);
+    lend(text, c, words);
     trial_lines::end_line();
     true
 }
 
 // The next line; whether it was a call.
-fn try_line(
-    line: &mut [u8],
-    words: &mut [u64],
-    p: &mut [u64],
-    u: &mut [u64],
-    v: &mut [u64],
-    work: &mut [u64],
-) -> bool {
+fn try_line(line: &mut [u8], words: &mut [u64]) -> bool {
     let l = trial_lines::next_line(line);
-    try_text(&line[0..l], words, p, u, v, work)
+    try_text(&line[0..l], words)
 }
 
 // A proved loop has to end, and nothing says that an input does: it counts its turns down from a number that no run uses up.
-fn run(
-    line: &mut [u8],
-    words: &mut [u64],
-    p: &mut [u64],
-    u: &mut [u64],
-    v: &mut [u64],
-    work: &mut [u64],
-) {
+fn run(line: &mut [u8], words: &mut [u64]) {
     let mut turns = u64::MAX;
     while turns > 0 {
-        if !try_line(line, words, p, u, v, work) {
+        if !try_line(line, words) {
             return;
         }
         turns -= 1;
     }
 }
 
-// The buffers, with words to spare. The contracts give only the lengths.
-fn result_room() -> [u64; 3040]
-    ensures { λ r. ⌜ 3040 ≡ length r ⌝ }
-{
-    [0; 3040]
-}
-
-fn working_room() -> [u64; 16400]
-    ensures { λ r. ⌜ 16400 ≡ length r ⌝ }
-{
-    [0; 16400]
-}
-
 fn main() {
     let mut line = io::buffer();
     let mut words = [0u64; 150];
-    let mut p = [0u64; 64];
-    let mut u = result_room();
-    let mut v = result_room();
-    let mut work = working_room();
-    run(&mut line, &mut words, &mut p, &mut u, &mut v, &mut work);
+    run(&mut line, &mut words);
 }

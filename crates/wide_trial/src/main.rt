@@ -13,7 +13,6 @@ use trial_lines::put;
 use trial_lines::put_name;
 use trial_lines::size;
 use trial_lines::spelt;
-use trial_lines::wide_fill;
 use trial_lines::wide_put;
 use trial_lines::wide_put_answer;
 use trial_lines::wide_put_words;
@@ -222,18 +221,31 @@ fn call(
         residues(service, n, head(f), head(g));
         return;
     }
-    wide_fill(u, WIDE_MARK);
-    wide_fill(v, WIDE_MARK);
-    wide_fill(work, WIDE_MARK);
     polynomials(service, n, f, g, u, v, work);
 }
 
+// The buffers as they are lent, each word marked, with words to spare. The contracts give only the lengths.
+fn result_room() -> [u64; 3040]
+    ensures { λ r. ⌜ 3040 ≡ length r ⌝ }
+{
+    [WIDE_MARK; 3040]
+}
+
+fn working_room() -> [u64; 16400]
+    ensures { λ r. ⌜ 16400 ≡ length r ⌝ }
+{
+    [WIDE_MARK; 16400]
+}
+
 // The call with as much of each buffer as is lent.
-fn lend(text: &[u8], f: &[u64], g: &[u64], u: &mut [u64], v: &mut [u64], work: &mut [u64]) {
+fn lend(text: &[u8], f: &[u64], g: &[u64]) {
     let n = wide_spelt(text, 2, 18);
-    let lu = size(spelt(text, 22, 26), u.len());
-    let lv = size(spelt(text, 26, 30), v.len());
-    let lw = size(spelt(text, 30, 34), work.len());
+    let lu = size(spelt(text, 22, 26), 3040);
+    let lv = size(spelt(text, 26, 30), 3040);
+    let lw = size(spelt(text, 30, 34), 16400);
+    let mut u = result_room();
+    let mut v = result_room();
+    let mut work = working_room();
     call(
         spelt(text, 0, 2),
         n,
@@ -246,13 +258,7 @@ fn lend(text: &[u8], f: &[u64], g: &[u64], u: &mut [u64], v: &mut [u64], work: &
 }
 
 // The text of a call; whether it was one.
-fn try_text(
-    text: &[u8],
-    words: &mut [u64],
-    u: &mut [u64],
-    v: &mut [u64],
-    work: &mut [u64],
-) -> bool {
+fn try_text(text: &[u8], words: &mut [u64]) -> bool {
     if text.len() < HEAD {
         return false;
     }
@@ -261,52 +267,30 @@ fn try_text(
     if trial_lines::wide_spelt_words(text, HEAD, words) < l + m {
         return false;
     }
-    lend(text, &words[0..l], &words[l..l + m], u, v, work);
+    lend(text, &words[0..l], &words[l..l + m]);
     trial_lines::end_line();
     true
 }
 
 // The next line; whether it was a call.
-fn try_line(
-    line: &mut [u8],
-    words: &mut [u64],
-    u: &mut [u64],
-    v: &mut [u64],
-    work: &mut [u64],
-) -> bool {
+fn try_line(line: &mut [u8], words: &mut [u64]) -> bool {
     let l = trial_lines::next_line(line);
-    try_text(&line[0..l], words, u, v, work)
+    try_text(&line[0..l], words)
 }
 
 // A proved loop has to end, and nothing says that an input does: it counts its turns down from a number that no run uses up.
-fn run(line: &mut [u8], words: &mut [u64], u: &mut [u64], v: &mut [u64], work: &mut [u64]) {
+fn run(line: &mut [u8], words: &mut [u64]) {
     let mut turns = u64::MAX;
     while turns > 0 {
-        if !try_line(line, words, u, v, work) {
+        if !try_line(line, words) {
             return;
         }
         turns -= 1;
     }
 }
 
-// The buffers, with words to spare. The contracts give only the lengths.
-fn result_room() -> [u64; 3040]
-    ensures { λ r. ⌜ 3040 ≡ length r ⌝ }
-{
-    [0; 3040]
-}
-
-fn working_room() -> [u64; 16400]
-    ensures { λ r. ⌜ 16400 ≡ length r ⌝ }
-{
-    [0; 16400]
-}
-
 fn main() {
     let mut line = io::buffer();
     let mut words = [0u64; 100];
-    let mut u = result_room();
-    let mut v = result_room();
-    let mut work = working_room();
-    run(&mut line, &mut words, &mut u, &mut v, &mut work);
+    run(&mut line, &mut words);
 }
