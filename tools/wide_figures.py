@@ -1,11 +1,13 @@
 #!/usr/bin/env python3
-"""Draws the calls of the test program `wide_trial`, words of 64 bits, and what it must write, made outside the engine: the standard
-library, tools/reference.py and tools/ideal_constants.py are all it needs. It is not needed to run the gate.
+"""Draws the calls of the test programs `wide_trial` and `wide_resultant_trial`, words of 64 bits, and what they must write, made outside
+the engine: the standard library, tools/reference.py and tools/ideal_constants.py are all it needs. It is not needed to run the gate.
 
-Writes crates/wide_trial/stdin, a call per line, hexadecimal with a blank between: the service in 2 digits (1 sum, 2 difference, 3 times,
-4 power, 5 gcd, 6 kind, 7 product, 8 division, 9 degree, 10 leading, 11 unit times monic, 12 inverse, 13 evaluator, 14 resultant,
-15 reduced resultant, 16 how far the two can differ, 17 law of products), n in 16, the lengths of f, g and h in 2 each, those of the
-lent buffers p, u and v and of the working words in 4 each, and the words of f, g and h; and crates/wide_trial/stdout, an answer per line.
+Writes crates/wide_trial/stdin, a call per line, hexadecimal without blanks: the service in 2 digits (1 sum, 2 difference, 3 times, 4 power,
+5 gcd, 6 kind, 7 product, 8 division, 9 degree, 10 leading, 11 unit times monic, 12 inverse), n in 16, the lengths of f and g in 2 each,
+those of the lent buffers u and v and of the working words in 4 each, and the words of f and g; and crates/wide_trial/stdout, an answer per
+line. Likewise crates/wide_resultant_trial/stdin (13 evaluator, 14 resultant, 15 reduced resultant, 16 how far the two can differ, 17 law of
+products), with the length of h after those of f and g, that of p before those of u and v, and the words of h at the end; and
+crates/wide_resultant_trial/stdout.
 
 Every figure comes from another method than the engine's. Refusals: all conditions of S29 are written down in their order, and the first
 that holds counts; each is tried alone, and with all that come after it. Kinds: by the primes of n. s and t: by Python's pow, compared with
@@ -18,7 +20,7 @@ from reference import Ideal, divided, k_of, least_by_inverses, least_by_search, 
 
 SEED = 20261116
 HERE = os.path.dirname(os.path.abspath(__file__))
-OUT = os.path.join(HERE, '..', 'crates', 'wide_trial')
+CRATES = os.path.join(HERE, '..', 'crates')
 MARK = 12379813738877118345
 TOP = 2**64 - 1
 WORKING = 16384
@@ -69,9 +71,12 @@ class Call:
         self.p, self.u, self.v, self.w = p, u, v, w
 
     def line(self):
-        words = ''.join(' %016x' % x for x in self.f + self.g + self.h)
-        return '%02x %016x %02x %02x %02x %04x %04x %04x %04x%s' % (
-            self.service, self.n, len(self.f), len(self.g), len(self.h), self.p, self.u, self.v, self.w, words)
+        polynomials, lengths = [self.f, self.g, self.h], [self.p, self.u, self.v, self.w]
+        if self.service <= INVERSE:         # no h, and a product in u
+            assert not self.h and not (self.p and self.u)
+            polynomials, lengths = [self.f, self.g], [self.p or self.u, self.v, self.w]
+        return ('%02x%016x' % (self.service, self.n) + ''.join('%02x' % len(x) for x in polynomials)
+                + ''.join('%04x' % x for x in lengths) + ''.join('%016x' % x for x in sum(polynomials, [])))
 
 
 # ---- figures
@@ -441,19 +446,22 @@ def main():
     rows = []
     for n, _ in MODULI:
         for c in (*residue_calls(n), *polynomial_calls(n), *resultant_calls(n)):
-            rows.append((c.line(), answer(c)))
+            rows.append((c, answer(c)))
         for c, known in monic_calls(n):
-            rows.append((c.line(), answer(c, known)))
+            rows.append((c, answer(c, known)))
     for c in long_calls():
-        rows.append((c.line(), answer(c)))
+        rows.append((c, answer(c)))
     for s in range(SUM, LAW + 1):
         for c in refused_calls(s):
-            rows.append((c.line(), answer(c, ([1], c.f))))         # the polynomial of an answered call is monic
-    os.makedirs(OUT, exist_ok=True)
-    with open(os.path.join(OUT, 'stdin'), 'w') as calls, open(os.path.join(OUT, 'stdout'), 'w') as answers:
-        for call, text in rows:
-            calls.write(call + '\n')
-            answers.write(text + '\n')
+            rows.append((c, answer(c, ([1], c.f))))         # the polynomial of an answered call is monic
+    for crate, services in (('wide_trial', range(SUM, EVALUATE)), ('wide_resultant_trial', range(EVALUATE, LAW + 1))):
+        out = os.path.join(CRATES, crate)
+        os.makedirs(out, exist_ok=True)
+        with open(os.path.join(out, 'stdin'), 'w') as calls, open(os.path.join(out, 'stdout'), 'w') as answers:
+            for call, text in rows:
+                if call.service in services:
+                    calls.write(call.line() + '\n')
+                    answers.write(text + '\n')
 
 
 if __name__ == '__main__':

@@ -15,6 +15,15 @@ ghost use Rattle.text_reader.specs.TextReader.{HandedOver, WordsAnswer, 
 use polynomial_degree::Degree;
 use refusals::Answer;
 
+// The words that the reader needs.
+const ROOM: usize = 49;
+
+// The characters of the longest text (text_notation/specs/Lengths.antt).
+const LONGEST: usize = 767;
+
+// The refusal of what is no text of a polynomial modulo n.
+const NO_TEXT: u32 = 17;
+
 // The first count words of f, at the front of the words lent.
 fn put_words(words: &mut [u32], f: &[u32], count: usize)
     requires { ⌜ (count ≤ length (now f)) × (count ≤ length (now words)) ⌝ }
@@ -42,10 +51,10 @@ fn hand_over(words: &mut [u32], f: &[u32], count: u32) -> Answer
     requires { ⌜ length (now f) ≡ 49 ⌝ }
     ensures { λ r. ⌜ HandedOver (now (f .entry)) count (now (words .entry)) (now (words .exit)) (r .value) (r .status) ⌝ }
 {
-    if words.len() < 49 {
+    if words.len() < ROOM {
         return refused(6);
     }
-    put_words(words, f, 49);
+    put_words(words, f, ROOM);
     Answer {
         value: count,
         status: 0,
@@ -60,7 +69,7 @@ fn read_words(n: u32, f: &[u32], words: &mut [u32]) -> Answer
     match polynomial_degree::true_degree(n, f) {
         Degree::None => hand_over(words, f, 1),
         Degree::At(k) => hand_over(words, f, k + 1),
-        Degree::Refused(_) => refused(17),
+        Degree::Refused(_) => refused(NO_TEXT),
     }
 }
 
@@ -72,14 +81,14 @@ pub fn read_text(n: u32, text: &[u8], words: &mut [u32]) -> Answer
     if refusals::bad_modulus(n) {
         return refused(1);
     }
-    if 767 < text.len() {
-        return refused(17);
+    if LONGEST < text.len() {
+        return refused(NO_TEXT);
     }
     let mut f = [0u32; 49];
     text_gathering::gather(text, &mut f);
     if text_gathering::is_text_of(text, &f) {
         read_words(n, &f, words)
     } else {
-        refused(17)
+        refused(NO_TEXT)
     }
 }

@@ -1,6 +1,5 @@
 // A polynomial as text (S55), as a service (S56): from any words an answer, or a numbered refusal. What a text is stands in
-// text_notation/specs/Notation.antt. Characters are bytes by their codes: 42 is the star, 43 the plus sign, 48 the digit 0,
-// 94 the circumflex and 120 the x.
+// text_notation/specs/Notation.antt, where characters are bytes by their codes.
 //
 //   put_number, put_power, put_plus, put_term    write one part from place `at` on, and answer the place after it
 //   put_text                                     the text of lent words
@@ -14,17 +13,23 @@ ghost use Rattle.text_writer.specs.Parts.{Put, Room, plus, added};
 ghost use Rattle.text_writer.specs.TextWriter.{WriteAnswer};
 use refusals::Answer;
 
+// The code of the digit 0.
+const ZERO: u32 = 48;
+
+// The bytes that the writer needs.
+const ROOM: usize = 800;
+
 // The digits of x, the last of them after those of the rest.
 fn put_number(out: &mut [u8], at: usize, x: u32) -> usize
     requires { ⌜ at + length (decimal x) ≤ length (now out) ⌝ }
     ensures { λ r. ⌜ Put (decimal x) at r (now (out .entry)) (now (out .exit)) ⌝ }
 {
     if x < 10 {
-        out[at] = (48 + x) as u8;
+        out[at] = (ZERO + x) as u8;
         return at + 1;
     }
     let end = put_number(out, at, x / 10);
-    out[end] = (48 + x % 10) as u8;
+    out[end] = (ZERO + x % 10) as u8;
     end + 1
 }
 
@@ -36,12 +41,12 @@ fn put_power(out: &mut [u8], at: usize, k: usize) -> usize
     if k == 0 {
         return at;
     }
-    out[at] = 42;
-    out[at + 1] = 120;
+    out[at] = b'*';
+    out[at + 1] = b'x';
     if k == 1 {
         return at + 2;
     }
-    out[at + 2] = 94;
+    out[at + 2] = b'^';
     put_number(out, at + 3, k as u32)
 }
 
@@ -53,7 +58,7 @@ fn put_plus(out: &mut [u8], at: usize) -> usize
     if at == 0 {
         return 0;
     }
-    out[at] = 43;
+    out[at] = b'+';
     at + 1
 }
 
@@ -82,7 +87,7 @@ pub fn put_text(f: &[u32], out: &mut [u8]) -> usize
         at = put_term(out, at, f[k], k);
     }
     if at == 0 {
-        out[0] = 48;
+        out[0] = b'0';
         return 1;
     }
     at
@@ -108,14 +113,14 @@ pub fn write_text(n: u32, f: &[u32], text: &mut [u8]) -> Answer
     if status != 0 {
         return Answer { value: 0, status };
     }
-    if text.len() < 800 {
+    if text.len() < ROOM {
         return Answer {
             value: 0,
             status: 6,
         };
     }
     let count = put_text(f, text);
-    put_zeros(text, count, 800);
+    put_zeros(text, count, ROOM);
     Answer {
         value: count as u32,
         status: 0,

@@ -9,7 +9,7 @@
 //   put_digit, put_short                           small numbers as one character each, for a line of many answers
 //   put_hexadecimal                                a number in so many digits
 //   MARK, fill, ending                             what stands in lent words before a call, and how many at the end are one number
-//   wide_X                                         the same for words of 64 bits
+//   wide_X, WIDE_MARK                              the same for words of 64 bits
 use libc::STDIN_FILENO;
 use libc::STDOUT_FILENO;
 ghost use Prim.Native.Nat.{_+_, _-_, _*_, _%_, _≤_, _<_, min};
@@ -192,7 +192,7 @@ pub fn spelt_words(text: &[u8], at: usize, words: &mut [u32]) -> usize
         if left(text, i) < 8 {
             return count;
         }
-        words[count] = spelt(text, i, i + 8);
+        words[count] = (wide_spelt(text, i, i + 8) % 4294967296) as u32;
         i += 8;
         count += 1;
     }
@@ -224,9 +224,18 @@ pub fn put_name(name: &[u8]) {
 }
 
 // A number, with a blank before it.
-pub fn put(x: u32) {
+pub fn wide_put(x: u64) {
     io::write_all(STDOUT_FILENO, b" ");
-    io::print_decimal(STDOUT_FILENO, x as u64);
+    io::print_decimal(STDOUT_FILENO, x);
+}
+
+pub fn put(x: u32) {
+    wide_put(x as u64);
+}
+
+// A number of words, with a blank before it.
+pub fn put_count(x: usize) {
+    wide_put(x as u64);
 }
 
 // All words of w, in brackets.
@@ -240,11 +249,25 @@ pub fn put_words(w: &[u32]) {
     io::write_all(STDOUT_FILENO, b" ]");
 }
 
+pub fn wide_put_words(w: &[u64]) {
+    io::write_all(STDOUT_FILENO, b" [");
+    let mut i: usize = 0;
+    while i < w.len() {
+        wide_put(w[i]);
+        i += 1;
+    }
+    io::write_all(STDOUT_FILENO, b" ]");
+}
+
 // How a service's line begins: its name, the status and the value.
 pub fn put_answer(name: &[u8], status: u32, value: u32) {
+    wide_put_answer(name, status, value as u64);
+}
+
+pub fn wide_put_answer(name: &[u8], status: u32, value: u64) {
     put_name(name);
     put(status);
-    put(value);
+    wide_put(value);
 }
 
 // What became of lent words: in brackets those up to the last that is not as found, then how many after it are as found.
@@ -261,10 +284,9 @@ pub fn put_working(w: &[u32]) {
     put_count(ending(w, 0));
 }
 
-// A number of words, with a blank before it.
-pub fn put_count(x: usize) {
-    io::write_all(STDOUT_FILENO, b" ");
-    io::print_decimal(STDOUT_FILENO, x as u64);
+pub fn wide_put_working(w: &[u64]) {
+    put_count(wide_ending(w, WIDE_MARK));
+    put_count(wide_ending(w, 0));
 }
 
 // A number in so many hexadecimal digits, with no blank before it.

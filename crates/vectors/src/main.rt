@@ -11,7 +11,6 @@ ghost use lib.ListN.{length};
 use refusals::Answer;
 use trial_lines::MARK;
 use trial_lines::ending;
-use trial_lines::fill;
 use trial_lines::put_name;
 use trial_lines::size;
 use trial_lines::spelt;
@@ -117,12 +116,24 @@ fn answered(status: u32, same: bool, work: &[u32], what: &[u8]) {
     }
 }
 
-// The resultant, from a call with marked words.
-fn try_resultant(n: u32, f: &[u32], g: &[u32], work: &mut [u32]) -> u32 {
-    fill(work, MARK);
-    let a: Answer = resultant_service::resultant(n, f, g, work);
+// Buffers as they are lent, each word marked, with words to spare. The contracts give only the lengths.
+fn cofactor_room() -> [u32; 1600]
+    ensures { λ r. ⌜ 1600 ≡ length r ⌝ }
+{
+    [MARK; 1600]
+}
+
+fn working_room() -> [u32; 8300]
+    ensures { λ r. ⌜ 8300 ≡ length r ⌝ }
+{
+    [MARK; 8300]
+}
+
+fn try_resultant(n: u32, f: &[u32], g: &[u32]) -> u32 {
+    let mut work = working_room();
+    let a: Answer = resultant_service::resultant(n, f, g, &mut work);
     trial_lines::put_hexadecimal(a.value as u64, 8);
-    answered(a.status, true, work, b" resultant");
+    answered(a.status, true, &work, b" resultant");
     a.value
 }
 
@@ -133,12 +144,6 @@ fn try_evaluator(n: u32, f: &[u32], g: &[u32], r: u32) {
     }
     let a: Answer = evaluator::evaluate(n, f, g);
     answered(a.status, a.value == r, &[0], b" evaluator");
-}
-
-fn mark(u: &mut [u32], v: &mut [u32], work: &mut [u32]) {
-    fill(u, MARK);
-    fill(v, MARK);
-    fill(work, MARK);
 }
 
 // The sent degree.
@@ -164,37 +169,20 @@ fn compare_cofactors(n: u32, f: &[u32], g: &[u32], u: &[u32], v: &[u32], r: u32)
     );
 }
 
-fn call_cofactors(
-    n: u32,
-    f: &[u32],
-    g: &[u32],
-    u: &mut [u32],
-    v: &mut [u32],
-    work: &mut [u32],
-) -> Answer {
-    mark(u, v, work);
-    cofactor_service::resultant_cofactors(n, f, g, u, v, work)
-}
-
 // The resultant r with its cofactors; two constants are refused with 9.
-fn try_cofactors(
-    n: u32,
-    f: &[u32],
-    g: &[u32],
-    u: &mut [u32],
-    v: &mut [u32],
-    work: &mut [u32],
-    r: u32,
-)
+fn try_cofactors(n: u32, f: &[u32], g: &[u32], r: u32)
     requires { ⌜ 1 ≤ n ⌝ }
 {
-    let a = call_cofactors(n, f, g, u, v, work);
+    let mut u = cofactor_room();
+    let mut v = cofactor_room();
+    let mut work = working_room();
+    let a: Answer = cofactor_service::resultant_cofactors(n, f, g, &mut u, &mut v, &mut work);
     if f.len() + g.len() == 2 {
         demand(a.status == 9, b" constants");
         return;
     }
-    answered(a.status, a.value == r, work, b" cofactors");
-    compare_cofactors(n, f, g, u, v, r);
+    answered(a.status, a.value == r, &work, b" cofactors");
+    compare_cofactors(n, f, g, &u, &v, r);
 }
 
 // L: the larger degree once for each halving of n, and 1.
@@ -230,58 +218,43 @@ fn compare_reduced(n: u32, f: &[u32], g: &[u32], u: &[u32], v: &[u32], d: u32)
     demand(right(n, f, g, u, l, v, l, d), b" reduced-combine");
 }
 
-fn call_reduced(
-    n: u32,
-    f: &[u32],
-    g: &[u32],
-    u: &mut [u32],
-    v: &mut [u32],
-    work: &mut [u32],
-) -> Answer {
-    mark(u, v, work);
-    reduced_service::reduced_resultant(n, f, g, u, v, work)
-}
-
 // D with its cofactors.
-fn try_reduced(n: u32, f: &[u32], g: &[u32], u: &mut [u32], v: &mut [u32], work: &mut [u32]) -> u32
+fn try_reduced(n: u32, f: &[u32], g: &[u32]) -> u32
     requires { ⌜ 1 ≤ n ⌝ }
 {
-    let a = call_reduced(n, f, g, u, v, work);
+    let mut u = cofactor_room();
+    let mut v = cofactor_room();
+    let mut work = working_room();
+    let a: Answer = reduced_service::reduced_resultant(n, f, g, &mut u, &mut v, &mut work);
     trial_lines::put_hexadecimal(a.value as u64, 8);
-    answered(a.status, true, work, b" reduced");
-    compare_reduced(n, f, g, u, v, a.value);
+    answered(a.status, true, &work, b" reduced");
+    compare_reduced(n, f, g, &u, &v, a.value);
     a.value
 }
 
 // D alone: the service without cofactors answers d too.
-fn try_divisor(n: u32, f: &[u32], g: &[u32], work: &mut [u32], d: u32) {
-    fill(work, MARK);
-    let a: Answer = divisor_service::divisor(n, f, g, work);
-    answered(a.status, a.value == d, work, b" divisor");
+fn try_divisor(n: u32, f: &[u32], g: &[u32], d: u32) {
+    let mut work = working_room();
+    let a: Answer = divisor_service::divisor(n, f, g, &mut work);
+    answered(a.status, a.value == d, &work, b" divisor");
 }
 
 // ---- the run
 
-fn try_pair(n: u32, f: &[u32], g: &[u32], u: &mut [u32], v: &mut [u32], work: &mut [u32])
+fn try_pair(n: u32, f: &[u32], g: &[u32])
     requires { ⌜ 1 ≤ n ⌝ }
 {
-    let r = try_resultant(n, f, g, work);
+    let r = try_resultant(n, f, g);
     try_evaluator(n, f, g, r);
-    try_cofactors(n, f, g, u, v, work, r);
+    try_cofactors(n, f, g, r);
     put_name(b" ");
-    let d = try_reduced(n, f, g, u, v, work);
-    try_divisor(n, f, g, work, d);
+    let d = try_reduced(n, f, g);
+    try_divisor(n, f, g, d);
     trial_lines::end_line();
 }
 
 // The frame; whether it was one.
-fn try_frame(
-    frame: &[u8],
-    words: &mut [u32],
-    u: &mut [u32],
-    v: &mut [u32],
-    work: &mut [u32],
-) -> bool {
+fn try_frame(frame: &[u8], words: &mut [u32]) -> bool {
     let n = spelt(frame, 2, 10);
     let d = size(spelt(frame, 10, 12), 48);
     let e = size(spelt(frame, 12, 14), 48);
@@ -291,51 +264,29 @@ fn try_frame(
     if trial_lines::spelt_words(frame, 14, words) < d + e + 2 {
         return false;
     }
-    try_pair(n, &words[0..d + 1], &words[d + 1..d + e + 2], u, v, work);
+    try_pair(n, &words[0..d + 1], &words[d + 1..d + e + 2]);
     true
 }
 
 // The next line; whether it was a frame.
-fn try_line(
-    line: &mut [u8],
-    words: &mut [u32],
-    u: &mut [u32],
-    v: &mut [u32],
-    work: &mut [u32],
-) -> bool {
+fn try_line(line: &mut [u8], words: &mut [u32]) -> bool {
     let l = trial_lines::next_line(line);
-    try_frame(&line[0..l], words, u, v, work)
+    try_frame(&line[0..l], words)
 }
 
 // A proved loop has to end, and nothing says that an input does: it counts its turns down from a number that no run uses up.
-fn run(line: &mut [u8], words: &mut [u32], u: &mut [u32], v: &mut [u32], work: &mut [u32]) {
+fn run(line: &mut [u8], words: &mut [u32]) {
     let mut turns = u64::MAX;
     while turns > 0 {
-        if !try_line(line, words, u, v, work) {
+        if !try_line(line, words) {
             return;
         }
         turns -= 1;
     }
 }
 
-// A cofactor with words to spare, and the working words with words to spare. The contracts give only the lengths.
-fn cofactor_room() -> [u32; 1600]
-    ensures { λ r. ⌜ 1600 ≡ length r ⌝ }
-{
-    [0; 1600]
-}
-
-fn working_room() -> [u32; 8300]
-    ensures { λ r. ⌜ 8300 ≡ length r ⌝ }
-{
-    [0; 8300]
-}
-
 fn main() {
     let mut line = io::buffer();
     let mut words = [0u32; 98];
-    let mut u = cofactor_room();
-    let mut v = cofactor_room();
-    let mut work = working_room();
-    run(&mut line, &mut words, &mut u, &mut v, &mut work);
+    run(&mut line, &mut words);
 }

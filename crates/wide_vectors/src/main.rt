@@ -11,7 +11,6 @@ use trial_lines::put_name;
 use trial_lines::size;
 use trial_lines::spelt;
 use trial_lines::wide_ending;
-use trial_lines::wide_fill;
 use wide_refusals::Answer;
 
 // ---- whether cofactors combine
@@ -104,12 +103,24 @@ fn answered(status: u32, work: &[u64], what: &[u8]) {
     }
 }
 
-// The resultant, from a call with marked words.
-fn try_resultant(n: u64, f: &[u64], g: &[u64], work: &mut [u64]) {
-    wide_fill(work, WIDE_MARK);
-    let a: Answer = wide_resultant_service::resultant(n, f, g, work);
+// Buffers as they are lent, each word marked, with words to spare. The contracts give only the lengths.
+fn cofactor_room() -> [u64; 3040]
+    ensures { λ r. ⌜ 3040 ≡ length r ⌝ }
+{
+    [WIDE_MARK; 3040]
+}
+
+fn working_room() -> [u64; 16400]
+    ensures { λ r. ⌜ 16400 ≡ length r ⌝ }
+{
+    [WIDE_MARK; 16400]
+}
+
+fn try_resultant(n: u64, f: &[u64], g: &[u64]) {
+    let mut work = working_room();
+    let a: Answer = wide_resultant_service::resultant(n, f, g, &mut work);
     trial_lines::put_hexadecimal(a.value, 16);
-    answered(a.status, work, b" resultant");
+    answered(a.status, &work, b" resultant");
 }
 
 // L: the larger degree once for each halving of n, and 1.
@@ -160,50 +171,23 @@ fn compare_reduced(n: u64, f: &[u64], g: &[u64], u: &[u64], v: &[u64], d: u64)
     }
 }
 
-// From a call with marked words.
-fn call_reduced(
-    n: u64,
-    f: &[u64],
-    g: &[u64],
-    u: &mut [u64],
-    v: &mut [u64],
-    work: &mut [u64],
-) -> Answer {
-    wide_fill(u, WIDE_MARK);
-    wide_fill(v, WIDE_MARK);
-    wide_fill(work, WIDE_MARK);
-    wide_reduced_service::reduced_resultant(n, f, g, u, v, work)
-}
-
 // D with its cofactors.
-fn try_reduced(n: u64, f: &[u64], g: &[u64], u: &mut [u64], v: &mut [u64], work: &mut [u64])
+fn try_reduced(n: u64, f: &[u64], g: &[u64])
     requires { ⌜ 1 ≤ n ⌝ }
 {
-    let a = call_reduced(n, f, g, u, v, work);
+    let mut u = cofactor_room();
+    let mut v = cofactor_room();
+    let mut work = working_room();
+    let a: Answer = wide_reduced_service::reduced_resultant(n, f, g, &mut u, &mut v, &mut work);
     trial_lines::put_hexadecimal(a.value, 16);
-    answered(a.status, work, b" reduced");
-    compare_reduced(n, f, g, u, v, a.value);
+    answered(a.status, &work, b" reduced");
+    compare_reduced(n, f, g, &u, &v, a.value);
 }
 
 // ---- the run
 
-fn try_pair(n: u64, f: &[u64], g: &[u64], u: &mut [u64], v: &mut [u64], work: &mut [u64])
-    requires { ⌜ 1 ≤ n ⌝ }
-{
-    try_resultant(n, f, g, work);
-    put_name(b" ");
-    try_reduced(n, f, g, u, v, work);
-    trial_lines::end_line();
-}
-
 // The text of a pair; whether it was one.
-fn try_text(
-    text: &[u8],
-    words: &mut [u64],
-    u: &mut [u64],
-    v: &mut [u64],
-    work: &mut [u64],
-) -> bool {
+fn try_text(text: &[u8], words: &mut [u64]) -> bool {
     let n = trial_lines::wide_spelt(text, 0, 16);
     let d = size(spelt(text, 16, 18), 48);
     let e = size(spelt(text, 18, 20), 48);
@@ -213,51 +197,32 @@ fn try_text(
     if trial_lines::wide_spelt_words(text, 20, words) < d + e + 2 {
         return false;
     }
-    try_pair(n, &words[0..d + 1], &words[d + 1..d + e + 2], u, v, work);
+    try_resultant(n, &words[0..d + 1], &words[d + 1..d + e + 2]);
+    put_name(b" ");
+    try_reduced(n, &words[0..d + 1], &words[d + 1..d + e + 2]);
+    trial_lines::end_line();
     true
 }
 
 // The next line; whether it was a pair.
-fn try_line(
-    line: &mut [u8],
-    words: &mut [u64],
-    u: &mut [u64],
-    v: &mut [u64],
-    work: &mut [u64],
-) -> bool {
+fn try_line(line: &mut [u8], words: &mut [u64]) -> bool {
     let l = trial_lines::next_line(line);
-    try_text(&line[0..l], words, u, v, work)
+    try_text(&line[0..l], words)
 }
 
 // A proved loop has to end, and nothing says that an input does: it counts its turns down from a number that no run uses up.
-fn run(line: &mut [u8], words: &mut [u64], u: &mut [u64], v: &mut [u64], work: &mut [u64]) {
+fn run(line: &mut [u8], words: &mut [u64]) {
     let mut turns = u64::MAX;
     while turns > 0 {
-        if !try_line(line, words, u, v, work) {
+        if !try_line(line, words) {
             return;
         }
         turns -= 1;
     }
 }
 
-// A cofactor with words to spare, and the working words with words to spare. The contracts give only the lengths.
-fn cofactor_room() -> [u64; 3040]
-    ensures { λ r. ⌜ 3040 ≡ length r ⌝ }
-{
-    [0; 3040]
-}
-
-fn working_room() -> [u64; 16400]
-    ensures { λ r. ⌜ 16400 ≡ length r ⌝ }
-{
-    [0; 16400]
-}
-
 fn main() {
     let mut line = io::buffer();
     let mut words = [0u64; 98];
-    let mut u = cofactor_room();
-    let mut v = cofactor_room();
-    let mut work = working_room();
-    run(&mut line, &mut words, &mut u, &mut v, &mut work);
+    run(&mut line, &mut words);
 }

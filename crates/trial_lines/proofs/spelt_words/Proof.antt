@@ -13,4 +13,4 @@ spelt-words-spec =
     (λ text at words₀ count₀ i₀ words count i. length words₀ - count)
     (λ c. search turns) (λ c κs. search turns) (λ c. search turns) (λ c. search turns) (λ c. search turns) (λ c κs. search turns)
     (λ c. search turns) (λ c. search turns) (λ c. search turns) (λ c. search turns) (λ c. search turns) (λ c. search turns)
-    (λ c. search turns) (λ c. search turns))
+    (λ c. search turns) (λ c. search turns) (λ c. search turns))
