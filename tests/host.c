@@ -361,7 +361,7 @@ static jingcobu_factors start(uint32_t n, const uint32_t *h, size_t hl, uint32_t
 {
     static const jingcobu_factors zeros;
     copy(h, hl, NULL, 0);
-    jingcobu_held a = jingcobu_factors_start(n, h, hl);
+    jingcobu_factors_answer a = jingcobu_factors_start(n, h, hl);
     expect(a.status == status, "start: the status", where);
     expect(same(h, hl, NULL, 0), "start: h is only read", where);
     jingcobu_answer b = jingcobu_factors_read(a.factors);
@@ -380,7 +380,7 @@ static jingcobu_factors arrive(jingcobu_factors s, uint16_t number, const uint32
     jingcobu_factors sent = s;
     mark(work, WORK_ROOM);
     copy(f, fl, NULL, 0);
-    jingcobu_held a = jingcobu_factors_arrive(s, number, f, fl, lent(work, wl), wl);
+    jingcobu_factors_answer a = jingcobu_factors_arrive(s, number, f, fl, lent(work, wl), wl);
     expect(a.status == status, "arrival: the status", where);
     expect(same(f, fl, NULL, 0), "arrival: f is only read", where);
     expect(same_state(&s, &sent), "arrival: the host's own copy is as it was", where);
@@ -397,7 +397,7 @@ static jingcobu_factors arrive(jingcobu_factors s, uint16_t number, const uint32
 static jingcobu_factors leave(jingcobu_factors s, uint16_t number, uint32_t status, const char *where)
 {
     jingcobu_factors sent = s;
-    jingcobu_held a = jingcobu_factors_leave(s, number);
+    jingcobu_factors_answer a = jingcobu_factors_leave(s, number);
     expect(a.status == status, "leaving: the status", where);
     expect(same_state(&s, &sent), "leaving: the host's own copy is as it was", where);
     if (status == JINGCOBU_OK) return a.factors;

@@ -2,7 +2,7 @@
  * in z, so B = 60, and smaller degrees. Each figure is the best of several passes over the pool by the processor's clock, PARI's by its
  * own, in microseconds a call. If a word of the engine is not FLINT's, or a call is refused, the program says which and exits with 1. At
  * the end a pair modulo 67 * 71: PARI stops if a leading coefficient has no inverse, and FLINT's function requires a prime modulus. Build
- * and run: make -C bench two && bench/two */
+ * and run: make -C bench bivariate && bench/bivariate */
 #include <stdint.h>
 #include <stdio.h>
 #include <stdlib.h>
