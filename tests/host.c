@@ -3,7 +3,7 @@
  * two residues, factors that come and go, texts written, read and damaged, shares of runs, every word and byte of every
  * buffer after a call, each refusal and their order, the ends of the ranges, the law of products on drawn triples, all pairs of degrees
  * up to 2 modulo some small n, and lengths that are refused before a word is read.
- * It reads stdin and stdout in the folder that its first argument names (crates/vectors), and prints "FAILED" and exits with 1 if
+ * It reads stdin and stdout in the folder that its first argument names (crates/test_vectors), and prints "FAILED" and exits with 1 if
  * something is wrong; the second argument, 100 by default, says after how many failures it stops.
  * Build and run: make -C tests (under a stack of 256 KiB; the output is compared with the file `expected`). */
 #include <stdio.h>
@@ -1524,7 +1524,7 @@ int main(int argc, char **argv)
 {
     static const uint32_t moduli[] = { 2, 4, 6, 8, 12, 30, 36, 210, 2147483648u, 3486784401u, 223092870u, 2176782336u, 4294967291u, 4294967295u };
     if (argc > 2) most_failed = atol(argv[2]);
-    pairs(argc > 1 ? argv[1] : "../crates/vectors");
+    pairs(argc > 1 ? argv[1] : "../crates/test_vectors");
     batches(moduli, sizeof moduli / sizeof *moduli, (const word[]) { 0, 1, 0, 1 }, 7);
     orders((const word[]) { 0, 1, 0, 1 }, 7, more_of_reasons);
     orders_of_claims();

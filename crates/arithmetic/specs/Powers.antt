@@ -1,4 +1,4 @@
--- A turn of a power by squaring. Assumes nothing: this is a definition.
+-- A round of a power by squaring. Assumes nothing: this is a definition.
 --
 --   TimesDigit n r y j t    t is r y modulo n where the last binary digit of j is 1, else r
 use mathlib.Core.Path.{_≡_}

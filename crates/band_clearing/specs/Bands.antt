@@ -30,7 +30,7 @@ use lib.ListN.{length, getD}
 use Rattle.definitions.specs.Polynomials.{coef, deg, Residues}
 use Rattle.definitions.specs.Resultants.{resultant, Combination}
 use Rattle.windows.specs.Window.{piece}
-use Rattle.cofactor_rows.specs.LiveWords.{LiveWords}
+use Rattle.law_rows.specs.LiveWords.{LiveWords}
 
 abbrev pub row-size : ℕ
 row-size = 145

@@ -1,4 +1,4 @@
--- A turn of the loop over the columns, on the rows in the buffer: rows come in, and the row with the column's only word leaves.
+-- A round of the loop over the columns, on the rows in the buffer: rows come in, and the row with the column's only word leaves.
 --
 --   entered-row                 a row that comes in, by its windows
 --   entering-both, entering-first, entering-second, entering-none    the rows of a column are in
@@ -13,12 +13,12 @@ use native.Mathlib.Nat.{mod-lt}
 use native.Mathlib.Omega.{arith}
 use lib.ListN.{length, getD}
 use Rattle.definitions.specs.Polynomials.{coef, deg, Residues}
-use Rattle.theory.specs.ResultantLaws.{signed}
-use Rattle.resultant_turns.specs.Degrees.{deg-of}
+use Rattle.law_polynomials.specs.ResultantLaws.{signed}
+use Rattle.resultant_signs.specs.Degrees.{deg-of}
 use Rattle.windows.specs.Window.{Moved, second}
-use Rattle.cofactor_rows.specs.LiveWords.{LiveWords}
-use Rattle.cofactor_rows.specs.WordSteps.{Entered, signed-below, words-enter-both, words-enter-first, words-enter-second}
-use Rattle.cofactor_rows.specs.WordSteps.{words-enter-none, words-leave-last, words-leave}
+use Rattle.law_rows.specs.LiveWords.{LiveWords}
+use Rattle.law_rows.specs.WordSteps.{Entered, signed-below, words-enter-both, words-enter-first, words-enter-second}
+use Rattle.law_rows.specs.WordSteps.{words-enter-none, words-leave-last, words-leave}
 use Rattle.band_clearing.specs.Bands.{cell, window, from-top, Shape, Band, RowEntered, Shifted}
 use Rattle.band_clearing.proofs.Cells.{window-at, window-over, moved-in, moved-other}
 use Rattle.band_clearing.proofs.TwoRows.{head-cell}

@@ -9,7 +9,7 @@ use Prim.Native.Nat.{ℕ, suc, _+_, _*_, _-_, _%_, _<_, _≤_}
 use native.Mathlib.Nat.{mod-lt}
 use native.Mathlib.Omega.{arith}
 use lib.ListN.{getD}
-use Rattle.theory.specs.ResultantLaws.{signed}
+use Rattle.law_polynomials.specs.ResultantLaws.{signed}
 use Rattle.windows.specs.Window.{Moved, second}
 use Rattle.band_clearing.specs.Bands.{Band, RowEntered, Shifted, LeaveAsked, RowLeft, ComeAsked, CameIn}
 use Rattle.band_rows.proofs.ColumnTurns.{band-cast, entering-both, entering-first, entering-second, entering-none}

@@ -82,7 +82,7 @@ pub fn come_in(w: &mut [u32], n: u32, f: &[u32], g: &[u32], s: Sizes, j: usize, 
             enter(w, l + 1, g, SECOND, s.d - 1 - j);
             return Stage {
                 rows: l + 2,
-                factor: resultant_turns::with_sign(n, s.e - 1 - j, x),
+                factor: resultant_signs::with_sign(n, s.e - 1 - j, x),
             };
         }
         return Stage {
@@ -109,10 +109,10 @@ pub fn leave(w: &mut [u32], n: u32, t: usize, l: usize, b: usize, x: u32) -> u32
     let y = w[ROW * t];
     if t == l {
         shift_rows(w, l, b);
-        return resultant_turns::with_sign(n, l, arithmetic::mul_mod(n, x, y));
+        return resultant_signs::with_sign(n, l, arithmetic::mul_mod(n, x, y));
     }
     windows::copy(w, ROW * l, ROW * t, ROW);
     shift_rows(w, l, b);
     let z = arithmetic::negate(n, x);
-    resultant_turns::with_sign(n, l, arithmetic::mul_mod(n, z, y))
+    resultant_signs::with_sign(n, l, arithmetic::mul_mod(n, z, y))
 }

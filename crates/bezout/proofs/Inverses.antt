@@ -10,18 +10,18 @@ use native.Mathlib.Nat.{dvd-mul-right, dvd-refl, mul-comm, dvd-trans, one-dvd, m
 use native.Mathlib.Omega.{arith}
 use borrow.Author.Needs.{needs}
 use lib.Bits.{bitAnd}
-use Rattle.numbers.specs.Congruence.{Cong, c-refl, c-sym, c-trans, c-eq, c-mul, c-mod, c-dvd, c-zero, dvd-c}
-use Rattle.numbers.specs.Divisors.{GcdCofactor}
-use Rattle.words.specs.Digits.{product-fits}
+use Rattle.law_numbers.specs.Congruence.{Cong, c-refl, c-sym, c-trans, c-eq, c-mul, c-mod, c-dvd, c-zero, dvd-c}
+use Rattle.law_numbers.specs.Divisors.{GcdCofactor}
+use Rattle.law_words.specs.Digits.{product-fits}
 use Rattle.reduction.specs.Powers.{PowerIn, PowerTest}
 use Rattle.reduction.specs.Newton.{Refined, refined, odd-square}
 use Rattle.reduction.proofs.Masks.{mask-is}
 
 pub newton : (a m r : ℕ) → r ≡ (m * ((4294967298 - (a * m) % 4294967296) % 4294967296)) % 4294967296 → Refined 4294967296 a m r
-newton a m r e = refined 4294967296 a m ((a * m) % 4294967296) ((4294967298 - (a * m) % 4294967296) % 4294967296) r refl (turned (a * m)) e
+newton a m r e = refined 4294967296 a m ((a * m) % 4294967296) ((4294967298 - (a * m) % 4294967296) % 4294967296) r refl (rotated (a * m)) e
   where
-    turned : (x : ℕ) → ((4294967298 - x % 4294967296) % 4294967296 + x % 4294967296) % 4294967296 ≡ 2
-    turned x = omega arith
+    rotated : (x : ℕ) → ((4294967298 - x % 4294967296) % 4294967296 + x % 4294967296) % 4294967296 ≡ 2
+    rotated x = omega arith
 
 pub low-fits : (m y : ℕ) → m < 2 ^ 32 → m * (y % 4294967296) < 2 ^ 64
 low-fits m y h = product-fits h (omega arith)

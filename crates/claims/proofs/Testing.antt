@@ -23,8 +23,8 @@ use borrow.Author.Count.{below-more}
 use Rattle.definitions.specs.Polynomials.{coef, convolve, constant}
 use Rattle.definitions.specs.Checks.{convolve-beyond}
 use Rattle.definitions.specs.Resultants.{Combination, Reduced}
-use Rattle.numbers.specs.Congruence.{c-mod, c-add}
-use Rattle.theory.specs.ReachedLaws.{reduced-unique}
+use Rattle.law_numbers.specs.Congruence.{c-mod, c-add}
+use Rattle.law_polynomials.specs.ReachedLaws.{reduced-unique}
 use Rattle.claims.specs.Claims.{Tells}
 
 true-false : {A : Type 0} → true ≡ false → A

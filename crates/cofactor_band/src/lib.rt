@@ -6,7 +6,7 @@
 //
 // The rows of a column are cleared in `band_clearing`; they come in and leave in `band_rows`.
 //
-//   column, columns                          a turn of the loop over the columns, and the loop
+//   column, columns                          a round of the loop over the columns, and the loop
 //   last_row                                 all columns: one row of one word is left
 //   scale_into, cofactors                    the last row times the factor: the cofactors
 ghost use Prim.Native.Nat.{_+_, _-_, _<_, _≤_};

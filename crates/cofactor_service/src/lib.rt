@@ -36,7 +36,7 @@ fn room_refusal(d: usize, e: usize, first: usize, second: usize, working: usize)
 fn refusal(n: u32, f: &[u32], g: &[u32], first: usize, second: usize, working: usize) -> u32
     ensures { λ r. ⌜ CofactorTold narrow n (now (f .entry)) (now (g .entry)) first second working r ⌝ }
 {
-    let s = refusals::refusal_two(n, f, g);
+    let s = refusals::refusal_of_pair(n, f, g);
     if s != 0 {
         return s;
     }

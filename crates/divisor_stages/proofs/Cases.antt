@@ -4,7 +4,7 @@
 --   lead-at, lead-splits-at, lead-nilpotents-at, next-at  of a polynomial that gets a leading unit
 --   done-at, parts-at, positive-at, falls-at, asked-at    of the clearing of a content
 --   fits-at, value-at, split-at                           of the stage after it
---   leads, clearings, stages, fitting                     the rules
+--   leadings, clearings, stages, fitting                  the rules
 use mathlib.Core.Path.{_≡_, subst}
 use mathlib.Core.List.{List}
 use Prim.Native.Nat.{ℕ, _+_, _*_, _/_, _≤_, _<_}
@@ -22,8 +22,8 @@ use Rattle.window_factor.specs.declared.Highest.the-variants.{UnitAt as UnitAt'
 use Rattle.window_factor.specs.Factors.{HighestOf, LeadingUnit, SplitOf, AllNilpotents}
 use Rattle.divisor_stages.specs.declared.Clearing.{Clearing}
 use Rattle.divisor_stages.specs.declared.Clearing.the-variants.{Done, Parts, Next}
-use Rattle.divisor_stages.specs.Leads.{LeadAsked, Leading, LeadAnswer}
-use Rattle.divisor_stages.specs.Stages.{ContentAsked, ContentTaken, DivisionAsked, Cleared, Clears, DivisorOrSplit}
+use Rattle.divisor_stages.specs.LeadingUnits.{LeadAsked, Leading, LeadAnswer}
+use Rattle.divisor_stages.specs.DivisorStages.{ContentAsked, ContentTaken, DivisionAsked, Cleared, Clears, DivisorOrSplit}
 use Rattle.divisor_stages.proofs.Factors.{part-of, place-fits, factors}
 use Rattle.divisor_stages.proofs.Contents.{content-cleared, contents}
 use Rattle.divisor_stages.proofs.Divisions.{cleared-falls, cleared-fits, cleared-splitter, divisions}
@@ -88,7 +88,7 @@ module _ (n a d b s : ℕ) (w w' : List ℕ) (r : Clearing) (p : Clears n a d b 
       pub split-at : (u v : ℕ) → q ≡ Splits u v → Splitter n u v
       split-at u v o = cleared-splitter cleared (subst (DivisorOrSplit (n / c) (piece w' a (d + 1)) (piece w' b (k + 1))) o x)
 
-pub ruleset leads = (factors, unit-at, place-at, splits-at, nilpotents-at)
+pub ruleset leadings = (factors, unit-at, place-at, splits-at, nilpotents-at)
 
 pub ruleset clearings = (needs, contents, next-at, lead-splits-at, lead-nilpotents-at)
 

@@ -18,19 +18,19 @@ use lib.ListN.{length, getD}
 use Rattle.definitions.specs.Residues.{IsUnit}
 use Rattle.definitions.specs.Polynomials.{coef}
 use Rattle.definitions.specs.Resultants.{Reduced}
-use Rattle.numbers.specs.Nilpotents.{nilpotent-radical}
-use Rattle.numbers.specs.Primes.{prime-of}
-use Rattle.theory.specs.ReducedLaws.{reduced-flip}
+use Rattle.law_numbers.specs.Nilpotents.{nilpotent-radical}
+use Rattle.law_numbers.specs.Primes.{prime-of}
+use Rattle.law_polynomials.specs.ReducedLaws.{reduced-flip}
 use Rattle.windows.specs.Window.{piece, Moved, quotient-by, reduced-by, Content}
 use Rattle.windows.proofs.Leaf.{lt-or-le, piece-at, piece-over, piece-same, piece-length, apart-at}
 use Rattle.windows.proofs.Lift.{moved-around}
 use Rattle.window_factor.specs.Factors.{SplitOf, AllNilpotents}
-use Rattle.reduced_multipliers.specs.Reductions.{UnitLead, reduced-same, reduced-lead, reduced-none}
+use Rattle.law_multipliers.specs.Reductions.{UnitLead, reduced-same, reduced-lead, reduced-none}
 use Rattle.reduced_units.specs.States.{Splitter}
 use Rattle.reduced_units.proofs.Regions.{apart-swap}
 pub use Rattle.reduced_clearing.proofs.UnitSteps.{split-splitter}
-use Rattle.divisor_stages.specs.Leads.{LeadAsked, Leading}
-use Rattle.divisor_stages.specs.Stages.{TakeAsked, ContentTaken, ContentAsked, Cleared}
+use Rattle.divisor_stages.specs.LeadingUnits.{LeadAsked, Leading}
+use Rattle.divisor_stages.specs.DivisorStages.{TakeAsked, ContentTaken, ContentAsked, Cleared}
 use Rattle.divisor_stages.proofs.Factors.{part-of, part-is}
 
 -- two coprime divisors of a divisor of n

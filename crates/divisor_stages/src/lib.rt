@@ -14,8 +14,8 @@
 //   content_stage, division_stage    the stages that call each other
 ghost use Prim.Native.Nat.{_+_};
 ghost use Rattle.windows.specs.Window.{piece, Scratch};
-ghost use Rattle.divisor_stages.specs.Leads.{LeadAsked, FactorAsked, Leading, LeadAnswer};
-ghost use Rattle.divisor_stages.specs.Stages.{TakeAsked, ContentTaken, ContentAsked, DivisionAsked, DivisorOrSplit, Clears};
+ghost use Rattle.divisor_stages.specs.LeadingUnits.{LeadAsked, FactorAsked, Leading, LeadAnswer};
+ghost use Rattle.divisor_stages.specs.DivisorStages.{TakeAsked, ContentTaken, ContentAsked, DivisionAsked, DivisorOrSplit, Clears};
 use residue::Attempt;
 use window_factor::Highest;
 

@@ -11,7 +11,7 @@ use native.Mathlib.Omega.{arith}
 use lib.ListN.{length, getD}
 use borrow.Author.Needs.{needs}
 use Rattle.definitions.specs.Polynomials.{convolve, constant}
-use Rattle.theory.specs.ReachedSteps.{convolve-constant}
+use Rattle.law_polynomials.specs.ReachedSteps.{convolve-constant}
 use Rattle.windows.proofs.Leaf.{piece-at, piece-over}
 use Rattle.modulus.specs.declared.Modulus.{Modulus}
 use Rattle.modulus.specs.Values.{value, values}
@@ -20,10 +20,10 @@ use Rattle.euclid_steps.specs.declared.Logged.{Logged}
 use Rattle.euclid_steps.specs.declared.Found.{Found}
 use Rattle.euclid_steps.specs.Plain.{Sound, values-at}
 use Rattle.euclid_steps.specs.Steps.{bound-lifted}
-use Rattle.euclid_steps.specs.Stages.{polynomial}
+use Rattle.euclid_steps.specs.EuclidStages.{polynomial}
 use Rattle.euclid_steps.specs.Backs.{Held, Ended, LiftAsked, Lifted}
 use Rattle.euclid_steps.specs.Trails.{Passed, Trail}
-use Rattle.euclid_multipliers.specs.Ways.{Reads, Descended, Rising, Rises, Raising, stage, f-at, g-at}
+use Rattle.euclid_multipliers.specs.StepsInBuffer.{Reads, Descended, Rising, Rises, Raising, stage, f-at, g-at}
 use Rattle.euclid_multipliers.specs.declared.Descent.{Descent}
 use Rattle.euclid_multipliers.proofs.Trailing.{falls-least, trail-kept}
 
@@ -153,10 +153,10 @@ module _ {m : Modulus} {h : ℕ} {x : Stage} {w : List ℕ} {y : Descent} {v : L
   sum : (F G : ℕ → ℕ) (K k : ℕ) → (convolve (polynomial m v' (r .u) h) F k + K * convolve (polynomial m v' (r .v) h) G k) ≡ F k
   sum F G K k =
       ap₂ (λ (p q : ℕ → ℕ). convolve p F k + K * convolve q G k) beta-is gamma-is
-      ∙ ap₂ (λ (p q : ℕ). p + K * q) (convolve-constant 1 F k) (convolve-constant 0 G k) ∙ turn K (F k) (G k)
+      ∙ ap₂ (λ (p q : ℕ). p + K * q) (convolve-constant 1 F k) (convolve-constant 0 G k) ∙ elimination K (F k) (G k)
     where
-      turn : (K p q : ℕ) → 1 * p + K * (0 * q) ≡ p
-      turn K p q = omega arith
+      elimination : (K p q : ℕ) → 1 * p + K * (0 * q) ≡ p
+      elimination K p q = omega arith
 
   pub bottomed : Rising m h (f-at m x w) (g-at m x w) (x .d) (x .e) constant-at (y .steps) r v'
   bottomed =

@@ -14,14 +14,14 @@ use Prim.Native.Nat.{ℕ, zero, suc, _+_, _-_, _*_, _%_, _^_, _≤_, _<_}
 use native.Mathlib.Omega.{arith}
 use native.Mathlib.Nat.{mod-lt, mod-eq-of-lt, mul-comm, add-mul-mod-self-right, le-of-lt}
 use borrow.Author.Needs.{needs}
-use Rattle.numbers.specs.Congruence.{Cong, c-refl, c-sym, c-trans, c-eq, c-mod, c-add, c-mul}
-use Rattle.numbers.specs.Divisors.{IsGcd}
+use Rattle.law_numbers.specs.Congruence.{Cong, c-refl, c-sym, c-trans, c-eq, c-mod, c-add, c-mul}
+use Rattle.law_numbers.specs.Divisors.{IsGcd}
 use Rattle.reduction.specs.Moduli.{Ready}
 use Rattle.reduction.specs.declared.Reciprocal.{Reciprocal}
 use Rattle.montgomery.specs.Held.{held, plain, Formed}
 use Rattle.montgomery.specs.declared.Form.{Form}
-use Rattle.montgomery.specs.Turning.{plain-below, plain-none, plain-same, plain-add, plain-mul, plain-zero}
-use Rattle.montgomery.specs.Turning.{plain-negative, plain-product, plain-three, plain-gcd, leave-enter, held-below}
+use Rattle.montgomery.specs.Decoding.{plain-below, plain-none, plain-same, plain-add, plain-mul, plain-zero}
+use Rattle.montgomery.specs.Decoding.{plain-negative, plain-product, plain-three, plain-gcd, leave-enter, held-below}
 use Rattle.modulus.specs.declared.Modulus.{Modulus}
 use Rattle.modulus.specs.Values.{Known, value, value-by, form, reciprocal}
 

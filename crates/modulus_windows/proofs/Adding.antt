@@ -9,12 +9,12 @@ use Prim.Native.Nat.{ℕ, _+_, _*_, _%_, _≤_, _<_}
 use native.Mathlib.Nat.{one-mul, zero-mul, add-zero, le-of-lt}
 use native.Mathlib.Omega.{arith}
 use lib.ListN.{length, getD}
-use Rattle.numbers.specs.Congruence.{Cong, c-refl, c-trans, c-eq, c-mod, c-add, c-mul}
+use Rattle.law_numbers.specs.Congruence.{Cong, c-refl, c-trans, c-eq, c-mod, c-add, c-mul}
 use Rattle.windows.specs.Window.{Clear, Apart, Below, PairAsked, Paired, Moved, Written, addMul, mulBy, behind}
-use Rattle.windows.proofs.Turns.{power-told}
+use Rattle.windows.proofs.WindowRounds.{power-told}
 use Rattle.window_combining.specs.Combined.{combination}
 use Rattle.montgomery.specs.Held.{plain}
-use Rattle.montgomery.specs.Turning.{plain-none}
+use Rattle.montgomery.specs.Decoding.{plain-none}
 use Rattle.modulus.specs.declared.Modulus.{Modulus}
 use Rattle.modulus.specs.Values.{Known, value}
 use Rattle.modulus.proofs.Valuing.{value-held, formed-of, ready-of}

@@ -13,18 +13,18 @@ use native.Mathlib.Nat.{mod-lt, le-of-lt}
 use native.Mathlib.Omega.{arith}
 use lib.ListN.{length, getD, length-map, List·getD-map}
 use borrow.Author.Needs.{needs}
-use Rattle.numbers.specs.Congruence.{Cong, c-refl, c-eq, c-add, c-mul}
+use Rattle.law_numbers.specs.Congruence.{Cong, c-refl, c-eq, c-add, c-mul}
 use Rattle.windows.specs.Window.{Below, Written, Moved, mulBy, Loaded, behind}
 use Rattle.windows.proofs.Leaf.{written-around, loaded-around}
 use Rattle.windows.proofs.Lift.{moved-around}
 use Rattle.window_combining.specs.Combined.{combination}
 use Rattle.montgomery.specs.Held.{held, plain}
-use Rattle.montgomery.specs.Turning.{held-below}
+use Rattle.montgomery.specs.Decoding.{held-below}
 use Rattle.modulus.specs.declared.Modulus.{Modulus}
 use Rattle.modulus.specs.Values.{Known, value, values}
 use Rattle.modulus.proofs.Valuing.{value-held, value-plain, value-none, value-below, value-three, value-negative, formed-of, ready-of}
 use Rattle.modulus.proofs.Valuing.{entered-held as word-held}
-use Rattle.modulus_windows.specs.Standing.{Wrote, Scaled, Entered}
+use Rattle.modulus_windows.specs.LoopPromises.{Wrote, Scaled, Entered}
 
 pub values-length : (m : Modulus) (w : List ℕ) → length (values m w) ≡ length w
 unfolding values
@@ -186,6 +186,6 @@ module _ (m : Modulus) (k : Known m) where
     pub entered-plain : m .held ≡ 0 → Loaded (m .n) a f w w' → Entered m a f w w'
     entered-plain e = entered-own m (known-linear k) f (value-plain m e)
 
-pub ruleset turned = (wrote-held, wrote-plain, single-held, single-plain, scaled-held, scaled-plain, entered-held, entered-plain)
+pub ruleset decoded = (wrote-held, wrote-plain, single-held, single-plain, scaled-held, scaled-plain, entered-held, entered-plain)
 
-pub ruleset forms = (needs, le-of-lt, formed-of, ready-of, turned)
+pub ruleset forms = (needs, le-of-lt, formed-of, ready-of, decoded)

@@ -1,4 +1,4 @@
--- The turns of the loops with held multipliers.
+-- The rounds of the loops with held multipliers.
 --
 --   scaling-held    a product with a held multiplier, as it is written
 --   before-held     the word before is a residue
@@ -10,10 +10,10 @@ use native.Mathlib.Nat.{mod-eq-of-lt}
 use native.Mathlib.Omega.{arith}
 use lib.ListN.{length, getD, set}
 use Rattle.windows.specs.Window.{Below, Clear, mulBy}
-use Rattle.windows.proofs.Turns.{Moving, moving-by, writing-end, leaves}
+use Rattle.windows.proofs.WindowRounds.{Moving, moving-by, writing-end, leaves}
 use Rattle.window_combining.proofs.Steps.{Combining, before-below, source-below, target-below, combinations}
 use Rattle.montgomery.specs.Held.{plain, Formed}
-use Rattle.montgomery.specs.Turning.{plain-below, plain-mul}
+use Rattle.montgomery.specs.Decoding.{plain-below, plain-mul}
 use Rattle.montgomery.specs.declared.Form.{Form}
 
 module _ (form : Form) (f : Formed form) {src dst len j : ℕ} {w₀ w : List ℕ} where

@@ -24,7 +24,7 @@ ghost use Rattle.windows.specs.Window.{Clear, Apart, Below, PairAsked, Paired, 
 ghost use Rattle.window_combining.specs.Combined.{combination};
 ghost use Rattle.montgomery.specs.Held.{held, plain, Formed};
 ghost use Rattle.modulus.specs.Values.{Known, value, values};
-ghost use Rattle.modulus_windows.specs.Standing.{Wrote, Scaled, Entered};
+ghost use Rattle.modulus_windows.specs.LoopPromises.{Wrote, Scaled, Entered};
 use modulus::Modulus;
 use montgomery::Form;
 use reduction::Reciprocal;

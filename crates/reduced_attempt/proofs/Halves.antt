@@ -20,23 +20,23 @@ use borrow.Rule.Slice.PartMut.{midOf}
 use Rattle.definitions.specs.Residues.{K, Inverse, IsNilpotent, Splitting}
 use Rattle.definitions.specs.Polynomials.{coef, L}
 use Rattle.definitions.specs.Resultants.{Combination, Reduced}
-use Rattle.numbers.specs.Coprimality.{coprime-power, coprime-sym}
-use Rattle.numbers.specs.Logarithm.{K-monotone}
-use Rattle.numbers.specs.Nilpotents.{nilpotent-radical}
-use Rattle.numbers.specs.Primes.{prime-of}
-use Rattle.numbers.specs.Units.{coprime-of-unit}
-use Rattle.theory.specs.ReachedSteps.{Times, coef-beyond}
-use Rattle.theory.specs.ReducedLaws.{reduced-content}
+use Rattle.law_numbers.specs.Coprimality.{coprime-power, coprime-sym}
+use Rattle.law_numbers.specs.Logarithm.{K-monotone}
+use Rattle.law_numbers.specs.Nilpotents.{nilpotent-radical}
+use Rattle.law_numbers.specs.Primes.{prime-of}
+use Rattle.law_numbers.specs.Units.{coprime-of-unit}
+use Rattle.law_polynomials.specs.ReachedSteps.{Times, coef-beyond}
+use Rattle.law_polynomials.specs.ReducedLaws.{reduced-content}
 use Rattle.windows.specs.Window.{piece, Moved, quotient-by, Loaded, Content, Below}
 use Rattle.windows.proofs.Leaf.{lt-or-le, piece-at, piece-over, piece-length}
 use Rattle.window_factor.specs.Factors.{SplitOf, LeadingUnit, AllNilpotents as NilpotentWords}
-use Rattle.reduced_multipliers.specs.Joining.{combination-content}
+use Rattle.law_multipliers.specs.Joining.{combination-content}
 use Rattle.reduced_units.specs.States.{Splitter}
 use Rattle.reduced_units.proofs.Regions.{part-piece}
 use Rattle.reduced_clearing.proofs.UnitSteps.{split-splitter}
 use Rattle.reduced_cofactors.specs.Cofactors.{core-room, CoreAsked, Certified, CoreCertified}
-use Rattle.reduced_attempt.specs.Attempts.{CommonContent, PairLoaded, Arranged, BothLeave, Left}
-use Rattle.reduced_attempt.specs.Attempts.{NilpotentOver, HalfAsked, OverAsked, CoreOver}
+use Rattle.reduced_attempt.specs.ReducedAttempts.{CommonContent, PairLoaded, Arranged, BothLeave, Left}
+use Rattle.reduced_attempt.specs.ReducedAttempts.{NilpotentOver, HalfAsked, OverAsked, CoreOver}
 use Rattle.reduced_attempt.proofs.Scalings.{scaled, scaled-at, scaled-times, reduced-unscaled, combination-unscaled, divides-scaled}
 use Rattle.reduced_attempt.proofs.Scalings.{nilpotent-unscaled, pair-plain, left-one}
 

@@ -19,19 +19,19 @@ use lib.ListN.{length, getD, List·getD-map}
 use Rattle.definitions.specs.Residues.{IsUnit, IsNilpotent}
 use Rattle.definitions.specs.Polynomials.{coef, convolve}
 use Rattle.definitions.specs.Resultants.{Combination, Reduced}
-use Rattle.numbers.specs.Congruence.{Cong, c-refl, c-sym, c-trans, c-eq, c-add, c-mul, c-mod, c-dvd, ring}
-use Rattle.numbers.specs.Nilpotents.{InRadical, nilpotent-radical, radical-nilpotent, radical-mul, radical-mod}
-use Rattle.numbers.specs.Units.{inverse-times, unit-of}
-use Rattle.theory.specs.ReachedSteps.{Times, coef-beyond, convolve-mod, convolve-scale, convolve-scale-left, drop-mod}
-use Rattle.theory.specs.ReducedLaws.{reduced-flip}
+use Rattle.law_numbers.specs.Congruence.{Cong, c-refl, c-sym, c-trans, c-eq, c-add, c-mul, c-mod, c-dvd, ring}
+use Rattle.law_numbers.specs.Nilpotents.{InRadical, nilpotent-radical, radical-nilpotent, radical-mul, radical-mod}
+use Rattle.law_numbers.specs.Units.{inverse-times, unit-of}
+use Rattle.law_polynomials.specs.ReachedSteps.{Times, coef-beyond, convolve-mod, convolve-scale, convolve-scale-left, drop-mod}
+use Rattle.law_polynomials.specs.ReducedLaws.{reduced-flip}
 use Rattle.windows.specs.Window.{Written, Moved, mulBy, Loaded}
 use Rattle.windows.proofs.Leaf.{lt-or-le}
 use Rattle.montgomery.specs.Held.{plain}
 use Rattle.modulus.specs.declared.Modulus.{Modulus}
 use Rattle.modulus.specs.Values.{value, value-by, values, Enters}
-use Rattle.modulus_windows.specs.Standing.{Entered}
-use Rattle.reduced_multipliers.specs.Reductions.{reduced-scaled}
-use Rattle.reduced_attempt.specs.Attempts.{PairLoaded, LeaveAsked, Left}
+use Rattle.modulus_windows.specs.LoopPromises.{Entered}
+use Rattle.law_multipliers.specs.Reductions.{reduced-scaled}
+use Rattle.reduced_attempt.specs.ReducedAttempts.{PairLoaded, LeaveAsked, Left}
 
 -- ---- r f and r g
 
@@ -150,10 +150,10 @@ module _ (m : Modulus) (r : ℕ) (pos : 1 ≤ m .n) (e : Enters m 1 r) where
   entered-word x a l h =
       sym (mod-eq-of-lt l)
       ∙ c-trans (c-eq (sym (mul-one x))) (c-trans (c-mul (c-refl {a = x}) (c-sym entered-one))
-      (c-trans (c-eq (turn (value m 1))) (c-mul (c-refl {a = r}) (c-trans (c-sym (value-times m x)) (c-trans (c-eq h) (c-mod a)))))) .same
+      (c-trans (c-eq (round (value m 1))) (c-mul (c-refl {a = r}) (c-trans (c-sym (value-times m x)) (c-trans (c-eq h) (c-mod a)))))) .same
     where
-      turn : (v : ℕ) → x * (r * v) ≡ r * (x * v)
-      turn v = omega arith
+      round : (v : ℕ) → x * (r * v) ≡ r * (x * v)
+      round v = omega arith
 
   entered-at : {a : ℕ} {f w w' : List ℕ} → Entered m a f w w' → (k : ℕ) → k < length f → getD w' (a + k) 0 ≡ (r * coef f k) % m .n
   entered-at {a} {f} {w} {w'} en k h = entered-word _ _ (en .below .at k h) (sym (values-word m w' (a + k)) ∙ en .stands .mid k h)

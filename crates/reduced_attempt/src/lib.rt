@@ -11,19 +11,20 @@
 //   half             the attempt where the first polynomial is the one that is factored
 //   over_content     the same, where the words stand over the content; core_over is the core of the attempt there
 //   split            two coprime divisors of n, made two coprime factors
-//   attempt          both_halves in turn, other_half the second
+//   attempt          both_halves in round, other_half the second
 ghost use Prim.Native.Nat.{_+_, _-_, _*_, _/_, _≤_};
 ghost use lib.ListN.{length};
 ghost use Rattle.windows.specs.Window.{Scratch};
 ghost use Rattle.reduced_units.specs.States.{Splitter};
 ghost use Rattle.reduced_cofactors.specs.Cofactors.{CoreAnswer};
-ghost use Rattle.reduced_attempt.specs.Attempts.{CommonContent, PairLoaded, Arranged, LeaveAsked, BothLeave, Left, HalfAsked};
-ghost use Rattle.reduced_attempt.specs.Attempts.{OverAsked, CoreOver, OtherAsked, TrialAnswers, Parted, AttemptAsked, Attempted};
+ghost use Rattle.reduced_attempt.specs.ReducedAttempts.{CommonContent, PairLoaded, Arranged, LeaveAsked, BothLeave, Left, HalfAsked};
+ghost use Rattle.reduced_attempt.specs.ReducedAttempts.{OverAsked, CoreOver, OtherAsked, HalfAttempted, Parted, AttemptAsked};
+ghost use Rattle.reduced_attempt.specs.ReducedAttempts.{Attempted};
 use residue::Attempt;
 
 // What the half of an attempt comes to that factors the first polynomial: D; two coprime divisors of n; or all coefficients of that
 // polynomial, over the common content, are nilpotent.
-pub enum Trial {
+pub enum HalfAttempt {
     Found(u32),
     Divisors(u32, u32),
     Nilpotent,
@@ -88,9 +89,17 @@ fn leave_both(x: &mut [u32], y: &mut [u32], n: u32, r: u32)
 }
 
 // The reduced resultant of a and b, c their common content, with the cofactors x of a and y of b, if a can be factored.
-fn half(x: &mut [u32], y: &mut [u32], w: &mut [u32], n: u32, c: u32, a: &[u32], b: &[u32]) -> Trial
+fn half(
+    x: &mut [u32],
+    y: &mut [u32],
+    w: &mut [u32],
+    n: u32,
+    c: u32,
+    a: &[u32],
+    b: &[u32],
+) -> HalfAttempt
     requires { ⌜ HalfAsked n c (now a) (now b) (now x) (now y) (now w) ⌝ }
-    ensures { λ r. ⌜ TrialAnswers n c (now (a .entry)) (now (b .entry)) (now (x .entry)) (now (y .entry))
+    ensures { λ r. ⌜ HalfAttempted n c (now (a .entry)) (now (b .entry)) (now (x .entry)) (now (y .entry))
         (now (x .exit)) (now (y .exit)) r ⌝ }
     ensures { λ _. ⌜ Scratch (now (w .entry)) (now (w .exit)) ⌝ }
 {
@@ -99,8 +108,8 @@ fn half(x: &mut [u32], y: &mut [u32], w: &mut [u32], n: u32, c: u32, a: &[u32], 
     let m = l + a.len();
     match window_factor::highest_of(&w[l..m], n / c) {
         window_factor::Highest::UnitAt(t, i) => over_content(x, y, w, n, c, r, a, b, t, i),
-        window_factor::Highest::Splits(p, q) => Trial::Divisors(p, q),
-        window_factor::Highest::AllNilpotent => Trial::Nilpotent,
+        window_factor::Highest::Splits(p, q) => HalfAttempt::Divisors(p, q),
+        window_factor::Highest::AllNilpotent => HalfAttempt::Nilpotent,
     }
 }
 
@@ -117,18 +126,18 @@ fn over_content(
     b: &[u32],
     t: usize,
     i: u32,
-) -> Trial
+) -> HalfAttempt
     requires { ⌜ OverAsked n c r t i (now a) (now b) (now x) (now y) (now w) ⌝ }
-    ensures { λ z. ⌜ TrialAnswers n c (now (a .entry)) (now (b .entry)) (now (x .entry)) (now (y .entry))
+    ensures { λ z. ⌜ HalfAttempted n c (now (a .entry)) (now (b .entry)) (now (x .entry)) (now (y .entry))
         (now (x .exit)) (now (y .exit)) z ⌝ }
     ensures { λ _. ⌜ Scratch (now (w .entry)) (now (w .exit)) ⌝ }
 {
     match core_over(x, y, w, n, c, a, b, t, i) {
         Attempt::Value(d) => {
             leave_both(x, y, n, r);
-            Trial::Found(c * d)
+            HalfAttempt::Found(c * d)
         }
-        Attempt::Splits(p, q) => Trial::Divisors(p, q),
+        Attempt::Splits(p, q) => HalfAttempt::Divisors(p, q),
     }
 }
 
@@ -196,9 +205,9 @@ fn both_halves(
     ensures { λ _. ⌜ Scratch (now (w .entry)) (now (w .exit)) ⌝ }
 {
     match half(u, v, w, n, c, f, g) {
-        Trial::Found(d) => Attempt::Value(d),
-        Trial::Divisors(p, q) => split(n, p, q),
-        Trial::Nilpotent => other_half(u, v, w, n, c, f, g),
+        HalfAttempt::Found(d) => Attempt::Value(d),
+        HalfAttempt::Divisors(p, q) => split(n, p, q),
+        HalfAttempt::Nilpotent => other_half(u, v, w, n, c, f, g),
     }
 }
 
@@ -217,8 +226,8 @@ fn other_half(
     ensures { λ _. ⌜ Scratch (now (w .entry)) (now (w .exit)) ⌝ }
 {
     match half(v, u, w, n, c, g, f) {
-        Trial::Found(d) => Attempt::Value(d),
-        Trial::Divisors(p, q) => split(n, p, q),
-        Trial::Nilpotent => Attempt::Value(n),
+        HalfAttempt::Found(d) => Attempt::Value(d),
+        HalfAttempt::Divisors(p, q) => split(n, p, q),
+        HalfAttempt::Nilpotent => Attempt::Value(n),
     }
 }

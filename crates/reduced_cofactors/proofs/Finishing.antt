@@ -16,21 +16,21 @@ use lib.ListN.{length, getD, set, take, drop, replicate, length-set}
 use lib.Seq.{getD-set-same, getD-set-other}
 use Rattle.definitions.specs.Residues.{K}
 use Rattle.definitions.specs.Polynomials.{coef, convolve, constant, L, Monic, Divided, UnitPolynomial}
-use Rattle.numbers.specs.Logarithm.{K-positive}
-use Rattle.theory.specs.ReachedSteps.{coef-beyond}
-use Rattle.theory.specs.ReducedLaws.{reduced-unit, reduced-flip}
+use Rattle.law_numbers.specs.Logarithm.{K-positive}
+use Rattle.law_polynomials.specs.ReachedSteps.{coef-beyond}
+use Rattle.law_polynomials.specs.ReducedLaws.{reduced-unit, reduced-flip}
 use Rattle.convolution.specs.Sums.{convolve-constant, zeros-at}
-use Rattle.window_division.proofs.Turns.{convolve-none}
+use Rattle.window_division.proofs.DivisionRounds.{convolve-none}
 use Rattle.windows.specs.Window.{piece, Moved, second, Loaded, Below, Around, Scratch}
 use Rattle.windows.proofs.Leaf.{lt-or-le, piece-at, piece-over, piece-same, piece-length}
 use Rattle.windows.proofs.Lift.{moved-around, moved-copy}
-use Rattle.reduced_multipliers.specs.Leads.{NegatedInverse, completed, leads-first, leads-completes, inverse-of-negated}
-use Rattle.reduced_multipliers.specs.Joining.{combination-same}
-use Rattle.reduced_multipliers.specs.Reductions.{reduced-unity}
+use Rattle.law_multipliers.specs.Multipliers.{NegatedInverse, completed, multiplier-first, multiplier-completes, inverse-of-negated}
+use Rattle.law_multipliers.specs.Joining.{combination-same}
+use Rattle.law_multipliers.specs.Reductions.{reduced-unity}
 use Rattle.reduced_units.proofs.Regions.{apart-low, below-apart, piece-apart, part-piece}
-use Rattle.reduced_cofactors.specs.Cofactors.{CoreSpace, CoreCertified, FactoredAt, monic-place}
+use Rattle.reduced_cofactors.specs.Cofactors.{CoreLengthsAsked, CoreCertified, FactoredAt, monic-place}
 use Rattle.reduced_cofactors.specs.Cofactors.{FinishAsked, Finished, DivideAsked, DividedBy}
-use Rattle.reduced_quotients.specs.Quotients.{OverRoom, OverFirst, QuotientRoom, ExactQuotient}
+use Rattle.reduced_quotients.specs.Quotients.{OverUnitAsked, OverFirst, ExactQuotientAsked, ExactQuotient}
 
 -- the polynomial of degree t at q, with a leading 1
 pub monic-at : (n q t : ℕ) (w : List ℕ) → 1 ≤ n → getD w (q + t) 0 ≡ 1 → Monic n t (piece w q (t + 1))
@@ -61,7 +61,7 @@ divide-asked p = record {
 }
 
 -- and what it asks of the exact quotient
-pub quotient-asked : {n e q t k : ℕ} {w : List ℕ} → DivideAsked n e q t k w → QuotientRoom n e q t w
+pub quotient-asked : {n e q t k : ℕ} {w : List ℕ} → DivideAsked n e q t k w → ExactQuotientAsked n e q t w
 quotient-asked p = record {
   modulus = p .above;
   degree = p .degree;
@@ -101,7 +101,7 @@ module _ {n e q t k c : ℕ} {w w₂ x₀ y₀ : List ℕ} (asked : FinishAsked 
   })
 
   pub finish-room : {n' up k' zp lz : ℕ} {v u : List ℕ} → n' ≡ n → up ≡ q + 2 * (t + 1) + (t + e + 1) → k' ≡ k
-      → zp ≡ q + 2 * (t + 1) + t → lz ≡ e + 1 → v ≡ w₂ → u ≡ x₀ → OverRoom n' up k' zp lz v u
+      → zp ≡ q + 2 * (t + 1) + t → lz ≡ e + 1 → v ≡ w₂ → u ≡ x₀ → OverUnitAsked n' up k' zp lz v u
   finish-room en eu ek ez el ev ex =
       rw (en, eu, ek, ez, el, ev, ex) (record {
         modulus = asked .above;
@@ -201,7 +201,7 @@ degree-fits n d e t two h = omega (arith, le-max-left d e, more (K n) (max d e) 
 
 -- ---- F is a unit polynomial
 
-module _ {n d e : ℕ} {w x₀ y₀ : List ℕ} (space : CoreSpace n d e w x₀ y₀) (fa : FactoredAt n d e 0 w) where
+module _ {n d e : ℕ} {w x₀ y₀ : List ℕ} (space : CoreLengthsAsked n d e w x₀ y₀) (fa : FactoredAt n d e 0 w) where
   two : 2 ≤ n
   two = space .above
 
@@ -217,7 +217,7 @@ module _ {n d e : ℕ} {w x₀ y₀ : List ℕ} (space : CoreSpace n d e w x₀ 
   one-below : (k : ℕ) → k ≡ 0 → getD (set w 0 1) (0 + k) 0 < n
   one-below k z = rw (z, getD-set-same w 0 1 0 (omega arith)) two
 
-  pub constant-room : OverRoom n (monic-place d e + (0 + 1) + 0) d 0 1 (set w 0 1) x₀
+  pub constant-room : OverUnitAsked n (monic-place d e + (0 + 1) + 0) d 0 1 (set w 0 1) x₀
   constant-room = record {
     modulus = two;
     some = omega arith;
@@ -249,9 +249,10 @@ module _ {n d e : ℕ} {w x₀ y₀ : List ℕ} (space : CoreSpace n d e w x₀ 
         completed n (omega arith) 0 1 f g (piece w (monic-place d e) (0 + 1)) u (of .j) (replicate (length y₀) 0) (1 ∷ [])
         (piece (set w 0 1) 0 1) [] x [] (1 ∷ [])
         (monic-at n (monic-place d e) 0 w (omega arith) (fa .monic))
-        (leads-completes n 1 n (omega arith) (omega arith) (sym (one-mul n)) (piece w (monic-place d e) (0 + 1)) g (replicate (length y₀)
+        (multiplier-completes n 1 n (omega arith) (omega arith) (sym (one-mul n)) (piece w (monic-place d e) (0 + 1)) g
+        (replicate (length y₀)
         0) (piece w (monic-place d e) (0 + 1)) (λ k. ap (λ (z : ℕ). z % n) (unity k))
-        (leads-first n (omega arith) (piece w (monic-place d e) (0 + 1)) g (replicate (length y₀) 0) (zeros-at (length y₀))))
+        (multiplier-first n (omega arith) (piece w (monic-place d e) (0 + 1)) g (replicate (length y₀) 0) (zeros-at (length y₀))))
         (λ k. ap (λ (z : ℕ). z % n) (single k))
         (record { at = λ k. ap (λ (z : ℕ). z % n) (ap (λ (z : ℕ). z + coef (1 ∷ []) k) (nothing (coef g) k) ∙ zero-add _) })
         (record {

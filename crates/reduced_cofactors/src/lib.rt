@@ -17,7 +17,7 @@
 ghost use Prim.Native.Nat.{_-_, _≤_};
 ghost use Rattle.modulus.specs.Values.{Known};
 ghost use Rattle.windows.specs.Window.{Scratch};
-ghost use Rattle.reduced_cofactors.specs.Cofactors.{CoreSpace, CoreAsked, CoreCertified, CoreAnswer};
+ghost use Rattle.reduced_cofactors.specs.Cofactors.{CoreLengthsAsked, CoreAsked, CoreCertified, CoreAnswer};
 ghost use Rattle.reduced_cofactors.specs.Cofactors.{FactoredAt, FindAsked, Found, monic-place};
 ghost use Rattle.reduced_cofactors.specs.Cofactors.{FinishAsked, Finished, DivideAsked, DividedBy};
 use modulus::Modulus;
@@ -62,7 +62,7 @@ fn finish(
 
 // F is a unit polynomial: its inverse and 0.
 fn constant(x: &mut [u32], y: &mut [u32], w: &mut [u32], m: Modulus, d: usize, e: usize)
-    requires { ⌜ (Known m) × ((CoreSpace (m .n) d e (now w) (now x) (now y)) × (FactoredAt (m .n) d e 0 (now w))) ⌝ }
+    requires { ⌜ (Known m) × ((CoreLengthsAsked (m .n) d e (now w) (now x) (now y)) × (FactoredAt (m .n) d e 0 (now w))) ⌝ }
     ensures { λ _. ⌜ CoreCertified (m .n) d e (now (w .entry)) (now (x .exit)) (now (y .exit)) 1 ⌝ }
     ensures { λ _. ⌜ Scratch (now (w .entry)) (now (w .exit)) ⌝ }
 {
@@ -101,7 +101,7 @@ fn solve(
     e: usize,
     t: usize,
 ) -> Attempt
-    requires { ⌜ (Known m) × (CoreSpace (m .n) d e (now w) (now x) (now y)) ⌝ }
+    requires { ⌜ (Known m) × (CoreLengthsAsked (m .n) d e (now w) (now x) (now y)) ⌝ }
     requires { ⌜ (1 ≤ t) × ((t ≤ d) × (FactoredAt (m .n) d e t (now w))) ⌝ }
     ensures { λ r. ⌜ CoreAnswer (m .n) d e (now (w .entry)) (now (x .entry)) (now (y .entry)) (now (x .exit)) (now (y .exit)) r ⌝ }
     ensures { λ _. ⌜ Scratch (now (w .entry)) (now (w .exit)) ⌝ }

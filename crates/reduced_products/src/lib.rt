@@ -8,13 +8,13 @@
 //   dst      the place of the words that lose the product
 //   m        the record of the modulus n
 ghost use Rattle.modulus.specs.Values.{Known};
-ghost use Rattle.reduced_products.specs.Products.{ProductRoom, Factors, Subtracted, FactorsModulo, TakenFrom};
+ghost use Rattle.reduced_products.specs.Products.{ProductAsked, Factors, Subtracted, FactorsModulo, TakenFrom};
 use modulus::Modulus;
 
 // The lp + lq - 1 words at dst lose the product of the lp words at p and the lq words at q. Two words of the first share one
 // reduction.
 pub fn sub_product(w: &mut [u32], m: Modulus, p: usize, lp: usize, q: usize, lq: usize, dst: usize)
-    requires { ⌜ (Known m) × (ProductRoom (m .n) p lp q lq dst (now w)) ⌝ }
+    requires { ⌜ (Known m) × (ProductAsked (m .n) p lp q lq dst (now w)) ⌝ }
     requires { ⌜ Factors (m .n) p lp q lq dst (now w) ⌝ }
     ensures { λ _. ⌜ Subtracted (m .n) p lp q lq dst (now (w .entry)) (now (w .exit)) ⌝ }
 {
@@ -47,7 +47,7 @@ pub fn take_product(
     lq: usize,
     dst: usize,
 ) -> usize
-    requires { ⌜ (Known m) × (ProductRoom (m .n) p lp q lq dst (now w)) ⌝ }
+    requires { ⌜ (Known m) × (ProductAsked (m .n) p lp q lq dst (now w)) ⌝ }
     requires { ⌜ FactorsModulo (m .n) t p lp q lq dst (now w) ⌝ }
     ensures { λ r. ⌜ TakenFrom (m .n) t p lp q lq dst r (now (w .entry)) (now (w .exit)) ⌝ }
 {

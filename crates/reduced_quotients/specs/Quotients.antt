@@ -1,8 +1,8 @@
 -- What the quotients and the preparation ask and promise of the words of one window: G of degree e at 0, and H, monic of degree t, at q.
 --
---   OverRoom, OverFirst             a polynomial over a unit polynomial
---   PrepareRoom, RestAt, Prepared   G modulo H, and the window from q on, ready for the content stage
---   QuotientRoom, ExactQuotient     a constant less a product, by H
+--   OverUnitAsked, OverFirst            a polynomial over a unit polynomial
+--   PrepareAsked, RestAt, Prepared      G modulo H, and the window from q on, ready for the content stage
+--   ExactQuotientAsked, ExactQuotient   a constant less a product, by H
 use mathlib.Core.Path.{_≡_}
 use mathlib.Core.List.{List, []}
 use Prim.Native.Nat.{ℕ, _+_, _-_, _*_, _%_, _<_, _≤_}
@@ -10,11 +10,11 @@ use lib.ListN.{length, getD}
 use Rattle.definitions.specs.Residues.{K}
 use Rattle.definitions.specs.Polynomials.{coef, constant, Divided}
 use Rattle.windows.specs.Window.{piece, Below, Around}
-use Rattle.reduced_multipliers.specs.Leads.{NegatedInverse}
+use Rattle.law_multipliers.specs.Multipliers.{NegatedInverse}
 
 -- lz residues at zp lie before the unit polynomial at up; above it is room for its inverse twice and for the product, and x holds the
 -- quotient
-pub record OverRoom (n up k zp lz : ℕ) (w x : List ℕ) : Type 0 where
+pub record OverUnitAsked (n up k zp lz : ℕ) (w x : List ℕ) : Type 0 where
   pub modulus : 2 ≤ n
   pub some : 1 ≤ lz
   pub lies : zp + lz ≤ up
@@ -31,7 +31,7 @@ pub record OverFirst (n up k zp lz : ℕ) (w x : List ℕ) : Type 0 where
   pub short : (i : ℕ) → (K n - 1) * k + lz ≤ i → coef x i ≡ 0
 
 -- G lies before H, H has degree above 0, and from q on there is room for eight polynomials like H and for the division of G
-pub record PrepareRoom (n e q t : ℕ) (w : List ℕ) : Type 0 where
+pub record PrepareAsked (n e q t : ℕ) (w : List ℕ) : Type 0 where
   pub modulus : 2 ≤ n
   pub degree : 1 ≤ t
   pub lies : e + 1 ≤ q
@@ -56,7 +56,7 @@ pub record Prepared (n e q t : ℕ) (w w' : List ℕ) : Type 0 where
   pub one : (k : ℕ) → k < 2 * (t + 1) → getD w' (q + 6 * (t + 1) + k) 0 ≡ constant 1 k
 
 -- G, of residues, lies before H, H has degree above 0, and above H and the multiplier there is room for their product
-pub record QuotientRoom (n e q t : ℕ) (w : List ℕ) : Type 0 where
+pub record ExactQuotientAsked (n e q t : ℕ) (w : List ℕ) : Type 0 where
   pub modulus : 2 ≤ n
   pub degree : 1 ≤ t
   pub lies : e + 1 ≤ q

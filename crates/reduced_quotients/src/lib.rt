@@ -13,8 +13,8 @@ ghost use lib.ListN.{length, getD, replicate};
 ghost use Rattle.definitions.specs.Polynomials.{UnitPolynomial};
 ghost use Rattle.modulus.specs.Values.{Known};
 ghost use Rattle.windows.specs.Window.{piece, Below, Loaded, Scratch};
-ghost use Rattle.reduced_quotients.specs.Quotients.{OverRoom, OverFirst};
-ghost use Rattle.reduced_quotients.specs.Quotients.{PrepareRoom, RestAt, Prepared, QuotientRoom, ExactQuotient};
+ghost use Rattle.reduced_quotients.specs.Quotients.{OverUnitAsked, OverFirst};
+ghost use Rattle.reduced_quotients.specs.Quotients.{PrepareAsked, RestAt, Prepared, ExactQuotientAsked, ExactQuotient};
 use modulus::Modulus;
 
 // x becomes the words of s modulo n, and zeros above.
@@ -36,7 +36,7 @@ pub fn over_first(
     zp: usize,
     lz: usize,
 )
-    requires { ⌜ (Known m) × (OverRoom (m .n) up k zp lz (now w) (now x)) ⌝ }
+    requires { ⌜ (Known m) × (OverUnitAsked (m .n) up k zp lz (now w) (now x)) ⌝ }
     requires { ⌜ UnitPolynomial (m .n) (piece (now w) up (k + 1)) ⌝ }
     ensures { λ _. ⌜ OverFirst (m .n) up k zp lz (now (w .entry)) (now (x .exit)) ⌝ }
     ensures { λ _. ⌜ Scratch (now (w .entry)) (now (w .exit)) ⌝ }
@@ -52,7 +52,7 @@ pub fn over_first(
 
 // G at 0 modulo H at q.
 fn remainder(w: &mut [u32], m: Modulus, e: usize, q: usize, t: usize)
-    requires { ⌜ (Known m) × (PrepareRoom (m .n) e q t (now w)) ⌝ }
+    requires { ⌜ (Known m) × (PrepareAsked (m .n) e q t (now w)) ⌝ }
     requires { ⌜ (Below (m .n) 0 (e + 1) (now w)) × ((Below (m .n) q (t + 1) (now w)) × (getD (now w) (q + t) 0 ≡ 1)) ⌝ }
     ensures { λ _. ⌜ RestAt (m .n) e q t (now (w .entry)) (now (w .exit)) ⌝ }
 {
@@ -67,7 +67,7 @@ fn remainder(w: &mut [u32], m: Modulus, e: usize, q: usize, t: usize)
 
 // The window from q on is made ready for the content stage.
 pub fn prepare(w: &mut [u32], m: Modulus, e: usize, q: usize, t: usize)
-    requires { ⌜ (Known m) × (PrepareRoom (m .n) e q t (now w)) ⌝ }
+    requires { ⌜ (Known m) × (PrepareAsked (m .n) e q t (now w)) ⌝ }
     requires { ⌜ (Below (m .n) 0 (e + 1) (now w)) × ((Below (m .n) q (t + 1) (now w)) × (getD (now w) (q + t) 0 ≡ 1)) ⌝ }
     ensures { λ _. ⌜ Prepared (m .n) e q t (now (w .entry)) (now (w .exit)) ⌝ }
 {
@@ -80,7 +80,7 @@ pub fn prepare(w: &mut [u32], m: Modulus, e: usize, q: usize, t: usize)
 
 // c less the product of G at 0 and the multiplier at q + (t + 1), divided by H at q.
 pub fn exact_quotient(w: &mut [u32], m: Modulus, e: usize, q: usize, t: usize, c: u32)
-    requires { ⌜ (Known m) × (QuotientRoom (m .n) e q t (now w)) ⌝ }
+    requires { ⌜ (Known m) × (ExactQuotientAsked (m .n) e q t (now w)) ⌝ }
     requires { ⌜ (Below (m .n) q (t + 1) (now w)) × ((getD (now w) (q + t) 0 ≡ 1) × (Below (m .n) (q + (t + 1)) t (now w))) ⌝ }
     ensures { λ _. ⌜ ExactQuotient (m .n) e q t c (now (w .entry)) (now (w .exit)) ⌝ }
 {

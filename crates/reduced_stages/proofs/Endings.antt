@@ -13,12 +13,12 @@ use native.Mathlib.Omega.{arith}
 use native.Mathlib.Nat.{mod-lt, mod-mod, mul-zero, mul-assoc, mul-pos, mul-one, one-mul, mul-le-mul-left, dvd-trans, dvd-mul-left}
 use lib.ListN.{length, getD}
 use Rattle.definitions.specs.Polynomials.{coef, constant}
-use Rattle.numbers.specs.Divisors.{GcdCofactor}
+use Rattle.law_numbers.specs.Divisors.{GcdCofactor}
 use Rattle.windows.specs.Window.{piece, Moved, mulBy, Clear, Kept}
 use Rattle.windows.proofs.Leaf.{lt-or-le, piece-at, piece-over}
 use Rattle.windows.proofs.Lift.{moved-around}
-use Rattle.reduced_multipliers.specs.Leads.{Leads, Completes, leads-unity}
-use Rattle.reduced_multipliers.specs.Reductions.{reduced-unit-constant}
+use Rattle.law_multipliers.specs.Multipliers.{HasMultiplier, Completes, multiplier-unity}
+use Rattle.law_multipliers.specs.Reductions.{reduced-unit-constant}
 use Rattle.reduced_units.specs.States.{Stage, StageAt, Solved, Splitter, UnitCleared}
 use Rattle.reduced_units.specs.declared.Places.{Places}
 use Rattle.reduced_units.proofs.Regions.{kept-around, kept-piece, kept-trans}
@@ -72,7 +72,7 @@ module _ {n ν t pa a pb al be l g i : ℕ} {w w' : List ℕ} (st : Stage n ν t
     below = record { at = λ k h. subst (λ (x : ℕ). x < n) (sym (mv .mid k h)) (mod-lt _ (st .positive)) };
     completes = λ g m p e x y.
         subst (Completes n (piece w 0 (t + 1)) g (piece w' (t + 1) t)) (sym (mul-one m))
-        (leads-unity n m ν i p (omega (arith, st .above)) e (piece w 0 (t + 1)) g (piece w be (2 * (t + 1))) (piece w' (t + 1) t)
+        (multiplier-unity n m ν i p (omega (arith, st .above)) e (piece w 0 (t + 1)) g (piece w be (2 * (t + 1))) (piece w' (t + 1) t)
         (piece w pb a) found word y);
   }
 
@@ -139,9 +139,9 @@ module _ {n ν t pa a pb al be c s l : ℕ} {w w₁ : List ℕ} (cl : UnitCleare
           subst (Completes n (piece w 0 (t + 1)) g (piece w' (t + 1) t)) (mul-assoc m c D)
           (subst (λ (h : List ℕ). Completes n h g (piece w' (t + 1) t) (m * c * D)) same-h
           (sv .completes g (m * c) (mul-pos p (cl .positive)) (e ∙ ap (λ (z : ℕ). m * z) (sym whole) ∙ sym (mul-assoc m c (ν / c)))
-          (subst (λ (h : List ℕ). Leads n (m * c) h g (piece w₁ al (2 * (t + 1))) (piece w₁ pa (a + 1))) (sym same-h)
+          (subst (λ (h : List ℕ). HasMultiplier n (m * c) h g (piece w₁ al (2 * (t + 1))) (piece w₁ pa (a + 1))) (sym same-h)
           (cl .change .first g m p e x))
-          (subst (λ (h : List ℕ). Leads n (m * c) h g (piece w₁ be (2 * (t + 1))) (piece w₁ pb (s + 1))) (sym same-h)
+          (subst (λ (h : List ℕ). HasMultiplier n (m * c) h g (piece w₁ be (2 * (t + 1))) (piece w₁ pb (s + 1))) (sym same-h)
           (cl .change .second g m p e y))));
     }
       where

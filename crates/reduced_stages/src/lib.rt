@@ -10,7 +10,8 @@
 //   p.be      the multiplier of B
 //
 // m and v are the records of two moduli: the multipliers have l words, modulo that of m; A and B are polynomials modulo that of v, a
-// divisor of the former. A stage keeps H and leaves the multiplier found; the other words of the window are room, of which nothing is promised
+// divisor of the former. A stage keeps H and leaves the multiplier found; the other words of the window are room, of which nothing is
+// promised
 // afterwards.
 ghost use mathlib.Core.Path.{_≡_};
 ghost use Prim.Native.Nat.{_+_, _/_, _≤_};

@@ -17,10 +17,10 @@ use borrow.Author.Needs.{needs}
 use lib.ListN.{length, getD}
 use Rattle.definitions.specs.Residues.{K}
 use Rattle.definitions.specs.Polynomials.{coef, Multiplied, UnitPolynomial}
-use Rattle.numbers.specs.Logarithm.{K-monotone, K-positive}
+use Rattle.law_numbers.specs.Logarithm.{K-monotone, K-positive}
 use Rattle.windows.specs.Window.{piece, Below, Around, Apart, Outside}
 use Rattle.windows.proofs.Leaf.{lt-or-le, piece-same, around-at}
-use Rattle.reduced_multipliers.specs.Leads.{Taken, NegatedInverse}
+use Rattle.law_multipliers.specs.Multipliers.{Taken, NegatedInverse}
 use Rattle.window_factor.specs.Factors.{LeadingUnit}
 use Rattle.reduced_products.specs.Products.{MonicAtZero}
 use Rattle.reduced_units.specs.States.{Multiplier, Stage, stage-room}

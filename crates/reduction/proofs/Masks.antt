@@ -12,8 +12,8 @@ use native.Mathlib.Decide.{ℕ-discrete}
 use borrow.Author.Needs.{needs}
 use lib.Bits.{bitAnd, and-step, and-self, and-mask, and-le-r}
 use lib.Pow.{pow-add}
-use Rattle.numbers.specs.Congruence.{Cong, c-refl, c-add}
-use Rattle.words.specs.Digits.{product-fits}
+use Rattle.law_numbers.specs.Congruence.{Cong, c-refl, c-add}
+use Rattle.law_words.specs.Digits.{product-fits}
 use Rattle.reduction.specs.Powers.{PowerIn, PowerOfTwo, NoPower}
 
 record Found (k n : ℕ) : Type 0 where

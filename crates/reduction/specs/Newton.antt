@@ -8,7 +8,7 @@ use Prim.Native.Nat.{ℕ, _+_, _*_, _/_, _%_, _<_, _≤_, _∣_}
 use native.Mathlib.Nat.{mod-eq-of-lt, div-add-mod', dvd-mul-right, dvd-trans}
 use native.Mathlib.Decide.{ℕ-discrete}
 use native.Mathlib.Omega.{arith}
-use Rattle.numbers.specs.Congruence.{Cong, c-refl, c-sym, c-trans, c-eq, c-add, c-mul, c-mod, c-cancel, c-dvd, c-zero, ring}
+use Rattle.law_numbers.specs.Congruence.{Cong, c-refl, c-sym, c-trans, c-eq, c-add, c-mul, c-mod, c-cancel, c-dvd, c-zero, ring}
 
 pub record Refined (B n m r : ℕ) : Type 0 where
   pub at : (a b : ℕ) → 2 ≤ a → 1 ≤ b → a ∣ B → b ∣ B → b ∣ a * a → Cong a (n * m) 1 → Cong b (n * r) 1

@@ -39,7 +39,7 @@ module _ {n i : ℕ} {f : List ℕ} (t : Testing n f i) where
   pub testing-failed : i < length f → n ≤ getD f i 0 → false ≡ all-below n f
   testing-failed h l = sym (step h ∙ rw (le-ltb _ _ l))
 
-  -- a test that stops at larger words only: what it lets pass is wrong, and shows at the turn
+  -- a test that stops at larger words only: what it lets pass is wrong, and shows at the round
   pub testing-above : i < length f → n < getD f i 0 → false ≡ all-below n f
   testing-above h l = testing-failed h (omega arith)
 

@@ -22,7 +22,7 @@ ghost use Rattle.modulus.specs.Values.{Known};
 ghost use Rattle.resultant_steps.specs.AttemptAnswers.{ValueOrSplit};
 ghost use Rattle.resultant_steps.specs.Layouts.{Primitive};
 ghost use Rattle.window_factor.specs.Factors.{LeadingUnit};
-ghost use Rattle.resultant_attempt.specs.Stages.{Placed, Divisor, Stacked, Part};
+ghost use Rattle.resultant_attempt.specs.AttemptStages.{Placed, DivisorPlaced, Stacked, Part};
 use modulus::Modulus;
 use residue::Attempt;
 
@@ -122,7 +122,7 @@ fn step(
     i: u32,
 ) -> Attempt
     requires { ⌜ Known m ⌝ }
-    requires { ⌜ Divisor (m .n) a d b e s i (now w) ⌝ }
+    requires { ⌜ DivisorPlaced (m .n) a d b e s i (now w) ⌝ }
     ensures { λ r. ⌜ ValueOrSplit (m .n) (resultant (m .n) (piece (now (w .entry)) a (d + 1)) (piece (now (w .entry)) b (e + 1))) r ⌝ }
 {
     let lead = w[a + d];

@@ -13,7 +13,7 @@
 ghost use mathlib.Core.Path.{_≡_};
 ghost use Prim.Native.Nat.{_+_, _-_, _*_, _/_, _%_, _<_, _≤_, _∣_};
 ghost use lib.ListN.{length};
-ghost use Rattle.theory.specs.ResultantLaws.{signed};
+ghost use Rattle.law_polynomials.specs.ResultantLaws.{signed};
 ghost use Rattle.windows.specs.Window.{Below};
 ghost use Rattle.modulus.specs.Values.{Known};
 ghost use Rattle.window_factor.specs.Factors.{SplitOf};
@@ -36,7 +36,7 @@ fn exchanged(n: u32, d: usize, e: usize, x: u32) -> u32
     if d % 2 == 0 {
         return x;
     }
-    resultant_turns::with_sign(n, e, x)
+    resultant_signs::with_sign(n, e, x)
 }
 
 // The l words at a and the k words at b, copied side by side to s.

@@ -119,6 +119,6 @@ pub fn is_text_of(s: &[u8], f: &[u32]) -> bool
     ensures { λ r. ⌜ r ≡ same-text (now (s .entry)) (text (now (f .entry))) ⌝ }
 {
     let mut t = [0u8; 800];
-    let count = text_writer::put_text(f, &mut t);
+    let count = text_writer_service::put_text(f, &mut t);
     same_text(s, &t[0..count])
 }

@@ -15,15 +15,15 @@ use mir.Val.{Fits}
 use borrow.Author.Needs.{needs}
 use lib.ListN.{length, getD, replicate, length-replicate}
 use Rattle.definitions.specs.Polynomials.{coef}
-use Rattle.numbers.specs.Congruence.{Cong, c-refl, c-sym, c-trans, c-eq, c-mul, c-mod}
+use Rattle.law_numbers.specs.Congruence.{Cong, c-refl, c-sym, c-trans, c-eq, c-mul, c-mod}
 use Rattle.windows.specs.Window.{piece}
 use Rattle.windows.proofs.Leaf.{piece-at, piece-over, lt-or-le}
-use Rattle.common_divisor.specs.Common.{DividesModulo}
-use Rattle.common_divisor.specs.CommonLaws.{divides-constant, divides-trans}
-use Rattle.common_divisor.specs.Searches.{CommonIn, GroundIn, MonicAsked, MonicOf}
-use Rattle.common_divisor.specs.declared.Found.{Found}
-use Rattle.common_divisor.specs.declared.Ground.{Ground}
-use Rattle.common_divisor.specs.declared.Ground.the-variants.{Zero, Common}
+use Rattle.common_factor.specs.Common.{DividesModulo}
+use Rattle.common_factor.specs.CommonLaws.{divides-constant, divides-trans}
+use Rattle.common_factor.specs.Searches.{CommonIn, GroundIn, MonicAsked, MonicOf}
+use Rattle.common_factor.specs.declared.Found.{Found}
+use Rattle.common_factor.specs.declared.Ground.{Ground}
+use Rattle.common_factor.specs.declared.Ground.the-variants.{Zero, Common}
 use Rattle.why_service.specs.Asked.{GroundAsked}
 use Rattle.why_service.specs.WhyService.{NamedDivisor, Coprime, BothZero, CommonDivisor}
 
@@ -54,12 +54,12 @@ module _ (m t a : ℕ) (w o o' : List ℕ) (two : 2 ≤ m) (r : MonicOf m a t w 
   back : (k : ℕ) → coef (piece w a (t + 1)) k % m ≡ (lead * coef o' k) % m
   back k = ⊎-elim low high (lt-or-le k (t + 1))
     where
-      turn : (l i x : ℕ) → l * (i * x) ≡ i * l * x
-      turn l i x = omega arith
+      round : (l i x : ℕ) → l * (i * x) ≡ i * l * x
+      round l i x = omega arith
 
       low : k < t + 1 → coef (piece w a (t + 1)) k % m ≡ (lead * coef o' k) % m
       low p = c-sym (c-trans (c-mul (c-refl {a = lead}) (c-trans (c-eq (r .words k (omega arith))) (c-mod (r .inverse * getD w (a + k) 0))))
-          (c-trans (c-eq (turn lead (r .inverse) (getD w (a + k) 0))) (c-trans (c-mul inverse-lead (c-refl {a = getD w (a + k) 0}))
+          (c-trans (c-eq (round lead (r .inverse) (getD w (a + k) 0))) (c-trans (c-mul inverse-lead (c-refl {a = getD w (a + k) 0}))
           (c-eq (one-mul (getD w (a + k) 0) ∙ sym (piece-at w a (t + 1) k p)))))) .same
 
       high : t + 1 ≤ k → coef (piece w a (t + 1)) k % m ≡ (lead * coef o' k) % m

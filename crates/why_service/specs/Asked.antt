@@ -6,7 +6,7 @@ use mathlib.Core.Path.{_≡_}
 use mathlib.Core.List.{List}
 use Prim.Native.Nat.{ℕ, _≤_}
 use lib.ListN.{length}
-use Rattle.common_divisor.specs.Common.{OnlyZero}
+use Rattle.common_factor.specs.Common.{OnlyZero}
 
 pub record WhyAsked (n : ℕ) (f g w work : List ℕ) : Type 0 where
   pub modulus : 2 ≤ n

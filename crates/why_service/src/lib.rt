@@ -11,7 +11,7 @@ ghost use Rattle.windows.specs.Window.{Scratch};
 ghost use Rattle.refusals.specs.Refusals.{narrow, short, first-refusal};
 ghost use Rattle.why_service.specs.WhyService.{GroundHolds, HoldsReason, why-status, WhyAnswer};
 ghost use Rattle.why_service.specs.Asked.{GroundAsked, WhyAsked};
-use common_divisor::Ground;
+use common_factor::Ground;
 
 // The words of the common divisor, and of the working buffer.
 const DIVISOR: usize = 49;
@@ -42,7 +42,7 @@ fn ground(w: &mut [u32], work: &mut [u32], d: u32, f: &[u32], g: &[u32]) -> Reas
             status: 0,
         };
     }
-    match common_divisor::search(work, d, f, g) {
+    match common_factor::search(work, d, f, g) {
         Ground::Zero(m) => Reason {
             ground: 1,
             m,
@@ -51,7 +51,7 @@ fn ground(w: &mut [u32], work: &mut [u32], d: u32, f: &[u32], g: &[u32]) -> Reas
         },
         Ground::Common(h) => {
             let t = h.degree;
-            common_divisor::monic(w, work, h.m, h.at, t);
+            common_factor::monic(w, work, h.m, h.at, t);
             Reason {
                 ground: 2,
                 m: h.m,
@@ -79,7 +79,7 @@ fn room_refusal(words: usize, working: usize) -> u32
 fn refusal(n: u32, f: &[u32], g: &[u32], words: usize, working: usize) -> u32
     ensures { λ r. ⌜ r ≡ why-status narrow n (now (f .entry)) (now (g .entry)) words working ⌝ }
 {
-    let s = refusals::refusal_two(n, f, g);
+    let s = refusals::refusal_of_pair(n, f, g);
     if s != 0 {
         return s;
     }

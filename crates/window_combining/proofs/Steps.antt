@@ -1,9 +1,9 @@
 -- The rules of the word loop of a division without inverses, by any reduction.
 --
---   combined                                          the word that a turn writes
+--   combined                                          the word that a round writes
 --   Combining                                         the words written so far, and the word before
---   combining-none, combining-next, combining-end     its start, its turn and its end
---   source-below, before-below, target-below          the words of a turn are residues
+--   combining-none, combining-next, combining-end     its start, its round and its end
+--   source-below, before-below, target-below          the words of a round are residues
 --   combining-never                                   so that none of those read reaches n
 --   combinations                                      the rules
 use mathlib.Core.Path.{_≡_, refl, sym, ap, ap₂, subst, _∙_}

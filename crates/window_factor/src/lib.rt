@@ -18,7 +18,8 @@ ghost use lib.ListN.{length};
 ghost use Rattle.definitions.specs.Polynomials.{coef};
 ghost use Rattle.windows.specs.Window.{piece};
 ghost use Rattle.modulus.specs.Values.{Known};
-ghost use Rattle.window_factor.specs.Factors.{HighestOf, RoundGiven, Round, RoundLeft, Given, Factored, SeriesGiven, next-word, Series};
+ghost use Rattle.window_factor.specs.Factors.{HighestOf, RoundAsked, Round, RoundLeft, Given, Factored, SeriesAsked, next-word};
+ghost use Rattle.window_factor.specs.Factors.{Series};
 use modulus::Modulus;
 
 // A unit with its place and its inverse; a coefficient that splits n into two factors; or neither.
@@ -51,7 +52,7 @@ pub fn highest_of(s: &[u32], n: u32) -> Highest
 
 // A copy of f divided by H: f of d + 1 words at 0, H of t + 1 words after it, and then d + 1 words for remainder and quotient.
 fn divide_copy(w: &mut [u32], m: Modulus, d: usize, t: usize)
-    requires { ⌜ (Known m) × (RoundGiven (m .n) d t (now w)) ⌝ }
+    requires { ⌜ (Known m) × (RoundAsked (m .n) d t (now w)) ⌝ }
     ensures { λ _. ⌜ Round (m .n) d t (now (w .entry)) (now (w .exit)) ⌝ }
 {
     let h = d + 1;
@@ -65,7 +66,7 @@ fn divide_copy(w: &mut [u32], m: Modulus, d: usize, t: usize)
 
 // A round: a copy of f divided by H, as in `divide_copy`. Answers the number of zeros that the t words of the remainder begin with.
 fn divide_round(w: &mut [u32], m: Modulus, d: usize, t: usize) -> usize
-    requires { ⌜ (Known m) × (RoundGiven (m .n) d t (now w)) ⌝ }
+    requires { ⌜ (Known m) × (RoundAsked (m .n) d t (now w)) ⌝ }
     ensures { λ z. ⌜ RoundLeft (m .n) d t z (now (w .entry)) (now (w .exit)) ⌝ }
 {
     let v = d + 1 + (t + 1);
@@ -95,7 +96,7 @@ pub fn unit_times_monic(w: &mut [u32], m: Modulus, d: usize, t: usize, i: u32)
 
 // Word j of Y, where Y U = s U_0 and i is the inverse of U_0: U stands at 0, and the words of Y before j stand after it.
 fn series_word(w: &[u32], n: u32, k: usize, i: u32, s: u32, j: usize) -> u32
-    requires { ⌜ SeriesGiven n k i j (now w) ⌝ }
+    requires { ⌜ SeriesAsked n k i j (now w) ⌝ }
     ensures { λ r. ⌜ r ≡ next-word n i s (coef (piece (now (w .entry)) 0 (k + 1))) (coef (piece (now (w .entry)) (k + 1) j)) j ⌝ }
 {
     if j == 0 {

@@ -1,5 +1,5 @@
 use borrow.Author.Needs.{needs}
-use Rattle.claim_service.proofs.Returning.{returning}
+use Rattle.claim_service.proofs.ClaimReturns.{returning}
 use Rattle.claim_service.proofs.check_claim_words.Statement.{statement}
 use Rattle.claim_service.proofs.check_claim_words.Tie as tie
 

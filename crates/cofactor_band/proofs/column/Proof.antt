@@ -1,5 +1,5 @@
 use borrow.Author.Needs.{needs}
-use Rattle.cofactor_band.proofs.Turns.{turns}
+use Rattle.cofactor_band.proofs.ColumnRounds.{rounds}
 use Rattle.cofactor_band.proofs.column.Statement.{statement}
 use Rattle.cofactor_band.proofs.column.Tie as tie
 
@@ -7,5 +7,5 @@ pub column-spec : {M : Type 1} → statement M
 column-spec =
     tie.close
     (tie.spec
-    (λ c κs. search needs) (λ c κs. search needs) (λ c κs. search turns) (λ c. search needs) (λ c κs. search turns) (λ c. search needs)
-    (λ c. search needs) (λ c. search turns))
+    (λ c κs. search needs) (λ c κs. search needs) (λ c κs. search rounds) (λ c. search needs) (λ c κs. search rounds) (λ c. search needs)
+    (λ c. search needs) (λ c. search rounds))

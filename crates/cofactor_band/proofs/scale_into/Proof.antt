@@ -1,7 +1,7 @@
 use borrow.Author.Needs.{needs}
 use Prim.Native.Nat.{_-_}
 use lib.ListN.{length}
-use Rattle.cofactor_band.proofs.Turns.{Scaling, ends}
+use Rattle.cofactor_band.proofs.ColumnRounds.{Scaling, ends}
 use Rattle.cofactor_band.proofs.scale_into.Statement.{statement}
 use Rattle.cofactor_band.proofs.scale_into.Tie as tie
 

@@ -1,6 +1,6 @@
 use mathlib.Core.Path.{refl}
 use borrow.Author.Needs.{needs}
-use Rattle.cofactor_service.proofs.Returning.{returning, asked, done}
+use Rattle.cofactor_service.proofs.CofactorReturns.{returning, asked, done}
 use Rattle.cofactor_service.proofs.resultant_cofactors.Statement.{statement}
 use Rattle.cofactor_service.proofs.resultant_cofactors.Tie as tie
 

@@ -1,6 +1,6 @@
 use borrow.Author.Needs.{needs}
 use Rattle.refusals.specs.Refusals.{narrow}
-use Rattle.divisor_service.proofs.Returning.{refused, work-short, done, modulus-two, served}
+use Rattle.divisor_service.proofs.DivisorReturns.{refused, work-short, done, modulus-two, served}
 use Rattle.divisor_service.proofs.divisor.Statement.{statement}
 use Rattle.divisor_service.proofs.divisor.Tie as tie
 

@@ -7,4 +7,4 @@ jingcobu-resultant-two-spec =
     tie.close
     (tie.spec
     (λ c κs. search needs) (λ c. search needs) (λ c. search needs)
-    (λ c. c .before .before .before .before .resultant-two .ensures))
+    (λ c. c .before .before .before .before .bivariate-resultant .ensures))

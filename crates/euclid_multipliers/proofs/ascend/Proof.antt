@@ -1,4 +1,4 @@
-use Rattle.euclid_multipliers.specs.Ways.{Raising}
+use Rattle.euclid_multipliers.specs.StepsInBuffer.{Raising}
 use Rattle.euclid_multipliers.proofs.Rounds.{rounds, raising-next, raised}
 use mathlib.Core.Path.{refl}
 use native.Mathlib.Omega.{arith}

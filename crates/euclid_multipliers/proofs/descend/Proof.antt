@@ -1,4 +1,4 @@
-use Rattle.euclid_multipliers.specs.Ways.{Descending}
+use Rattle.euclid_multipliers.specs.StepsInBuffer.{Descending}
 use Rattle.euclid_multipliers.proofs.Descents.{descents}
 use Prim.Native.Nat.{_+_}
 use borrow.Author.Needs.{needs}

@@ -1,4 +1,4 @@
-use Rattle.modulus.proofs.Knowing.{finding}
+use Rattle.modulus.proofs.ModulusFound.{finding}
 use Rattle.modulus.proofs.modulus_of.Statement.{statement}
 use Rattle.modulus.proofs.modulus_of.Tie as tie
 

@@ -1,6 +1,6 @@
 use Prim.Native.Nat.{ℕ, _-_}
 use lib.ListN.{length, getD}
-use Rattle.windows.proofs.Turns.{Writing}
+use Rattle.windows.proofs.WindowRounds.{Writing}
 use Rattle.montgomery.specs.Held.{held}
 use Rattle.modulus_windows.proofs.Holding.{holding}
 use Rattle.modulus_windows.proofs.load_held.Statement.{statement}

@@ -1,6 +1,6 @@
 use Prim.Native.Nat.{_-_}
 use Rattle.windows.specs.Window.{mulBy}
-use Rattle.windows.proofs.Turns.{Moving}
+use Rattle.windows.proofs.WindowRounds.{Moving}
 use Rattle.montgomery.specs.Held.{plain}
 use Rattle.modulus_windows.proofs.Holding.{holding}
 use Rattle.modulus_windows.proofs.scale_held.Statement.{statement}

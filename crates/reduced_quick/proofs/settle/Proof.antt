@@ -1,4 +1,4 @@
-use Rattle.reduced_quick.proofs.Trying.{tries}
+use Rattle.reduced_quick.proofs.QuickAttempts.{tries}
 use Rattle.reduced_quick.proofs.settle.Statement.{statement}
 use Rattle.reduced_quick.proofs.settle.Tie as tie
 

@@ -1,4 +1,4 @@
-use Rattle.numbers.specs.Kinds.{Parts}
+use Rattle.law_numbers.specs.Kinds.{Parts}
 use Rattle.residue.proofs.Rules.{kinds}
 use Rattle.residue.proofs.kind_of.Statement.{statement}
 use Rattle.residue.proofs.kind_of.Tie as tie

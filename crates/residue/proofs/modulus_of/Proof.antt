@@ -1,4 +1,4 @@
-use Rattle.numbers.specs.Logarithm.{Halved}
+use Rattle.law_numbers.specs.Logarithm.{Halved}
 use Rattle.residue.proofs.Rules.{halvings}
 use Rattle.residue.proofs.modulus_of.Statement.{statement}
 use Rattle.residue.proofs.modulus_of.Tie as tie

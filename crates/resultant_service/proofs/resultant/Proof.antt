@@ -1,6 +1,6 @@
 use borrow.Author.Needs.{needs}
 use Rattle.refusals.specs.Refusals.{narrow}
-use Rattle.resultant_service.proofs.Returning.{refused, work-short, done, asked}
+use Rattle.resultant_service.proofs.ResultantReturns.{refused, work-short, done, asked}
 use Rattle.resultant_service.proofs.resultant.Statement.{statement}
 use Rattle.resultant_service.proofs.resultant.Tie as tie
 

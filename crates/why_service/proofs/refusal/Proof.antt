@@ -1,5 +1,5 @@
 use borrow.Author.Needs.{needs}
-use Rattle.why_service.proofs.Returning.{statuses, later-told}
+use Rattle.why_service.proofs.WhyReturns.{statuses, later-told}
 use Rattle.why_service.proofs.refusal.Statement.{statement}
 use Rattle.why_service.proofs.refusal.Tie as tie
 
@@ -10,5 +10,5 @@ refusal-spec =
     (tie.spec
     (λ c κs. search needs) (λ c. search statuses) (λ c κs. search needs)
     (λ c. let s = c .before .before in let a = s .before .before .before .args in
-    later-told (a .n) (a .f .now) (a .g .now) (a .words) (a .working) _ (s .refusal-two .ensures) (c .before .if1 .left)
+    later-told (a .n) (a .f .now) (a .g .now) (a .words) (a .working) _ (s .refusal-of-pair .ensures) (c .before .if1 .left)
     (c .room-refusal .ensures)))

@@ -1,5 +1,5 @@
 use borrow.Author.Needs.{needs}
-use Rattle.why_service.proofs.Returning.{serving}
+use Rattle.why_service.proofs.WhyReturns.{serving}
 use Rattle.why_service.proofs.served.Statement.{statement}
 use Rattle.why_service.proofs.served.Tie as tie
 

@@ -1,5 +1,5 @@
 use borrow.Author.Needs.{needs}
-use Rattle.why_service.proofs.Returning.{returning}
+use Rattle.why_service.proofs.WhyReturns.{returning}
 use Rattle.why_service.proofs.why.Statement.{statement}
 use Rattle.why_service.proofs.why.Tie as tie
 

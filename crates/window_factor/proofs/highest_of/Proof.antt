@@ -1,5 +1,5 @@
 use borrow.Author.Needs.{needs}
-use Rattle.window_factor.proofs.Leads.{Searching}
+use Rattle.window_factor.proofs.HighestCoefficient.{Searching}
 use Rattle.window_factor.proofs.Cases.{kinds}
 use Rattle.window_factor.proofs.highest_of.Statement.{statement}
 use Rattle.window_factor.proofs.highest_of.Tie as tie

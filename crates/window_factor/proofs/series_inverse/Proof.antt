@@ -1,6 +1,6 @@
 use borrow.Author.Needs.{needs}
 use Prim.Native.Nat.{_-_}
-use Rattle.window_factor.proofs.SeriesTurns.{Growing, series}
+use Rattle.window_factor.proofs.SeriesRounds.{Growing, series}
 use Rattle.window_factor.proofs.series_inverse.Statement.{statement}
 use Rattle.window_factor.proofs.series_inverse.Tie as tie
 

@@ -1,5 +1,5 @@
 use Prim.Native.Nat.{_-_}
-use Rattle.windows.proofs.Turns.{Pairing, leaves}
+use Rattle.windows.proofs.WindowRounds.{Pairing, leaves}
 use Rattle.windows.proofs.add_pair_by.Statement.{statement}
 use Rattle.windows.proofs.add_pair_by.Tie as tie
 

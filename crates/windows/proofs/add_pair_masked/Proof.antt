@@ -1,5 +1,5 @@
 use Prim.Native.Nat.{_-_}
-use Rattle.windows.proofs.Turns.{Pairing, masked}
+use Rattle.windows.proofs.WindowRounds.{Pairing, masked}
 use Rattle.windows.proofs.add_pair_masked.Statement.{statement}
 use Rattle.windows.proofs.add_pair_masked.Tie as tie
 

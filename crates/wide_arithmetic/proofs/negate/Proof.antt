@@ -1,9 +1,0 @@
-use Rattle.arithmetic.proofs.Negatives.{negatives}
-use Rattle.wide_arithmetic.proofs.negate.Statement.{statement}
-use Rattle.wide_arithmetic.proofs.negate.Tie as tie
-
-pub negate-spec : {M : Type 1} → statement M
-negate-spec =
-    tie.close
-    (tie.spec
-    (λ c. search negatives) (λ c. search negatives) (λ c. search negatives))

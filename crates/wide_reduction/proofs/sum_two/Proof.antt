@@ -1,9 +1,0 @@
-use Rattle.wide_reduction.proofs.Rules.{sums}
-use Rattle.wide_reduction.proofs.sum_two.Statement.{statement}
-use Rattle.wide_reduction.proofs.sum_two.Tie as tie
-
-pub sum-two-spec : {M : Type 1} → statement M
-sum-two-spec =
-    tie.close
-    (tie.spec
-    (λ c κs. search sums) (λ c κs. search sums) (λ c. search sums))
