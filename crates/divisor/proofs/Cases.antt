@@ -55,18 +55,21 @@ module _ {n m : ℕ} {w : List ℕ} (w₁ : List ℕ) (h : Highest) (wa : Window
       split-at x y o = subst (DivisorOrSplit n (piece w₁ 0 (m - 1 + 1)) (piece w₁ m (t + 1))) o q
 
 module _ {n c m : ℕ} {f g w w₁ : List ℕ} (r : HalfAttempt) (ha : HalfAsked n c f g w) (pd : Padded n c m f g w w₁)
-    (p : WindowsAnswer (n / c) m w₁ r) where
+    (n' : ℕ) (is : n' ≡ n / c) (p : WindowsAnswer n' m w₁ r) where
+  answer : (z : HalfAttempt) → r ≡ z → WindowsAnswer (n / c) m w₁ z
+  answer z e = subst (WindowsAnswer (n / c) m w₁) e (rw is at p)
+
   pub half-found-at : (D : ℕ) → r ≡ Found D → Reduced n f g (c * D)
-  half-found-at D e = half-reduced ha pd (subst (WindowsAnswer (n / c) m w₁) e p)
+  half-found-at D e = half-reduced ha pd (answer (Found D) e)
 
   pub half-fits-at : {W : Width} (y D : ℕ) → r ≡ Found D → Fits W n → y ≤ c → Fits W (y * D)
-  half-fits-at y D e = half-fits ha pd y (subst (WindowsAnswer (n / c) m w₁) e p)
+  half-fits-at y D e = half-fits ha pd y (answer (Found D) e)
 
   pub half-divisors-at : (x y : ℕ) → r ≡ Divisors x y → Splitter n x y
-  half-divisors-at x y e = half-splitter ha (subst (WindowsAnswer (n / c) m w₁) e p)
+  half-divisors-at x y e = half-splitter ha (answer (Divisors x y) e)
 
   pub half-nilpotent-at : r ≡ Nilpotent → NilpotentOver n c f
-  half-nilpotent-at e = half-nilpotents ha pd (subst (WindowsAnswer (n / c) m w₁) e p)
+  half-nilpotent-at e = half-nilpotents ha pd (answer Nilpotent e)
 
 module _ (n c : ℕ) (f g : List ℕ) (r : HalfAttempt) (p : HalfAttempted n c f g r) where
   pub found-at : (D : ℕ) → r ≡ Found D → Reduced n f g D

@@ -139,6 +139,9 @@ module _ {n c : ℕ} {f g w : List ℕ} (ha : HalfAsked n c f g w) where
   above : 2 ≤ n / c
   above = common-above n c f g two cm (ha .proper)
 
+  pub half-some : 1 ≤ n / c
+  half-some = omega (arith, above)
+
   pub half-arrange : ArrangeAsked n c f g w
   half-arrange = record {
     modulus = two;
@@ -219,8 +222,8 @@ module _ {n c : ℕ} {f g w : List ℕ} (ha : HalfAsked n c f g w) where
     word-below : (x k : ℕ) → c ∣ x % n → getD w₁ k 0 ≡ ((r * x) % n) / c → getD w₁ k 0 < n / c
     word-below x k d e = subst (λ (y : ℕ). y < n / c) (sym e) (small (r * x) (divides-scaled n c r x (cm .divides-n) d))
 
-    pub half-windows : WindowsAsked (n / c) m w₁
-    half-windows = record {
+    pub half-windows : {n' : ℕ} → n' ≡ n / c → WindowsAsked n' m w₁
+    half-windows is = rw is (record {
       two = above;
       some = some;
       room = long;
@@ -228,7 +231,7 @@ module _ {n c : ℕ} {f g w : List ℕ} (ha : HalfAsked n c f g w) where
       second = record {
         at = λ k h. word-below (coef g k) (0 + k) (cm .divides-g k) (ap (λ (x : ℕ). getD w₁ x 0) (zero-add k) ∙ pd .second k h);
       };
-    }
+    })
 
     pub half-nilpotents : AllNilpotents (n / c) (piece w₁ m m) → NilpotentOver n c f
     half-nilpotents x = record {
@@ -292,6 +295,6 @@ module _ {n p q : ℕ} (s : SplitOf n p q) where
     product-reduced r e = subst (Reduced n f g) (sym e) (subst (λ (z : ℕ). Reduced z f g (D₁ * D₂)) (s .product)
         (reduced-coprime (omega (arith, s .above₁)) (omega (arith, s .above₂)) (s .coprime) f g D₁ D₂ x y))
 
-pub ruleset halves = (needs, half-positive, half-arrange, half-windows)
+pub ruleset halves = (needs, half-positive, half-some, half-arrange, half-windows)
 
 pub ruleset rounds = (needs, swapped-asked, whole-reduced, parted-attempted)

@@ -2,12 +2,13 @@
 // 2^32 f and 2^32 g is D of f and g.
 //
 //   f, g   the sent words; c is the content of both together
-//   w      the working window: g over c from 0 on, f over c from m on, both times a unit, m words each, zeros above; room from 2 m on
+//   n, m   the modulus, and the record of n / c
+//   w      the working window: g over c from 0 on, f over c from l on, both times a unit, l words each, zeros above; room from 2 l on
 //
 //   longer    the larger of two numbers of words
 //   over      words over a content
 //   arrange   both polynomials over their common content
-//   divided   D of the words in the window, where the polynomial at m gets a leading unit
+//   divided   D of the words in the window, where the polynomial at l gets a leading unit
 //   half      the attempt where the first polynomial gets a leading unit
 //   swapped   the attempt where the second one does
 //   general   both halves in round
@@ -19,10 +20,12 @@ ghost use Prim.Native.Nat.{max, _*_, _<_, _≤_};
 ghost use Rattle.definitions.specs.Resultants.{Reduced};
 ghost use lib.ListN.{length};
 ghost use Rattle.windows.specs.Window.{Moved, quotient-by, Scratch};
+ghost use Rattle.modulus.specs.Values.{Known};
 ghost use Rattle.reduced_attempt.specs.ReducedAttempts.{NilpotentOver};
 ghost use Rattle.divisor.specs.Sizes.{DivisorLengthsAsked};
 ghost use Rattle.divisor.specs.DivisorAttempts.{ArrangeAsked, Padded, WindowsAsked, WindowsAnswer, HalfAsked, HalfAttempted};
 ghost use Rattle.divisor.specs.DivisorAttempts.{Attempted};
+use modulus::Modulus;
 use reduced_attempt::HalfAttempt;
 use residue::Attempt;
 
@@ -53,29 +56,29 @@ fn arrange(w: &mut [u32], n: u32, c: u32, f: &[u32], g: &[u32]) -> usize
     requires { ⌜ ArrangeAsked n c (now f) (now g) (now w) ⌝ }
     ensures { λ r. ⌜ Padded n c r (now (f .entry)) (now (g .entry)) (now (w .entry)) (now (w .exit)) ⌝ }
 {
-    let m = longer(f.len(), g.len());
-    windows::clear(w, 0, 2 * m);
-    reduced_attempt::load_pair(w, n, g, m, f);
-    over(w, c, 2 * m);
-    m
+    let l = longer(f.len(), g.len());
+    windows::clear(w, 0, 2 * l);
+    reduced_attempt::load_pair(w, n, g, l, f);
+    over(w, c, 2 * l);
+    l
 }
 
-// D of the m words at m and the m words at 0, if the polynomial at m has a coefficient that is not nilpotent.
-fn divided(w: &mut [u32], n: u32, m: usize) -> HalfAttempt
-    requires { ⌜ WindowsAsked n m (now w) ⌝ }
-    ensures { λ r. ⌜ WindowsAnswer n m (now (w .entry)) r ⌝ }
+// D of the l words at l and the l words at 0, if the polynomial at l has a coefficient that is not nilpotent.
+fn divided(w: &mut [u32], m: Modulus, l: usize) -> HalfAttempt
+    requires { ⌜ (Known m) × (WindowsAsked (m .n) l (now w)) ⌝ }
+    ensures { λ r. ⌜ WindowsAnswer (m .n) l (now (w .entry)) r ⌝ }
     ensures { λ _. ⌜ Scratch (now (w .entry)) (now (w .exit)) ⌝ }
 {
-    match divisor_stages::unit_lead(w, n, m, m, 2 * m) {
+    match divisor_stages::unit_lead(w, m, l, l, 2 * l) {
         window_factor::Highest::UnitAt(t, i) => match divisor_stages::division_stage(
             w,
-            n,
-            0,
-            m - 1,
             m,
+            0,
+            l - 1,
+            l,
             t,
             i,
-            2 * m,
+            2 * l,
         ) {
             Attempt::Value(d) => HalfAttempt::Found(d),
             Attempt::Splits(p, q) => HalfAttempt::Divisors(p, q),
@@ -91,8 +94,9 @@ fn half(w: &mut [u32], n: u32, c: u32, f: &[u32], g: &[u32]) -> HalfAttempt
     ensures { λ r. ⌜ HalfAttempted n c (now (f .entry)) (now (g .entry)) r ⌝ }
     ensures { λ _. ⌜ Scratch (now (w .entry)) (now (w .exit)) ⌝ }
 {
-    let m = arrange(w, n, c, f, g);
-    match divided(w, n / c, m) {
+    let l = arrange(w, n, c, f, g);
+    let m = modulus::modulus_of(n / c);
+    match divided(w, m, l) {
         HalfAttempt::Found(d) => HalfAttempt::Found(c * d),
         HalfAttempt::Divisors(p, q) => HalfAttempt::Divisors(p, q),
         HalfAttempt::Nilpotent => HalfAttempt::Nilpotent,

@@ -3,14 +3,15 @@
 // `divisor` has the laws.
 //
 //   f, g   the sent words; c is the content of both together
-//   w      the working window: g over c from 0 on, f over c from m on, m words each, zeros above; room from 2 m on
+//   n, m   the modulus, and the record of n / c
+//   w      the working window: g over c from 0 on, f over c from l on, l words each, zeros above; room from 2 l on
 //
 //   shows_coprime    whether the resultant shows that D is 1
 //   longer           the larger of two numbers of words
 //   over             words over a content
 //   load_pair        two polynomials in the window
 //   arrange          both polynomials over their common content
-//   divided          D of the words in the window, where the polynomial at m gets a leading unit
+//   divided          D of the words in the window, where the polynomial at l gets a leading unit
 //   half             the attempt where the first polynomial gets a leading unit
 //   swapped          the attempt where the second one does
 //   general          both halves in round
@@ -22,11 +23,13 @@ ghost use Prim.Native.Nat.{max, _+_, _*_, _<_, _≤_};
 ghost use Rattle.definitions.specs.Resultants.{Reduced};
 ghost use lib.ListN.{length};
 ghost use Rattle.windows.specs.Window.{Moved, quotient-by, Scratch};
+ghost use Rattle.reduction64.specs.Moduli.{Ready};
 ghost use Rattle.reduced_attempt.specs.ReducedAttempts.{PairLoaded, NilpotentOver};
 ghost use Rattle.divisor64.specs.CoprimeAttempted.{DivisorAsked, CoprimeAttempted};
 ghost use Rattle.divisor64.specs.DivisorAttempts.{ArrangeAsked, Padded, WindowsAsked, WindowsAnswer, HalfAsked, HalfAttempted};
 ghost use Rattle.divisor64.specs.DivisorAttempts.{Attempted};
 use reduced_attempt64::HalfAttempt;
+use reduction64::Reciprocal;
 use residue64::Attempt;
 
 // Whether it is shown that D of f and g modulo n is 1: two constants show nothing, their resultant is always 1.
@@ -77,29 +80,29 @@ fn arrange(w: &mut [u64], n: u64, c: u64, f: &[u64], g: &[u64]) -> usize
     requires { ⌜ ArrangeAsked n c (now f) (now g) (now w) ⌝ }
     ensures { λ r. ⌜ Padded n c r (now (f .entry)) (now (g .entry)) (now (w .entry)) (now (w .exit)) ⌝ }
 {
-    let m = longer(f.len(), g.len());
-    windows64::clear(w, 0, 2 * m);
-    load_pair(w, n, g, m, f);
-    over(w, c, 2 * m);
-    m
+    let l = longer(f.len(), g.len());
+    windows64::clear(w, 0, 2 * l);
+    load_pair(w, n, g, l, f);
+    over(w, c, 2 * l);
+    l
 }
 
-// D of the m words at m and the m words at 0, if the polynomial at m has a coefficient that is not nilpotent.
-fn divided(w: &mut [u64], n: u64, m: usize) -> HalfAttempt
-    requires { ⌜ WindowsAsked n m (now w) ⌝ }
-    ensures { λ r. ⌜ WindowsAnswer n m (now (w .entry)) r ⌝ }
+// D of the l words at l and the l words at 0, if the polynomial at l has a coefficient that is not nilpotent.
+fn divided(w: &mut [u64], m: Reciprocal, l: usize) -> HalfAttempt
+    requires { ⌜ (Ready m) × (WindowsAsked (m .n) l (now w)) ⌝ }
+    ensures { λ r. ⌜ WindowsAnswer (m .n) l (now (w .entry)) r ⌝ }
     ensures { λ _. ⌜ Scratch (now (w .entry)) (now (w .exit)) ⌝ }
 {
-    match divisor_stages64::unit_lead(w, n, m, m, 2 * m) {
+    match divisor_stages64::unit_lead(w, m, l, l, 2 * l) {
         window_factor64::Highest::UnitAt(t, i) => match divisor_stages64::division_stage(
             w,
-            n,
-            0,
-            m - 1,
             m,
+            0,
+            l - 1,
+            l,
             t,
             i,
-            2 * m,
+            2 * l,
         ) {
             Attempt::Value(d) => HalfAttempt::Found(d),
             Attempt::Splits(p, q) => HalfAttempt::Divisors(p, q),
@@ -115,8 +118,9 @@ fn half(w: &mut [u64], n: u64, c: u64, f: &[u64], g: &[u64]) -> HalfAttempt
     ensures { λ r. ⌜ HalfAttempted n c (now (f .entry)) (now (g .entry)) r ⌝ }
     ensures { λ _. ⌜ Scratch (now (w .entry)) (now (w .exit)) ⌝ }
 {
-    let m = arrange(w, n, c, f, g);
-    match divided(w, n / c, m) {
+    let l = arrange(w, n, c, f, g);
+    let m = reduction64::modulus_of(n / c);
+    match divided(w, m, l) {
         HalfAttempt::Found(d) => HalfAttempt::Found(c * d),
         HalfAttempt::Divisors(p, q) => HalfAttempt::Divisors(p, q),
         HalfAttempt::Nilpotent => HalfAttempt::Nilpotent,

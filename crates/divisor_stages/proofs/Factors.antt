@@ -96,6 +96,7 @@ module _ {n b m t i s : ℕ} {w w₁ : List ℕ} (fa : FactorAsked n b m t i s w
 
   pub factor-given : Given n (m - 1) t i (midOf s l w₁)
   factor-given = record {
+    small = fa .lead .inverse .below;
     below = record {
       at = λ k h. subst (λ (x : ℕ). x < n)
           (sym (was s l w₁ inside (s + k) (0 + k) (omega arith) (omega (arith, shorter)) ∙ cp .mid k (omega (arith, shorter))))
