@@ -55,9 +55,9 @@ module _ {n m : ℕ} {w : List ℕ} (w₁ : List ℕ) (h : Highest) (wa : Window
       split-at x y o = subst (DivisorOrSplit n (piece w₁ 0 (m - 1 + 1)) (piece w₁ m (t + 1))) o q
 
 module _ {n c m : ℕ} {f g w w₁ : List ℕ} (r : HalfAttempt) (ha : HalfAsked n c f g w) (pd : Padded n c m f g w w₁)
-    (n' : ℕ) (is : n' ≡ n / c) (p : WindowsAnswer n' m w₁ r) where
+    (p : WindowsAnswer (n / c) m w₁ r) where
   answer : (z : HalfAttempt) → r ≡ z → WindowsAnswer (n / c) m w₁ z
-  answer z e = subst (WindowsAnswer (n / c) m w₁) e (rw is at p)
+  answer z e = subst (WindowsAnswer (n / c) m w₁) e p
 
   pub half-found-at : (D : ℕ) → r ≡ Found D → Reduced n f g (c * D)
   half-found-at D e = half-reduced ha pd (answer (Found D) e)

@@ -39,7 +39,8 @@ use Rattle.divisor_stages.proofs.Contents.{splitter-dvd, split-splitter}
 use Rattle.residue.specs.declared.Attempt.{Attempt}
 use Rattle.residue.specs.declared.Attempt.the-variants.{Value, Splits}
 use Rattle.divisor.specs.Sizes.{sizes-swapped}
-use Rattle.divisor.specs.DivisorAttempts.{ArrangeAsked, Padded, WindowsAsked, HalfAsked, Attempted}
+use Rattle.reduced_attempt.specs.declared.HalfAttempt.{HalfAttempt}
+use Rattle.divisor.specs.DivisorAttempts.{ArrangeAsked, Padded, WindowsAsked, WindowsAnswer, HalfAsked, Attempted}
 
 -- ---- both polynomials in the buffer
 
@@ -139,9 +140,6 @@ module _ {n c : ℕ} {f g w : List ℕ} (ha : HalfAsked n c f g w) where
   above : 2 ≤ n / c
   above = common-above n c f g two cm (ha .proper)
 
-  pub half-some : 1 ≤ n / c
-  half-some = omega (arith, above)
-
   pub half-arrange : ArrangeAsked n c f g w
   half-arrange = record {
     modulus = two;
@@ -222,8 +220,8 @@ module _ {n c : ℕ} {f g w : List ℕ} (ha : HalfAsked n c f g w) where
     word-below : (x k : ℕ) → c ∣ x % n → getD w₁ k 0 ≡ ((r * x) % n) / c → getD w₁ k 0 < n / c
     word-below x k d e = subst (λ (y : ℕ). y < n / c) (sym e) (small (r * x) (divides-scaled n c r x (cm .divides-n) d))
 
-    pub half-windows : {n' : ℕ} → n' ≡ n / c → WindowsAsked n' m w₁
-    half-windows is = rw is (record {
+    pub half-windows : WindowsAsked (n / c) m w₁
+    half-windows = record {
       two = above;
       some = some;
       room = long;
@@ -231,7 +229,7 @@ module _ {n c : ℕ} {f g w : List ℕ} (ha : HalfAsked n c f g w) where
       second = record {
         at = λ k h. word-below (coef g k) (0 + k) (cm .divides-g k) (ap (λ (x : ℕ). getD w₁ x 0) (zero-add k) ∙ pd .second k h);
       };
-    })
+    }
 
     pub half-nilpotents : AllNilpotents (n / c) (piece w₁ m m) → NilpotentOver n c f
     half-nilpotents x = record {
@@ -295,6 +293,18 @@ module _ {n p q : ℕ} (s : SplitOf n p q) where
     product-reduced r e = subst (Reduced n f g) (sym e) (subst (λ (z : ℕ). Reduced z f g (D₁ * D₂)) (s .product)
         (reduced-coprime (omega (arith, s .above₁)) (omega (arith, s .above₂)) (s .coprime) f g D₁ D₂ x y))
 
-pub ruleset halves = (needs, half-positive, half-some, half-arrange, half-windows)
+-- by the record of the modulus, whose n' is n
+pub record-some : {n m : ℕ} {w : List ℕ} → WindowsAsked n m w → 1 ≤ n
+record-some a = omega (arith, a .two)
+
+pub record-asked : {n n' m : ℕ} {w : List ℕ} → WindowsAsked n m w → n' ≡ n → WindowsAsked n' m w
+record-asked a is = rw is a
+
+pub record-answer : (n n' m : ℕ) (w : List ℕ) (r : HalfAttempt) → WindowsAnswer n' m w r → n' ≡ n → WindowsAnswer n m w r
+record-answer n n' m w r a is = subst (λ (x : ℕ). WindowsAnswer x m w r) is a
+
+pub ruleset records = (needs, record-some, record-asked, record-answer)
+
+pub ruleset halves = (needs, half-positive, half-arrange, half-windows)
 
 pub ruleset rounds = (needs, swapped-asked, whole-reduced, parted-attempted)

@@ -88,6 +88,16 @@ fn divided(w: &mut [u32], m: Modulus, l: usize) -> HalfAttempt
     }
 }
 
+// The same by n, whose record is found here.
+fn divided_by(w: &mut [u32], n: u32, l: usize) -> HalfAttempt
+    requires { ⌜ WindowsAsked n l (now w) ⌝ }
+    ensures { λ r. ⌜ WindowsAnswer n l (now (w .entry)) r ⌝ }
+    ensures { λ _. ⌜ Scratch (now (w .entry)) (now (w .exit)) ⌝ }
+{
+    let m = modulus::modulus_of(n);
+    divided(w, m, l)
+}
+
 // D of f and g, c their common content, if f over c has a coefficient that is not nilpotent.
 fn half(w: &mut [u32], n: u32, c: u32, f: &[u32], g: &[u32]) -> HalfAttempt
     requires { ⌜ HalfAsked n c (now f) (now g) (now w) ⌝ }
@@ -95,8 +105,7 @@ fn half(w: &mut [u32], n: u32, c: u32, f: &[u32], g: &[u32]) -> HalfAttempt
     ensures { λ _. ⌜ Scratch (now (w .entry)) (now (w .exit)) ⌝ }
 {
     let l = arrange(w, n, c, f, g);
-    let m = modulus::modulus_of(n / c);
-    match divided(w, m, l) {
+    match divided_by(w, n / c, l) {
         HalfAttempt::Found(d) => HalfAttempt::Found(c * d),
         HalfAttempt::Divisors(p, q) => HalfAttempt::Divisors(p, q),
         HalfAttempt::Nilpotent => HalfAttempt::Nilpotent,

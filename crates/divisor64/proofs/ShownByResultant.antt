@@ -4,27 +4,36 @@
 --   loaded                        two polynomials in the window
 --   first-factor, second-factor   what the run asks, for a factor of the modulus
 --   ways                          the rules
-use mathlib.Core.Path.{_≡_, refl, sym, subst, _∙_}
+use mathlib.Core.Path.{_≡_, refl, subst, _∙_}
 use mathlib.Core.Bool.{Bool, true, false}
 use mathlib.Core.List.{List}
 use Prim.Native.Nat.{ℕ, zero, suc, pred, _+_, _≤_, _<_}
 use native.Mathlib.Omega.{arith}
+use native.Mathlib.Nat.{one-dvd}
 use lib.Dec.{eqb}
 use lib.ListN.{length}
 use borrow.Author.Needs.{needs}
 use borrow.Author.Tests.{eqb-true}
-use Rattle.definitions.specs.Resultants.{resultant, Reached}
+use Rattle.definitions.specs.Resultants.{resultant, Reached, Reduced}
 use Rattle.law_numbers.specs.Divisors.{IsGcd}
-use Rattle.law_polynomials.specs.ReachedLaws.{resultant-reached}
+use Rattle.law_numbers.specs.Units.{unit-of-coprime, coprime-of-gcd, inverse-times}
+use Rattle.law_polynomials.specs.ReachedLaws.{resultant-reached, reached-same, reached-multiple, reduced-from}
 use Rattle.windows.specs.Window.{Scratch, Loaded}
 use Rattle.window_factor64.specs.Factors.{SplitOf}
 use Rattle.reduced_attempt.specs.ReducedAttempts.{PairLoaded}
 use Rattle.reduced_attempt.proofs.Scalings.{pair-plain}
-use Rattle.coprime_test.proofs.Descents.{unit-reached}
 use Rattle.divisor.proofs.Halves.{split-first, split-second}
 use Rattle.divisor64.specs.CoprimeAttempted.{DivisorAsked, CoprimeAttempted}
 
 module _ {n : ℕ} {f g w : List ℕ} (a : DivisorAsked n f g w) where
+  -- a unit that is reached: D is 1
+  unit-reached : (c : ℕ) → IsGcd n c 1 → Reached n f g c → Reduced n f g 1
+  unit-reached c h r =
+      let positive : 1 ≤ n = omega (arith, a .two) in
+      let u = unit-of-coprime {a = c} positive (coprime-of-gcd h) in
+      reduced-from n 1 f g positive (one-dvd n) (omega arith) positive
+      (reached-same (inverse-times u .same) (reached-multiple n positive f g c (u .inverse) r)) (λ x y. one-dvd x)
+
   reached : 3 ≤ length f + length g → Reached n f g (resultant n f g)
   reached l = go n (a .two)
     where
@@ -37,7 +46,10 @@ module _ {n : ℕ} {f g w : List ℕ} (a : DivisorAsked n f g w) where
 
   pub shown : {r x : ℕ} (b : Bool) → r ≡ resultant n f g → IsGcd n r x → 3 ≤ length f + length g → b ≡ eqb x 1 → CoprimeAttempted n f g b
   shown {r} {x} true e h l i =
-      unit-reached n (resultant n f g) x f g (a .two) (subst (λ (c : ℕ). IsGcd n c x) e h) (eqb-true x 1 (sym i)) (reached l)
+      unit-reached (resultant n f g) (subst (λ (c : ℕ). IsGcd n c 1) e (subst (IsGcd n r) (eqb-true x 1 (is i)) h)) (reached l)
+    where
+      is : true ≡ eqb x 1 → eqb x 1 ≡ true
+      is i = rw i refl
   shown false e h l i = tt
 
   asked-of : {w' : List ℕ} (p : ℕ) → length w' ≡ length w → 2 ≤ p → p < n → DivisorAsked p f g w'

@@ -2,10 +2,11 @@
 --
 --   DivisorAsked n f g w        n is below 2^63, f and g have 1 to 49 words, and w has the words of a working buffer
 --   CoprimeAttempted n f g b    b says that D is 1; false says nothing
+use mathlib.Core.Bool.{Bool, true, false}
 use mathlib.Core.List.{List}
 use Prim.Native.Nat.{ℕ, _<_, _≤_}
 use lib.ListN.{length}
-pub use Rattle.coprime_test.specs.CoprimeAttempted.{CoprimeAttempted}
+use Rattle.definitions.specs.Resultants.{Reduced}
 
 pub record DivisorAsked (n : ℕ) (f g w : List ℕ) : Type 0 where
   pub two : 2 ≤ n
@@ -15,3 +16,7 @@ pub record DivisorAsked (n : ℕ) (f g w : List ℕ) : Type 0 where
   pub least-g : 1 ≤ length g
   pub most-g : length g ≤ 49
   pub working : 16384 ≤ length w
+
+abbrev pub CoprimeAttempted : ℕ → List ℕ → List ℕ → Bool → Type 0
+CoprimeAttempted n f g true = Reduced n f g 1
+CoprimeAttempted n f g false = Unit

@@ -3,15 +3,14 @@
 // `divisor` has the laws.
 //
 //   f, g   the sent words; c is the content of both together
-//   n, m   the modulus, and the record of n / c
-//   w      the working window: g over c from 0 on, f over c from l on, l words each, zeros above; room from 2 l on
+//   w      the working window: g over c from 0 on, f over c from m on, m words each, zeros above; room from 2 m on
 //
 //   shows_coprime    whether the resultant shows that D is 1
 //   longer           the larger of two numbers of words
 //   over             words over a content
 //   load_pair        two polynomials in the window
 //   arrange          both polynomials over their common content
-//   divided          D of the words in the window, where the polynomial at l gets a leading unit
+//   divided          D of the words in the window, where the polynomial at m gets a leading unit
 //   half             the attempt where the first polynomial gets a leading unit
 //   swapped          the attempt where the second one does
 //   general          both halves in round
@@ -23,8 +22,8 @@ ghost use Prim.Native.Nat.{max, _+_, _*_, _<_, _≤_};
 ghost use Rattle.definitions.specs.Resultants.{Reduced};
 ghost use lib.ListN.{length};
 ghost use Rattle.windows.specs.Window.{Moved, quotient-by, Scratch};
-ghost use Rattle.reduction64.specs.Moduli.{Ready};
 ghost use Rattle.reduced_attempt.specs.ReducedAttempts.{PairLoaded, NilpotentOver};
+ghost use Rattle.reduction64.specs.Moduli.{Ready};
 ghost use Rattle.divisor64.specs.CoprimeAttempted.{DivisorAsked, CoprimeAttempted};
 ghost use Rattle.divisor64.specs.DivisorAttempts.{ArrangeAsked, Padded, WindowsAsked, WindowsAnswer, HalfAsked, HalfAttempted};
 ghost use Rattle.divisor64.specs.DivisorAttempts.{Attempted};
@@ -80,14 +79,14 @@ fn arrange(w: &mut [u64], n: u64, c: u64, f: &[u64], g: &[u64]) -> usize
     requires { ⌜ ArrangeAsked n c (now f) (now g) (now w) ⌝ }
     ensures { λ r. ⌜ Padded n c r (now (f .entry)) (now (g .entry)) (now (w .entry)) (now (w .exit)) ⌝ }
 {
-    let l = longer(f.len(), g.len());
-    windows64::clear(w, 0, 2 * l);
-    load_pair(w, n, g, l, f);
-    over(w, c, 2 * l);
-    l
+    let m = longer(f.len(), g.len());
+    windows64::clear(w, 0, 2 * m);
+    load_pair(w, n, g, m, f);
+    over(w, c, 2 * m);
+    m
 }
 
-// D of the l words at l and the l words at 0, if the polynomial at l has a coefficient that is not nilpotent.
+// D of the m words at m and the m words at 0, if the polynomial at m has a coefficient that is not nilpotent.
 fn divided(w: &mut [u64], m: Reciprocal, l: usize) -> HalfAttempt
     requires { ⌜ (Ready m) × (WindowsAsked (m .n) l (now w)) ⌝ }
     ensures { λ r. ⌜ WindowsAnswer (m .n) l (now (w .entry)) r ⌝ }
@@ -112,6 +111,16 @@ fn divided(w: &mut [u64], m: Reciprocal, l: usize) -> HalfAttempt
     }
 }
 
+// The same by n, whose record is found here.
+fn divided_by(w: &mut [u64], n: u64, l: usize) -> HalfAttempt
+    requires { ⌜ WindowsAsked n l (now w) ⌝ }
+    ensures { λ r. ⌜ WindowsAnswer n l (now (w .entry)) r ⌝ }
+    ensures { λ _. ⌜ Scratch (now (w .entry)) (now (w .exit)) ⌝ }
+{
+    let m = reduction64::modulus_of(n);
+    divided(w, m, l)
+}
+
 // D of f and g, c their common content, if f over c has a coefficient that is not nilpotent.
 fn half(w: &mut [u64], n: u64, c: u64, f: &[u64], g: &[u64]) -> HalfAttempt
     requires { ⌜ HalfAsked n c (now f) (now g) (now w) ⌝ }
@@ -119,8 +128,7 @@ fn half(w: &mut [u64], n: u64, c: u64, f: &[u64], g: &[u64]) -> HalfAttempt
     ensures { λ _. ⌜ Scratch (now (w .entry)) (now (w .exit)) ⌝ }
 {
     let l = arrange(w, n, c, f, g);
-    let m = reduction64::modulus_of(n / c);
-    match divided(w, m, l) {
+    match divided_by(w, n / c, l) {
         HalfAttempt::Found(d) => HalfAttempt::Found(c * d),
         HalfAttempt::Divisors(p, q) => HalfAttempt::Divisors(p, q),
         HalfAttempt::Nilpotent => HalfAttempt::Nilpotent,

@@ -7,8 +7,8 @@ pub half-spec : {M : Type 1} → statement M
 half-spec =
     tie.close
     (tie.spec
-    (λ c κs. search half-attempts) (λ c. search half-attempts) (λ c κs. search half-attempts) (λ c κs. search half-attempts)
-    (λ c. search needs) (λ c. search fitting) (λ c. search needs)
+    (λ c κs. search half-attempts) (λ c. search half-attempts) (λ c κs. search half-attempts) (λ c. search needs) (λ c. search fitting)
+    (λ c. search needs)
     (λ c. search needs) (λ c. search needs) (λ c. (search half-attempts, search needs)) (λ c. search needs)
     (λ c. (search half-attempts, search needs))
     (λ c. search needs) (λ c. (search half-attempts, search needs)))
