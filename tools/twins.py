@@ -17,12 +17,14 @@ import sys
 ROOT = pathlib.Path(__file__).resolve().parent.parent
 # pairs whose function proofs are written by rules that both widths share: how many lines may differ
 SHARED = {
-    "batch_pairs": 0, "convolution": 9, "divisor": 2, "divisor_stages": 0, "divisors_service": 2, "euclid_multipliers": 6, "evaluator_service": 0,
-    "evaluator_matrices": 0, "product_law_service": 0, "product_law_refusals": 2, "multiplier_steps": 0, "multiplier_words": 3, "degree_service": 0,
-    "division_service": 0, "unit_monic_service": 18, "inverse_service": 0, "product_service": 0, "reduced": 0, "reduced_attempt": 10,
-    "reduced_clearing": 0, "reduced_cofactors": 0, "reduced_products": 0, "reduced_quotients": 0, "reduced_service": 8, "reduced_stages": 0,
-    "reduced_units": 0, "refusals": 2, "residue": 4, "residue_service": 0, "resultant_attempt": 4, "resultant_euclid": 0, "resultant_steps": 0,
-    "resultants_service": 2, "window_division": 31, "window_factor": 0, "windows": 42,
+    "arithmetic": 15, "batch_pairs": 0, "bezout": 2, "convolution": 7, "degree_service": 0, "division_service": 3, "divisor": 2,
+    "divisor_service": 9, "divisor_stages": 4, "divisors_service": 2, "euclid_multipliers": 6, "evaluator_matrices": 0,
+    "evaluator_service": 0, "inverse_service": 0, "multiplier_steps": 0, "multiplier_words": 3, "product_law_refusals": 2,
+    "product_law_service": 0, "product_service": 0, "reduced": 0, "reduced_attempt": 10, "reduced_clearing": 0, "reduced_cofactors": 0,
+    "reduced_products": 0, "reduced_quick": 21, "reduced_quotients": 0, "reduced_service": 8, "reduced_stages": 0, "reduced_units": 0,
+    "refusals": 2, "residue": 4, "residue_service": 0, "resultant": 17, "resultant_attempt": 8, "resultant_euclid": 0,
+    "resultant_service": 2, "resultant_signs": 0, "resultant_steps": 0, "resultants_service": 2, "unit_monic_service": 18,
+    "window_division": 26, "window_factor": 0, "windows": 33,
 }
 
 

@@ -5,16 +5,16 @@
 //   n, m   the modulus, and the record of n / c
 //   w      the working window: g over c from 0 on, f over c from l on, both times a unit, l words each, zeros above; room from 2 l on
 //
-//   longer    the larger of two numbers of words
-//   over      words over a content
-//   arrange   both polynomials over their common content
-//   divided   D of the words in the window, where the polynomial at l gets a leading unit
-//   half      the attempt where the first polynomial gets a leading unit
-//   swapped   the attempt where the second one does
-//   general   both halves in round
-//   attempt   D = 1 where that shows at once; else the general way
-//   joined    D modulo a product of two coprime factors
-//   run       D; a split of n is worked on each factor, and the answers are multiplied
+//   longer                the larger of two numbers of words
+//   over                  words over a content
+//   arrange               both polynomials over their common content
+//   divided, divided_by   D of the words in the window, where the polynomial at l gets a leading unit
+//   half                  the attempt where the first polynomial gets a leading unit
+//   swapped               the attempt where the second one does
+//   general               both halves in turn
+//   attempt               D = 1 where that shows at once; else the general way
+//   joined                D modulo a product of two coprime factors
+//   run                   D; a split of n is worked on each factor, and the answers are multiplied
 ghost use mathlib.Core.Path.{_≡_};
 ghost use Prim.Native.Nat.{max, _*_, _<_, _≤_};
 ghost use Rattle.definitions.specs.Resultants.{Reduced};

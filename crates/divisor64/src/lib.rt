@@ -5,18 +5,18 @@
 //   f, g   the sent words; c is the content of both together
 //   w      the working window: g over c from 0 on, f over c from m on, m words each, zeros above; room from 2 m on
 //
-//   shows_coprime    whether the resultant shows that D is 1
-//   longer           the larger of two numbers of words
-//   over             words over a content
-//   load_pair        two polynomials in the window
-//   arrange          both polynomials over their common content
-//   divided          D of the words in the window, where the polynomial at m gets a leading unit
-//   half             the attempt where the first polynomial gets a leading unit
-//   swapped          the attempt where the second one does
-//   general          both halves in round
-//   attempt          D = 1 where the resultant shows it; else the general way
-//   joined           D modulo a product of two coprime factors
-//   run              D; a split of n is worked on each factor, and the answers are multiplied
+//   shows_coprime         whether the resultant shows that D is 1
+//   longer                the larger of two numbers of words
+//   over                  words over a content
+//   load_pair             two polynomials in the window
+//   arrange               both polynomials over their common content
+//   divided, divided_by   D of the words in the window, where the polynomial at m gets a leading unit
+//   half                  the attempt where the first polynomial gets a leading unit
+//   swapped               the attempt where the second one does
+//   general               both halves in turn
+//   attempt               D = 1 where the resultant shows it; else the general way
+//   joined                D modulo a product of two coprime factors
+//   run                   D; a split of n is worked on each factor, and the answers are multiplied
 ghost use mathlib.Core.Path.{_≡_};
 ghost use Prim.Native.Nat.{max, _+_, _*_, _<_, _≤_};
 ghost use Rattle.definitions.specs.Resultants.{Reduced};

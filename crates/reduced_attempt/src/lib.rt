@@ -11,7 +11,7 @@
 //   half             the attempt where the first polynomial is the one that is factored
 //   over_content     the same, where the words stand over the content; core_over is the core of the attempt there
 //   split            two coprime divisors of n, made two coprime factors
-//   attempt          both_halves in round, other_half the second
+//   attempt          both_halves in turn, other_half the second
 ghost use Prim.Native.Nat.{_+_, _-_, _*_, _/_, _≤_};
 ghost use lib.ListN.{length};
 ghost use Rattle.windows.specs.Window.{Scratch};

@@ -13,5 +13,4 @@ euclid-spec =
     (λ c. search alternations) (λ c. search needs) (λ c. search needs) (λ c. search needs)
     (λ c κs. (search alternations, (search needs, search needs))) (λ c. search needs) (λ c. search needs) (λ c. search needs)
     (λ c. search needs) (λ c. search alternations) (λ c κs. (search alternations, (search alternations, search needs)))
-    (λ c. search alternations)
-    (λ c. search alternations) (λ c. search needs) (λ c. search alternations))
+    (λ c. search alternations) (λ c. search alternations) (λ c. search needs) (λ c. search alternations))

@@ -9,8 +9,7 @@ pub refusal-batch-spec : {M : Type 1} → statement M
 refusal-batch-spec =
     tie.close
     (tie.spec
-    (λ c κs. search needs) (λ c. search cascade depth 8)
-    (λ c κs. search needs) (λ c. search (cascade, pair-stops) depth 8)
+    (λ c κs. search needs) (λ c. search cascade depth 8) (λ c κs. search needs) (λ c. search (cascade, pair-stops) depth 8)
     (λ c κs. let r = c .before .before .before in
     let x = r .before .before .before .args in
     let p = pieces-told (x .d) (x .e) (x .count) (length (x .f .now)) (length (x .g .now)) _ (c .before .refusal-pieces .ensures)

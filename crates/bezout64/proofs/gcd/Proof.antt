@@ -7,6 +7,5 @@ pub gcd-spec : {M : Type 1} → statement M
 gcd-spec =
     tie.close
     (tie.spec
-    (λ a b x₀ y₀ x y. Same a b x y)
-    (λ a b x₀ y₀ x y. y)
+    (λ a b x₀ y₀ x y. Same a b x y) (λ a b x₀ y₀ x y. y)
     (λ c. search divisors) (λ c. search divisors) (λ c. search divisors) (λ c. search divisors) (λ c. search divisors))

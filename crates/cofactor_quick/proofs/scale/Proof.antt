@@ -6,11 +6,5 @@ pub scale-spec : {M : Type 1} → statement M
 scale-spec =
     tie.close
     (tie.spec
-    (λ c κs. search knows)
-    (λ c κs. search knows)
-    (λ c κs. search knows)
-    (λ c κs. search knows)
-    (λ c κs. search knows)
-    (λ c. search knows)
-    (λ c. search knows)
-    (λ c. search knows))
+    (λ c κs. search knows) (λ c κs. search knows) (λ c κs. search knows) (λ c κs. search knows) (λ c κs. search knows) (λ c. search knows)
+    (λ c. search knows) (λ c. search knows))

@@ -7,8 +7,5 @@ pub step-spec : {M : Type 1} → statement M
 step-spec =
     tie.close
     (tie.spec
-    (λ c κs. search needs) (λ c. search needs)
-    (λ c. search needs) (λ c. search needs)
-    (λ c κs. search needs)
-    (λ c κs. search steps) (λ c. search needs)
-    (λ c. search steps))
+    (λ c κs. search needs) (λ c. search needs) (λ c. search needs) (λ c. search needs) (λ c κs. search needs)
+    (λ c κs. search steps) (λ c. search needs) (λ c. search steps))

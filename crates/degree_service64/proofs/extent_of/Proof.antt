@@ -6,7 +6,6 @@ pub extent-of-spec : {M : Type 1} → statement M
 extent-of-spec =
     tie.close
     (tie.spec
-    (λ f k₀ k. Descending f k)
-    (λ f k₀ k. k)
+    (λ f k₀ k. Descending f k) (λ f k₀ k. k)
     (λ c. search descents) (λ c. search descents) (λ c. search descents) (λ c. search descents) (λ c. search descents)
     (λ c. search descents) (λ c. search descents) (λ c. search descents) (λ c. search descents))

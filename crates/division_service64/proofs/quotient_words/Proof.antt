@@ -7,8 +7,7 @@ pub quotient-words-spec : {M : Type 1} → statement M
 quotient-words-spec =
     tie.close
     (tie.spec
-    (λ n i f g q₀ modulus e m s₀ q s. Quotienting n s f g q₀ q)
-    (λ n i f g q₀ modulus e m s₀ q s. s)
+    (λ n i f g q₀ modulus e m s₀ q s. Quotienting n s f g q₀ q) (λ n i f g q₀ modulus e m s₀ q s. s)
     (λ c κs. search quotients) (λ c κs. search quotients) (λ c. search quotients) (λ c κs. search quotients) (λ c. search quotients)
     (λ c. search quotients) (λ c. search quotients) (λ c. search quotients) (λ c. search quotients) (λ c. search quotients)
     (λ c κs. search quotients) (λ c. search quotients) (λ c. search quotients) (λ c. search quotients)

@@ -9,8 +9,7 @@ pub remainder-words-spec : {M : Type 1} → statement M
 remainder-words-spec =
     tie.close
     (tie.spec
-    (λ n f g q r₀ m k₀ r k. (k ≤ length r₀) × Filled (remainders n f g q) k r₀ r)
-    (λ n f g q r₀ m k₀ r k. length r₀ - k)
+    (λ n f g q r₀ m k₀ r k. (k ≤ length r₀) × Filled (remainders n f g q) k r₀ r) (λ n f g q r₀ m k₀ r k. length r₀ - k)
     (λ c κs. search quotients) (λ c. search quotients) (λ c κs. search quotients) (λ c κs. search quotients) (λ c κs. search quotients)
     (λ c. search quotients) (λ c. search quotients) (λ c. search quotients) (λ c. search quotients) (λ c. search quotients)
     (λ c. search quotients) (λ c. search quotients))

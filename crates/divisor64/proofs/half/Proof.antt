@@ -8,7 +8,5 @@ half-spec =
     tie.close
     (tie.spec
     (λ c κs. search half-attempts) (λ c. search half-attempts) (λ c κs. search half-attempts) (λ c. search needs) (λ c. search fitting)
-    (λ c. search needs)
-    (λ c. search needs) (λ c. search needs) (λ c. (search half-attempts, search needs)) (λ c. search needs)
-    (λ c. (search half-attempts, search needs))
-    (λ c. search needs) (λ c. (search half-attempts, search needs)))
+    (λ c. search needs) (λ c. search needs) (λ c. search needs) (λ c. (search half-attempts, search needs)) (λ c. search needs)
+    (λ c. (search half-attempts, search needs)) (λ c. search needs) (λ c. (search half-attempts, search needs)))

@@ -6,5 +6,4 @@ pub jingcobu-check-claim-spec : {M : Type 1} → statement M
 jingcobu-check-claim-spec =
     tie.close
     (tie.spec
-    (λ c κs. search needs) (λ c. search needs)
-    (λ c. c .before .before .check-claim-words .ensures))
+    (λ c κs. search needs) (λ c. search needs) (λ c. c .before .before .check-claim-words .ensures))

@@ -6,5 +6,4 @@ pub jingcobu-product-word-spec : {M : Type 1} → statement M
 jingcobu-product-word-spec =
     tie.close
     (tie.spec
-    (λ c κs. search needs) (λ c. search needs)
-    (λ c. c .before .before .product-word .ensures))
+    (λ c κs. search needs) (λ c. search needs) (λ c. c .before .before .product-word .ensures))

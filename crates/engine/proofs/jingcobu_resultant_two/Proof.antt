@@ -6,5 +6,4 @@ pub jingcobu-resultant-two-spec : {M : Type 1} → statement M
 jingcobu-resultant-two-spec =
     tie.close
     (tie.spec
-    (λ c κs. search needs) (λ c. search needs) (λ c. search needs)
-    (λ c. c .before .before .before .before .bivariate-resultant .ensures))
+    (λ c κs. search needs) (λ c. search needs) (λ c. search needs) (λ c. c .before .before .before .before .bivariate-resultant .ensures))

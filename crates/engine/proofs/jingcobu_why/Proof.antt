@@ -6,5 +6,4 @@ pub jingcobu-why-spec : {M : Type 1} → statement M
 jingcobu-why-spec =
     tie.close
     (tie.spec
-    (λ c κs. search needs) (λ c. search needs) (λ c. search needs)
-    (λ c. c .before .before .before .before .why .ensures))
+    (λ c κs. search needs) (λ c. search needs) (λ c. search needs) (λ c. c .before .before .before .before .why .ensures))

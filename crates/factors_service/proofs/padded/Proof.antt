@@ -8,7 +8,6 @@ pub padded-spec : {M : Type 1} → statement M
 padded-spec =
     tie.close
     (tie.spec
-    (λ h words₀ i₀ words i. Padded h words i)
-    (λ h words₀ i₀ words i. length h - i)
+    (λ h words₀ i₀ words i. Padded h words i) (λ h words₀ i₀ words i. length h - i)
     (λ c. search padding) (λ c. search padding) (λ c. search padding) (λ c. search padding) (λ c. search padding) (λ c. search padding)
     (λ c. search padding) (λ c. search padding) (λ c. search padding))

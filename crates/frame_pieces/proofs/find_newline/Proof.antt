@@ -9,7 +9,6 @@ pub find-newline-spec : {M : Type 1} → statement M
 find-newline-spec =
     tie.close
     (tie.spec
-    (λ piece from j₀ j. Clear piece from j)
-    (λ piece from j₀ j. length piece - j)
+    (λ piece from j₀ j. Clear piece from j) (λ piece from j₀ j. length piece - j)
     (λ c κs. search pieces) (λ c. search pieces) (λ c. search pieces) (λ c. search pieces) (λ c. search pieces)
     (λ c. search pieces) (λ c. search pieces) (λ c. search pieces))

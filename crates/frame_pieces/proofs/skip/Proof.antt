@@ -9,7 +9,6 @@ pub skip-spec : {M : Type 1} → statement M
 skip-spec =
     tie.close
     (tie.spec
-    (λ piece from j₀ j. Clear piece from j)
-    (λ piece from j₀ j. length piece - j)
+    (λ piece from j₀ j. Clear piece from j) (λ piece from j₀ j. length piece - j)
     (λ c. search pieces) (λ c. search pieces) (λ c κs. search pieces) (λ c. search pieces) (λ c. search pieces)
     (λ c. search pieces) (λ c. search pieces) (λ c. search pieces))

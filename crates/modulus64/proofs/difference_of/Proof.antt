@@ -6,6 +6,4 @@ pub difference-of-spec : {M : Type 1} → statement M
 difference-of-spec =
     tie.close
     (tie.spec
-    (λ c. search answers)
-    (λ c κs. search answers)
-    (λ c. search answers))
+    (λ c. search answers) (λ c κs. search answers) (λ c. search answers))

@@ -6,5 +6,4 @@ pub product-spec : {M : Type 1} → statement M
 product-spec =
     tie.close
     (tie.spec
-    (λ c κs. search answers)
-    (λ c. search answers))
+    (λ c κs. search answers) (λ c. search answers))

@@ -6,7 +6,4 @@ pub combine-spec : {M : Type 1} → statement M
 combine-spec =
     tie.close
     (tie.spec
-    (λ c. search loops)
-    (λ c κs. search loops)
-    (λ c. search loops)
-    (λ c. search loops))
+    (λ c. search loops) (λ c κs. search loops) (λ c. search loops) (λ c. search loops))

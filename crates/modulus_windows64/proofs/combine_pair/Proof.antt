@@ -6,8 +6,4 @@ pub combine-pair-spec : {M : Type 1} → statement M
 combine-pair-spec =
     tie.close
     (tie.spec
-    (λ c. search loops)
-    (λ c. search loops)
-    (λ c κs. search loops)
-    (λ c. search loops)
-    (λ c. search loops))
+    (λ c. search loops) (λ c. search loops) (λ c κs. search loops) (λ c. search loops) (λ c. search loops))

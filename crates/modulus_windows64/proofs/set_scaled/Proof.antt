@@ -9,8 +9,7 @@ pub set-scaled-spec : {M : Type 1} → statement M
 set-scaled-spec =
     tie.close
     (tie.spec
-    (λ w₀ m c src dst len f j₀ w j. Moving (mulBy (m .n) c) src dst len w₀ w j)
-    (λ w₀ m c src dst len f j₀ w j. len - j)
+    (λ w₀ m c src dst len f j₀ w j. Moving (mulBy (m .n) c) src dst len w₀ w j) (λ w₀ m c src dst len f j₀ w j. len - j)
     (λ c κs. search loops) (λ c. search loops) (λ c. search loops) (λ c. search loops)
     (λ c. search loops) (λ c κs. search loops) (λ c. search loops) (λ c. search loops) (λ c. search loops)
     (λ c. search loops) (λ c. search loops) (λ c. search loops) (λ c. search loops) (λ c. search loops))

@@ -8,8 +8,7 @@ pub mix-spec : {M : Type 1} → statement M
 mix-spec =
     tie.close
     (tie.spec
-    (λ u₀ s n a b z m j₀ u j. Mixing n a s u₀ u j)
-    (λ u₀ s n a b z m j₀ u j. length s - j)
+    (λ u₀ s n a b z m j₀ u j. Mixing n a s u₀ u j) (λ u₀ s n a b z m j₀ u j. length s - j)
     (λ c κs. search runs) (λ c κs. search runs) (λ c. search runs) (λ c. search runs) (λ c. search runs) (λ c. search runs)
     (λ c. search runs) (λ c κs. search runs) (λ c. search runs) (λ c. search runs) (λ c. search runs) (λ c. search runs)
     (λ c. search runs) (λ c. search runs) (λ c. search runs) (λ c. search runs) (λ c. search runs))

@@ -26,7 +26,8 @@ returns-2 c =
     let a₁ = q .before .before .before .before .before in
     let a = a₁ .before .before .before .before .args in (
       attempted-from (a .n) (a .f .now) (a .g .now) (a .u .now) (a .v .now) _ _ _ _ (attempt-of (x .attempt .result))
-          (attempted-false (a .n) (a .f .now) (a .g .now) (a .u .now) (a .v .now) _ _ (q .quick .result) (y .if1 .left) (q .quick .ensures .0))
+          (attempted-false (a .n) (a .f .now) (a .g .now) (a .u .now) (a .v .now) _ _ (q .quick .result) (y .if1 .left)
+          (q .quick .ensures .0))
           (x .attempt .ensures .0),
       record { same = x .attempt .ensures .1 .same ∙ q .quick .ensures .1 .same },
     )
@@ -35,13 +36,5 @@ pub attempt-spec : {M : Type 1} → statement M
 attempt-spec =
     tie.close
     (tie.spec
-    (λ c κs. search needs)
-    (λ c. search needs)
-    (λ c. search needs)
-    (λ c. search needs)
-    returns
-    (λ c κs. search needs)
-    (λ c. search needs)
-    (λ c. search needs)
-    (λ c. search needs)
-    returns-2)
+    (λ c κs. search needs) (λ c. search needs) (λ c. search needs) (λ c. search needs) returns (λ c κs. search needs) (λ c. search needs)
+    (λ c. search needs) (λ c. search needs) returns-2)

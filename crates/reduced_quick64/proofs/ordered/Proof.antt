@@ -6,9 +6,5 @@ pub ordered-spec : {M : Type 1} → statement M
 ordered-spec =
     tie.close
     (tie.spec
-    (λ c κs. search wide-tries)
-    (λ c κs. search wide-tries)
-    (λ c. search wide-tries)
-    (λ c. search wide-tries)
-    (λ c. search wide-tries)
+    (λ c κs. search wide-tries) (λ c κs. search wide-tries) (λ c. search wide-tries) (λ c. search wide-tries) (λ c. search wide-tries)
     (λ c. search wide-tries))

@@ -6,14 +6,6 @@ pub quick-spec : {M : Type 1} → statement M
 quick-spec =
     tie.close
     (tie.spec
-    (λ c κs. search wide-tries)
-    (λ c κs. search wide-tries)
-    (λ c. search wide-tries)
-    (λ c. search wide-tries)
-    (λ c. search wide-tries)
-    (λ c. search wide-tries)
-    (λ c κs. (search wide-tries, (search wide-tries, search wide-tries)))
-    (λ c. search wide-tries)
-    (λ c. search wide-tries)
-    (λ c. search wide-tries)
-    (λ c. search wide-tries))
+    (λ c κs. search wide-tries) (λ c κs. search wide-tries) (λ c. search wide-tries) (λ c. search wide-tries) (λ c. search wide-tries)
+    (λ c. search wide-tries) (λ c κs. (search wide-tries, (search wide-tries, search wide-tries))) (λ c. search wide-tries)
+    (λ c. search wide-tries) (λ c. search wide-tries) (λ c. search wide-tries))

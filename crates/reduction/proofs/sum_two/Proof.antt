@@ -7,5 +7,4 @@ sum-two-spec =
     tie.close
     (tie.spec
     (λ c. search reducing) (λ c. search reducing) (λ c. search reducing)
-    (λ c. search reducing) (λ c. search reducing) (λ c κs. search reducing)
-    (λ c κs. search reducing) (λ c. search reducing))
+    (λ c. search reducing) (λ c. search reducing) (λ c κs. search reducing) (λ c κs. search reducing) (λ c. search reducing))

@@ -6,7 +6,6 @@ pub first-waiting-spec : {M : Type 1} → statement M
 first-waiting-spec =
     tie.close
     (tie.spec
-    (λ turn waiting i₀ k₀ i k. Asking waiting turn k i)
-    (λ turn waiting i₀ k₀ i k. k)
+    (λ turn waiting i₀ k₀ i k. Asking waiting turn k i) (λ turn waiting i₀ k₀ i k. k)
     (λ c. search asking) (λ c. search asking) (λ c. search asking) (λ c. search asking) (λ c. search asking) (λ c. search asking)
     (λ c. search asking) (λ c. search asking) (λ c. search asking))

@@ -8,8 +8,7 @@ pub combines-spec : {M : Type 1} → statement M
 combines-spec =
     tie.close
     (tie.spec
-    (λ n f g u v c d e k₀ k. Unit {0})
-    (λ n f g u v c d e k₀ k. length f + length g - k)
+    (λ n f g u v c d e k₀ k. Unit {0}) (λ n f g u v c d e k₀ k. length f + length g - k)
     (λ c. search needs) (λ c. search needs) (λ c. search needs) (λ c. search needs) (λ c. search needs) (λ c. search needs)
     (λ c κs. search needs) (λ c κs. search needs) (λ c κs. search needs) (λ c. search needs) (λ c. search needs) (λ c. search needs)
     (λ c. search needs) (λ c. search needs))

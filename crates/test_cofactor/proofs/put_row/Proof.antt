@@ -9,7 +9,6 @@ pub put-row-spec : {M : Type 1} → statement M
 put-row-spec =
     tie.close
     (tie.spec
-    (λ n f m count work₀ t₀ work t. (t ≤ count) × (length work ≡ length work₀))
-    (λ n f m count work₀ t₀ work t. count - t)
+    (λ n f m count work₀ t₀ work t. (t ≤ count) × (length work ≡ length work₀)) (λ n f m count work₀ t₀ work t. count - t)
     (λ c. search needs) (λ c κs. search needs) (λ c. search needs) (λ c. search needs) (λ c. search needs) (λ c. search needs)
     (λ c. search needs))

@@ -7,6 +7,5 @@ pub put-row-spec : {M : Type 1} → statement M
 put-row-spec =
     tie.close
     (tie.spec
-    (λ n f m count t₀ t. t ≤ count)
-    (λ n f m count t₀ t. count - t)
+    (λ n f m count t₀ t. t ≤ count) (λ n f m count t₀ t. count - t)
     (λ c. search needs) (λ c κs. search needs) (λ c. search needs) (λ c. search needs) (λ c. search needs) (λ c. search needs))

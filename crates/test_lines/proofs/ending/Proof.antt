@@ -6,7 +6,6 @@ pub ending-spec : {M : Type 1} → statement M
 ending-spec =
     tie.close
     (tie.spec
-    (λ w x l i₀ i. Passed x w l i)
-    (λ w x l i₀ i. i)
+    (λ w x l i₀ i. Passed x w l i) (λ w x l i₀ i. i)
     (λ c. search rounds) (λ c. search rounds) (λ c. search rounds) (λ c. search rounds) (λ c. search rounds) (λ c. search rounds)
     (λ c. search rounds) (λ c. search rounds) (λ c. search rounds) (λ c. search rounds))

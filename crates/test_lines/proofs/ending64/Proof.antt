@@ -6,7 +6,6 @@ pub ending64-spec : {M : Type 1} → statement M
 ending64-spec =
     tie.close
     (tie.spec
-    (λ w x all i₀ i. Passed x w all i)
-    (λ w x all i₀ i. i)
+    (λ w x all i₀ i. Passed x w all i) (λ w x all i₀ i. i)
     (λ c. search rounds) (λ c. search rounds) (λ c. search rounds) (λ c. search rounds) (λ c. search rounds) (λ c. search rounds)
     (λ c. search rounds) (λ c. search rounds) (λ c. search rounds) (λ c. search rounds))

@@ -8,7 +8,6 @@ pub number-at-spec : {M : Type 1} → statement M
 number-at-spec =
     tie.close
     (tie.spec
-    (λ text at x₀ i₀ x i. (at ≤ i) × ((i ≤ length text) × (x ≤ 4294967295)))
-    (λ text at x₀ i₀ x i. length text - i)
+    (λ text at x₀ i₀ x i. (at ≤ i) × ((i ≤ length text) × (x ≤ 4294967295))) (λ text at x₀ i₀ x i. length text - i)
     (λ c. search needs) (λ c. search needs) (λ c. search needs) (λ c. search needs) (λ c. search needs) (λ c κs. search needs)
     (λ c. search needs) (λ c. search needs) (λ c. search needs) (λ c. search needs))

@@ -8,7 +8,6 @@ pub put-words64-spec : {M : Type 1} → statement M
 put-words64-spec =
     tie.close
     (tie.spec
-    (λ w i₀ t4 i. Unit {0})
-    (λ w i₀ t4 i. length w - i)
+    (λ w i₀ t4 i. Unit {0}) (λ w i₀ t4 i. length w - i)
     (λ c. search needs) (λ c κs. search needs) (λ c. search needs) (λ c. search needs) (λ c. search needs) (λ c κs. search needs)
     (λ c. search needs) (λ c. search needs) (λ c. search needs) (λ c. search needs) (λ c κs. search needs) (λ c. search needs))

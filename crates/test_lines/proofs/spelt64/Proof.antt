@@ -7,7 +7,6 @@ pub spelt64-spec : {M : Type 1} → statement M
 spelt64-spec =
     tie.close
     (tie.spec
-    (λ text at end x₀ i₀ x i. Spelling text at end x i)
-    (λ text at end x₀ i₀ x i. end - i)
+    (λ text at end x₀ i₀ x i. Spelling text at end x i) (λ text at end x₀ i₀ x i. end - i)
     (λ c. search spells) (λ c. search spells) (λ c. search spells) (λ c κs. search spells) (λ c. search spells) (λ c. search spells)
     (λ c. search spells) (λ c. search spells))

@@ -7,7 +7,6 @@ pub put-all-joined-spec : {M : Type 1} → statement M
 put-all-joined-spec =
     tie.close
     (tie.spec
-    (λ n1 n2 x y₀ y. y ≤ n2)
-    (λ n1 n2 x y₀ y. n2 - y)
+    (λ n1 n2 x y₀ y. y ≤ n2) (λ n1 n2 x y₀ y. n2 - y)
     (λ c κs. search needs) (λ c κs. search needs) (λ c. search needs) (λ c κs. search needs) (λ c. search needs) (λ c. search needs)
     (λ c. search needs) (λ c. search needs))

@@ -7,7 +7,6 @@ pub row-spec : {M : Type 1} → statement M
 row-spec =
     tie.close
     (tie.spec
-    (λ service n a count b₀ b. b ≤ count)
-    (λ service n a count b₀ b. count - b)
+    (λ service n a count b₀ b. b ≤ count) (λ service n a count b₀ b. count - b)
     (λ c κs. search needs) (λ c. search needs) (λ c κs. search needs) (λ c. search needs) (λ c κs. search needs) (λ c. search needs)
     (λ c. search needs) (λ c. search needs) (λ c. search needs))

@@ -7,7 +7,6 @@ pub value-at-spec : {M : Type 1} → statement M
 value-at-spec =
     tie.close
     (tie.spec
-    (λ n f count x s₀ i₀ s i. i ≤ count)
-    (λ n f count x s₀ i₀ s i. i)
+    (λ n f count x s₀ i₀ s i. i ≤ count) (λ n f count x s₀ i₀ s i. i)
     (λ c. search needs) (λ c. search needs) (λ c. search needs) (λ c. search needs) (λ c κs. search needs) (λ c. search needs)
     (λ c. search needs) (λ c. search needs))

@@ -9,7 +9,6 @@ pub characters-spec : {M : Type 1} → statement M
 characters-spec =
     tie.close
     (tie.spec
-    (λ codes text₀ i₀ text i. (i ≤ length text₀) × (length text ≡ length text₀))
-    (λ codes text₀ i₀ text i. length text₀ - i)
+    (λ codes text₀ i₀ text i. (i ≤ length text₀) × (length text ≡ length text₀)) (λ codes text₀ i₀ text i. length text₀ - i)
     (λ c. search needs) (λ c. search needs) (λ c. search needs) (λ c. search needs) (λ c. search needs) (λ c κs. search needs)
     (λ c. search needs) (λ c. search needs) (λ c. search needs) (λ c. search needs) (λ c. search needs) (λ c. search needs))

@@ -9,7 +9,6 @@ pub fill-spec : {M : Type 1} → statement M
 fill-spec =
     tie.close
     (tie.spec
-    (λ text₀ x i₀ text i. length text ≡ length text₀)
-    (λ text₀ x i₀ text i. length text₀ - i)
+    (λ text₀ x i₀ text i. length text ≡ length text₀) (λ text₀ x i₀ text i. length text₀ - i)
     (λ c. search needs) (λ c. search needs) (λ c. search needs) (λ c. search needs) (λ c. search needs) (λ c. search needs)
     (λ c. search needs))

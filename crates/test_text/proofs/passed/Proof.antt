@@ -8,7 +8,6 @@ pub passed-spec : {M : Type 1} → statement M
 passed-spec =
     tie.close
     (tie.spec
-    (λ text at x i₀ i. (at ≤ i) × (i ≤ length text))
-    (λ text at x i₀ i. length text - i)
+    (λ text at x i₀ i. (at ≤ i) × (i ≤ length text)) (λ text at x i₀ i. length text - i)
     (λ c. search needs) (λ c. search needs) (λ c. search needs) (λ c. search needs) (λ c. search needs) (λ c. search needs)
     (λ c. search needs))

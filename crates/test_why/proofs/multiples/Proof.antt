@@ -8,7 +8,6 @@ pub multiples-spec : {M : Type 1} → statement M
 multiples-spec =
     tie.close
     (tie.spec
-    (λ m f i₀ i. Unit {0})
-    (λ m f i₀ i. length f - i)
+    (λ m f i₀ i. Unit {0}) (λ m f i₀ i. length f - i)
     (λ c. search needs) (λ c. search needs) (λ c. search needs) (λ c. search needs) (λ c. search needs) (λ c. search needs)
     (λ c. search needs) (λ c. search needs) (λ c. search needs) (λ c. search needs))

@@ -8,7 +8,6 @@ pub put-digits-spec : {M : Type 1} → statement M
 put-digits-spec =
     tie.close
     (tie.spec
-    (λ w i₀ i. Unit {0})
-    (λ w i₀ i. length w - i)
+    (λ w i₀ i. Unit {0}) (λ w i₀ i. length w - i)
     (λ c. search needs) (λ c. search needs) (λ c. search needs) (λ c κs. search needs) (λ c. search needs) (λ c. search needs)
     (λ c. search needs) (λ c. search needs))

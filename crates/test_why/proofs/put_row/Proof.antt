@@ -9,7 +9,6 @@ pub put-row-spec : {M : Type 1} → statement M
 put-row-spec =
     tie.close
     (tie.spec
-    (λ n f m count first step work₀ t₀ k₀ work t k. length work ≡ length work₀)
-    (λ n f m count first step work₀ t₀ k₀ work t k. count - k)
+    (λ n f m count first step work₀ t₀ k₀ work t k. length work ≡ length work₀) (λ n f m count first step work₀ t₀ k₀ work t k. count - k)
     (λ c. search needs) (λ c κs. search needs) (λ c κs. search needs) (λ c. search needs) (λ c. search needs) (λ c. search needs)
     (λ c. search needs) (λ c. search needs))

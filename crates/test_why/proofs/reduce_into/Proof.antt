@@ -9,8 +9,7 @@ pub reduce-into-spec : {M : Type 1} → statement M
 reduce-into-spec =
     tie.close
     (tie.spec
-    (λ m f room₀ i₀ room i. length room ≡ length room₀)
-    (λ m f room₀ i₀ room i. length room₀ - i)
+    (λ m f room₀ i₀ room i. length room ≡ length room₀) (λ m f room₀ i₀ room i. length room₀ - i)
     (λ c. search needs) (λ c. search needs) (λ c. search needs) (λ c. search needs) (λ c. search needs) (λ c. search needs)
     (λ c. search needs) (λ c. search needs) (λ c. search needs) (λ c. search needs) (λ c. search needs) (λ c. search needs)
     (λ c. search needs))

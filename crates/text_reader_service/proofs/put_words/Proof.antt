@@ -7,7 +7,6 @@ pub put-words-spec : {M : Type 1} → statement M
 put-words-spec =
     tie.close
     (tie.spec
-    (λ words₀ f count i₀ words i. Copied f count words₀ words i)
-    (λ words₀ f count i₀ words i. count - i)
+    (λ words₀ f count i₀ words i. Copied f count words₀ words i) (λ words₀ f count i₀ words i. count - i)
     (λ c. search copies) (λ c. search copies) (λ c. search copies) (λ c. search copies) (λ c. search copies) (λ c. search copies)
     (λ c. search copies) (λ c. search copies) (λ c. search copies) (λ c. search copies))

@@ -7,7 +7,6 @@ pub put-text-spec : {M : Type 1} → statement M
 put-text-spec =
     tie.close
     (tie.spec
-    (λ f out₀ at₀ k₀ out at k. Done f k at out₀ out)
-    (λ f out₀ at₀ k₀ out at k. k)
+    (λ f out₀ at₀ k₀ out at k. Done f k at out₀ out) (λ f out₀ at₀ k₀ out at k. k)
     (λ c. search writing) (λ c. search writing) (λ c. search writing) (λ c. search writing) (λ c κs. search writing) (λ c. search writing)
     (λ c. search writing) (λ c. search writing) (λ c. search writing) (λ c. search writing) (λ c. search writing) (λ c. search writing))

@@ -7,7 +7,6 @@ pub put-zeros-spec : {M : Type 1} → statement M
 put-zeros-spec =
     tie.close
     (tie.spec
-    (λ out₀ at end i₀ out i. Zeroed at end out₀ out i)
-    (λ out₀ at end i₀ out i. end - i)
+    (λ out₀ at end i₀ out i. Zeroed at end out₀ out i) (λ out₀ at end i₀ out i. end - i)
     (λ c. search zeroing) (λ c. search zeroing) (λ c. search zeroing) (λ c. search zeroing) (λ c. search zeroing) (λ c. search zeroing)
     (λ c. search zeroing))

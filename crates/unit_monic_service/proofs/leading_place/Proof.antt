@@ -6,8 +6,7 @@ pub leading-place-spec : {M : Type 1} → statement M
 leading-place-spec =
     tie.close
     (tie.spec
-    (λ n f t₀ t. Trailing n f t)
-    (λ n f t₀ t. t)
+    (λ n f t₀ t. Trailing n f t) (λ n f t₀ t. t)
     (λ c. search factoring) (λ c. search factoring) (λ c. search factoring) (λ c. search factoring) (λ c κs. search factoring)
     (λ c. search factoring) (λ c. search factoring) (λ c. search factoring) (λ c. search factoring) (λ c. search factoring)
     (λ c. search factoring))

@@ -10,7 +10,6 @@ pub hand-out-spec : {M : Type 1} → statement M
 hand-out-spec =
     tie.close
     (tie.spec
-    (λ out₀ w a len k₀ out k. Handing (coef (piece w a len)) out₀ out k)
-    (λ out₀ w a len k₀ out k. length out₀ - k)
+    (λ out₀ w a len k₀ out k. Handing (coef (piece w a len)) out₀ out k) (λ out₀ w a len k₀ out k. length out₀ - k)
     (λ c. search factoring) (λ c κs. search factoring) (λ c. search factoring) (λ c. search factoring) (λ c. search factoring)
     (λ c. search factoring) (λ c. search factoring) (λ c. search factoring) (λ c. search factoring))

@@ -9,8 +9,7 @@ pub add-scaled-by-spec : {M : Type 1} → statement M
 add-scaled-by-spec =
     tie.close
     (tie.spec
-    (λ w₀ n m c src dst len f j₀ w j. Moving (addMul n c) src dst len w₀ w j)
-    (λ w₀ n m c src dst len f j₀ w j. len - j)
+    (λ w₀ n m c src dst len f j₀ w j. Moving (addMul n c) src dst len w₀ w j) (λ w₀ n m c src dst len f j₀ w j. len - j)
     (λ c κs. search multiples) (λ c. search multiples) (λ c. search multiples) (λ c. search multiples) (λ c. search multiples)
     (λ c. search multiples) (λ c. search multiples) (λ c. search multiples) (λ c κs. search multiples) (λ c. search multiples)
     (λ c. search multiples) (λ c. search multiples) (λ c. search multiples) (λ c. search multiples) (λ c. search multiples)

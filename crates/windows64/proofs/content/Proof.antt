@@ -8,7 +8,6 @@ pub content-spec : {M : Type 1} → statement M
 content-spec =
     tie.close
     (tie.spec
-    (λ s n c₀ j₀ c j. Dividing n s c j)
-    (λ s n c₀ j₀ c j. length s - j)
+    (λ s n c₀ j₀ c j. Dividing n s c j) (λ s n c₀ j₀ c j. length s - j)
     (λ c. search leaves) (λ c. search leaves) (λ c. search leaves) (λ c. search leaves) (λ c κs. search leaves) (λ c. search leaves)
     (λ c. search leaves) (λ c. search leaves) (λ c. search leaves))

@@ -7,8 +7,7 @@ pub copy-reversed-spec : {M : Type 1} → statement M
 copy-reversed-spec =
     tie.close
     (tie.spec
-    (λ w₀ src dst len j₀ w j. Writing (backwards w₀ src len) dst len w₀ w j)
-    (λ w₀ src dst len j₀ w j. len - j)
+    (λ w₀ src dst len j₀ w j. Writing (backwards w₀ src len) dst len w₀ w j) (λ w₀ src dst len j₀ w j. len - j)
     (λ c. search leaves) (λ c. search leaves) (λ c. search leaves) (λ c. search leaves) (λ c. search leaves) (λ c. search leaves)
     (λ c. search leaves) (λ c. search leaves) (λ c. search leaves) (λ c. search leaves) (λ c. search leaves) (λ c. search leaves)
     (λ c. search leaves) (λ c. search leaves))

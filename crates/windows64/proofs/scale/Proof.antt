@@ -9,8 +9,7 @@ pub scale-spec : {M : Type 1} → statement M
 scale-spec =
     tie.close
     (tie.spec
-    (λ w₀ n c src dst len m f j₀ w j. Moving (mulBy n c) src dst len w₀ w j)
-    (λ w₀ n c src dst len m f j₀ w j. len - j)
+    (λ w₀ n c src dst len m f j₀ w j. Moving (mulBy n c) src dst len w₀ w j) (λ w₀ n c src dst len m f j₀ w j. len - j)
     (λ c κs. search multiples) (λ c κs. search multiples) (λ c. search multiples) (λ c. search multiples) (λ c. search multiples)
     (λ c. search multiples) (λ c κs. search multiples) (λ c. search multiples) (λ c. search multiples) (λ c. search multiples)
     (λ c. search multiples) (λ c. search multiples) (λ c. search multiples) (λ c. search multiples) (λ c. search multiples))

@@ -8,7 +8,6 @@ pub zeros-spec : {M : Type 1} → statement M
 zeros-spec =
     tie.close
     (tie.spec
-    (λ s j₀ j. Passed s j)
-    (λ s j₀ j. length s - j)
+    (λ s j₀ j. Passed s j) (λ s j₀ j. length s - j)
     (λ c. search leaves) (λ c. search leaves) (λ c. search leaves) (λ c. search leaves) (λ c. search leaves) (λ c. search leaves)
     (λ c. search leaves) (λ c. search leaves))
