@@ -60,7 +60,8 @@ typedef struct {
 } jingcobu_factors;
 
 /* A state that is returned. */
-typedef struct { jingcobu_factors factors; uint32_t status; } jingcobu_held;
+typedef struct { jingcobu_factors factors; uint32_t status; } jingcobu_factors_answer;
+typedef jingcobu_factors_answer jingcobu_held;      /* its name in version 1.0.0 */
 
 /* share[0] to share[3] belong to the groups 1 to 4. */
 typedef struct { uint32_t share[4]; uint32_t status; } jingcobu_plan;
@@ -82,8 +83,8 @@ enum jingcobu_status {
     JINGCOBU_EMPTY_TOP = 10,        /* frames only: the top word of f or g is zero */
     JINGCOBU_PRIME_DIVIDES = 11,    /* two variables: a prime up to e a + d b divides n */
     JINGCOBU_TOO_MANY_POINTS = 12,  /* two variables: e a + d b is above 60 */
-    JINGCOBU_FACTORS_FULL = 13,     /* factors: 16 are held, or the sent degrees would add up to more than 48 */
-    JINGCOBU_BAD_NUMBER = 14,       /* factors: the number is 0, or is held already on arrival, or is not held on leaving */
+    JINGCOBU_FACTORS_FULL = 13,     /* factors: 16 are present, or the sent degrees would add up to more than 48 */
+    JINGCOBU_BAD_NUMBER = 14,       /* factors: the number is 0, or is present already on arrival, or is not present on leaving */
     JINGCOBU_BAD_FRAMES = 15,       /* shares: the number of frames is 0 or above 1024 */
     JINGCOBU_BAD_MULTIPLIER = 16,   /* claims: a multiplier has no word or more than 4096 */
     JINGCOBU_NO_TEXT = 17           /* the text is not one of the notation, or has a power above 48 */
@@ -213,28 +214,28 @@ jingcobu_answer jingcobu_resultant_two(uint32_t n, const uint32_t *f, size_t f_l
 jingcobu_cofactors jingcobu_gcd(uint32_t n, uint32_t a, uint32_t b);
 
 /* A product whose factors come and go: one h, and beside it at most 16 factors, each under a number from 1 to 65535 that the host
- * chooses. The resultant of the product of the factors held with h can be read at any time.
+ * chooses. The resultant of the product of the factors present with h can be read at any time.
  *
  * States are passed and returned by value; after a refusal the state that is returned is the one that was sent. What is
- * said here of the factors held and of readings holds for a state that an answered start made and only these calls changed. A
+ * said here of the factors present and of readings holds for a state that an answered start made and only these calls changed. A
  * call on any other state answers or refuses, and does no harm; if its n is 0 or 1, every call refuses it with 1. */
 
 /* The state with n and h and no factor. A refused start returns zeros in every field. Refusals: 1, 2, 3. */
-jingcobu_held jingcobu_factors_start(uint32_t n, const uint32_t *h, size_t h_len);
+jingcobu_factors_answer jingcobu_factors_start(uint32_t n, const uint32_t *h, size_t h_len);
 
 /* The state with one more factor, f, under its number. Only f's sent degree and its resultant with h are kept.
  *
- * Refusals: 1, 2, 3, 14 (the number is 0 or is held already), 13 (16 factors are held, or the sent degrees of those and of f add up
+ * Refusals: 1, 2, 3, 14 (the number is 0 or is present already), 13 (16 factors are present, or the sent degrees of those and of f add up
  * to more than 48), 7. */
-jingcobu_held jingcobu_factors_arrive(jingcobu_factors state, uint16_t number, const uint32_t *f, size_t f_len,
+jingcobu_factors_answer jingcobu_factors_arrive(jingcobu_factors state, uint16_t number, const uint32_t *f, size_t f_len,
                                       uint32_t *work, size_t work_len);
 
 /* The state without the factor under that number, which is free again; also if its resultant with h is a zero divisor.
- * Refusals: 1, 14 (the number is 0 or is not held). */
-jingcobu_held jingcobu_factors_leave(jingcobu_factors state, uint16_t number);
+ * Refusals: 1, 14 (the number is 0 or is not present). */
+jingcobu_factors_answer jingcobu_factors_leave(jingcobu_factors state, uint16_t number);
 
-/* The resultant of the product of the factors held with h, the product in its summed sent degree: what jingcobu_resultant returns
- * for the multiplied factors and h. With no factor held the product is the constant 1, and the value is 1. Refusals: 1. */
+/* The resultant of the product of the factors present with h, the product in its summed sent degree: what jingcobu_resultant returns
+ * for the multiplied factors and h. With no factor present the product is the constant 1, and the value is 1. Refusals: 1. */
 jingcobu_answer jingcobu_factors_read(jingcobu_factors state);
 
 /* Polynomials as text, without blanks: terms from high power to low, joined by +, each power at most once. A term is a coefficient
@@ -330,8 +331,8 @@ static inline const char *jingcobu_status_text(unsigned status)
     case JINGCOBU_EMPTY_TOP: return "the top word of f or g is zero";
     case JINGCOBU_PRIME_DIVIDES: return "a prime up to e a + d b divides n";
     case JINGCOBU_TOO_MANY_POINTS: return "e a + d b is above 60";
-    case JINGCOBU_FACTORS_FULL: return "16 factors are held, or the sent degrees would add up to more than 48";
-    case JINGCOBU_BAD_NUMBER: return "the number of a factor is 0, held already, or not held";
+    case JINGCOBU_FACTORS_FULL: return "16 factors are present, or the sent degrees would add up to more than 48";
+    case JINGCOBU_BAD_NUMBER: return "the number of a factor is 0, present already, or not present";
     case JINGCOBU_BAD_FRAMES: return "the number of frames is 0 or above 1024";
     case JINGCOBU_BAD_MULTIPLIER: return "a multiplier has no word or more than 4096";
     case JINGCOBU_NO_TEXT: return "not a text of the notation";

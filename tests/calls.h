@@ -544,7 +544,7 @@ static void draw_call(trial *t, enum function function)
 
 static answer plain(jingcobu_answer a) { return (answer) { .value = { a.value }, .status = a.status }; }
 static answer plain64(jingcobu64_answer a) { return (answer) { .value = { a.value }, .status = a.status }; }
-static answer of_state(jingcobu_held a) { return (answer) { .status = a.status, .state = a.factors }; }
+static answer of_state(jingcobu_factors_answer a) { return (answer) { .status = a.status, .state = a.factors }; }
 static answer of_degree(jingcobu_degree a) { return (answer) { .value = { a.some, a.degree }, .status = a.status }; }
 static answer of_reason(jingcobu_reason a) { return (answer) { .value = { a.ground, a.m, a.degree }, .status = a.status }; }
 static answer of_gcd(jingcobu_cofactors a) { return (answer) { .value = { a.g, a.s, a.t }, .status = a.status }; }

@@ -3,7 +3,7 @@
  * two residues, factors that come and go, texts written, read and damaged, shares of runs, every word and byte of every
  * buffer after a call, each refusal and their order, the ends of the ranges, the law of products on drawn triples, all pairs of degrees
  * up to 2 modulo some small n, and lengths that are refused before a word is read.
- * It reads stdin and stdout in the folder that its first argument names (crates/vectors), and prints "FAILED" and exits with 1 if
+ * It reads stdin and stdout in the folder that its first argument names (crates/test_vectors), and prints "FAILED" and exits with 1 if
  * something is wrong; the second argument, 100 by default, says after how many failures it stops.
  * Build and run: make -C tests (under a stack of 256 KiB; the output is compared with the file `expected`). */
 #include <stdio.h>
@@ -361,7 +361,7 @@ static jingcobu_factors start(uint32_t n, const uint32_t *h, size_t hl, uint32_t
 {
     static const jingcobu_factors zeros;
     copy(h, hl, NULL, 0);
-    jingcobu_held a = jingcobu_factors_start(n, h, hl);
+    jingcobu_factors_answer a = jingcobu_factors_start(n, h, hl);
     expect(a.status == status, "start: the status", where);
     expect(same(h, hl, NULL, 0), "start: h is only read", where);
     jingcobu_answer b = jingcobu_factors_read(a.factors);
@@ -380,7 +380,7 @@ static jingcobu_factors arrive(jingcobu_factors s, uint16_t number, const uint32
     jingcobu_factors sent = s;
     mark(work, WORK_ROOM);
     copy(f, fl, NULL, 0);
-    jingcobu_held a = jingcobu_factors_arrive(s, number, f, fl, lent(work, wl), wl);
+    jingcobu_factors_answer a = jingcobu_factors_arrive(s, number, f, fl, lent(work, wl), wl);
     expect(a.status == status, "arrival: the status", where);
     expect(same(f, fl, NULL, 0), "arrival: f is only read", where);
     expect(same_state(&s, &sent), "arrival: the host's own copy is as it was", where);
@@ -397,7 +397,7 @@ static jingcobu_factors arrive(jingcobu_factors s, uint16_t number, const uint32
 static jingcobu_factors leave(jingcobu_factors s, uint16_t number, uint32_t status, const char *where)
 {
     jingcobu_factors sent = s;
-    jingcobu_held a = jingcobu_factors_leave(s, number);
+    jingcobu_factors_answer a = jingcobu_factors_leave(s, number);
     expect(a.status == status, "leaving: the status", where);
     expect(same_state(&s, &sent), "leaving: the host's own copy is as it was", where);
     if (status == JINGCOBU_OK) return a.factors;
@@ -1524,7 +1524,7 @@ int main(int argc, char **argv)
 {
     static const uint32_t moduli[] = { 2, 4, 6, 8, 12, 30, 36, 210, 2147483648u, 3486784401u, 223092870u, 2176782336u, 4294967291u, 4294967295u };
     if (argc > 2) most_failed = atol(argv[2]);
-    pairs(argc > 1 ? argv[1] : "../crates/vectors");
+    pairs(argc > 1 ? argv[1] : "../crates/test_vectors");
     batches(moduli, sizeof moduli / sizeof *moduli, (const word[]) { 0, 1, 0, 1 }, 7);
     orders((const word[]) { 0, 1, 0, 1 }, 7, more_of_reasons);
     orders_of_claims();

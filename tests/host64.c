@@ -2,7 +2,7 @@
  * of every buffer after a call, each refusal and their order, the ends of the ranges, the law of products on drawn triples, that both sets
  * of services return the same numbers if n and the words fit 32 bits, least cofactors, true degrees,
  * and lengths that are refused before a word is read.
- * It reads stdin and stdout in the folder that its first argument names (crates/wide_vectors), and prints "FAILED" and exits with 1 if
+ * It reads stdin and stdout in the folder that its first argument names (crates/test_vectors64), and prints "FAILED" and exits with 1 if
  * something is wrong; the second argument, 100 by default, says after how many failures it stops.
  * Build and run: make -C tests (under a stack of 256 KiB; the output is compared with the file `expected64`). */
 #include <stdio.h>
@@ -326,7 +326,7 @@ int main(int argc, char **argv)
     static const uint64_t moduli[] = { 2, 4, 6, 12, 36, 210, 4294967291u, 4294967295u, 4294967296u, 4611686018427387904u, 4052555153018976267u,
         4738381338321616896u, 614889782588491410u, 9223371994482243049u, 9223372036854775783u, 9223372036854775807u };
     if (argc > 2) most_failed = atol(argv[2]);
-    pairs(argc > 1 ? argv[1] : "../crates/wide_vectors");
+    pairs(argc > 1 ? argv[1] : "../crates/test_vectors64");
     batches(moduli, sizeof moduli / sizeof *moduli, (const word[]) { 0, 1, LIMIT, UINT64_MAX }, (uint64_t) 7 << 58);
     orders((const word[]) { 0, 1, LIMIT, UINT64_MAX }, (uint64_t) 7 << 58, more_of_reasons);
     words();

@@ -15,9 +15,9 @@ jingcobu_answer __real_jingcobu_read_text(uint32_t, const uint8_t *, size_t, uin
 jingcobu_answer __real_jingcobu_write_text(uint32_t, const uint32_t *, size_t, uint8_t *, size_t);
 jingcobu_plan __real_jingcobu_shares(uint32_t, uint32_t, uint32_t, uint32_t, uint32_t);
 jingcobu_cofactors __real_jingcobu_gcd(uint32_t, uint32_t, uint32_t);
-jingcobu_held __real_jingcobu_factors_start(uint32_t, const uint32_t *, size_t);
-jingcobu_held __real_jingcobu_factors_arrive(jingcobu_factors, uint16_t, const uint32_t *, size_t, uint32_t *, size_t);
-jingcobu_held __real_jingcobu_factors_leave(jingcobu_factors, uint16_t);
+jingcobu_factors_answer __real_jingcobu_factors_start(uint32_t, const uint32_t *, size_t);
+jingcobu_factors_answer __real_jingcobu_factors_arrive(jingcobu_factors, uint16_t, const uint32_t *, size_t, uint32_t *, size_t);
+jingcobu_factors_answer __real_jingcobu_factors_leave(jingcobu_factors, uint16_t);
 jingcobu_answer __real_jingcobu_factors_read(jingcobu_factors);
 jingcobu_answer __real_jingcobu_divisor(uint32_t, const uint32_t *, size_t, const uint32_t *, size_t, uint32_t *, size_t);
 jingcobu_answer __real_jingcobu_resultant_cofactors(uint32_t, const uint32_t *, size_t, const uint32_t *, size_t, uint32_t *, size_t,
@@ -402,14 +402,14 @@ static uint32_t degrees(const jingcobu_factors *s)
     return sum;
 }
 
-jingcobu_held __wrap_jingcobu_factors_start(uint32_t n, const uint32_t *h, size_t hl)
+jingcobu_factors_answer __wrap_jingcobu_factors_start(uint32_t n, const uint32_t *h, size_t hl)
 {
     int w = version();
     if (w == START_LOOKS_AT_H && hl) seen = h[0];
     if (straight(w)) return __real_jingcobu_factors_start(n, h, hl);
     size_t l = hl;
     if (w == START_WITHOUT_ZERO_TOPS) while (l > 1 && l < 50 && h[l - 1] == 0) l--;
-    jingcobu_held a = __real_jingcobu_factors_start(n, h, l);
+    jingcobu_factors_answer a = __real_jingcobu_factors_start(n, h, l);
     if (w == START_WORDS_BEFORE_LENGTH && a.status == 2 && large(n, h, hl)) a.status = 3;
     if (w == START_REFUSED_HAS_N && a.status) a.factors.n = n;
     if (w == START_REFUSED_READS_1 && a.status) for (int i = 0; i < 16; i++) a.factors.resultant[i] = 1;
@@ -421,7 +421,7 @@ jingcobu_held __wrap_jingcobu_factors_start(uint32_t n, const uint32_t *h, size_
     return a;
 }
 
-jingcobu_held __wrap_jingcobu_factors_arrive(jingcobu_factors s, uint16_t number, const uint32_t *f, size_t fl, uint32_t *work, size_t wl)
+jingcobu_factors_answer __wrap_jingcobu_factors_arrive(jingcobu_factors s, uint16_t number, const uint32_t *f, size_t fl, uint32_t *work, size_t wl)
 {
     int w = version(), i = number ? at(&s, number) : 16;
     if (straight(w)) return __real_jingcobu_factors_arrive(s, number, f, fl, work, wl);
@@ -429,7 +429,7 @@ jingcobu_held __wrap_jingcobu_factors_arrive(jingcobu_factors s, uint16_t number
     size_t l = fl;
     if (w == ARRIVAL_WITHOUT_ZERO_TOP) while (l > 1 && l < 50 && f[l - 1] == 0) l--;
     if (w == ARRIVAL_OF_8_BITS && number > 255) number %= 256;
-    jingcobu_held a = __real_jingcobu_factors_arrive(s, number, f, l, work, wl);
+    jingcobu_factors_answer a = __real_jingcobu_factors_arrive(s, number, f, l, work, wl);
     if (a.status == 14 && i < 16) {
         jingcobu_factors t = s;
         t.number[i] = 54321;                                                                /* the number of no factor of the host */
@@ -481,11 +481,11 @@ jingcobu_held __wrap_jingcobu_factors_arrive(jingcobu_factors s, uint16_t number
     return a;
 }
 
-jingcobu_held __wrap_jingcobu_factors_leave(jingcobu_factors s, uint16_t number)
+jingcobu_factors_answer __wrap_jingcobu_factors_leave(jingcobu_factors s, uint16_t number)
 {
     int w = version(), i = number ? at(&s, number) : 16;
     if (straight(w)) return __real_jingcobu_factors_leave(s, number);
-    jingcobu_held a = __real_jingcobu_factors_leave(s, number);
+    jingcobu_factors_answer a = __real_jingcobu_factors_leave(s, number);
     if (w == LEAVING_UNHELD_ANSWERED && a.status == 14 && number) a.status = 0;
     if (w == LEAVING_0_ANSWERED && a.status == 14 && !number) a.status = 0;
     if (w == LEAVING_NUMBER_BEFORE_MODULUS && a.status == 1 && i == 16) a.status = 14;

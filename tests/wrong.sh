@@ -51,8 +51,8 @@ files() {
     echo "$host: 8 wrong files tried"
 }
 
-all_versions host ../crates/vectors expected
-all_versions host64 ../crates/wide_vectors expected64
-files host ../crates/vectors
-files host64 ../crates/wide_vectors
+all_versions host ../crates/test_vectors expected
+all_versions host64 ../crates/test_vectors64 expected64
+files host ../crates/test_vectors
+files host64 ../crates/test_vectors64
 exit $wrong

@@ -1,8 +1,8 @@
 #!/usr/bin/env python3
-"""Writes the cases of the test program `claims_trial` and what it must answer, made outside the engine: crates/claims_trial/stdin, a case
+"""Writes the cases of the test program `test_claims` and what it must answer, made outside the engine: crates/test_claims/stdin, a case
 per line (1 for the engine's multipliers or 2 for sent ones, n, the lengths of f and g, the number claimed, the lengths of u, v and the
 working words, the change of one word, a factor or a step, how many words of u and of v are sent, the words of f, g, u and v), and
-crates/claims_trial/stdout, an answer per line.
+crates/test_claims/stdout, an answer per line.
 
 For each pair of eighteen moduli and five shapes, and two of higher degree, the engine's own answer: as it is, with other numbers, with
 multiples of it, and with a word of u or v changed. Then multipliers of up to 4097 words, claims that the engine had no part in, and every
@@ -178,5 +178,5 @@ def refused():
 
 
 random.seed(SEED)
-write_cases('claims_trial', itertools.chain(own_cases(), long_cases(), made_cases(), refused()))
+write_cases('test_claims', itertools.chain(own_cases(), long_cases(), made_cases(), refused()))
 assert all(seen[key] > 80 for key in ((0, 0), (0, 1), (0, 2), (0, 3), (3, 0))) and {s for s, _ in seen} == {0, 1, 2, 3, 7, 16}

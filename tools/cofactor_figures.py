@@ -1,7 +1,7 @@
 #!/usr/bin/env python3
-"""Writes the cases of the test program `cofactor_trial` and what it must answer, made outside the engine: crates/cofactor_trial/stdin, a
+"""Writes the cases of the test program `test_cofactor` and what it must answer, made outside the engine: crates/test_cofactor/stdin, a
 case per line (1 for a pair or 2 for a row, n, the lengths of f and g, those of u, v and the working words, the words of f, and for a pair
-those of g; a row has the number of its g for the length of u), and crates/cofactor_trial/stdout, an answer per line.
+those of g; a row has the number of its g for the length of u), and crates/test_cofactor/stdout, an answer per line.
 
 For five small moduli a row for each f of sent degree 0 to 2 and each sent degree of g up to 2, with all g; if these are more than 300,000
 pairs for one d and e, with the g whose constant is 0 or 1. Then drawn pairs up to full degree, and every refusal, alone and with all that
@@ -115,4 +115,4 @@ def refused():
 
 compare()
 random.seed(SEED)
-write_cases('cofactor_trial', itertools.chain(rows(), (pair(*p) for p in drawn_pairs()), (pair(**p) for p in refused())))
+write_cases('test_cofactor', itertools.chain(rows(), (pair(*p) for p in drawn_pairs()), (pair(**p) for p in refused())))

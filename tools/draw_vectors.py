@@ -1,7 +1,7 @@
 #!/usr/bin/env python3
 """Draws the pairs of the test program `vectors` and of tests/host.c, and computes their numbers independently of the engine.
 
-Writes crates/vectors/stdin (one frame of kind 01 per line) and crates/vectors/stdout (resultant and D, in hexadecimal). The
+Writes crates/test_vectors/stdin (one frame of kind 01 per line) and crates/test_vectors/stdout (resultant and D, in hexadecimal). The
 resultant is PARI's integer determinant of the Sylvester matrix in the sent degrees, modulo n. D is that of tools/ideal_constants.py,
 which says how it is found and proves it of each pair. Needs gp (PARI). It is not needed to run the gate."""
 import os, random
@@ -10,7 +10,7 @@ from reference import STARRED, UNSTARRED, gp, product, reduced_resultant, sylves
 SEED = 20261115
 random.seed(SEED)
 here = os.path.dirname(os.path.abspath(__file__))
-out = os.path.join(here, '..', 'crates', 'vectors')
+out = os.path.join(here, '..', 'crates', 'test_vectors')
 
 MODULI = [2, 3, 4, 5, 6, 7, 8, 9, 10, 12, 16, 18, 24, 30, 36, 60, 64, 72, 210, 2310, 65536, 65537, 6**12, 2**31, 3**20, 5**13, 7**11,
           30030 * 143, 223092870, 4294967291, 4294967295, 4294967294, 65535 * 65537, 2**31 - 1, 46341**2, 2**16 * 3**10, 2 * 2147483647]

@@ -1,7 +1,7 @@
 #!/usr/bin/env python3
-"""Writes the cases of the test program `evaluator_trial` and what it must answer, made outside the engine: crates/evaluator_trial/stdin, a
+"""Writes the cases of the test program `test_evaluator` and what it must answer, made outside the engine: crates/test_evaluator/stdin, a
 case per line (1 for a pair or 2 for a row, n, the lengths of f and g, how many g a row has, the words of f, and for a pair those of g), and
-crates/evaluator_trial/stdout, an answer per line.
+crates/test_evaluator/stdout, an answer per line.
 
 For n from 2 to 6 a row for each f of sent degree 0 to 2 and each sent degree of g up to 2: with all g. For eight moduli and each d + e
 from 0 to 8 180 drawn pairs, many with zero words and zero tops. Then the pairs of S90, and refusals in their order.
@@ -69,4 +69,4 @@ def cases():
 
 
 random.seed(SEED)
-write_cases('evaluator_trial', cases())
+write_cases('test_evaluator', cases())

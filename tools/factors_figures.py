@@ -1,7 +1,7 @@
 #!/usr/bin/env python3
-"""Writes the cases of the test program `factors_trial` and what it must answer, made outside the engine: crates/factors_trial/stdin, a call
+"""Writes the cases of the test program `test_factors` and what it must answer, made outside the engine: crates/test_factors/stdin, a call
 per line on the state that the line before left (1 for a start with n and h, 2 for an arrival with its number, the working words and the
-factor, 3 for a leaving with its number, 4 for a state that no start made), and crates/factors_trial/stdout, an answer per line.
+factor, 3 for a leaving with its number, 4 for a state that no start made), and crates/test_factors/stdout, an answer per line.
 
 Seven histories of a start and 160 drawn calls; eighteen factors that arrive and leave in turn; the refusals of a start; every refusal of an
 arrival, alone and with all that come after it; calls on states that no start made.
@@ -205,5 +205,5 @@ def cases():
 
 
 random.seed(SEED)
-write_cases('factors_trial', cases())
+write_cases('test_factors', cases())
 assert set(seen) == {0, 1, 2, 3, 7, 13, 14}

@@ -28,11 +28,11 @@ The four tests do not depend on how the basis was found. No bound on the degrees
 Three comparisons, when the file is run by itself:
   - brute force: all pairs of polynomials of degree at most 2 modulo 4, 6, 8, 9 and 12 (`by_search`);
   - PARI: the stored pairs of degrees at most 5, by the Hermite normal form over Z of their multiples (`by_hermite_form`);
-  - the stored pairs: every D in crates/vectors/stdout."""
+  - the stored pairs: every D in crates/test_vectors/stdout."""
 import functools, math, os, subprocess, sys
 
 HERE = os.path.dirname(os.path.abspath(__file__))
-VECTORS = os.path.join(HERE, '..', 'crates', 'vectors')
+VECTORS = os.path.join(HERE, '..', 'crates', 'test_vectors')
 
 
 @functools.lru_cache(maxsize=None)

@@ -1,7 +1,7 @@
 #!/usr/bin/env python3
-"""Writes the cases of the test program `polynomial_trial` and what it must answer, made outside the engine: crates/polynomial_trial/stdin,
+"""Writes the cases of the test program `test_polynomial` and what it must answer, made outside the engine: crates/test_polynomial/stdin,
 a case per line (the service, n, the lengths of f and g, of both results and of the working words, the words of f and of g), and
-crates/polynomial_trial/stdout, an answer per line.
+crates/test_polynomial/stdout, an answer per line.
 
 First the worked examples of S91 and the ends of the range; then for each service every refusal, alone and with all that come after it, and
 40 drawn pairs modulo each of seven n full of zero divisors. The last service makes the product word by word.
@@ -305,7 +305,7 @@ def cases():
 
 if __name__ == '__main__':
     random.seed(SEED)
-    write_cases('polynomial_trial', ((c.sent(), c.answered()) for c in cases()))
+    write_cases('test_polynomial', ((c.sent(), c.answered()) for c in cases()))
     expected = {PRODUCT: (0, 1, 2, 3, 6), DIVISION: (0, 1, 2, 3, 4, 6), MONIC: (0, 1, 2, 3, 5, 6, 7), INVERSE: (0, 1, 2, 3, 5, 6, 7),
                 WORDS: (0, 1, 2, 3, 6)}
     assert SEEN == {(s, status) for s in expected for status in expected[s]}

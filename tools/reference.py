@@ -1,8 +1,8 @@
 """What the scripts of tools/ calculate with, each thing once, outside the engine: residues, polynomials modulo n, determinants, the ideal
-of two polynomials, the rows of the table of S90, and the lines that trial programs read and write.
+of two polynomials, the rows of the table of S90, and the lines that test programs read and write.
 
 A polynomial is the list of its words, the constant first. Nothing here is taken from the engine. tools/cofactor_figures.py compares both
-determinants with their definition, tools/residue_figures.py and tools/wide_figures.py the least combinations with a search, and
+determinants with their definition, tools/residue_figures.py and tools/services64_figures.py the least combinations with a search, and
 tools/ideal_constants.py proves the D of each pair and compares it with brute force and with PARI."""
 import functools, math, os
 from ideal_constants import Ideal, cached_constant, gp, prime_powers, reduced_resultant
@@ -18,7 +18,7 @@ STARRED = [(7, [1, 1], [2, 1]), (7, [2, 1], [1, 1]), (12, [3, 2], [1, 4]), (4, [
 UNSTARRED = (4294967295, [4294967294], [0, 1])
 
 
-# ---- cases and answers, as crates/trial_lines reads and writes them
+# ---- cases and answers, as crates/test_lines reads and writes them
 
 MARK = 2882400001
 PRIME = 4294967291             # where a program counts on from a drawn number

@@ -1,6 +1,6 @@
 #!/usr/bin/env python3
-"""Writes the cases of the test program `residue_trial` and what it must answer, made outside the engine: crates/residue_trial/stdin, a case
-of four numbers per line (the service, n, a, b), and crates/residue_trial/stdout, an answer per line.
+"""Writes the cases of the test program `test_residue` and what it must answer, made outside the engine: crates/test_residue/stdin, a case
+of four numbers per line (the service, n, a, b), and crates/test_residue/stdout, an answer per line.
 
 For each n up to 64 and each a up to n: rows of the services of two numbers, with all b up to n and all exponents up to 64, and the kind;
 all residues modulo coprime n1 and n2 up to 16, joined; and the ends of the range. n = 0 and 1 and a, b = n are refused.
@@ -86,4 +86,4 @@ def cases():
                     yield one(service, n, a, b)
 
 
-write_cases('residue_trial', cases())
+write_cases('test_residue', cases())

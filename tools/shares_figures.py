@@ -1,6 +1,6 @@
 #!/usr/bin/env python3
-"""Writes the cases of the test program `shares_trial` and what it must answer, made outside the engine: crates/shares_trial/stdin, a case
-of five numbers per line (N, and what waits in each group), and crates/shares_trial/stdout, an answer per line.
+"""Writes the cases of the test program `test_shares` and what it must answer, made outside the engine: crates/test_shares/stdin, a case
+of five numbers per line (N, and what waits in each group), and crates/test_shares/stdout, an answer per line.
 
 For each N up to 12 all waiting counts from 0 to 3; for twelve N and four bounds 100 drawn waiting counts below the bound; then who comes
 first, who is passed over, a share kept against three groups that send all they can, and the edges of the range.
@@ -44,4 +44,4 @@ def cases():
 
 
 random.seed(SEED)
-write_cases('shares_trial', ((case, ['shares', *shares(case[0], case[1:])]) for case in cases()))
+write_cases('test_shares', ((case, ['shares', *shares(case[0], case[1:])]) for case in cases()))

@@ -1,7 +1,7 @@
 #!/usr/bin/env python3
-"""Writes the cases of the test program `text_trial` and what it must answer, made outside the engine: crates/text_trial/stdin, a case per
+"""Writes the cases of the test program `test_text` and what it must answer, made outside the engine: crates/test_text/stdin, a case per
 line (1, n, how many bytes are lent and the words to be written; or 2, n, how many words are lent and the codes of the characters to be
-read), and crates/text_trial/stdout, an answer per line.
+read), and crates/test_text/stdout, an answer per line.
 
 All polynomials of degree up to 2 over n = 2, 3, 4 and drawn ones of degree 48 at the largest n are written, and their texts read; texts
 with one character left out or exchanged and chosen texts are read; and every refusal, alone and with all that come after it.
@@ -99,4 +99,4 @@ def cases():
 
 
 random.seed(SEED)
-write_cases('text_trial', cases())
+write_cases('test_text', cases())

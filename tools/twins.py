@@ -1,7 +1,7 @@
 #!/usr/bin/env python3
 """Shows where the function proofs of a crate and of its 64-bit twin differ.
 
-A pair is X and wide_X. The two proof files of each function are compared after the names of crates are made alike (wide_X to X, a crate's own
+A pair is X and X64. The two proof files of each function are compared after the names of crates are made alike (X64 to X, a crate's own
 name for its public one) and the `use` lines are sorted. What is left may differ in the constants of the width, in the invariant's lambda and
 in functions that exist at one width only.
 
@@ -17,18 +17,20 @@ import sys
 ROOT = pathlib.Path(__file__).resolve().parent.parent
 # pairs whose function proofs are written by rules that both widths share: how many lines may differ
 SHARED = {
-    "batch_pairs": 0, "convolution": 9, "divisor": 2, "divisor_stages": 0, "divisors_service": 2, "euclid_multipliers": 6, "evaluator": 0,
-    "evaluator_matrices": 0, "law": 0, "law_refusals": 2, "multiplier_steps": 0, "multiplier_words": 3, "polynomial_degree": 0,
-    "polynomial_division": 0, "polynomial_factors": 18, "polynomial_inverse": 0, "polynomial_product": 0, "reduced": 0, "reduced_attempt": 10,
-    "reduced_clearing": 0, "reduced_cofactors": 0, "reduced_products": 0, "reduced_quotients": 0, "reduced_service": 8, "reduced_stages": 0,
-    "reduced_units": 0, "refusals": 2, "residue": 4, "residue_services": 0, "resultant_attempt": 4, "resultant_euclid": 0, "resultant_steps": 0,
-    "resultants_service": 2, "window_division": 31, "window_factor": 0, "windows": 42,
+    "arithmetic": 15, "batch_pairs": 0, "bezout": 2, "convolution": 7, "degree_service": 0, "division_service": 3, "divisor": 2,
+    "divisor_service": 9, "divisor_stages": 4, "divisors_service": 2, "euclid_multipliers": 6, "evaluator_matrices": 0,
+    "evaluator_service": 0, "inverse_service": 0, "multiplier_steps": 0, "multiplier_words": 3, "product_law_refusals": 2,
+    "product_law_service": 0, "product_service": 0, "reduced": 0, "reduced_attempt": 10, "reduced_clearing": 0, "reduced_cofactors": 0,
+    "reduced_products": 0, "reduced_quick": 21, "reduced_quotients": 0, "reduced_service": 8, "reduced_stages": 0, "reduced_units": 0,
+    "refusals": 2, "residue": 4, "residue_service": 0, "resultant": 17, "resultant_attempt": 8, "resultant_euclid": 0,
+    "resultant_service": 2, "resultant_signs": 0, "resultant_steps": 0, "resultants_service": 2, "unit_monic_service": 18,
+    "window_division": 26, "window_factor": 0, "windows": 33,
 }
 
 
 def plain(text, crate):
     """The lines of a proof file with the names of crates made alike."""
-    text = re.sub(r"\bwide_", "", text)
+    text = re.sub(r"Rattle·([a-z_]+)64(?=[·.])", r"Rattle·\1", text)
     text = re.sub(r"Rattle·%s·(proofs\.proofs|specs\.specs)" % re.escape(crate), lambda m: "Rattle.%s.%s" % (crate, m[1].split(".")[0]), text)
     text = re.sub(r"\bnarrow\b|\bwide\b", "WIDTH", text)
     lines = [line for line in text.splitlines() if line.strip()]
@@ -37,15 +39,15 @@ def plain(text, crate):
 
 
 def pairs():
-    for folder in sorted((ROOT / "crates").glob("wide_*")):
-        crate = folder.name[len("wide_"):]
+    for folder in sorted((ROOT / "crates").glob("*64")):
+        crate = folder.name[:-2]
         if (ROOT / "crates" / crate / "proofs").is_dir() and (folder / "proofs").is_dir():
             yield crate
 
 
 def compare(crate):
     """(lines at 32 bits, lines at 64 bits, the lines that differ)"""
-    narrow, wide = (ROOT / "crates" / name / "proofs" for name in (crate, "wide_" + crate))
+    narrow, wide = (ROOT / "crates" / name / "proofs" for name in (crate, crate + "64"))
     count = [0, 0]
     found = []
     names = sorted({path.relative_to(base).as_posix() for base in (narrow, wide) for path in base.glob("*/Proof.antt")})
@@ -67,7 +69,7 @@ def main(words):
             found = compare(crate)[2]
             if len(found) > allowed:
                 wrong += 1
-                print("FAILED: the proofs of %s and wide_%s differ in %d lines, not %d:" % (crate, crate, len(found), allowed), *found, sep="\n    ")
+                print("FAILED: the proofs of %s and %s64 differ in %d lines, not %d:" % (crate, crate, len(found), allowed), *found, sep="\n    ")
         print("twins: %d pairs by rules, %d wrong" % (len(SHARED), wrong))
         return wrong != 0
     for crate in words or pairs():

@@ -1,8 +1,8 @@
 #!/usr/bin/env python3
-"""Writes the cases of the test program `why_trial` and what it must answer, made outside the engine: crates/why_trial/stdin, a case per line
+"""Writes the cases of the test program `test_why` and what it must answer, made outside the engine: crates/test_why/stdin, a case per line
 (1 for a pair or 2 for a row, n, the lengths of f and g, those of the divisor and of the working words, two numbers, the words of f, and for a
 pair those of g; a row has the number of its g for the length of the divisor, and the two numbers say which they are), and
-crates/why_trial/stdout, an answer per line.
+crates/test_why/stdout, an answer per line.
 
 For six moduli a row for each f and each sent degree of g, with all g; then for four moduli 200 rows of a drawn f of degree 2 with 100 g; the
 pairs of document 01; every refusal, alone and with all that come after it; and the pairs of crates/vectors, with the D stored there.
@@ -17,7 +17,7 @@ from reference import (MARK, PRIME, STARRED, UNSTARRED, cached_constant, divided
                        refused_pair, write_cases)
 
 HERE = os.path.dirname(os.path.abspath(__file__))
-VECTORS = os.path.join(HERE, '..', 'crates', 'vectors')
+VECTORS = os.path.join(HERE, '..', 'crates', 'test_vectors')
 SEED = 20261117
 PAIR, ROW = 1, 2
 DIVISOR, WORKING = 49, 8192
@@ -159,4 +159,4 @@ def cases():
 
 if __name__ == '__main__':
     random.seed(SEED)
-    write_cases('why_trial', cases())
+    write_cases('test_why', cases())

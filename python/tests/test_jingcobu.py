@@ -137,7 +137,7 @@ class Examples(unittest.TestCase):
 
 class Vectors(unittest.TestCase):
     def pairs(self):
-        folder = ROOT / "crates" / "vectors"
+        folder = ROOT / "crates" / "test_vectors"
         frames, numbers = (folder / "stdin").read_text().split("\n"), (folder / "stdout").read_text().split("\n")
         self.assertEqual(len(frames), len(numbers))
         for line, number in zip(frames, numbers):
@@ -181,7 +181,7 @@ class Wide(unittest.TestCase):
     MODULI = [2, 6, 2 ** 32, 2 ** 62, 3 ** 39, 6 ** 24, 614889782588491410, 3037000493 ** 2, 2 ** 63 - 25, 2 ** 63 - 1]
 
     def test_stored(self):
-        folder, count = ROOT / "crates" / "wide_vectors", 0
+        folder, count = ROOT / "crates" / "test_vectors64", 0
         lines, numbers = (folder / "stdin").read_text().splitlines(), (folder / "stdout").read_text().splitlines()
         self.assertEqual(len(lines), len(numbers))
         for line, number in zip(lines, numbers):
@@ -637,7 +637,7 @@ class Refusals(unittest.TestCase):
             self.refused(number, jingcobu.gcd, n, a, b)
 
     @needs("divisor64", "gcd64", "true_degree64")
-    def test_wide_divisors_gcds_and_degrees(self):
+    def test_64_bit_divisors_gcds_and_degrees(self):
         """D alone, the gcd and the true degree with words of 64 bits, against the reduced resultant and numbers worked here."""
         generator = random.Random(38)
         for _ in range(300):

@@ -8,7 +8,7 @@ use mathlib.Core.List.{List}
 use Prim.Native.Nat.{ℕ}
 use Rattle.definitions.specs.Resultants.{resultant}
 use Rattle.refusals.specs.Refusals.{Width, answered}
-use Rattle.evaluator.specs.EvaluatorService.{EvaluatorAnswer}
+use Rattle.evaluator_service.specs.EvaluatorService.{EvaluatorAnswer}
 use Rattle.resultant_service.specs.ResultantService.{ResultantAnswer}
 
 -- S41: "The plain evaluator takes two sent polynomials and answers their Sylvester determinant modulo n": what the resultant is

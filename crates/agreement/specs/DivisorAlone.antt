@@ -4,7 +4,7 @@
 use mathlib.Core.Path.{_≡_, subst}
 use mathlib.Core.List.{List}
 use Prim.Native.Nat.{ℕ, _≤_}
-use Rattle.theory.specs.ReachedLaws.{reduced-unique}
+use Rattle.law_polynomials.specs.ReachedLaws.{reduced-unique}
 use Rattle.refusals.specs.Refusals.{Width}
 use Rattle.reduced_service.specs.ReducedService.{ReducedAnswer, ReducedLeft}
 use Rattle.divisor_service.specs.DivisorService.{DivisorAnswer, DivisorLeft}

@@ -13,7 +13,7 @@ use lib.ListN.{length, take}
 use lib.Seq.{length-take-le}
 use Rattle.definitions.specs.Residues.{K}
 use Rattle.definitions.specs.Polynomials.{deg, L}
-use Rattle.numbers.specs.Logarithm.{K-below}
+use Rattle.law_numbers.specs.Logarithm.{K-below}
 use Rattle.refusals.specs.Refusals.{Width}
 use Rattle.refusals.specs.Conditions.{Passed, status-zero}
 use Rattle.reduced_service.specs.ReducedService.{reduced-refusals, reduced-conditions, reduced-listed, HoldsCofactor, ReducedAnswer}

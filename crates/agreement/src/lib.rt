@@ -13,7 +13,7 @@ pub fn both(n: u32, f: &[u32], g: &[u32], work: &mut [u32]) -> Agreement
     ensures { λ r. ⌜ BothAnswers narrow n (now (f .entry)) (now (g .entry)) (now (work .entry)) (now (work .exit))
         (r .evaluator .value) (r .evaluator .status) (r .resultant .value) (r .resultant .status) ⌝ }
 {
-    let evaluator = evaluator::evaluate(n, f, g);
+    let evaluator = evaluator_service::evaluate(n, f, g);
     let resultant = resultant_service::resultant(n, f, g, work);
     Agreement {
         evaluator,

@@ -6,6 +6,7 @@
 //   power           x to the power k
 ghost use mathlib.Core.Path.{_≡_};
 ghost use Prim.Native.Nat.{ℕ, _+_, _-_, _*_, _%_, _^_, _<_, _≤_};
+ghost use Rattle.arithmetic.specs.Powers.{TimesDigit};
 
 // x modulo n.
 pub fn reduce(n: u32, x: u64) -> u32
@@ -57,6 +58,17 @@ pub fn mul_add_mod(n: u32, a: u32, m: u32, b: u32) -> u32
     reduce(n, (a as u64) + (m as u64) * (b as u64))
 }
 
+// r y where the last binary digit of j is 1, else r.
+fn times_digit(n: u32, r: u32, y: u32, j: usize) -> u32
+    requires { ⌜ 1 ≤ n ⌝ }
+    ensures { λ t. ⌜ TimesDigit n r y j t ⌝ }
+{
+    if j % 2 == 1 {
+        return mul_mod(n, r, y);
+    }
+    r
+}
+
 // x to the power k, by squaring; a square, which the engine asks for most, at once.
 pub fn power(n: u32, x: u32, k: usize) -> u32
     requires { ⌜ 1 ≤ n ⌝ }
@@ -69,9 +81,7 @@ pub fn power(n: u32, x: u32, k: usize) -> u32
     let mut y = x;
     let mut j = k;
     while 0 < j {
-        if j % 2 == 1 {
-            r = mul_mod(n, r, y);
-        }
+        r = times_digit(n, r, y, j);
         y = mul_mod(n, y, y);
         j = j / 2;
     }

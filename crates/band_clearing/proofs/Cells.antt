@@ -1,7 +1,6 @@
 -- Words of rows, as the leaves change them.
 --
 --   window-at, window-over      the words of a window of a row
---   rows-apart                  rows that do not meet
 --   moved-in, moved-out         a leaf that works from row i to row k, at the same places of both
 --   added-rows                  three of them make a row added to a row
 use mathlib.Core.Path.{_≡_, refl, sym, ap, ap₂, _∙_, subst}
@@ -11,7 +10,7 @@ use Prim.Native.Nat.{ℕ, zero, suc, _+_, _*_, _-_, _%_, _<_, _≤_}
 use native.Mathlib.Decide.{decLt, ℕ-discrete}
 use native.Mathlib.Omega.{arith}
 use lib.ListN.{length, getD}
-use Rattle.windows.specs.Window.{piece, Moved, Clear, addMul}
+use Rattle.windows.specs.Window.{piece, Moved, addMul}
 use Rattle.windows.proofs.Leaf.{piece-at, piece-over}
 use Rattle.band_clearing.specs.Bands.{cell, window, Shape, PairAsked, RowAdded}
 
@@ -20,13 +19,6 @@ window-at o len w r c l = piece-at w (145 * r + o) len c l ∙ ap (λ (z : ℕ).
 
 pub window-over : (o len : ℕ) (w : List ℕ) (r c : ℕ) → len ≤ c → window o len w r c ≡ 0
 window-over o len w r c l = piece-over w (145 * r + o) len c l
-
-pub rows-apart : (i k o src dst len : ℕ) → i ≢ k → src ≡ 145 * i + o → dst ≡ 145 * k + o → o + len ≤ 145 → Clear src dst len
-rows-apart i k o src dst len z es ed fits = record { ok = λ x y p q h. go x y p q h (decLt i k) }
-  where
-    go : (x y : ℕ) → y < x → x < len → src + x ≡ dst + y → Dec (i < k) → ⊥
-    go x y p q h (yes t) = omega arith
-    go x y p q h (no t) = let u : k < i = omega arith in omega arith
 
 module _ {op : ℕ → ℕ → ℕ} (i k o src dst len : ℕ) {w w' : List ℕ} (es : src ≡ 145 * i + o) (ed : dst ≡ 145 * k + o) (fits : o + len ≤ 145)
     (mv : Moved op src dst len w w') where

@@ -3,9 +3,9 @@
 --   row-keeps                   live rows stay live
 --   row-reduced                 the remainder of the first words
 --   keeps-none, keeps-both, keeps-flip   steps one after the other
---   Turning, turn-falls, turn-kept, turn-ends, turn-done    a turn of Euclid's algorithm
---   turning-asked, half-asked, half-heads    what its two steps ask
---   reductions, multiples, turnings          the rules
+--   Alternating, round-falls, round-kept, round-ends, round-done    a round of Euclid's algorithm
+--   alternating-asked, half-asked, half-heads    what its two steps ask
+--   reductions, multiples, alternations          the rules
 use mathlib.Core.Path.{_≡_, refl, sym, ap, ap₂, _∙_, subst}
 use mathlib.Core.Logic.{_≢_, _⊎_, inl, inr}
 use mathlib.Core.List.{List}
@@ -16,9 +16,9 @@ use native.Mathlib.Omega.{arith}
 use borrow.Author.Needs.{needs}
 use lib.ListN.{length, getD}
 use Rattle.definitions.specs.Polynomials.{coef, deg}
-use Rattle.numbers.specs.Divisors.{GcdCofactor}
-use Rattle.cofactor_rows.specs.LiveWords.{LiveWords}
-use Rattle.cofactor_rows.specs.WordSteps.{AddedWords, words-add}
+use Rattle.law_numbers.specs.Divisors.{GcdCofactor}
+use Rattle.law_rows.specs.LiveWords.{LiveWords}
+use Rattle.law_rows.specs.WordSteps.{AddedWords, words-add}
 use Rattle.band_clearing.specs.Bands.{cell, window, Shape, Band, HeadsBelow, PairAsked, RowAdded, KeepsTwo, RowReduced, RowCleared}
 use Rattle.band_clearing.proofs.Cells.{window-at, window-over}
 
@@ -172,18 +172,19 @@ asked-next a h = record {
   room = omega (arith, a .room, h);
 }
 
--- what the loop keeps, between its turns: the row i by the row k, then the row k by the row i
-pub record Turning (n b d e i k : ℕ) (w₀ w : List ℕ) : Type 0 where
+-- what the loop keeps, between its rounds: the row i by the row k, then the row k by the row i
+pub record Alternating (n b d e i k : ℕ) (w₀ w : List ℕ) : Type 0 where
   pub keeps : KeepsTwo n b d e i k w₀ w
   pub heads : HeadsBelow n w
 
-pub turning-none : {n b d e i k : ℕ} {w : List ℕ} → HeadsBelow n w → Turning n b d e i k w w
-turning-none h = record { keeps = keeps-none; heads = h }
+pub alternating-none : {n b d e i k : ℕ} {w : List ℕ} → HeadsBelow n w → Alternating n b d e i k w w
+alternating-none h = record { keeps = keeps-none; heads = h }
 
-pub turning-asked : {n b d e i k : ℕ} {w₀ w : List ℕ} → PairAsked n b d e i k w₀ → Turning n b d e i k w₀ w → PairAsked n b d e i k w
-turning-asked a t = asked-next a (t .keeps .same)
+pub alternating-asked : {n b d e i k : ℕ} {w₀ w : List ℕ} → PairAsked n b d e i k w₀ → Alternating n b d e i k w₀ w
+    → PairAsked n b d e i k w
+alternating-asked a t = asked-next a (t .keeps .same)
 
-module _ {n b d e i k : ℕ} {w₀ w₁ w₂ : List ℕ} (before : Turning n b d e i k w₀ w₁) (first : RowReduced n b d e i k w₁ w₂) where
+module _ {n b d e i k : ℕ} {w₀ w₁ w₂ : List ℕ} (before : Alternating n b d e i k w₀ w₁) (first : RowReduced n b d e i k w₁ w₂) where
   half : KeepsTwo n b d e i k w₀ w₂
   half = keeps-both (before .keeps) (first .keeps)
 
@@ -193,12 +194,12 @@ module _ {n b d e i k : ℕ} {w₀ w₁ w₂ : List ℕ} (before : Turning n b d
   pub half-heads : HeadsBelow n w₂
   half-heads = first .keeps .heads (before .heads)
 
-  pub turn-kept : {w₃ : List ℕ} → RowReduced n b d e k i w₂ w₃ → Turning n b d e i k w₀ w₃
-  turn-kept t = record { keeps = keeps-both half (keeps-flip (t .keeps)); heads = t .keeps .heads half-heads }
+  pub round-kept : {w₃ : List ℕ} → RowReduced n b d e k i w₂ w₃ → Alternating n b d e i k w₀ w₃
+  round-kept t = record { keeps = keeps-both half (keeps-flip (t .keeps)); heads = t .keeps .heads half-heads }
 
-  pub turn-falls : {w₃ : List ℕ} → RowReduced n b d e k i w₂ w₃ → (getD w₁ (145 * k) 0 ≡ 0 → ⊥) → (getD w₂ (145 * i) 0 ≡ 0 → ⊥)
+  pub round-falls : {w₃ : List ℕ} → RowReduced n b d e k i w₂ w₃ → (getD w₁ (145 * k) 0 ≡ 0 → ⊥) → (getD w₂ (145 * i) 0 ≡ 0 → ⊥)
       → getD w₃ (145 * k) 0 < getD w₁ (145 * k) 0
-  turn-falls {w₃} t p q =
+  round-falls {w₃} t p q =
       omega (
         arith,
         t .remainder,
@@ -207,8 +208,8 @@ module _ {n b d e i k : ℕ} {w₀ w₁ w₂ : List ℕ} (before : Turning n b d
         mod-lt (getD w₁ (145 * i) 0) {m = getD w₁ (145 * k) 0} (omega arith),
       )
 
-  pub turn-ends : getD w₂ (145 * i) 0 ≡ 0 → RowCleared n b d e i k k w₀ w₂
-  turn-ends z = record {
+  pub round-ends : getD w₂ (145 * i) 0 ≡ 0 → RowCleared n b d e i k k w₀ w₂
+  round-ends z = record {
     keeps = half;
     pivot = inr refl;
     zero = λ r. elim [ inl h ↦ λ y. ap (λ (x : ℕ). getD w₂ (145 * x) 0) h ∙ z | inr h ↦ λ y. absurd (y h) ];
@@ -221,8 +222,8 @@ left-with {n} {b} {d} {e} {i} {k} {w₀} {w} t z = record {
   zero = λ r. elim [ inl h ↦ λ y. absurd (y h) | inr h ↦ λ y. ap (λ (x : ℕ). getD w (145 * x) 0) h ∙ z ];
 }
 
-pub turn-done : {n b d e i k : ℕ} {w₀ w : List ℕ} → Turning n b d e i k w₀ w → getD w (145 * k) 0 ≡ 0 → RowCleared n b d e i k i w₀ w
-turn-done t z = left-with (t .keeps) z
+pub round-done : {n b d e i k : ℕ} {w₀ w : List ℕ} → Alternating n b d e i k w₀ w → getD w (145 * k) 0 ≡ 0 → RowCleared n b d e i k i w₀ w
+round-done t z = left-with (t .keeps) z
 
 -- nothing to clear, or the multiple first
 pub cleared-none : {n b d e i k : ℕ} {w : List ℕ} → getD w (145 * k) 0 ≡ 0 → RowCleared n b d e i k i w w
@@ -251,4 +252,4 @@ pub ruleset reductions = (needs, quotient-below, row-reduced)
 
 pub ruleset multiples = (needs, divisor-positive, residue-below, keeps-none, row-keeps)
 
-pub ruleset turnings = (turning-none, turning-asked, half-asked, half-heads, turn-kept, turn-falls, turn-ends, turn-done)
+pub ruleset alternations = (alternating-none, alternating-asked, half-asked, half-heads, round-kept, round-falls, round-ends, round-done)

@@ -9,11 +9,11 @@ use Prim.Native.Nat.{ℕ, suc, _+_, _*_, _-_, _%_, _<_, _≤_}
 use native.Mathlib.Nat.{mod-lt}
 use native.Mathlib.Omega.{arith}
 use lib.ListN.{getD}
-use Rattle.theory.specs.ResultantLaws.{signed}
+use Rattle.law_polynomials.specs.ResultantLaws.{signed}
 use Rattle.windows.specs.Window.{Moved, second}
 use Rattle.band_clearing.specs.Bands.{Band, RowEntered, Shifted, LeaveAsked, RowLeft, ComeAsked, CameIn}
-use Rattle.band_rows.proofs.Moments.{band-cast, entering-both, entering-first, entering-second, entering-none}
-use Rattle.band_rows.proofs.Moments.{leaving-last, leaving-other}
+use Rattle.band_rows.proofs.ColumnTurns.{band-cast, entering-both, entering-first, entering-second, entering-none}
+use Rattle.band_rows.proofs.ColumnTurns.{leaving-last, leaving-other}
 
 module _ {n : ℕ} {f g : List ℕ} {d e j l x : ℕ} {w : List ℕ} (a : ComeAsked n f g d e j l x w) where
   both-first : j < e → j < d → l + suc (d - 1 - j) ≡ d

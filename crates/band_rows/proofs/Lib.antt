@@ -1,3 +1,3 @@
+pub mod ColumnTurns
 pub mod Ends
-pub mod Moments
 pub mod Rows

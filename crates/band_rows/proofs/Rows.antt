@@ -13,7 +13,7 @@ use borrow.Author.Needs.{needs}
 use lib.ListN.{length, getD, set, length-set}
 use lib.Seq.{getD-set-same, getD-set-other}
 use Rattle.windows.specs.Window.{Moved, Written, zeroed, second}
-use Rattle.windows.proofs.Turns.{Writing, writing-none, writing-next, writing-end}
+use Rattle.windows.proofs.WindowRounds.{Writing, writing-none, writing-next, writing-end}
 use Rattle.band_clearing.specs.Bands.{cell, from-top, EnterAsked, RowEntered, ShiftAsked, RowShifted, Shifted}
 
 -- ---- the words of h, the top word first

@@ -75,22 +75,7 @@ batch-conditions W n f d g e count l m =
 
 pub batch-listed : (W : Width) (n : ℕ) (f : List ℕ) (d : ℕ) (g : List ℕ) (e count l m : ℕ)
     → Listed (batch-refusals W n f d g e count l m) (batch-conditions W n f d g e count l m)
-batch-listed W n f d g e count l m = (
-  (omega arith, modulus-fails W n),
-  (
-    (omega arith, pieces-fail d count (length f)),
-    (
-      (omega arith, pieces-fail e count (length g)),
-      (
-        (omega arith, words-fail n f),
-        (
-          (omega arith, words-fail n g),
-          ((omega arith, short-fails l count), ((omega arith, short-fails m (W .working)), tt)),
-        ),
-      ),
-    ),
-  ),
-)
+batch-listed W n f d g e count l m = search (arith, tt, modulus-fails, pieces-fail, words-fail, short-fails) depth 20
 
 pub record BatchServed (W : Width) (n : ℕ) (f : List ℕ) (d : ℕ) (g : List ℕ) (e count l m : ℕ) : Type 0 where
   pub modulus : ServedModulus W n

@@ -12,9 +12,9 @@ use native.Mathlib.Omega.{arith}
 use lib.ListN.{length, drop, length-drop}
 use lib.Seq.{getD-take, getD-drop, length-take-le}
 use Rattle.definitions.specs.Polynomials.{tabulate, Residues}
-use Rattle.theory.specs.Words.{coef-tabulate, length-tabulate}
-use Rattle.refusals.specs.Refusals.{Width, short, first-refusal, refusals-two}
-use Rattle.refusals.specs.Conditions.{ServedLength, status-zero, conditions-two, modulus-fails, length-fails, words-fail, short-fails}
+use Rattle.law_polynomials.specs.Words.{coef-tabulate, length-tabulate}
+use Rattle.refusals.specs.Refusals.{Width, short, first-refusal, refusals-of-pair}
+use Rattle.refusals.specs.Conditions.{ServedLength, status-zero, conditions-of-pair, modulus-fails, length-fails, words-fail, short-fails}
 use Rattle.refusals.specs.Fronts.{front-is}
 use Rattle.batch_pairs.specs.Batches.{piece, ServedPieces, BatchAnswer, BatchServed, batch-served}
 
@@ -63,10 +63,10 @@ module _ {d count i : ℕ} (f : List ℕ) (s : ServedPieces d count (length f)) 
 
 pub single-served : {P : List ℕ → List ℕ → ℕ → Type 0} {W : Width} {n : ℕ} {f : List ℕ} {d : ℕ} {g : List ℕ} {e count : ℕ}
     {out out' work work' : List ℕ} {value : ℕ} → BatchAnswer P W n f d g e count out out' work work' value 0 → {i : ℕ} → i < count
-    → (m : ℕ) → W .working ≤ m → first-refusal (refusals-two W n (piece d i f) (piece e i g) ++ ((7, short m (W .working)) ∷ [])) ≡ 0
+    → (m : ℕ) → W .working ≤ m → first-refusal (refusals-of-pair W n (piece d i f) (piece e i g) ++ ((7, short m (W .working)) ∷ [])) ≡ 0
 single-served {P} {W} {n} {f} {d} {g} {e} {count} t {i} l m h =
     let s = all-served t in
-    status-zero (refusals-two W n x y ++ ((7, short m (W .working)) ∷ [])) (conditions-two W n x y ++ ((W .working ≤ m) ∷ [])) (
+    status-zero (refusals-of-pair W n x y ++ ((7, short m (W .working)) ∷ [])) (conditions-of-pair W n x y ++ ((W .working ≤ m) ∷ [])) (
       (omega arith, modulus-fails W n),
       (
         (omega arith, length-fails x),

@@ -19,7 +19,7 @@ ghost use Rattle.batch_pairs.specs.Batches.{bad-pieces, ServedPieces, ba
 fn bad_pieces(length: usize, d: usize, count: usize) -> bool
     ensures { λ r. ⌜ r ≡ bad-pieces d count length ⌝ }
 {
-    if 48 < d {
+    if refusals::MAX_DEGREE < d {
         return true;
     }
     if length / (d + 1) != count {
@@ -71,7 +71,7 @@ fn refusal_room(count: usize, l: usize, m: usize) -> u32
     if l < count {
         return 6;
     }
-    if m < 8192 {
+    if m < refusals::WORKING_WORDS {
         return 7;
     }
     0

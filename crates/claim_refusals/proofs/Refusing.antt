@@ -9,14 +9,14 @@ use Rattle.refusals.specs.Refusals.{narrow, short, first-refusal}
 use Rattle.refusals.specs.Conditions.{status-zero}
 use Rattle.refusals.proofs.Statuses.{refused-early, passed-on}
 use Rattle.claim_refusals.specs.ClaimRefusals.{size-refusals, word-refusals, claim-status}
-use Rattle.claim_refusals.specs.ClaimRefusals.{ServedSizes, size-conditions, size-listed}
+use Rattle.claim_refusals.specs.ClaimRefusals.{ServedLengthsAsked, size-conditions, size-listed}
 
 module _ (n : ℕ) (f g u v : List ℕ) (a : ℕ) (ea : a ≡ first-refusal (size-refusals narrow n f g u v)) where
   pub sizes-refused : (l : ℕ) → (a ≡ 0 → ⊥) → a ≡ claim-status narrow n f g u v l
   sizes-refused l h = refused-early (size-refusals narrow n f g u v) (word-refusals n f g u v ++ ((7, short l 8192) ∷ [])) a ea h
 
   module _ (z : a ≡ 0) where
-    pub sizes-served : ServedSizes f g u v
+    pub sizes-served : ServedLengthsAsked f g u v
     sizes-served =
         let p = status-zero (size-refusals narrow n f g u v) (size-conditions narrow n f g u v) (size-listed narrow n f g u v) .0
         (sym ea ∙ z) in

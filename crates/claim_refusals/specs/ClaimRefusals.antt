@@ -1,7 +1,7 @@
 -- The refusals of the checking of a claim (02, W12), over any width W. f and g are the polynomials sent, u and v are the multipliers.
 --
 --   bad-multiplier, ServedMultiplier       the test of refusal 16, and what passes it
---   ServedSizes                            what passes 2 and 16
+--   ServedLengthsAsked                     what passes 2 and 16
 --   claim-refusals, claim-status           the refusals in their order, and the number of the first that applies
 --   claim-listed                           each refusal under its condition and no other
 use mathlib.Core.Bool.{Bool, true, cond, not}
@@ -24,7 +24,7 @@ pub record ServedMultiplier (u : List ℕ) : Type 0 where
   pub few : length u ≤ 4096
 
 -- no length is refused
-pub record ServedSizes (f g u v : List ℕ) : Type 0 where
+pub record ServedLengthsAsked (f g u v : List ℕ) : Type 0 where
   pub first : ServedLength f
   pub second : ServedLength g
   pub first-multiplier : ServedMultiplier u

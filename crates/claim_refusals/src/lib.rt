@@ -6,7 +6,7 @@
 ghost use mathlib.Core.Path.{_≡_};
 ghost use mathlib.Core.List.{[], _∷_};
 ghost use Rattle.refusals.specs.Refusals.{narrow, short, first-refusal};
-ghost use Rattle.claim_refusals.specs.ClaimRefusals.{bad-multiplier, size-refusals, word-refusals, claim-status, ServedSizes};
+ghost use Rattle.claim_refusals.specs.ClaimRefusals.{bad-multiplier, size-refusals, word-refusals, claim-status, ServedLengthsAsked};
 
 // Whether u has no word, or more than 4096.
 fn bad_multiplier(u: &[u32]) -> bool
@@ -42,7 +42,7 @@ fn refusal_sizes(n: u32, f: &[u32], g: &[u32], u: &[u32], v: &[u32]) -> u32
 
 // Refusal 3; 0 where it does not apply. A word is read only where the four lengths are served.
 fn refusal_words(n: u32, f: &[u32], g: &[u32], u: &[u32], v: &[u32]) -> u32
-    requires { ⌜ ServedSizes (now f) (now g) (now u) (now v) ⌝ }
+    requires { ⌜ ServedLengthsAsked (now f) (now g) (now u) (now v) ⌝ }
     ensures { λ r. ⌜ r ≡ first-refusal (word-refusals n (now (f .entry)) (now (g .entry)) (now (u .entry)) (now (v .entry))) ⌝ }
 {
     if !refusals::all_below(n, f) {
@@ -64,7 +64,7 @@ fn refusal_words(n: u32, f: &[u32], g: &[u32], u: &[u32], v: &[u32]) -> u32
 fn refusal_room(l: usize) -> u32
     ensures { λ r. ⌜ r ≡ first-refusal ((7, short l 8192) ∷ []) ⌝ }
 {
-    if l < 8192 {
+    if l < refusals::WORKING_WORDS {
         return 7;
     }
     0

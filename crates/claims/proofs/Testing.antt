@@ -1,14 +1,15 @@
 -- What the three tests of a claim tell, at each place where they return. D is the number claimed, u and v are the multipliers.
 --
 --   tells-none, tells-rest       D divides n: of 0, and of any other D
---   combined-sum                 a word of u f + v g, from words of the two products
---   CombinedBelow k              the words of u f + v g before place k are right
+--   combined n f g u v k         word k of u f + v g; combined-sum is the same from words of the two products
+--   CombinedBelow k              the words of u f + v g before place k are right, and k is 1 or more
 --   combined-first, combined-next, combined-end     the constant, one word more, and all words
 --   wrong-first, wrong-word      a word that is not right
 --   reduced-told                 there is one reduced resultant
---   fails-first, fails-second, fails-third, all-hold     what is said of a claim
+--   divides-holds, …, reduced-fails     what is said of a claim
+--   tests, combinations, verdicts     the rules
 use mathlib.Core.Path.{_≡_, sym, ap₂, subst, _∙_}
-use mathlib.Core.Bool.{Bool, true, false}
+use mathlib.Core.Bool.{Bool, true, false, not}
 use mathlib.Core.List.{List}
 use Prim.Native.Nat.{ℕ, zero, suc, max, _+_, _-_, _%_, _<_, _≤_, _∣_}
 use native.Mathlib.Nat.{zero-mod, mod-eq-zero-of-dvd, dvd-of-mod-eq-zero, pos-of-dvd-of-pos}
@@ -16,14 +17,15 @@ use native.Mathlib.Decide.{decLt}
 use native.Mathlib.Omega.{arith}
 use lib.Dec.{T, eqb}
 use lib.ListN.{length}
-use borrow.Author.Tests.{eqb-true, eqb-false}
+use borrow.Author.Needs.{needs}
+use borrow.Author.Tests.{eqb-true, eqb-false, not-true, not-false}
 use borrow.Author.Count.{below-more}
 use Rattle.definitions.specs.Polynomials.{coef, convolve, constant}
 use Rattle.definitions.specs.Checks.{convolve-beyond}
 use Rattle.definitions.specs.Resultants.{Combination, Reduced}
-use Rattle.numbers.specs.Congruence.{c-mod, c-add}
-use Rattle.theory.specs.ReachedLaws.{reduced-unique}
-use Rattle.claims.specs.Claims.{Judged, Tells}
+use Rattle.law_numbers.specs.Congruence.{c-mod, c-add}
+use Rattle.law_polynomials.specs.ReachedLaws.{reduced-unique}
+use Rattle.claims.specs.Claims.{Tells}
 
 true-false : {A : Type 0} → true ≡ false → A
 true-false e = absurd (subst T e tt)
@@ -47,71 +49,82 @@ tells-rest d n = record {
 
 -- ---- the second
 
+abbrev pub combined : ℕ → List ℕ → List ℕ → List ℕ → List ℕ → ℕ → ℕ
+combined n f g u v k = (convolve (coef u) (coef f) k + convolve (coef v) (coef g) k) % n
+
 pub combined-sum : (n : ℕ) (f g u v : List ℕ) (k a b r : ℕ) → a ≡ convolve (coef u) (coef f) k % n → b ≡ convolve (coef v) (coef g) k % n
-    → r ≡ (a + b) % n → r ≡ (convolve (coef u) (coef f) k + convolve (coef v) (coef g) k) % n
+    → r ≡ (a + b) % n → r ≡ combined n f g u v k
 combined-sum n f g u v k a b r ea eb er =
     er ∙ ap₂ (λ (p q : ℕ). (p + q) % n) ea eb
     ∙ c-add (c-mod {n = n} (convolve (coef u) (coef f) k)) (c-mod {n = n} (convolve (coef v) (coef g) k)) .same
 
 pub record CombinedBelow (k n : ℕ) (f g u v : List ℕ) (D : ℕ) : Type 0 where
-  pub at : (j : ℕ) → j < k → (convolve (coef u) (coef f) j + convolve (coef v) (coef g) j) % n ≡ constant D j % n
+  pub some : 1 ≤ k
+  pub at : (j : ℕ) → j < k → combined n f g u v j ≡ constant D j % n
 
-module _ (n : ℕ) (f g u v : List ℕ) (D : ℕ) where
-  pub combined-first : (x : ℕ) → x ≡ (convolve (coef u) (coef f) 0 + convolve (coef v) (coef g) 0) % n → x ≡ D % n
-      → CombinedBelow 1 n f g u v D
-  combined-first x e h = record { at = first }
-    where
-      first : (j : ℕ) → j < 1 → (convolve (coef u) (coef f) j + convolve (coef v) (coef g) j) % n ≡ constant D j % n
-      first zero l = sym e ∙ h
-      first (suc j) l = absurd (omega arith)
+module _ (n : ℕ) (f g u v : List ℕ) (D x : ℕ) where
+  pub combined-first : x ≡ combined n f g u v 0 → x ≡ D % n → CombinedBelow 1 n f g u v D
+  combined-first e h = record { some = omega arith; at = below-more _ 0 (λ j l. absurd (omega arith)) (sym e ∙ h) }
 
-  pub wrong-first : (x : ℕ) → x ≡ (convolve (coef u) (coef f) 0 + convolve (coef v) (coef g) 0) % n → (x ≡ D % n → ⊥)
-      → Tells false (Combination n f g u v D)
-  wrong-first x e h = no-told (λ c. h (e ∙ c .sum 0))
+  pub wrong-first : x ≡ combined n f g u v 0 → (x ≡ D % n → ⊥) → Tells false (Combination n f g u v D)
+  wrong-first e h = no-told (λ c. h (e ∙ c .sum 0))
 
   above : (k : ℕ) → 1 ≤ k → constant D k % n ≡ 0
   above zero l = absurd (omega arith)
   above (suc k) l = zero-mod n
 
-  pub combined-next : (k x : ℕ) → 1 ≤ k → x ≡ (convolve (coef u) (coef f) k + convolve (coef v) (coef g) k) % n → x ≡ 0
-      → CombinedBelow k n f g u v D → CombinedBelow (k + 1) n f g u v D
-  combined-next k x l e z c = record { at = below-more _ k (c .at) (sym e ∙ z ∙ sym (above k l)) }
+  module _ (k : ℕ) (c : CombinedBelow k n f g u v D) where
+    pub combined-next : {k' : ℕ} → x ≡ combined n f g u v k → x ≡ 0 → k' ≡ k + 1 → CombinedBelow k' n f g u v D
+    combined-next {k'} e z ek = subst (λ (i : ℕ). CombinedBelow i n f g u v D) (sym ek) (record {
+      some = omega arith;
+      at = below-more _ k (c .at) (sym e ∙ z ∙ sym (above k (c .some)));
+    })
 
-  pub wrong-word : (k x : ℕ) → 1 ≤ k → x ≡ (convolve (coef u) (coef f) k + convolve (coef v) (coef g) k) % n → (x ≡ 0 → ⊥)
-      → Tells false (Combination n f g u v D)
-  wrong-word k x l e h = no-told (λ c. h (e ∙ c .sum k ∙ above k l))
+    pub wrong-word : x ≡ combined n f g u v k → (x ≡ 0 → ⊥) → Tells false (Combination n f g u v D)
+    wrong-word e h = no-told (λ t. h (e ∙ t .sum k ∙ above k (c .some)))
 
-  -- above the longer product every word is 0
-  pub combined-end : (m k : ℕ) → 1 ≤ k → m ≤ k → m ≡ max (length u + length f - 1) (length v + length g - 1) → CombinedBelow k n f g u v D
-      → Tells true (Combination n f g u v D)
-  combined-end m k o l e c = yes-told (record { sum = λ j. go j (decLt j k) })
-    where
-      go : (j : ℕ) → Dec (j < k) → (convolve (coef u) (coef f) j + convolve (coef v) (coef g) j) % n ≡ constant D j % n
-      go j (yes h) = c .at j h
-      go j (no h) =
-          ap₂ (λ (x y : ℕ). (x + y) % n) (convolve-beyond u f j (omega arith)) (convolve-beyond v g j (omega arith))
-          ∙ zero-mod n ∙ sym (above j (omega arith))
+    -- x is the number of words of the longer product; above it every word is 0
+    pub combined-end : x ≡ max (length u + length f - 1) (length v + length g - 1) → x ≤ k → Tells true (Combination n f g u v D)
+    combined-end e l = yes-told (record { sum = λ j. go j (decLt j k) })
+      where
+        go : (j : ℕ) → Dec (j < k) → combined n f g u v j ≡ constant D j % n
+        go j (yes h) = c .at j h
+        go j (no h) =
+            ap₂ (λ (x y : ℕ). (x + y) % n) (convolve-beyond u f j (omega arith)) (convolve-beyond v g j (omega arith))
+            ∙ zero-mod n ∙ sym (above j (omega (arith, c .some)))
 
 -- ---- the third
 
-pub reduced-told : (n : ℕ) → 1 ≤ n → (f g : List ℕ) (E D : ℕ) → Reduced n f g E → Tells (eqb E D) (Reduced n f g D)
-reduced-told n l f g E D r = record {
+pub reduced-told : (n : ℕ) (f g : List ℕ) (E D : ℕ) → Reduced n f g E → 2 ≤ n → Tells (eqb E D) (Reduced n f g D)
+reduced-told n f g E D r l = record {
   holds = λ e. subst (Reduced n f g) (eqb-true E D e) r;
-  fails = λ e s. eqb-false E D e (reduced-unique l r s);
+  fails = λ e s. eqb-false E D e (reduced-unique {n = n} (omega arith) r s);
 }
 
 -- ---- the answer
 
-module _ (n : ℕ) (f g : List ℕ) (D : ℕ) (u v : List ℕ) (a b : Bool) (first : Tells a (D ∣ n))
-    (second : Tells b (Combination n f g u v D)) where
-  pub fails-first : a ≡ false → Judged 1 n f g D u v
-  fails-first p = first .fails p
+module _ (b : Bool) (n D : ℕ) where
+  pub divides-holds : Tells b (D ∣ n) → not b ≡ false → D ∣ n
+  divides-holds t e = t .holds (not-false b e)
 
-  pub fails-second : a ≡ true → b ≡ false → Judged 2 n f g D u v
-  fails-second p q = (first .holds p, second .fails q)
+  pub divides-fails : Tells b (D ∣ n) → not b ≡ true → D ∣ n → ⊥
+  divides-fails t e = t .fails (not-true b e)
 
-  pub fails-third : a ≡ true → b ≡ true → (t : Bool) → Tells t (Reduced n f g D) → t ≡ false → Judged 3 n f g D u v
-  fails-third p q t third r = (first .holds p, (second .holds q, third .fails r))
+  module _ {f g : List ℕ} where
+    pub gives-holds : {u v : List ℕ} → Tells b (Combination n f g u v D) → not b ≡ false → Combination n f g u v D
+    gives-holds t e = t .holds (not-false b e)
 
-  pub all-hold : a ≡ true → b ≡ true → (t : Bool) → Tells t (Reduced n f g D) → t ≡ true → Judged 0 n f g D u v
-  all-hold p q t third r = (first .holds p, (second .holds q, third .holds r))
+    pub gives-fails : {u v : List ℕ} → Tells b (Combination n f g u v D) → not b ≡ true → Combination n f g u v D → ⊥
+    gives-fails t e = t .fails (not-true b e)
+
+    pub reduced-holds : Tells b (Reduced n f g D) → b ≡ true → Reduced n f g D
+    reduced-holds t e = t .holds e
+
+    pub reduced-fails : Tells b (Reduced n f g D) → b ≡ false → Reduced n f g D → ⊥
+    reduced-fails t e = t .fails e
+
+pub ruleset tests = (needs, tells-none, tells-rest, combined-sum, reduced-told)
+
+pub ruleset combinations = (needs, combined-first, combined-next, combined-end, wrong-first, wrong-word)
+
+pub ruleset verdicts = (needs, divides-holds, divides-fails, gives-holds, gives-fails, reduced-holds, reduced-fails)

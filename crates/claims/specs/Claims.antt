@@ -1,8 +1,8 @@
 -- What is said of a claim from elsewhere (S47). f and g are polynomials modulo n, D is the number claimed, u and v are the multipliers.
 --
---   Judged k n f g D u v        0: all three hold; k from 1 to 3: the k-th fails and those before it hold
---   Tells b P                   the answer b says whether P holds
---   ClaimLengths, ClaimAsked    what the tests ask
+--   Judged k n f g D u v             0: all three hold; k from 1 to 3: the k-th fails and those before it hold
+--   Tells b P                        the answer b says whether P holds
+--   ClaimLengthsAsked, ClaimAsked    what the tests ask
 use mathlib.Core.Path.{_≡_}
 use mathlib.Core.Bool.{Bool, true, false}
 use mathlib.Core.List.{List}
@@ -24,7 +24,7 @@ pub record Tells (b : Bool) (P : Type 0) : Type 0 where
   pub fails : b ≡ false → P → ⊥
 
 -- f and g have 1 to 49 words, and the multipliers at most 4096
-pub record ClaimLengths (f g u v : List ℕ) : Type 0 where
+pub record ClaimLengthsAsked (f g u v : List ℕ) : Type 0 where
   pub least-f : 1 ≤ length f
   pub most-f : length f ≤ 49
   pub least-g : 1 ≤ length g
@@ -35,4 +35,4 @@ pub record ClaimLengths (f g u v : List ℕ) : Type 0 where
 -- the words may be any
 pub record ClaimAsked (n : ℕ) (f g u v : List ℕ) : Type 0 where
   pub modulus : 2 ≤ n
-  pub lengths : ClaimLengths f g u v
+  pub lengths : ClaimLengthsAsked f g u v

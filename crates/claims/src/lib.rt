@@ -10,8 +10,8 @@ ghost use lib.ListN.{length};
 ghost use Rattle.definitions.specs.Polynomials.{coef, convolve};
 ghost use Rattle.definitions.specs.Resultants.{Combination, Reduced};
 ghost use Rattle.windows.specs.Window.{Scratch};
-ghost use Rattle.divisor.specs.Sizes.{DivisorSizes};
-ghost use Rattle.claims.specs.Claims.{Judged, Tells, ClaimLengths, ClaimAsked};
+ghost use Rattle.divisor.specs.Sizes.{DivisorLengthsAsked};
+ghost use Rattle.claims.specs.Claims.{Judged, Tells, ClaimLengthsAsked, ClaimAsked};
 
 // S47: "0 divides no n"
 fn divides(d: u32, n: u32) -> bool
@@ -23,7 +23,7 @@ fn divides(d: u32, n: u32) -> bool
 
 // The words of the longer of the products u f and v g.
 fn longest(f: &[u32], g: &[u32], u: &[u32], v: &[u32]) -> usize
-    requires { ⌜ ClaimLengths (now f) (now g) (now u) (now v) ⌝ }
+    requires { ⌜ ClaimLengthsAsked (now f) (now g) (now u) (now v) ⌝ }
     ensures { λ r. ⌜ r ≡ max (length (now (u .entry)) + length (now (f .entry)) - 1)
         (length (now (v .entry)) + length (now (g .entry)) - 1) ⌝ }
 {
@@ -67,7 +67,7 @@ fn combines(n: u32, f: &[u32], g: &[u32], d: u32, u: &[u32], v: &[u32]) -> bool
 
 // S47: "D is the reduced resultant as defined": there is one, and the run finds it.
 fn is_reduced(work: &mut [u32], n: u32, f: &[u32], g: &[u32], d: u32) -> bool
-    requires { ⌜ (2 ≤ n) × DivisorSizes (now f) (now g) (now work) ⌝ }
+    requires { ⌜ (2 ≤ n) × DivisorLengthsAsked (now f) (now g) (now work) ⌝ }
     ensures { λ r. ⌜ Tells r (Reduced n (now (f .entry)) (now (g .entry)) d) ⌝ }
     ensures { λ _. ⌜ Scratch (now (work .entry)) (now (work .exit)) ⌝ }
 {

@@ -16,7 +16,7 @@ ghost use lib.ListN.{length};
 ghost use Rattle.windows.specs.Window.{Scratch};
 ghost use Rattle.modulus.specs.Values.{Known, value};
 ghost use Rattle.cofactor_band.specs.Bands.{CofactorsAsked, ResultantCofactors};
-ghost use Rattle.cofactor_quick.specs.Quick.{FactorAsked, ScaleAsked, Scales, Settles, QuickTried, Quick};
+ghost use Rattle.cofactor_quick.specs.Quick.{FactorAsked, ScaleAsked, Scales, Settles, CofactorsAttempted, Quick};
 use euclid_steps::Ending;
 use modulus::Modulus;
 
@@ -40,7 +40,7 @@ fn scale(u: &mut [u32], v: &mut [u32], w: &[u32], m: Modulus, x: Ending, i: u32,
     let b = v.len();
     let c = modulus::leave(m, x.c);
     let y = factor(m, x, i, c);
-    let z = resultant_turns::with_sign(m.n, k, y);
+    let z = resultant_signs::with_sign(m.n, k, y);
     multiplier_words::hand_out(u, v, w, m, x, z, a, b);
     modulus::multiply(m, z, c)
 }
@@ -70,7 +70,7 @@ fn ordered(
 ) -> u32
     requires { ⌜ (Known m) × (CofactorsAsked (m .n) (now f) (now g) (now u) (now v) (now w)) ⌝ }
     requires { ⌜ length (now f) ≤ length (now g) ⌝ }
-    ensures { λ r. ⌜ QuickTried (m .n) k (now (f .entry)) (now (g .entry)) (now (u .exit)) (now (v .exit)) r ⌝ }
+    ensures { λ r. ⌜ CofactorsAttempted (m .n) k (now (f .entry)) (now (g .entry)) (now (u .exit)) (now (v .exit)) r ⌝ }
     ensures { λ _. ⌜ Scratch (now (w .entry)) (now (w .exit)) ⌝ }
 {
     let x = euclid_multipliers::multipliers(w, m, f, g);

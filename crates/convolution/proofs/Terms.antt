@@ -1,4 +1,4 @@
--- What a turn of `product_word_by` keeps: h 2^64 + x is the sum of the terms before place i.
+-- What a round of `product_word_by` keeps: h 2^64 + x is the sum of the terms before place i.
 --
 --   Summed k i x h f g            that, with the places that are left
 --   summed-start, summed-step, summed-end    at the start, a term more, and at the end
@@ -15,7 +15,7 @@ use lib.ListN.{length, List·getD-eq-default}
 use mir.Syntax.{w32, w64}
 use mir.Val.{Fits}
 use borrow.Author.Needs.{needs}
-use Rattle.words.specs.Digits as digits
+use Rattle.law_words.specs.Digits as digits
 use Rattle.reduction.proofs.Reciprocals.{modulo}
 use Rattle.definitions.specs.Polynomials.{coef, total, convolve}
 use Rattle.convolution.specs.Carries.{wide, Carry}

@@ -14,8 +14,8 @@ use native.Mathlib.Decide.{decLt}
 use native.Mathlib.Omega.{arith}
 use lib.ListN.{replicate}
 use Rattle.definitions.specs.Polynomials.{coef, total, convolve, constant}
-use Rattle.numbers.specs.Congruence.{Cong, c-refl, c-sym, c-trans, c-eq, c-add, c-mul, c-cancel}
-use Rattle.theory.specs.Words.{total-cong, convolve-zero, convolve-suc}
+use Rattle.law_numbers.specs.Congruence.{Cong, c-refl, c-sym, c-trans, c-eq, c-add, c-mul, c-cancel}
+use Rattle.law_polynomials.specs.Words.{total-cong, convolve-zero, convolve-suc}
 
 -- ---- sums
 
@@ -58,18 +58,18 @@ total-at n (suc m) (suc t) F G pos l h s =
 
 pub convolve-last : (p q : ℕ → ℕ) (k : ℕ) → convolve p q (suc k) ≡ p (suc k) * q 0 + convolve p (λ i. q (suc i)) k
 convolve-last p q zero = convolve-suc p q 0 ∙ ap (λ (x : ℕ). p 0 * q 1 + x) (convolve-zero (λ i. p (suc i)) q)
-    ∙ turn (p 0 * q 1) (p 1 * q 0) ∙ ap (λ (x : ℕ). p 1 * q 0 + x) (sym (convolve-zero p (λ i. q (suc i))))
+    ∙ round (p 0 * q 1) (p 1 * q 0) ∙ ap (λ (x : ℕ). p 1 * q 0 + x) (sym (convolve-zero p (λ i. q (suc i))))
   where
-    turn : (a b : ℕ) → a + b ≡ b + a
-    turn a b = omega arith
+    round : (a b : ℕ) → a + b ≡ b + a
+    round a b = omega arith
 convolve-last p q (suc k) =
     convolve-suc p q (suc k)
     ∙ ap (λ (x : ℕ). p 0 * q (suc (suc k)) + x) (convolve-last (λ i. p (suc i)) q k)
-    ∙ turn (p 0 * q (suc (suc k))) (p (suc (suc k)) * q 0) (convolve (λ i. p (suc i)) (λ i. q (suc i)) k)
+    ∙ round (p 0 * q (suc (suc k))) (p (suc (suc k)) * q 0) (convolve (λ i. p (suc i)) (λ i. q (suc i)) k)
     ∙ ap (λ (x : ℕ). p (suc (suc k)) * q 0 + x) (sym (convolve-suc p (λ i. q (suc i)) k))
   where
-    turn : (a b c : ℕ) → a + (b + c) ≡ b + (a + c)
-    turn a b c = omega arith
+    round : (a b c : ℕ) → a + (b + c) ≡ b + (a + c)
+    round a b c = omega arith
 
 pub convolve-comm : (p q : ℕ → ℕ) (k : ℕ) → convolve p q k ≡ convolve q p k
 convolve-comm p q zero = convolve-zero p q ∙ mul-comm (p 0) (q 0) ∙ sym (convolve-zero q p)

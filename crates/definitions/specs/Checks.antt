@@ -6,7 +6,7 @@
 --   zero-top           zero top words count in Sylvester's matrix
 --   long-multipliers   multipliers may be longer than e and d words
 --   not-the-gcd        D is not the gcd of the resultant and n
---   two-0, two-1, two-3, two-uneven     words of resultants of two variables, from another program
+--   bivariate-0, bivariate-1, bivariate-3, bivariate-uneven     words of resultants of two variables, from another program
 use mathlib.Core.Path.{_≡_, refl, _∙_, ap, ap₂}
 use mathlib.Core.List.{List, [], _∷_}
 use Prim.Native.Nat.{ℕ, zero, suc, _+_, _*_, _-_, _%_, _<_, _≤_}
@@ -17,7 +17,7 @@ use lib.ListN.{length, List·getD-eq-default}
 use Rattle.definitions.specs.Expansions.{expansion}
 use Rattle.definitions.specs.Polynomials.{coef, total, convolve, extent, none, place, true-degree}
 use Rattle.definitions.specs.Resultants.{resultant, Reached, Reduced}
-use Rattle.definitions.specs.TwoVariables.{resultant-two}
+use Rattle.definitions.specs.Bivariate.{bivariate-resultant}
 
 total-zero : (n : ℕ) (F : ℕ → ℕ) → ((i : ℕ) → F i ≡ 0) → total n F ≡ 0
 total-zero zero F h = refl
@@ -66,19 +66,19 @@ not-the-gcd : (D : ℕ) → Reduced 4 (1 ∷ 2 ∷ []) (3 ∷ 2 ∷ []) D → D 
 not-the-gcd D r = eq-one-of-dvd-one (r .only 1 (omega arith) long-multipliers)
 
 -- f = 1 + 2z + (3 + 4z) y, g = 5 + 6z + (7 + 8z) y + (9 + 10z) y²
-two-0 : resultant-two 1009 1 1 2 1 (1 ∷ 2 ∷ 3 ∷ 4 ∷ []) (5 ∷ 6 ∷ 7 ∷ 8 ∷ 9 ∷ 10 ∷ []) 0 ≡ 33
-unfolding resultant-two expansion
-two-0 = refl
+bivariate-0 : bivariate-resultant 1009 1 1 2 1 (1 ∷ 2 ∷ 3 ∷ 4 ∷ []) (5 ∷ 6 ∷ 7 ∷ 8 ∷ 9 ∷ 10 ∷ []) 0 ≡ 33
+unfolding bivariate-resultant expansion
+bivariate-0 = refl
 
-two-1 : resultant-two 1009 1 1 2 1 (1 ∷ 2 ∷ 3 ∷ 4 ∷ []) (5 ∷ 6 ∷ 7 ∷ 8 ∷ 9 ∷ 10 ∷ []) 1 ≡ 126
-unfolding resultant-two expansion
-two-1 = refl
+bivariate-1 : bivariate-resultant 1009 1 1 2 1 (1 ∷ 2 ∷ 3 ∷ 4 ∷ []) (5 ∷ 6 ∷ 7 ∷ 8 ∷ 9 ∷ 10 ∷ []) 1 ≡ 126
+unfolding bivariate-resultant expansion
+bivariate-1 = refl
 
-two-3 : resultant-two 1009 1 1 2 1 (1 ∷ 2 ∷ 3 ∷ 4 ∷ []) (5 ∷ 6 ∷ 7 ∷ 8 ∷ 9 ∷ 10 ∷ []) 3 ≡ 72
-unfolding resultant-two expansion
-two-3 = refl
+bivariate-3 : bivariate-resultant 1009 1 1 2 1 (1 ∷ 2 ∷ 3 ∷ 4 ∷ []) (5 ∷ 6 ∷ 7 ∷ 8 ∷ 9 ∷ 10 ∷ []) 3 ≡ 72
+unfolding bivariate-resultant expansion
+bivariate-3 = refl
 
 -- f of degree 2 in z, g of degree 1
-two-uneven : resultant-two 1009 1 2 1 1 (1 ∷ 2 ∷ 3 ∷ 4 ∷ 5 ∷ 6 ∷ []) (5 ∷ 6 ∷ 7 ∷ 8 ∷ []) 3 ≡ 12
-unfolding resultant-two expansion
-two-uneven = refl
+bivariate-uneven : bivariate-resultant 1009 1 2 1 1 (1 ∷ 2 ∷ 3 ∷ 4 ∷ 5 ∷ 6 ∷ []) (5 ∷ 6 ∷ 7 ∷ 8 ∷ []) 3 ≡ 12
+unfolding bivariate-resultant expansion
+bivariate-uneven = refl

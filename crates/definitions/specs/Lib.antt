@@ -3,4 +3,4 @@ pub mod Expansions
 pub mod Polynomials
 pub mod Residues
 pub mod Resultants
-pub mod TwoVariables
+pub mod Bivariate

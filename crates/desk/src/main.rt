@@ -11,9 +11,9 @@ ghost use mathlib.Core.Path.{_≡_};
 ghost use Prim.Native.Nat.{_*_, _≤_};
 ghost use lib.ListN.{length};
 
-// What a read came to: an unfinished line is held, the input has ended, or a call has failed.
-enum Turn {
-    Held(usize),
+// What a read came to: an unfinished line is kept, the input has ended, or a call has failed.
+enum Next {
+    Pending(usize),
     Ended,
     Stopped,
 }
@@ -55,57 +55,57 @@ fn put(answers: &[u8]) -> bool {
 
 // Reads once, answers the lines that end in what came, and holds the rest; where the read is to be tried again, all stays as it
 // was. A character can end a line, and a line's answer has 13.
-fn take_turn(held: usize, line: &mut [u8], piece: &mut [u8], out: &mut [u8]) -> Turn
+fn take_next(pending: usize, line: &mut [u8], piece: &mut [u8], out: &mut [u8]) -> Next
     requires { ⌜ (798 ≤ length (now line)) × (13 * length (now piece) ≤ length (now out)) ⌝ }
 {
     let got = libc::read(STDIN_FILENO, piece);
     if got < 0 {
         if again() {
-            return Turn::Held(held);
+            return Next::Pending(pending);
         }
         os::fail(b"jingcobu-desk: standard input cannot be read");
-        return Turn::Stopped;
+        return Next::Stopped;
     }
     let n = io::count(got, piece);
     let Input::Came(_) = frame_pieces::what_came(n) else {
-        return Turn::Ended;
+        return Next::Ended;
     };
-    let p = frame_reader::step(held, line, &piece[0..n], out);
+    let p = frame_reader::step(pending, line, &piece[0..n], out);
     let written = p.written;
     if put(&out[0..written]) {
-        return Turn::Held(p.held);
+        return Next::Pending(p.pending);
     }
-    Turn::Stopped
+    Next::Stopped
 }
 
 // Answers the last line, if it has no newline.
-fn end(held: usize, line: &[u8], out: &mut [u8])
+fn end(pending: usize, line: &[u8], out: &mut [u8])
     requires { ⌜ (798 ≤ length (now line)) × (13 ≤ length (now out)) ⌝ }
 {
-    let written = frame_reader::finish(held, line, out);
+    let written = frame_reader::finish(pending, line, out);
     put(&out[0..written]);
 }
 
-// A proved loop has to end, and nothing says that an input does: it counts its turns down from a number that no run uses up.
+// A proved loop has to end, and nothing says that an input does: it counts its rounds down from a number that no run uses up.
 fn run(line: &mut [u8], piece: &mut [u8], out: &mut [u8])
     requires { ⌜ (798 ≤ length (now line)) × ((13 ≤ length (now out)) × (13 * length (now piece) ≤ length (now out))) ⌝ }
 {
-    let mut held: usize = 0;
-    let mut turns = u64::MAX;
-    while turns > 0 {
-        match take_turn(held, line, piece, out) {
-            Turn::Held(h) => {
-                held = h;
+    let mut pending: usize = 0;
+    let mut rounds = u64::MAX;
+    while rounds > 0 {
+        match take_next(pending, line, piece, out) {
+            Next::Pending(h) => {
+                pending = h;
             }
-            Turn::Ended => {
-                end(held, line, out);
+            Next::Ended => {
+                end(pending, line, out);
                 return;
             }
-            Turn::Stopped => {
+            Next::Stopped => {
                 return;
             }
         }
-        turns -= 1;
+        rounds -= 1;
     }
 }
 

@@ -2,10 +2,10 @@
 --
 --   windows-splits-at, division-at, value-at, split-at        of the stages
 --   half-…-at                                                 of the two polynomials in the buffer
---   found-at, divisors-at, nilpotent-at, turned-at, neither-at    of a half
+--   found-at, divisors-at, nilpotent-at, swapped-at, neither-at    of a half
 --   answer-at, factors-at, first-…-at, second-…-at, product-…    of an attempt
---   shown-at                                                  of the test
---   windows, trials, fitting, attempts, trying, turnings, falling, factors, products    the rules
+--   coprime-at                                                  of the test
+--   windows, half-attempts, fitting, attempts, trying, swappings, falling, factors, products    the rules
 use mathlib.Core.Bool.{Bool, true}
 use mathlib.Core.Path.{_≡_, subst}
 use mathlib.Core.List.{List}
@@ -20,20 +20,20 @@ use Rattle.window_factor.specs.Factors.{SplitOf}
 use Rattle.reduced_units.specs.States.{Splitter}
 use Rattle.residue.specs.declared.Attempt.{Attempt}
 use Rattle.residue.specs.declared.Attempt.the-variants.{Value, Splits}
-use Rattle.reduced_attempt.specs.Attempts.{NilpotentOver}
+use Rattle.reduced_attempt.specs.ReducedAttempts.{NilpotentOver}
 use Rattle.window_factor.specs.declared.Highest.{Highest}
 use Rattle.window_factor.specs.declared.Highest.the-variants.{UnitAt as UnitAt', Splits as SplitsAt}
-use Rattle.reduced_attempt.specs.declared.Trial.{Trial}
-use Rattle.reduced_attempt.specs.declared.Trial.the-variants.{Found, Divisors, Nilpotent}
-use Rattle.coprime_test.specs.Shown.{Shown}
-use Rattle.divisor_stages.specs.Leads.{Leading, LeadAnswer}
-use Rattle.divisor_stages.specs.Stages.{DivisionAsked, DivisorOrSplit}
+use Rattle.reduced_attempt.specs.declared.HalfAttempt.{HalfAttempt}
+use Rattle.reduced_attempt.specs.declared.HalfAttempt.the-variants.{Found, Divisors, Nilpotent}
+use Rattle.coprime_test.specs.CoprimeAttempted.{CoprimeAttempted}
+use Rattle.divisor_stages.specs.LeadingUnits.{Leading, LeadAnswer}
+use Rattle.divisor_stages.specs.DivisorStages.{DivisionAsked, DivisorOrSplit}
 use Rattle.divisor_stages.proofs.Cases.{lead-at, lead-splits-at, lead-nilpotents-at}
-use Rattle.divisor.specs.Attempts.{Padded, WindowsAsked, WindowsAnswer, HalfAsked, TrialAnswers, Attempted}
-use Rattle.divisor.proofs.Halves.{over-one, halves, turns}
+use Rattle.divisor.specs.DivisorAttempts.{Padded, WindowsAsked, WindowsAnswer, HalfAsked, HalfAttempted, Attempted}
+use Rattle.divisor.proofs.Halves.{over-one, halves, rounds}
 use Rattle.divisor.proofs.Halves.{windows-splitter, windows-division, windows-reduced}
 use Rattle.divisor.proofs.Halves.{half-positive, half-reduced, half-fits, half-splitter, half-nilpotents}
-use Rattle.divisor.proofs.Halves.{turned-reduced, neither-reduced}
+use Rattle.divisor.proofs.Halves.{swapped-reduced, neither-reduced}
 use Rattle.divisor.proofs.Halves.{split-first, split-second, product-below, product-reduced}
 
 module _ {n m : ℕ} {w : List ℕ} (w₁ : List ℕ) (h : Highest) (wa : WindowsAsked n m w) (p : LeadAnswer n m m (2 * m) w w₁ h) where
@@ -54,37 +54,40 @@ module _ {n m : ℕ} {w : List ℕ} (w₁ : List ℕ) (h : Highest) (wa : Window
       pub split-at : (x y : ℕ) → r ≡ Splits x y → Splitter n x y
       split-at x y o = subst (DivisorOrSplit n (piece w₁ 0 (m - 1 + 1)) (piece w₁ m (t + 1))) o q
 
-module _ {n c m : ℕ} {f g w w₁ : List ℕ} (r : Trial) (ha : HalfAsked n c f g w) (pd : Padded n c m f g w w₁)
+module _ {n c m : ℕ} {f g w w₁ : List ℕ} (r : HalfAttempt) (ha : HalfAsked n c f g w) (pd : Padded n c m f g w w₁)
     (p : WindowsAnswer (n / c) m w₁ r) where
+  answer : (z : HalfAttempt) → r ≡ z → WindowsAnswer (n / c) m w₁ z
+  answer z e = subst (WindowsAnswer (n / c) m w₁) e p
+
   pub half-found-at : (D : ℕ) → r ≡ Found D → Reduced n f g (c * D)
-  half-found-at D e = half-reduced ha pd (subst (WindowsAnswer (n / c) m w₁) e p)
+  half-found-at D e = half-reduced ha pd (answer (Found D) e)
 
   pub half-fits-at : {W : Width} (y D : ℕ) → r ≡ Found D → Fits W n → y ≤ c → Fits W (y * D)
-  half-fits-at y D e = half-fits ha pd y (subst (WindowsAnswer (n / c) m w₁) e p)
+  half-fits-at y D e = half-fits ha pd y (answer (Found D) e)
 
   pub half-divisors-at : (x y : ℕ) → r ≡ Divisors x y → Splitter n x y
-  half-divisors-at x y e = half-splitter ha (subst (WindowsAnswer (n / c) m w₁) e p)
+  half-divisors-at x y e = half-splitter ha (answer (Divisors x y) e)
 
   pub half-nilpotent-at : r ≡ Nilpotent → NilpotentOver n c f
-  half-nilpotent-at e = half-nilpotents ha pd (subst (WindowsAnswer (n / c) m w₁) e p)
+  half-nilpotent-at e = half-nilpotents ha pd (answer Nilpotent e)
 
-module _ (n c : ℕ) (f g : List ℕ) (r : Trial) (p : TrialAnswers n c f g r) where
+module _ (n c : ℕ) (f g : List ℕ) (r : HalfAttempt) (p : HalfAttempted n c f g r) where
   pub found-at : (D : ℕ) → r ≡ Found D → Reduced n f g D
-  found-at D e = subst (TrialAnswers n c f g) e p
+  found-at D e = subst (HalfAttempted n c f g) e p
 
   pub divisors-at : {n' x' y' : ℕ} (x y : ℕ) → r ≡ Divisors x y → n' ≡ n → x' ≡ x → y' ≡ y → Splitter n' x' y'
-  divisors-at x y e e₁ e₂ e₃ = rw (e₁, e₂, e₃) (subst (TrialAnswers n c f g) e p)
+  divisors-at x y e e₁ e₂ e₃ = rw (e₁, e₂, e₃) (subst (HalfAttempted n c f g) e p)
 
   pub nilpotent-at : {n' c' : ℕ} {f' : List ℕ} → r ≡ Nilpotent → n' ≡ n → c' ≡ c → f' ≡ f → NilpotentOver n' c' f'
-  nilpotent-at e e₁ e₂ e₃ = rw (e₁, e₂, e₃) (subst (TrialAnswers n c f g) e p)
+  nilpotent-at e e₁ e₂ e₃ = rw (e₁, e₂, e₃) (subst (HalfAttempted n c f g) e p)
 
   -- of the half with the polynomials in the other order
   module _ {w : List ℕ} (ha : HalfAsked n c g f w) where
-    pub turned-at : (D : ℕ) → r ≡ Found D → Reduced n g f D
-    turned-at D e = turned-reduced ha (found-at D e)
+    pub swapped-at : (D : ℕ) → r ≡ Found D → Reduced n g f D
+    swapped-at D e = swapped-reduced ha (found-at D e)
 
     pub neither-at : (D : ℕ) → NilpotentOver n c g → r ≡ Nilpotent → Reduced n g f D
-    neither-at D x e = neither-reduced ha x (subst (TrialAnswers n c f g) e p)
+    neither-at D x e = neither-reduced ha x (subst (HalfAttempted n c f g) e p)
 
 module _ (n : ℕ) (f g : List ℕ) (r : Attempt) (p : Attempted n f g r) where
   pub answer-at : (D : ℕ) → r ≡ Value D → Reduced n f g D
@@ -113,20 +116,20 @@ module _ (n : ℕ) (f g : List ℕ) (r : Attempt) (p : Attempted n f g r) where
       pub product-at : (z : ℕ) → z ≡ D₁ * D₂ → Reduced n f g z
       product-at = product-reduced factors-at u v
 
-pub shown-at : (n : ℕ) (f g : List ℕ) (b : Bool) → Shown n f g b → b ≡ true → Reduced n f g 1
-shown-at n f g b p e = subst (Shown n f g) e p
+pub coprime-at : (n : ℕ) (f g : List ℕ) (b : Bool) → CoprimeAttempted n f g b → b ≡ true → Reduced n f g 1
+coprime-at n f g b p e = subst (CoprimeAttempted n f g) e p
 
 pub ruleset windows = (needs, over-one, lead-nilpotents-at, windows-splits-at, division-at, value-at, split-at)
 
-pub ruleset trials = (halves, half-found-at, half-divisors-at, half-nilpotent-at)
+pub ruleset half-attempts = (halves, half-found-at, half-divisors-at, half-nilpotent-at)
 
 pub ruleset fitting = (le-refl, half-positive, half-fits-at)
 
-pub ruleset attempts = (turns, found-at, shown-at)
+pub ruleset attempts = (rounds, found-at, coprime-at)
 
 pub ruleset trying = (divisors-at, nilpotent-at)
 
-pub ruleset turnings = (turns, turned-at, neither-at, divisors-at)
+pub ruleset swappings = (rounds, swapped-at, neither-at, divisors-at)
 
 pub ruleset falling = (first-falls-at, second-falls-at)
 

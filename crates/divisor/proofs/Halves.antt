@@ -8,7 +8,7 @@
 --   whole-reduced           both polynomials are 0 modulo n
 --   parted-attempted        two coprime factors of n are an answer
 --   split-…, product-…      D modulo n, from D modulo each of the two
---   halves, turns           the rules
+--   halves, rounds          the rules
 use mathlib.Core.Path.{_≡_, refl, sym, ap, subst, _∙_}
 use mathlib.Core.List.{List, []}
 use mathlib.Core.Logic.{⊎-elim}
@@ -24,22 +24,23 @@ use mir.Facts.{fits-le}
 use Rattle.definitions.specs.Residues.{IsNilpotent}
 use Rattle.definitions.specs.Polynomials.{coef}
 use Rattle.definitions.specs.Resultants.{Reduced}
-use Rattle.theory.specs.ReachedSteps.{Times, coef-beyond}
-use Rattle.theory.specs.ReducedLaws.{reduced-content, reduced-one, reduced-flip, reduced-coprime}
+use Rattle.law_polynomials.specs.ReachedSteps.{Times, coef-beyond}
+use Rattle.law_polynomials.specs.ReducedLaws.{reduced-content, reduced-one, reduced-flip, reduced-coprime}
 use Rattle.windows.specs.Window.{piece, Moved, quotient-by, zeroed}
 use Rattle.windows.proofs.Leaf.{lt-or-le, piece-at, piece-over, piece-same}
 use Rattle.window_factor.specs.Factors.{SplitOf, AllNilpotents}
 use Rattle.reduced_units.specs.States.{Splitter}
-use Rattle.reduced_attempt.specs.Attempts.{CommonContent, PairLoaded, NilpotentOver, Parted}
+use Rattle.reduced_attempt.specs.ReducedAttempts.{CommonContent, PairLoaded, NilpotentOver, Parted}
 use Rattle.reduced_attempt.proofs.Halves.{common-positive, common-whole, common-above, common-swap, common-primitive}
 use Rattle.reduced_attempt.proofs.Scalings.{scaled, scaled-at, scaled-times, reduced-unscaled, divides-scaled, nilpotent-unscaled}
-use Rattle.divisor_stages.specs.Leads.{Leading}
-use Rattle.divisor_stages.specs.Stages.{DivisionAsked}
+use Rattle.divisor_stages.specs.LeadingUnits.{Leading}
+use Rattle.divisor_stages.specs.DivisorStages.{DivisionAsked}
 use Rattle.divisor_stages.proofs.Contents.{splitter-dvd, split-splitter}
 use Rattle.residue.specs.declared.Attempt.{Attempt}
 use Rattle.residue.specs.declared.Attempt.the-variants.{Value, Splits}
-use Rattle.divisor.specs.Sizes.{sizes-turned}
-use Rattle.divisor.specs.Attempts.{ArrangeAsked, Padded, WindowsAsked, HalfAsked, Attempted}
+use Rattle.divisor.specs.Sizes.{sizes-swapped}
+use Rattle.reduced_attempt.specs.declared.HalfAttempt.{HalfAttempt}
+use Rattle.divisor.specs.DivisorAttempts.{ArrangeAsked, Padded, WindowsAsked, WindowsAnswer, HalfAsked, Attempted}
 
 -- ---- both polynomials in the buffer
 
@@ -152,11 +153,11 @@ module _ {n c : ℕ} {f g w : List ℕ} (ha : HalfAsked n c f g w) where
   half-splitter = splitter-dvd n (n / c) _ _ (subst (λ (x : ℕ). n / c ∣ x) (sym whole) (dvd-mul-left (n / c) c))
 
   -- the other half
-  pub turned-asked : HalfAsked n c g f w
-  turned-asked = record { modulus = two; sizes = sizes-turned (ha .sizes); content = common-swap n c f g cm; proper = ha .proper }
+  pub swapped-asked : HalfAsked n c g f w
+  swapped-asked = record { modulus = two; sizes = sizes-swapped (ha .sizes); content = common-swap n c f g cm; proper = ha .proper }
 
-  pub turned-reduced : {D : ℕ} → Reduced n g f D → Reduced n f g D
-  turned-reduced {D} x = reduced-flip n (omega (arith, two)) g f D x
+  pub swapped-reduced : {D : ℕ} → Reduced n g f D → Reduced n f g D
+  swapped-reduced {D} x = reduced-flip n (omega (arith, two)) g f D x
 
   pub neither-reduced : {D : ℕ} → NilpotentOver n c f → NilpotentOver n c g → Reduced n f g D
   neither-reduced x y = absurd (common-primitive n c f g two cm (ha .proper) x y)
@@ -292,6 +293,18 @@ module _ {n p q : ℕ} (s : SplitOf n p q) where
     product-reduced r e = subst (Reduced n f g) (sym e) (subst (λ (z : ℕ). Reduced z f g (D₁ * D₂)) (s .product)
         (reduced-coprime (omega (arith, s .above₁)) (omega (arith, s .above₂)) (s .coprime) f g D₁ D₂ x y))
 
+-- by the record of the modulus, whose n' is n
+pub record-some : {n m : ℕ} {w : List ℕ} → WindowsAsked n m w → 1 ≤ n
+record-some a = omega (arith, a .two)
+
+pub record-asked : {n n' m : ℕ} {w : List ℕ} → WindowsAsked n m w → n' ≡ n → WindowsAsked n' m w
+record-asked a is = rw is a
+
+pub record-answer : (n n' m : ℕ) (w : List ℕ) (r : HalfAttempt) → WindowsAnswer n' m w r → n' ≡ n → WindowsAnswer n m w r
+record-answer n n' m w r a is = subst (λ (x : ℕ). WindowsAnswer x m w r) is a
+
+pub ruleset records = (needs, record-some, record-asked, record-answer)
+
 pub ruleset halves = (needs, half-positive, half-arrange, half-windows)
 
-pub ruleset turns = (needs, turned-asked, whole-reduced, parted-attempted)
+pub ruleset rounds = (needs, swapped-asked, whole-reduced, parted-attempted)

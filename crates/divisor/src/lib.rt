@@ -2,27 +2,31 @@
 // 2^32 f and 2^32 g is D of f and g.
 //
 //   f, g   the sent words; c is the content of both together
-//   w      the working window: g over c from 0 on, f over c from m on, both times a unit, m words each, zeros above; room from 2 m on
+//   n, m   the modulus, and the record of n / c
+//   w      the working window: g over c from 0 on, f over c from l on, both times a unit, l words each, zeros above; room from 2 l on
 //
-//   longer    the larger of two numbers of words
-//   over      words over a content
-//   arrange   both polynomials over their common content
-//   divided   D of the words in the window, where the polynomial at m gets a leading unit
-//   half      the attempt where the first polynomial gets a leading unit
-//   turned    the attempt where the second one does
-//   general   both halves in turn
-//   attempt   D = 1 where that shows at once; else the general way
-//   joined    D modulo a product of two coprime factors
-//   run       D; a split of n is worked on each factor, and the answers are multiplied
+//   longer                the larger of two numbers of words
+//   over                  words over a content
+//   arrange               both polynomials over their common content
+//   divided, divided_by   D of the words in the window, where the polynomial at l gets a leading unit
+//   half                  the attempt where the first polynomial gets a leading unit
+//   swapped               the attempt where the second one does
+//   general               both halves in turn
+//   attempt               D = 1 where that shows at once; else the general way
+//   joined                D modulo a product of two coprime factors
+//   run                   D; a split of n is worked on each factor, and the answers are multiplied
 ghost use mathlib.Core.Path.{_≡_};
 ghost use Prim.Native.Nat.{max, _*_, _<_, _≤_};
 ghost use Rattle.definitions.specs.Resultants.{Reduced};
 ghost use lib.ListN.{length};
 ghost use Rattle.windows.specs.Window.{Moved, quotient-by, Scratch};
-ghost use Rattle.reduced_attempt.specs.Attempts.{NilpotentOver};
-ghost use Rattle.divisor.specs.Sizes.{DivisorSizes};
-ghost use Rattle.divisor.specs.Attempts.{ArrangeAsked, Padded, WindowsAsked, WindowsAnswer, HalfAsked, TrialAnswers, Attempted};
-use reduced_attempt::Trial;
+ghost use Rattle.modulus.specs.Values.{Known};
+ghost use Rattle.reduced_attempt.specs.ReducedAttempts.{NilpotentOver};
+ghost use Rattle.divisor.specs.Sizes.{DivisorLengthsAsked};
+ghost use Rattle.divisor.specs.DivisorAttempts.{ArrangeAsked, Padded, WindowsAsked, WindowsAnswer, HalfAsked, HalfAttempted};
+ghost use Rattle.divisor.specs.DivisorAttempts.{Attempted};
+use modulus::Modulus;
+use reduced_attempt::HalfAttempt;
 use residue::Attempt;
 
 // The larger of a and b.
@@ -52,68 +56,78 @@ fn arrange(w: &mut [u32], n: u32, c: u32, f: &[u32], g: &[u32]) -> usize
     requires { ⌜ ArrangeAsked n c (now f) (now g) (now w) ⌝ }
     ensures { λ r. ⌜ Padded n c r (now (f .entry)) (now (g .entry)) (now (w .entry)) (now (w .exit)) ⌝ }
 {
-    let m = longer(f.len(), g.len());
-    windows::clear(w, 0, 2 * m);
-    reduced_attempt::load_pair(w, n, g, m, f);
-    over(w, c, 2 * m);
-    m
+    let l = longer(f.len(), g.len());
+    windows::clear(w, 0, 2 * l);
+    reduced_attempt::load_pair(w, n, g, l, f);
+    over(w, c, 2 * l);
+    l
 }
 
-// D of the m words at m and the m words at 0, if the polynomial at m has a coefficient that is not nilpotent.
-fn divided(w: &mut [u32], n: u32, m: usize) -> Trial
-    requires { ⌜ WindowsAsked n m (now w) ⌝ }
-    ensures { λ r. ⌜ WindowsAnswer n m (now (w .entry)) r ⌝ }
+// D of the l words at l and the l words at 0, if the polynomial at l has a coefficient that is not nilpotent.
+fn divided(w: &mut [u32], m: Modulus, l: usize) -> HalfAttempt
+    requires { ⌜ (Known m) × (WindowsAsked (m .n) l (now w)) ⌝ }
+    ensures { λ r. ⌜ WindowsAnswer (m .n) l (now (w .entry)) r ⌝ }
     ensures { λ _. ⌜ Scratch (now (w .entry)) (now (w .exit)) ⌝ }
 {
-    match divisor_stages::unit_lead(w, n, m, m, 2 * m) {
+    match divisor_stages::unit_lead(w, m, l, l, 2 * l) {
         window_factor::Highest::UnitAt(t, i) => match divisor_stages::division_stage(
             w,
-            n,
-            0,
-            m - 1,
             m,
+            0,
+            l - 1,
+            l,
             t,
             i,
-            2 * m,
+            2 * l,
         ) {
-            Attempt::Value(d) => Trial::Found(d),
-            Attempt::Splits(p, q) => Trial::Divisors(p, q),
+            Attempt::Value(d) => HalfAttempt::Found(d),
+            Attempt::Splits(p, q) => HalfAttempt::Divisors(p, q),
         },
-        window_factor::Highest::Splits(p, q) => Trial::Divisors(p, q),
-        window_factor::Highest::AllNilpotent => Trial::Nilpotent,
+        window_factor::Highest::Splits(p, q) => HalfAttempt::Divisors(p, q),
+        window_factor::Highest::AllNilpotent => HalfAttempt::Nilpotent,
     }
 }
 
-// D of f and g, c their common content, if f over c has a coefficient that is not nilpotent.
-fn half(w: &mut [u32], n: u32, c: u32, f: &[u32], g: &[u32]) -> Trial
-    requires { ⌜ HalfAsked n c (now f) (now g) (now w) ⌝ }
-    ensures { λ r. ⌜ TrialAnswers n c (now (f .entry)) (now (g .entry)) r ⌝ }
+// The same by n, whose record is found here.
+fn divided_by(w: &mut [u32], n: u32, l: usize) -> HalfAttempt
+    requires { ⌜ WindowsAsked n l (now w) ⌝ }
+    ensures { λ r. ⌜ WindowsAnswer n l (now (w .entry)) r ⌝ }
     ensures { λ _. ⌜ Scratch (now (w .entry)) (now (w .exit)) ⌝ }
 {
-    let m = arrange(w, n, c, f, g);
-    match divided(w, n / c, m) {
-        Trial::Found(d) => Trial::Found(c * d),
-        Trial::Divisors(p, q) => Trial::Divisors(p, q),
-        Trial::Nilpotent => Trial::Nilpotent,
+    let m = modulus::modulus_of(n);
+    divided(w, m, l)
+}
+
+// D of f and g, c their common content, if f over c has a coefficient that is not nilpotent.
+fn half(w: &mut [u32], n: u32, c: u32, f: &[u32], g: &[u32]) -> HalfAttempt
+    requires { ⌜ HalfAsked n c (now f) (now g) (now w) ⌝ }
+    ensures { λ r. ⌜ HalfAttempted n c (now (f .entry)) (now (g .entry)) r ⌝ }
+    ensures { λ _. ⌜ Scratch (now (w .entry)) (now (w .exit)) ⌝ }
+{
+    let l = arrange(w, n, c, f, g);
+    match divided_by(w, n / c, l) {
+        HalfAttempt::Found(d) => HalfAttempt::Found(c * d),
+        HalfAttempt::Divisors(p, q) => HalfAttempt::Divisors(p, q),
+        HalfAttempt::Nilpotent => HalfAttempt::Nilpotent,
     }
 }
 
 // D of f and g, or n as a product of two coprime factors, where f over c has no coefficient that is more than nilpotent.
-fn turned(w: &mut [u32], n: u32, c: u32, f: &[u32], g: &[u32]) -> Attempt
+fn swapped(w: &mut [u32], n: u32, c: u32, f: &[u32], g: &[u32]) -> Attempt
     requires { ⌜ (HalfAsked n c (now f) (now g) (now w)) × (NilpotentOver n c (now f)) ⌝ }
     ensures { λ r. ⌜ Attempted n (now (f .entry)) (now (g .entry)) r ⌝ }
     ensures { λ _. ⌜ Scratch (now (w .entry)) (now (w .exit)) ⌝ }
 {
     match half(w, n, c, g, f) {
-        Trial::Found(d) => Attempt::Value(d),
-        Trial::Divisors(p, q) => reduced_attempt::split(n, p, q),
-        Trial::Nilpotent => Attempt::Value(n),
+        HalfAttempt::Found(d) => Attempt::Value(d),
+        HalfAttempt::Divisors(p, q) => reduced_attempt::split(n, p, q),
+        HalfAttempt::Nilpotent => Attempt::Value(n),
     }
 }
 
 // D of f and g, or n as a product of two coprime factors, by contents, leading units and divisions.
 fn general(w: &mut [u32], n: u32, f: &[u32], g: &[u32]) -> Attempt
-    requires { ⌜ (2 ≤ n) × DivisorSizes (now f) (now g) (now w) ⌝ }
+    requires { ⌜ (2 ≤ n) × DivisorLengthsAsked (now f) (now g) (now w) ⌝ }
     ensures { λ r. ⌜ Attempted n (now (f .entry)) (now (g .entry)) r ⌝ }
     ensures { λ _. ⌜ Scratch (now (w .entry)) (now (w .exit)) ⌝ }
 {
@@ -122,15 +136,15 @@ fn general(w: &mut [u32], n: u32, f: &[u32], g: &[u32]) -> Attempt
         return Attempt::Value(n);
     }
     match half(w, n, c, f, g) {
-        Trial::Found(d) => Attempt::Value(d),
-        Trial::Divisors(p, q) => reduced_attempt::split(n, p, q),
-        Trial::Nilpotent => turned(w, n, c, f, g),
+        HalfAttempt::Found(d) => Attempt::Value(d),
+        HalfAttempt::Divisors(p, q) => reduced_attempt::split(n, p, q),
+        HalfAttempt::Nilpotent => swapped(w, n, c, f, g),
     }
 }
 
 // The same; where Euclid without inverses ends in a unit, D is 1 and nothing else is to know.
 fn attempt(w: &mut [u32], n: u32, f: &[u32], g: &[u32]) -> Attempt
-    requires { ⌜ (2 ≤ n) × DivisorSizes (now f) (now g) (now w) ⌝ }
+    requires { ⌜ (2 ≤ n) × DivisorLengthsAsked (now f) (now g) (now w) ⌝ }
     ensures { λ r. ⌜ Attempted n (now (f .entry)) (now (g .entry)) r ⌝ }
     ensures { λ _. ⌜ Scratch (now (w .entry)) (now (w .exit)) ⌝ }
 {
@@ -151,7 +165,7 @@ fn joined(a: u32, b: u32) -> u32
 // S80: "each of the two factors is worked as a modulus of its own": D is the product of the two. The words of f and g may be any; they
 // count modulo n.
 pub fn run(w: &mut [u32], n: u32, f: &[u32], g: &[u32]) -> u32
-    requires { ⌜ (2 ≤ n) × DivisorSizes (now f) (now g) (now w) ⌝ }
+    requires { ⌜ (2 ≤ n) × DivisorLengthsAsked (now f) (now g) (now w) ⌝ }
     ensures { λ r. ⌜ Reduced n (now (f .entry)) (now (g .entry)) r ⌝ }
     ensures { λ _. ⌜ Scratch (now (w .entry)) (now (w .exit)) ⌝ }
 {

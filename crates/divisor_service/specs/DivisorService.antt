@@ -5,18 +5,17 @@
 --   DivisorAnswer                       all that is promised of a call
 --   divisor-listed                      each refusal under its condition and no other
 use mathlib.Core.Path.{_≡_}
-use mathlib.Core.Bool.{Bool}
 use mathlib.Core.List.{List, [], _∷_, _++_}
 use Prim.Native.Nat.{ℕ, zero, suc, _≤_}
 use native.Mathlib.Omega.{arith}
 use lib.ListN.{length}
 use Rattle.definitions.specs.Resultants.{Reduced}
-use Rattle.refusals.specs.Refusals.{Width, Tested, short, first-refusal, refusals-two, left}
-use Rattle.refusals.specs.Conditions.{Listed, conditions-two, modulus-fails, length-fails, words-fail, short-fails}
+use Rattle.refusals.specs.Refusals.{Width, Tested, short, first-refusal, refusals-of-pair, left}
+use Rattle.refusals.specs.Conditions.{Listed, conditions-of-pair, modulus-fails, length-fails, words-fail, short-fails}
 
 -- 1, 2, 3 and 7; l is the length of the working buffer
 abbrev pub divisor-refusals : Width → ℕ → List ℕ → List ℕ → ℕ → List Tested
-divisor-refusals W n f g l = refusals-two W n f g ++ ((7, short l (W .working)) ∷ [])
+divisor-refusals W n f g l = refusals-of-pair W n f g ++ ((7, short l (W .working)) ∷ [])
 
 abbrev pub divisor-status : Width → ℕ → List ℕ → List ℕ → ℕ → ℕ
 divisor-status W n f g l = first-refusal (divisor-refusals W n f g l)
@@ -33,16 +32,7 @@ pub record DivisorAnswer (W : Width) (n : ℕ) (f g work work' : List ℕ) (valu
 
 -- the conditions of an answer: so `status-zero` and `status-is` (refusals/Conditions) say when the status is 0, and when it is k
 abbrev pub divisor-conditions : Width → ℕ → List ℕ → List ℕ → ℕ → List (Type 0)
-divisor-conditions W n f g l = conditions-two W n f g ++ ((W .working ≤ l) ∷ [])
+divisor-conditions W n f g l = conditions-of-pair W n f g ++ ((W .working ≤ l) ∷ [])
 
 pub divisor-listed : (W : Width) (n : ℕ) (f g : List ℕ) (l : ℕ) → Listed (divisor-refusals W n f g l) (divisor-conditions W n f g l)
-divisor-listed W n f g l = (
-  (omega arith, modulus-fails W n),
-  (
-    (omega arith, length-fails f),
-    (
-      (omega arith, length-fails g),
-      ((omega arith, words-fail n f), ((omega arith, words-fail n g), ((omega arith, short-fails l (W .working)), tt))),
-    ),
-  ),
-)
+divisor-listed W n f g l = search (arith, tt, modulus-fails, length-fails, words-fail, short-fails) depth 20

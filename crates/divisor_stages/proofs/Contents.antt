@@ -3,7 +3,8 @@
 --
 --   nothing-taken, taken                    the content 1, and another
 --   none-reduced                            the content n
---   content-positive, content-splitter      c, and a coefficient that splits n / c
+--   content-positive, content-some          c and n / c are above 0
+--   content-splitter                        a coefficient splits n / c
 --   take-asked, lead-asked                  what is asked of the words before and after
 --   primitive-reduced, content-cleared      what is left has a coefficient that is no nilpotent; D, with a leading unit for it
 --   contents                                the rules
@@ -18,19 +19,19 @@ use lib.ListN.{length, getD}
 use Rattle.definitions.specs.Residues.{IsUnit}
 use Rattle.definitions.specs.Polynomials.{coef}
 use Rattle.definitions.specs.Resultants.{Reduced}
-use Rattle.numbers.specs.Nilpotents.{nilpotent-radical}
-use Rattle.numbers.specs.Primes.{prime-of}
-use Rattle.theory.specs.ReducedLaws.{reduced-flip}
+use Rattle.law_numbers.specs.Nilpotents.{nilpotent-radical}
+use Rattle.law_numbers.specs.Primes.{prime-of}
+use Rattle.law_polynomials.specs.ReducedLaws.{reduced-flip}
 use Rattle.windows.specs.Window.{piece, Moved, quotient-by, reduced-by, Content}
 use Rattle.windows.proofs.Leaf.{lt-or-le, piece-at, piece-over, piece-same, piece-length, apart-at}
 use Rattle.windows.proofs.Lift.{moved-around}
 use Rattle.window_factor.specs.Factors.{SplitOf, AllNilpotents}
-use Rattle.reduced_multipliers.specs.Reductions.{UnitLead, reduced-same, reduced-lead, reduced-none}
+use Rattle.law_multipliers.specs.Reductions.{UnitLead, reduced-same, reduced-lead, reduced-none}
 use Rattle.reduced_units.specs.States.{Splitter}
 use Rattle.reduced_units.proofs.Regions.{apart-swap}
 pub use Rattle.reduced_clearing.proofs.UnitSteps.{split-splitter}
-use Rattle.divisor_stages.specs.Leads.{LeadAsked, Leading}
-use Rattle.divisor_stages.specs.Stages.{TakeAsked, ContentTaken, ContentAsked, Cleared}
+use Rattle.divisor_stages.specs.LeadingUnits.{LeadAsked, Leading}
+use Rattle.divisor_stages.specs.DivisorStages.{TakeAsked, ContentTaken, ContentAsked, Cleared}
 use Rattle.divisor_stages.proofs.Factors.{part-of, part-is}
 
 -- two coprime divisors of a divisor of n
@@ -107,9 +108,12 @@ module _ {n a d b s : ℕ} {w : List ℕ} (st : ContentAsked n a d b s w) where
         go (suc zero) e = absurd (ne (sym (e ∙ mul-one c)))
         go (suc (suc r)) e = omega arith
 
-    -- a coefficient splits n / c
-    pub content-splitter : {p q : ℕ} → SplitOf (n / c) p q → Splitter n p q
-    content-splitter x = split-splitter n (n / c) _ _ content-dvd x
+    pub content-some : (c ≡ n → ⊥) → 1 ≤ n / c
+    content-some ne = omega (arith, content-above ne)
+
+    -- a coefficient splits n', which is n / c
+    pub content-splitter : (n' p q : ℕ) → n' ≡ n / c → SplitOf n' p q → Splitter n p q
+    content-splitter n' p q is x = split-splitter n (n / c) p q content-dvd (rw is at x)
 
     pub take-asked : (c ≡ n → ⊥) → TakeAsked n c a d b w
     take-asked ne = record {
@@ -161,13 +165,13 @@ module _ {n a d b s : ℕ} {w : List ℕ} (st : ContentAsked n a d b s w) where
           less : (c x y : ℕ) → 0 < c → c * x < c * y → x < y
           less c x y p q = ⊎-elim (λ h. h) (λ h. absurd (omega (arith, mul-le-mul-left c h))) (lt-or-le x y)
 
-      pub lead-asked : LeadAsked (n / c) b d s w₂
-      lead-asked = record {
+      pub lead-asked : {n' : ℕ} → n' ≡ n / c → LeadAsked n' b d s w₂
+      lead-asked is = rw is (record {
         two = above;
         within = st .second;
         fits = omega (arith, long, content-length);
         below = record { at = smaller };
-      }
+      })
 
       -- nothing is left in common
       content-primitive : AllNilpotents (n / c) (piece w₂ b d) → ⊥
@@ -182,8 +186,9 @@ module _ {n a d b s : ℕ} {w : List ℕ} (st : ContentAsked n a d b s w) where
           big : (c p : ℕ) → 0 < c → 1 < p → c * p ≤ c → ⊥
           big c p h q l = let z : c * 2 ≤ c * p = mul-le-mul-left c q in omega arith
 
-      pub primitive-reduced : {D : ℕ} → AllNilpotents (n / c) (piece w₂ b d) → Reduced n (piece w a (d + 1)) (piece w b d) D
-      primitive-reduced nil = absurd (content-primitive nil)
+      pub primitive-reduced : {D : ℕ} (n' : ℕ) → n' ≡ n / c → AllNilpotents n' (piece w₂ b d)
+          → Reduced n (piece w a (d + 1)) (piece w b d) D
+      primitive-reduced n' is nil = absurd (content-primitive (rw is at nil))
 
       module _ {k i : ℕ} {w₃ : List ℕ} (ld : Leading (n / c) b d k i s w₂ w₃) where
         kept-a : (j : ℕ) → j < d + 1 → getD w₃ (a + j) 0 ≡ getD w₂ (a + j) 0
@@ -228,6 +233,7 @@ pub ruleset contents = (
   taken,
   none-reduced,
   content-positive,
+  content-some,
   content-splitter,
   take-asked,
   lead-asked,

@@ -18,18 +18,18 @@ use mir.Facts.{fits-le}
 use Rattle.definitions.specs.Residues.{IsUnit}
 use Rattle.definitions.specs.Polynomials.{coef, convolve, tabulate, Divided}
 use Rattle.definitions.specs.Resultants.{Reduced}
-use Rattle.numbers.specs.Divisors.{GcdCofactor}
-use Rattle.numbers.specs.Units.{unit-of}
-use Rattle.theory.specs.ReachedSteps.{coef-whole}
+use Rattle.law_numbers.specs.Divisors.{GcdCofactor}
+use Rattle.law_numbers.specs.Units.{unit-of}
+use Rattle.law_polynomials.specs.ReachedSteps.{coef-whole}
 use Rattle.windows.specs.Window.{piece, Apart}
 use Rattle.windows.proofs.Leaf.{piece-at, piece-over, apart-at}
-use Rattle.window_division.specs.Remainders.{DivisionSizes, Pair, Remainder}
-use Rattle.reduced_multipliers.specs.Reductions.{reduced-step, reduced-unit-constant}
+use Rattle.window_division.specs.Remainders.{DivisionLengthsAsked, Pair, Remainder}
+use Rattle.law_multipliers.specs.Reductions.{reduced-step, reduced-unit-constant}
 use Rattle.reduced_units.specs.States.{Splitter}
 use Rattle.reduced_units.proofs.Regions.{apart-swap, below-apart, piece-apart}
 use Rattle.residue.specs.declared.Attempt.{Attempt}
 use Rattle.residue.specs.declared.Attempt.the-variants.{Value, Splits}
-use Rattle.divisor_stages.specs.Stages.{ContentAsked, DivisionAsked, DivisorOrSplit, Cleared}
+use Rattle.divisor_stages.specs.DivisorStages.{ContentAsked, DivisionAsked, DivisorOrSplit, Cleared}
 use Rattle.divisor_stages.proofs.Contents.{splitter-dvd}
 
 module _ {n a d b k i s : ℕ} {w : List ℕ} (da : DivisionAsked n a d b k i s w) where
@@ -43,7 +43,7 @@ module _ {n a d b k i s : ℕ} {w : List ℕ} (da : DivisionAsked n a d b k i s 
       (ap (λ (x : ℕ). (i * x) % n) (piece-at w b (k + 1) 0 (omega arith) ∙ ap (λ (x : ℕ). getD w (b + x) 0) (sym e)) ∙ da .inverse)
 
   -- what the division asks
-  pub divide-sizes : (k ≡ 0 → ⊥) → DivisionSizes n b k a d w
+  pub divide-sizes : (k ≡ 0 → ⊥) → DivisionLengthsAsked n b k a d w
   divide-sizes nz = record {
     modulus = positive;
     degree = pos-of-ne-zero nz;

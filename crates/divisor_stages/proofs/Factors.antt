@@ -20,14 +20,14 @@ use mir.Facts.{fits-le}
 use Rattle.definitions.specs.Residues.{IsNilpotent}
 use Rattle.definitions.specs.Polynomials.{coef, Multiplied}
 use Rattle.definitions.specs.Resultants.{Reduced}
-use Rattle.theory.specs.PolynomialLaws.{unit-polynomial-inverse}
-use Rattle.theory.specs.ReducedLaws.{reduced-unit}
+use Rattle.law_polynomials.specs.PolynomialLaws.{unit-polynomial-inverse}
+use Rattle.law_polynomials.specs.ReducedLaws.{reduced-unit}
 use Rattle.windows.specs.Window.{piece, Moved, second, Around}
 use Rattle.windows.proofs.Leaf.{piece-at, piece-length, around-at}
 use Rattle.windows.proofs.Lift.{moved-around, moved-copy, mid-length, was, piece-mid, window, is-now, piece-put}
 use Rattle.window_factor.specs.Factors.{LeadingUnit, AllNilpotents, Given, Factored}
 use Rattle.reduced_units.proofs.Regions.{part-piece}
-use Rattle.divisor_stages.specs.Leads.{LeadAsked, FactorAsked, Leading}
+use Rattle.divisor_stages.specs.LeadingUnits.{LeadAsked, FactorAsked, Leading}
 
 -- the words of B, lent, are B
 abbrev pub part-of : ℕ → ℕ → List ℕ → List ℕ
@@ -96,6 +96,7 @@ module _ {n b m t i s : ℕ} {w w₁ : List ℕ} (fa : FactorAsked n b m t i s w
 
   pub factor-given : Given n (m - 1) t i (midOf s l w₁)
   factor-given = record {
+    small = fa .lead .inverse .below;
     below = record {
       at = λ k h. subst (λ (x : ℕ). x < n)
           (sym (was s l w₁ inside (s + k) (0 + k) (omega arith) (omega (arith, shorter)) ∙ cp .mid k (omega (arith, shorter))))

@@ -1,2 +1,2 @@
-pub mod Leads
-pub mod Stages
+pub mod LeadingUnits
+pub mod DivisorStages

@@ -1,9 +1,9 @@
 // Euclid's algorithm for the reduced resultant D alone, without multipliers. A has a leading unit; the content of B comes out as a
 // factor of D and of the modulus, a unit factor of B does not matter, and A may be replaced by what it leaves on division by B.
 //
-//   w, n   the buffer and the modulus
+//   w, n   the buffer and the modulus; m the record of n
 //   a, d   the place and the degree of A
-//   b, k   the place and the degree of B, where its leading word is a unit, with the inverse i; m the words of B before
+//   b, k   the place and the degree of B, where its leading word is a unit, with the inverse i; l the words of B before
 //   t      the place of the highest coefficient of B that is no nilpotent
 //   s      from this place on the buffer is room
 //
@@ -14,8 +14,10 @@
 //   content_stage, division_stage    the stages that call each other
 ghost use Prim.Native.Nat.{_+_};
 ghost use Rattle.windows.specs.Window.{piece, Scratch};
-ghost use Rattle.divisor_stages.specs.Leads.{LeadAsked, FactorAsked, Leading, LeadAnswer};
-ghost use Rattle.divisor_stages.specs.Stages.{TakeAsked, ContentTaken, ContentAsked, DivisionAsked, DivisorOrSplit, Clears};
+ghost use Rattle.modulus.specs.Values.{Known};
+ghost use Rattle.divisor_stages.specs.LeadingUnits.{LeadAsked, FactorAsked, Leading, LeadAnswer};
+ghost use Rattle.divisor_stages.specs.DivisorStages.{TakeAsked, ContentTaken, ContentAsked, DivisionAsked, DivisorOrSplit, Clears};
+use modulus::Modulus;
 use residue::Attempt;
 use window_factor::Highest;
 
@@ -27,28 +29,28 @@ pub enum Clearing {
     Next(u32, usize, u32),
 }
 
-// B of m words, whose coefficient t, below the leading one, has the inverse i and those above it are nilpotent: its monic factor.
-fn monic_factor(w: &mut [u32], n: u32, b: usize, m: usize, t: usize, i: u32, s: usize)
-    requires { ⌜ FactorAsked n b m t i s (now w) ⌝ }
-    ensures { λ _. ⌜ Leading n b m t 1 s (now (w .entry)) (now (w .exit)) ⌝ }
+// B of l words, whose coefficient t, below the leading one, has the inverse i and those above it are nilpotent: its monic factor.
+fn monic_factor(w: &mut [u32], m: Modulus, b: usize, l: usize, t: usize, i: u32, s: usize)
+    requires { ⌜ (Known m) × (FactorAsked (m .n) b l t i s (now w)) ⌝ }
+    ensures { λ _. ⌜ Leading (m .n) b l t 1 s (now (w .entry)) (now (w .exit)) ⌝ }
 {
-    windows::copy(w, b, s, m);
-    window_factor::unit_times_monic(&mut w[s..s + 3 * m], n, m - 1, t, i);
-    windows::copy(w, s + m, b, t + 1);
+    windows::copy(w, b, s, l);
+    window_factor::unit_times_monic(&mut w[s..s + 3 * l], m, l - 1, t, i);
+    windows::copy(w, s + l, b, t + 1);
 }
 
-// B of m words, with a leading unit in place of the highest coefficient that is no nilpotent: its degree then, and the inverse.
-pub fn unit_lead(w: &mut [u32], n: u32, b: usize, m: usize, s: usize) -> Highest
-    requires { ⌜ LeadAsked n b m s (now w) ⌝ }
-    ensures { λ r. ⌜ LeadAnswer n b m s (now (w .entry)) (now (w .exit)) r ⌝ }
+// B of l words, with a leading unit in place of the highest coefficient that is no nilpotent: its degree then, and the inverse.
+pub fn unit_lead(w: &mut [u32], m: Modulus, b: usize, l: usize, s: usize) -> Highest
+    requires { ⌜ (Known m) × (LeadAsked (m .n) b l s (now w)) ⌝ }
+    ensures { λ r. ⌜ LeadAnswer (m .n) b l s (now (w .entry)) (now (w .exit)) r ⌝ }
     ensures { λ _. ⌜ Scratch (now (w .entry)) (now (w .exit)) ⌝ }
 {
-    match window_factor::highest_of(&w[b..b + m], n) {
+    match window_factor::highest_of(&w[b..b + l], m.n) {
         Highest::UnitAt(t, i) => {
-            if t + 1 == m {
+            if t + 1 == l {
                 return Highest::UnitAt(t, i);
             }
-            monic_factor(w, n, b, m, t, i, s);
+            monic_factor(w, m, b, l, t, i, s);
             Highest::UnitAt(t, 1)
         }
         Highest::Splits(p, q) => Highest::Splits(p, q),
@@ -69,17 +71,19 @@ fn take_content(w: &mut [u32], n: u32, c: u32, a: usize, d: usize, b: usize)
 }
 
 // The content of B is taken out of it and of the modulus, then the unit factor of B.
-fn clear_contents(w: &mut [u32], n: u32, a: usize, d: usize, b: usize, s: usize) -> Clearing
-    requires { ⌜ ContentAsked n a d b s (now w) ⌝ }
-    ensures { λ r. ⌜ Clears n a d b s (now (w .entry)) (now (w .exit)) r ⌝ }
+fn clear_contents(w: &mut [u32], m: Modulus, a: usize, d: usize, b: usize, s: usize) -> Clearing
+    requires { ⌜ (Known m) × (ContentAsked (m .n) a d b s (now w)) ⌝ }
+    ensures { λ r. ⌜ Clears (m .n) a d b s (now (w .entry)) (now (w .exit)) r ⌝ }
     ensures { λ _. ⌜ Scratch (now (w .entry)) (now (w .exit)) ⌝ }
 {
+    let n = m.n;
     let c = windows::content(&w[b..b + d], n);
     if c == n {
         return Clearing::Done(n);
     }
     take_content(w, n, c, a, d, b);
-    match unit_lead(w, n / c, b, d, s) {
+    let v = modulus::modulus_of(n / c);
+    match unit_lead(w, v, b, d, s) {
         Highest::UnitAt(k, i) => Clearing::Next(c, k, i),
         Highest::Splits(p, q) => Clearing::Parts(p, q),
         Highest::AllNilpotent => Clearing::Done(n),
@@ -87,29 +91,32 @@ fn clear_contents(w: &mut [u32], n: u32, a: usize, d: usize, b: usize, s: usize)
 }
 
 // D of A, of degree d with a leading unit, and B, of d words.
-fn content_stage(w: &mut [u32], n: u32, a: usize, d: usize, b: usize, s: usize) -> Attempt
-    requires { ⌜ ContentAsked n a d b s (now w) ⌝ }
-    ensures { λ r. ⌜ DivisorOrSplit n (piece (now (w .entry)) a (d + 1)) (piece (now (w .entry)) b d) r ⌝ }
+fn content_stage(w: &mut [u32], m: Modulus, a: usize, d: usize, b: usize, s: usize) -> Attempt
+    requires { ⌜ (Known m) × (ContentAsked (m .n) a d b s (now w)) ⌝ }
+    ensures { λ r. ⌜ DivisorOrSplit (m .n) (piece (now (w .entry)) a (d + 1)) (piece (now (w .entry)) b d) r ⌝ }
     ensures { λ _. ⌜ Scratch (now (w .entry)) (now (w .exit)) ⌝ }
 {
-    let x = bezout::cofactor(n, w[b + (d - 1)]);
+    let x = bezout::cofactor(m.n, w[b + (d - 1)]);
     if x.g == 1 {
-        return division_stage(w, n, a, d, b, d - 1, x.s, s);
+        return division_stage(w, m, a, d, b, d - 1, x.s, s);
     }
-    match clear_contents(w, n, a, d, b, s) {
+    match clear_contents(w, m, a, d, b, s) {
         Clearing::Done(y) => Attempt::Value(y),
         Clearing::Parts(p, q) => Attempt::Splits(p, q),
-        Clearing::Next(c, k, i) => match division_stage(w, n / c, a, d, b, k, i, s) {
-            Attempt::Value(y) => Attempt::Value(c * y),
-            Attempt::Splits(p, q) => Attempt::Splits(p, q),
-        },
+        Clearing::Next(c, k, i) => {
+            let v = modulus::modulus_of(m.n / c);
+            match division_stage(w, v, a, d, b, k, i, s) {
+                Attempt::Value(y) => Attempt::Value(c * y),
+                Attempt::Splits(p, q) => Attempt::Splits(p, q),
+            }
+        }
     }
 }
 
 // D of A, of degree d, and B, of degree k at most d, whose leading word has the inverse i.
 pub fn division_stage(
     w: &mut [u32],
-    n: u32,
+    m: Modulus,
     a: usize,
     d: usize,
     b: usize,
@@ -117,13 +124,13 @@ pub fn division_stage(
     i: u32,
     s: usize,
 ) -> Attempt
-    requires { ⌜ DivisionAsked n a d b k i s (now w) ⌝ }
-    ensures { λ r. ⌜ DivisorOrSplit n (piece (now (w .entry)) a (d + 1)) (piece (now (w .entry)) b (k + 1)) r ⌝ }
+    requires { ⌜ (Known m) × (DivisionAsked (m .n) a d b k i s (now w)) ⌝ }
+    ensures { λ r. ⌜ DivisorOrSplit (m .n) (piece (now (w .entry)) a (d + 1)) (piece (now (w .entry)) b (k + 1)) r ⌝ }
     ensures { λ _. ⌜ Scratch (now (w .entry)) (now (w .exit)) ⌝ }
 {
     if k == 0 {
         return Attempt::Value(1);
     }
-    window_division::divide(w, n, b, k, a, d, i);
-    content_stage(w, n, b, k, a, s)
+    window_division::divide_by(w, m, b, k, a, d, i);
+    content_stage(w, m, b, k, a, s)
 }

@@ -5,7 +5,7 @@ use borrow.Author.Needs.{needs}
 use borrow.Rule.Slice.PartMut.{midOf}
 use Rattle.definitions.specs.Resultants.{Reduced}
 use Rattle.batch_pairs.specs.Batches.{piece}
-use Rattle.batch_pairs.proofs.Turns.{of-pieces}
+use Rattle.batch_pairs.proofs.PairRounds.{of-pieces}
 
 pub reduced-of : (n i d e r : ℕ) (f g : List ℕ)
     → Reduced n (midOf (i * (d + 1)) (i * (d + 1) + (d + 1) - i * (d + 1)) f)

@@ -11,7 +11,7 @@ use native.Mathlib.Omega.{arith}
 use lib.ListN.{length}
 use Rattle.definitions.specs.Polynomials.{coef}
 use Rattle.definitions.specs.Resultants.{Reduced}
-use Rattle.theory.specs.ReachedLaws.{reduced-unique}
+use Rattle.law_polynomials.specs.ReachedLaws.{reduced-unique}
 use Rattle.refusals.specs.Refusals.{Width}
 use Rattle.divisor_service.specs.DivisorService.{DivisorAnswer, divisor-status}
 use Rattle.batch_pairs.specs.Batches.{piece, BatchAnswer}

@@ -5,54 +5,54 @@
 //   jingcobu_reduced_resultant    reduced_service::reduced_resultant
 //   jingcobu_divisor              divisor_service::divisor
 //   jingcobu_why                  why_service::why
-//   jingcobu_resultant_two        two_service::resultant_two
+//   jingcobu_resultant_two        bivariate_service::bivariate_resultant
 //   jingcobu_resultant_cofactors  cofactor_service::resultant_cofactors
-//   jingcobu_product              polynomial_product::product
-//   jingcobu_product_word         polynomial_word::product_word
-//   jingcobu_true_degree          polynomial_degree::true_degree_words
-//   jingcobu_read_text            text_reader::read_text
-//   jingcobu_write_text           text_writer::write_text
-//   jingcobu_gcd                  residue_services::gcd_with_cofactors
-//   jingcobu_factors_start, _arrive, _leave, _read    factors::start, arrive, leave, read
-//   jingcobu_shares               shares::shares
+//   jingcobu_product              product_service::product
+//   jingcobu_product_word         product_word_service::product_word
+//   jingcobu_true_degree          degree_service::true_degree_words
+//   jingcobu_read_text            text_reader_service::read_text
+//   jingcobu_write_text           text_writer_service::write_text
+//   jingcobu_gcd                  residue_service::gcd_with_cofactors
+//   jingcobu_factors_start, _arrive, _leave, _read    factors_service::start, arrive, leave, read
+//   jingcobu_shares               shares_service::shares
 //   jingcobu_check_claim          claim_service::check_claim_words
-//   jingcobu64_resultant          wide_resultant_service::resultant: words of 64 bits
-//   jingcobu64_reduced_resultant  wide_reduced_service::reduced_resultant
-//   jingcobu64_product            wide_polynomial_product::product
+//   jingcobu64_resultant          resultant_service64::resultant: words of 64 bits
+//   jingcobu64_reduced_resultant  reduced_service64::reduced_resultant
+//   jingcobu64_product            product_service64::product
 //   jingcobu_resultants           resultants_service::resultants: many pairs
 //   jingcobu_divisors             divisors_service::divisors
-//   jingcobu64_resultants         wide_resultants_service::resultants
-//   jingcobu64_divisors           wide_divisors_service::divisors
-//   jingcobu64_divisor            wide_divisor_service::divisor
-//   jingcobu64_gcd                wide_residue_services::gcd_with_cofactors
-//   jingcobu64_true_degree        wide_polynomial_degree::true_degree_words
+//   jingcobu64_resultants         resultants_service64::resultants
+//   jingcobu64_divisors           divisors_service64::divisors
+//   jingcobu64_divisor            divisor_service64::divisor
+//   jingcobu64_gcd                residue_service64::gcd_with_cofactors
+//   jingcobu64_true_degree        degree_service64::true_degree_words
 ghost use mathlib.Core.Path.{_≡_};
 ghost use Rattle.refusals.specs.Refusals.{narrow};
-ghost use Rattle.wide_refusals.specs.Wide.{wide};
+ghost use Rattle.refusals64.specs.Wide.{wide};
 ghost use Rattle.resultant_service.specs.ResultantService.{ResultantAnswer};
 ghost use Rattle.reduced_service.specs.ReducedService.{ReducedAnswer};
 ghost use Rattle.divisor_service.specs.DivisorService.{DivisorAnswer};
 ghost use Rattle.why_service.specs.WhyService.{WhyAnswer};
 ghost use Rattle.cofactor_service.specs.CofactorService.{CofactorAnswer};
-ghost use Rattle.polynomial_product.specs.ProductService.{ProductAnswer};
-ghost use Rattle.polynomial_degree.specs.DegreeService.{DegreeWordsAnswer};
-ghost use Rattle.polynomial_word.specs.ProductWord.{ProductWordAnswer};
+ghost use Rattle.product_service.specs.ProductService.{ProductAnswer};
+ghost use Rattle.degree_service.specs.DegreeService.{DegreeWordsAnswer};
+ghost use Rattle.product_word_service.specs.ProductWord.{ProductWordAnswer};
 ghost use mathlib.Core.List.{[], _∷_};
-ghost use Rattle.text_reader.specs.TextReader.{ReadAnswer};
-ghost use Rattle.text_writer.specs.TextWriter.{WriteAnswer};
-ghost use Rattle.residue_services.specs.Services.{GcdPromised};
-ghost use Rattle.factors.specs.FactorsService.{StartAnswer, ArriveAnswer, LeaveAnswer, ReadingAnswer};
-ghost use Rattle.shares.specs.SharesService.{SharesAnswer};
+ghost use Rattle.text_reader_service.specs.TextReader.{ReadAnswer};
+ghost use Rattle.text_writer_service.specs.TextWriter.{WriteAnswer};
+ghost use Rattle.residue_service.specs.Services.{GcdAnswers};
+ghost use Rattle.factors_service.specs.FactorsService.{StartAnswer, ArriveAnswer, LeaveAnswer, ReadingAnswer};
+ghost use Rattle.shares_service.specs.SharesService.{SharesAnswer};
 ghost use Rattle.claim_service.specs.ClaimService.{ClaimAnswer};
-ghost use Rattle.two_service.specs.TwoService.{TwoAnswer};
+ghost use Rattle.bivariate_service.specs.BivariateService.{BivariateAnswer};
 ghost use Rattle.resultants_service.specs.ResultantsService.{ResultantsAnswer};
 ghost use Rattle.divisors_service.specs.DivisorsService.{DivisorsAnswer};
-use factors::Factors;
-use factors::Held;
-use polynomial_degree::DegreeAnswer;
+use degree_service::DegreeAnswer;
+use factors_service::Factors;
+use factors_service::FactorsAnswer;
 use refusals::Answer;
-use residue_services::GcdAnswer;
-use shares::Plan;
+use residue_service::GcdAnswer;
+use shares_service::Plan;
 use why_service::Reason;
 
 // The resultant of f and g modulo n, in the sent degrees.
@@ -118,10 +118,10 @@ pub extern "C" fn jingcobu_resultant_two(
     out: &mut [u32],
     work: &mut [u32],
 ) -> Answer
-    ensures { λ r. ⌜ TwoAnswer narrow n (now (f .entry)) d a (now (g .entry)) e b (now (out .entry)) (now (out .exit))
+    ensures { λ r. ⌜ BivariateAnswer narrow n (now (f .entry)) d a (now (g .entry)) e b (now (out .entry)) (now (out .exit))
         (now (work .entry)) (now (work .exit)) (r .value) (r .status) ⌝ }
 {
-    two_service::resultant_two(n, f, d, a, g, e, b, out, work)
+    bivariate_service::bivariate_resultant(n, f, d, a, g, e, b, out, work)
 }
 
 // The resultant of f and g modulo n, with u in the first e words of one buffer and v in the first d words of the other: u f + v g is it.
@@ -146,7 +146,7 @@ pub extern "C" fn jingcobu_product(n: u32, f: &[u32], g: &[u32], out: &mut [u32]
     ensures { λ r. ⌜ ProductAnswer narrow n (now (f .entry)) (now (g .entry)) (now (out .entry)) (now (out .exit))
         (r .value) (r .status) ⌝ }
 {
-    polynomial_product::product(n, f, g, out)
+    product_service::product(n, f, g, out)
 }
 
 // Word k of the product of f and g modulo n, alone, in its place in out.
@@ -161,7 +161,7 @@ pub extern "C" fn jingcobu_product_word(
     ensures { λ r. ⌜ ProductWordAnswer narrow n (now (f .entry)) (now (g .entry)) k (now (out .entry)) (now (out .exit))
         (r .value) (r .status) ⌝ }
 {
-    polynomial_word::product_word(n, f, g, out, k)
+    product_word_service::product_word(n, f, g, out, k)
 }
 
 // The true degree of f: none for the zero polynomial.
@@ -169,7 +169,7 @@ pub extern "C" fn jingcobu_product_word(
 pub extern "C" fn jingcobu_true_degree(n: u32, f: &[u32]) -> DegreeAnswer
     ensures { λ r. ⌜ DegreeWordsAnswer narrow n (now (f .entry)) (r .some) (r .degree) (r .status) ⌝ }
 {
-    polynomial_degree::true_degree_words(n, f)
+    degree_service::true_degree_words(n, f)
 }
 
 // The polynomial that a text of the notation spells, in the first words of words.
@@ -177,7 +177,7 @@ pub extern "C" fn jingcobu_true_degree(n: u32, f: &[u32]) -> DegreeAnswer
 pub extern "C" fn jingcobu_read_text(n: u32, text: &[u8], words: &mut [u32]) -> Answer
     ensures { λ r. ⌜ ReadAnswer narrow n (now (text .entry)) (now (words .entry)) (now (words .exit)) (r .value) (r .status) ⌝ }
 {
-    text_reader::read_text(n, text, words)
+    text_reader_service::read_text(n, text, words)
 }
 
 // The text of f, in the first characters of text.
@@ -185,23 +185,23 @@ pub extern "C" fn jingcobu_read_text(n: u32, text: &[u8], words: &mut [u32]) -> 
 pub extern "C" fn jingcobu_write_text(n: u32, f: &[u32], text: &mut [u8]) -> Answer
     ensures { λ r. ⌜ WriteAnswer narrow n (now (f .entry)) (now (text .entry)) (now (text .exit)) (r .value) (r .status) ⌝ }
 {
-    text_writer::write_text(n, f, text)
+    text_writer_service::write_text(n, f, text)
 }
 
 // The greatest common divisor of a, b and n, with its least cofactors.
 #[no_mangle]
 pub extern "C" fn jingcobu_gcd(n: u32, a: u32, b: u32) -> GcdAnswer
-    ensures { λ r. ⌜ GcdPromised narrow n a b (r .g) (r .s) (r .t) (r .status) ⌝ }
+    ensures { λ r. ⌜ GcdAnswers narrow n a b (r .g) (r .s) (r .t) (r .status) ⌝ }
 {
-    residue_services::gcd_with_cofactors(n, a, b)
+    residue_service::gcd_with_cofactors(n, a, b)
 }
 
 // A product whose factors come and go: the state with h and no factor.
 #[no_mangle]
-pub extern "C" fn jingcobu_factors_start(n: u32, h: &[u32]) -> Held
+pub extern "C" fn jingcobu_factors_start(n: u32, h: &[u32]) -> FactorsAnswer
     ensures { λ r. ⌜ StartAnswer narrow n (now (h .entry)) (r .factors) (r .status) ⌝ }
 {
-    factors::start(n, h)
+    factors_service::start(n, h)
 }
 
 // The state with one factor more, f under its number.
@@ -211,18 +211,18 @@ pub extern "C" fn jingcobu_factors_arrive(
     number: u16,
     f: &[u32],
     work: &mut [u32],
-) -> Held
+) -> FactorsAnswer
     ensures { λ r. ⌜ ArriveAnswer narrow state number (now (f .entry)) (now (work .entry)) (now (work .exit)) (r .factors) (r .status) ⌝ }
 {
-    factors::arrive(state, number, f, work)
+    factors_service::arrive(state, number, f, work)
 }
 
 // The state without the factor under a number.
 #[no_mangle]
-pub extern "C" fn jingcobu_factors_leave(state: Factors, number: u16) -> Held
+pub extern "C" fn jingcobu_factors_leave(state: Factors, number: u16) -> FactorsAnswer
     ensures { λ r. ⌜ LeaveAnswer narrow state number (r .factors) (r .status) ⌝ }
 {
-    factors::leave(state, number)
+    factors_service::leave(state, number)
 }
 
 // The resultant of the product of the factors held with h.
@@ -230,7 +230,7 @@ pub extern "C" fn jingcobu_factors_leave(state: Factors, number: u16) -> Held
 pub extern "C" fn jingcobu_factors_read(state: Factors) -> Answer
     ensures { λ r. ⌜ ReadingAnswer narrow state (r .value) (r .status) ⌝ }
 {
-    factors::read(state)
+    factors_service::read(state)
 }
 
 // How many jobs of each of four groups go into a run of frames.
@@ -244,7 +244,7 @@ pub extern "C" fn jingcobu_shares(
 ) -> Plan
     ensures { λ r. ⌜ SharesAnswer frames (waiting1 ∷ waiting2 ∷ waiting3 ∷ waiting4 ∷ []) (r .share) (r .status) ⌝ }
 {
-    shares::shares(frames, waiting1, waiting2, waiting3, waiting4)
+    shares_service::shares(frames, waiting1, waiting2, waiting3, waiting4)
 }
 
 // Whether d is the reduced resultant of f and g modulo n, with u f + v g = d: 0 accepted, else 1, 2 or 3, what fails first.
@@ -271,11 +271,11 @@ pub extern "C" fn jingcobu64_resultant(
     f: &[u64],
     g: &[u64],
     work: &mut [u64],
-) -> wide_refusals::Answer
+) -> refusals64::Answer
     ensures { λ r. ⌜ ResultantAnswer wide n (now (f .entry)) (now (g .entry)) (now (work .entry)) (now (work .exit))
         (r .value) (r .status) ⌝ }
 {
-    wide_resultant_service::resultant(n, f, g, work)
+    resultant_service64::resultant(n, f, g, work)
 }
 
 // The reduced resultant D of f and g modulo n, with cofactors in the first L words of u and of v, words of 64 bits.
@@ -287,11 +287,11 @@ pub extern "C" fn jingcobu64_reduced_resultant(
     u: &mut [u64],
     v: &mut [u64],
     work: &mut [u64],
-) -> wide_refusals::Answer
+) -> refusals64::Answer
     ensures { λ r. ⌜ ReducedAnswer wide n (now (f .entry)) (now (g .entry)) (now (u .entry)) (now (u .exit)) (now (v .entry))
         (now (v .exit)) (now (work .entry)) (now (work .exit)) (r .value) (r .status) ⌝ }
 {
-    wide_reduced_service::reduced_resultant(n, f, g, u, v, work)
+    reduced_service64::reduced_resultant(n, f, g, u, v, work)
 }
 
 // The product of f and g modulo n, in the first d + e + 1 words of out, words of 64 bits.
@@ -301,11 +301,11 @@ pub extern "C" fn jingcobu64_product(
     f: &[u64],
     g: &[u64],
     out: &mut [u64],
-) -> wide_refusals::Answer
+) -> refusals64::Answer
     ensures { λ r. ⌜ ProductAnswer wide n (now (f .entry)) (now (g .entry)) (now (out .entry)) (now (out .exit))
         (r .value) (r .status) ⌝ }
 {
-    wide_polynomial_product::product(n, f, g, out)
+    product_service64::product(n, f, g, out)
 }
 
 // The resultants of count pairs modulo n, of sent degrees d and e, in the first count words of out.
@@ -355,11 +355,11 @@ pub extern "C" fn jingcobu64_resultants(
     count: usize,
     out: &mut [u64],
     work: &mut [u64],
-) -> wide_refusals::Answer
+) -> refusals64::Answer
     ensures { λ r. ⌜ ResultantsAnswer wide n (now (f .entry)) d (now (g .entry)) e count (now (out .entry)) (now (out .exit))
         (now (work .entry)) (now (work .exit)) (r .value) (r .status) ⌝ }
 {
-    wide_resultants_service::resultants(n, f, d, g, e, count, out, work)
+    resultants_service64::resultants(n, f, d, g, e, count, out, work)
 }
 
 // The reduced resultants D of count pairs modulo n, without cofactors, in the first count words of out, words of 64 bits.
@@ -373,11 +373,11 @@ pub extern "C" fn jingcobu64_divisors(
     count: usize,
     out: &mut [u64],
     work: &mut [u64],
-) -> wide_refusals::Answer
+) -> refusals64::Answer
     ensures { λ r. ⌜ DivisorsAnswer wide n (now (f .entry)) d (now (g .entry)) e count (now (out .entry)) (now (out .exit))
         (now (work .entry)) (now (work .exit)) (r .value) (r .status) ⌝ }
 {
-    wide_divisors_service::divisors(n, f, d, g, e, count, out, work)
+    divisors_service64::divisors(n, f, d, g, e, count, out, work)
 }
 
 // The reduced resultant D of f and g modulo n, without cofactors, words of 64 bits.
@@ -387,19 +387,19 @@ pub extern "C" fn jingcobu64_divisor(
     f: &[u64],
     g: &[u64],
     work: &mut [u64],
-) -> wide_refusals::Answer
+) -> refusals64::Answer
     ensures { λ r. ⌜ DivisorAnswer wide n (now (f .entry)) (now (g .entry)) (now (work .entry)) (now (work .exit))
         (r .value) (r .status) ⌝ }
 {
-    wide_divisor_service::divisor(n, f, g, work)
+    divisor_service64::divisor(n, f, g, work)
 }
 
 // The greatest common divisor of a, b and n, with its least cofactors, words of 64 bits.
 #[no_mangle]
-pub extern "C" fn jingcobu64_gcd(n: u64, a: u64, b: u64) -> wide_residue_services::GcdAnswer
-    ensures { λ r. ⌜ GcdPromised wide n a b (r .g) (r .s) (r .t) (r .status) ⌝ }
+pub extern "C" fn jingcobu64_gcd(n: u64, a: u64, b: u64) -> residue_service64::GcdAnswer
+    ensures { λ r. ⌜ GcdAnswers wide n a b (r .g) (r .s) (r .t) (r .status) ⌝ }
 {
-    wide_residue_services::gcd_with_cofactors(n, a, b)
+    residue_service64::gcd_with_cofactors(n, a, b)
 }
 
 // The true degree of f: none for the zero polynomial; words of 64 bits.
@@ -407,5 +407,5 @@ pub extern "C" fn jingcobu64_gcd(n: u64, a: u64, b: u64) -> wide_residue_service
 pub extern "C" fn jingcobu64_true_degree(n: u64, f: &[u64]) -> DegreeAnswer
     ensures { λ r. ⌜ DegreeWordsAnswer wide n (now (f .entry)) (r .some) (r .degree) (r .status) ⌝ }
 {
-    wide_polynomial_degree::true_degree_words(n, f)
+    degree_service64::true_degree_words(n, f)
 }

@@ -1,13 +1,13 @@
 -- A step down in the buffer, with its words in the log.
 --
 --   piece-kept          what the words of a window stand for, in a buffer that changes elsewhere
---   leads-kept          where a step leads, in such a buffer
+--   reaches-kept        where a step leads, in such a buffer
 --   descending-none     no step yet
---   write-asked         what the log asks
+--   bit-told            what the log asks
 --   descending-next     one step more
 --   descended           the last step
 --   descents            the rules
-use mathlib.Core.Path.{_≡_, sym, _∙_, ap, subst}
+use mathlib.Core.Path.{_≡_, refl, sym, _∙_, ap, subst}
 use mathlib.Core.List.{List}
 use mathlib.Core.Bool.{Bool, true, false}
 use Prim.Native.Nat.{ℕ, _+_, _-_, _*_, _≤_, _<_}
@@ -22,18 +22,18 @@ use Rattle.windows.proofs.Lift.{below-is}
 use Rattle.modulus.specs.declared.Modulus.{Modulus}
 use Rattle.modulus.specs.Values.{value, values}
 use Rattle.modulus_windows.proofs.Forms.{values-length}
-use Rattle.resultant_turns.specs.RunLaws.{Run}
-use Rattle.resultant_turns.specs.TurnLaws.{Within}
-use Rattle.resultant_pseudo.specs.Standing.{Placed}
-use Rattle.resultant_euclid.proofs.Steps.{standing-values, leads-self, leads-trans}
+use Rattle.resultant_signs.specs.RunLaws.{Run}
+use Rattle.resultant_signs.specs.EliminationLaws.{Within}
+use Rattle.resultant_pseudo.specs.StandingRuns.{Placed}
+use Rattle.resultant_euclid.proofs.Steps.{standing-values, reaches-self, reaches-trans}
 use Rattle.euclid_steps.specs.declared.Stage.{Stage}
 use Rattle.euclid_steps.specs.declared.Logged.{Logged}
 use Rattle.euclid_steps.specs.Plain.{Sound, known-sound, plain-sound, values-at}
 use Rattle.euclid_steps.specs.Steps.{Moves}
-use Rattle.euclid_steps.specs.Stages.{Leads, Stepped, Told, Placing}
+use Rattle.euclid_steps.specs.EuclidStages.{Reaches, Stepped, Told, Placing}
 use Rattle.euclid_steps.specs.Trails.{bit, LoggedAt}
 use Rattle.euclid_multipliers.specs.declared.Descent.{Descent}
-use Rattle.euclid_multipliers.specs.Ways.{DescentAsked, Descending, Descended, f-at, g-at, TrailTo}
+use Rattle.euclid_multipliers.specs.StepsInBuffer.{DescentAsked, Descending, Descended, f-at, g-at, TrailTo}
 use Rattle.euclid_multipliers.proofs.Trailing.{falls-least, bit-small, trail-kept, trail-next, trail-none}
 
 module _ (m : Modulus) (sound : Sound m) where
@@ -44,7 +44,7 @@ module _ (m : Modulus) (sound : Sound m) where
       (λ k p. values-at m sound v (a + k) ∙ ap (value m) (at k p) ∙ sym (values-at m sound w (a + k)))
 
   -- the words of the pair after a step stay
-  module _ (y z : Stage) (v v₁ v₂ : List ℕ) (same : length v₂ ≡ length v₁) (l : Leads m y v z v₁)
+  module _ (y z : Stage) (v v₁ v₂ : List ℕ) (same : length v₂ ≡ length v₁) (l : Reaches m y v z v₁)
       (first : (k : ℕ) → k < z .d + 1 → getD v₂ (z .a + k) 0 ≡ getD v₁ (z .a + k) 0)
       (second : (k : ℕ) → k < z .e + 1 → getD v₂ (z .b + k) 0 ≡ getD v₁ (z .b + k) 0) where
     abbrev pl : Placed (m .n) (z .a) (z .d) (z .b) (z .e) v₁
@@ -69,33 +69,34 @@ module _ (m : Modulus) (sound : Sound m) where
       };
     }
 
-    pub leads-kept : Leads m y v z v₂
-    leads-kept = record {
+    pub reaches-kept : Reaches m y v z v₂
+    reaches-kept = record {
       standing = record {
         placed = placed-kept;
         s-below = l .standing .s-below;
         p-below = l .standing .p-below;
         t-below = l .standing .t-below;
       };
-      led = record {
+      state-reached = record {
         placed = standing-values m sound (z .a) (z .d) (z .b) (z .e) v₂ placed-kept;
-        same = values-length m v₂ ∙ same ∙ sym (values-length m v₁) ∙ l .led .same;
+        same = values-length m v₂ ∙ same ∙ sym (values-length m v₁) ∙ l .state-reached .same;
         run = λ R₀ r.
             subst (λ (f : List ℕ). Run (m .n) (value m (z .s)) (value m (z .p)) (value m (z .t)) (z .d) R₀
             (resultant (m .n) f (piece (values m v₂) (z .b) (z .e + 1)))) (sym first-kept)
             (subst (λ (g : List ℕ). Run (m .n) (value m (z .s)) (value m (z .p)) (value m (z .t)) (z .d) R₀
-            (resultant (m .n) (piece (values m v₁) (z .a) (z .d + 1)) g)) (sym second-kept) (l .led .run R₀ r));
+            (resultant (m .n) (piece (values m v₁) (z .a) (z .d + 1)) g)) (sym second-kept) (l .state-reached .run R₀ r));
         within =
             subst (λ (f : List ℕ). Within (m .n) (piece (values m v) (y .a) (y .d + 1)) (piece (values m v) (y .b) (y .e + 1)) f
             (piece (values m v₂) (z .b) (z .e + 1))) (sym first-kept)
             (subst (λ (g : List ℕ). Within (m .n) (piece (values m v) (y .a) (y .d + 1)) (piece (values m v) (y .b) (y .e + 1))
-            (piece (values m v₁) (z .a) (z .d + 1)) g) (sym second-kept) (l .led .within));
+            (piece (values m v₁) (z .a) (z .d + 1)) g) (sym second-kept) (l .state-reached .within));
       };
     }
 
   pub descending-none : (h : ℕ) (x : Stage) (w : List ℕ) → DescentAsked m h x w → Descending m h x w 0 x w
   descending-none h x w k = record {
-    leads = leads-self m sound (k .standing);
+    same = refl;
+    reaching = reaches-self m sound (k .standing);
     trail = trail-none m h w (f-at m x w) (g-at m x w) (x .d) (x .e);
     under-a = k .under-a;
     under-b = k .under-b;
@@ -112,18 +113,14 @@ placing-next h x z false la lb p = (omega (arith, p .0), omega (arith, p .1))
 abbrev pub kept : Stage → Stage → Logged
 kept y z = record { d = y .d; e = y .e; y = z .y; c = z .c; k = z .k; swap = z .swap }
 
-pub write-asked : {m : Modulus} {h j : ℕ} {x y z : Stage} {w v v₁ : List ℕ} → Descending m h x w j y v → Told m y v z v₁ → 1 ≤ y .d
-    → (h + h + 5 * j + 5 ≤ length v₁) × (bit (y .d) (y .e) (z .e) (z .swap) ≤ 1)
-write-asked {m} {h} {j} {x} {y} {z} {w} {v} {v₁} g t one = (
-  omega (arith, g .room, t .around .same, one),
-  bit-small (y .d) (y .e) (z .d) (z .e) (z .c) (z .swap) (t .falls),
-)
+pub bit-told : {m : Modulus} {y z : Stage} {v v₁ : List ℕ} → Told m y v z v₁ → bit (y .d) (y .e) (z .e) (z .swap) ≤ 1
+bit-told {m} {y} {z} t = bit-small (y .d) (y .e) (z .d) (z .e) (z .c) (z .swap) (t .falls)
 
 module _ {m : Modulus} {h j : ℕ} {x y z : Stage} {w v v₁ v₂ : List ℕ} (sound : Sound m) (g : Descending m h x w j y v) (one : 1 ≤ y .d)
     (s : Stepped m y v z v₁) (t : Told m y v z v₁) (ar : Around (h + h + 5 * j) 5 v₁ v₂)
     (lg : LoggedAt (h + h + 5 * j) (z .e) (kept y z) v₂) where
   near : y .d ≤ y .e
-  near = g .leads .standing .placed .near
+  near = g .reaching .standing .placed .near
 
   least : (z .d ≤ y .d) × (z .e ≤ y .e)
   least = falls-least (y .d) (y .e) (z .d) (z .e) (z .c) (z .swap) near (t .falls)
@@ -166,7 +163,8 @@ module _ {m : Modulus} {h j : ℕ} {x y z : Stage} {w v v₁ v₂ : List ℕ} (s
 
   pub descending-next : (j' : ℕ) → j' ≡ j + 1 → Descending m h x w j' z v₂
   descending-next j' is = record {
-    leads = leads-trans (g .leads) (leads-kept m sound y z v v₁ v₂ (ar .same) (s .0) first second);
+    same = ar .same ∙ t .around .same ∙ g .same;
+    reaching = reaches-trans (g .reaching) (reaches-kept m sound y z v v₁ v₂ (ar .same) (s .0) first second);
     trail = trailed j' is;
     under-a = places .0;
     under-b = places .1;
@@ -178,14 +176,15 @@ pub descended : {m : Modulus} {h j : ℕ} {x y : Stage} {w v : List ℕ} {r : De
     → record { a = y .a; d = y .d; b = y .b; e = y .e; s = y .s; p = y .p; t = y .t; steps = j } ≡ r → Descended m h x w r v
 descended {m} {h} {j} {x} {y} {w} {v} g z is = subst (λ (r : Descent). Descended m h x w r v) is (record {
   descending = record {
-    leads = record {
+    same = g .same;
+    reaching = record {
       standing = record {
-        placed = g .leads .standing .placed;
-        s-below = g .leads .standing .s-below;
-        p-below = g .leads .standing .p-below;
-        t-below = g .leads .standing .t-below;
+        placed = g .reaching .standing .placed;
+        s-below = g .reaching .standing .s-below;
+        p-below = g .reaching .standing .p-below;
+        t-below = g .reaching .standing .t-below;
       };
-      led = g .leads .led;
+      state-reached = g .reaching .state-reached;
     };
     trail = g .trail;
     under-a = g .under-a;
@@ -196,4 +195,4 @@ descended {m} {h} {j} {x} {y} {w} {v} g z is = subst (λ (r : Descent). Descende
   none = z;
 })
 
-pub ruleset descents = (needs, known-sound, plain-sound, descending-none, descending-next, descended)
+pub ruleset descents = (needs, known-sound, plain-sound, descending-none, bit-told, descending-next, descended)

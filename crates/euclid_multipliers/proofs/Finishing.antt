@@ -7,27 +7,27 @@ use mathlib.Core.List.{List}
 use Prim.Native.Nat.{ℕ, _+_, _-_, _*_, _%_, _^_, _≤_, _<_}
 use native.Mathlib.Omega.{arith}
 use lib.ListN.{length, getD}
-use Rattle.numbers.specs.Congruence.{c-refl, c-add, c-mul}
+use Rattle.law_numbers.specs.Congruence.{c-refl, c-add, c-mul}
 use Rattle.definitions.specs.Polynomials.{coef, deg}
 use Rattle.definitions.specs.Resultants.{resultant}
-use Rattle.theory.specs.ReachedSteps.{convolve-mod}
+use Rattle.law_polynomials.specs.ReachedSteps.{convolve-mod}
 use Rattle.windows.specs.Window.{Scratch}
 use Rattle.modulus.specs.declared.Modulus.{Modulus}
 use Rattle.modulus.specs.Values.{value, values}
-use Rattle.resultant_turns.specs.Degrees.{deg-of}
-use Rattle.resultant_pseudo.specs.Standing.{Led, Descended as DescendedTo}
+use Rattle.resultant_signs.specs.Degrees.{deg-of}
+use Rattle.resultant_pseudo.specs.StandingRuns.{StateReached, Descended as DescendedTo}
 use Rattle.resultant_pseudo.proofs.Stepping.{descended}
-use Rattle.resultant_euclid.proofs.Steps.{standing-values, leads-same}
+use Rattle.resultant_euclid.proofs.Steps.{standing-values}
 use Rattle.euclid_steps.specs.declared.Stage.{Stage}
 use Rattle.euclid_steps.specs.declared.Found.{Found}
 use Rattle.euclid_steps.specs.declared.Ending.{Ending}
 use Rattle.euclid_steps.specs.Plain.{Sound, values-at}
 use Rattle.euclid_steps.specs.Steps.{Bound}
-use Rattle.euclid_steps.specs.Stages.{polynomial, meant}
+use Rattle.euclid_steps.specs.EuclidStages.{polynomial, meant}
 use Rattle.euclid_steps.specs.Backs.{Ended}
 use Rattle.euclid_steps.specs.Trails.{Trail}
 use Rattle.euclid_steps.specs.Multiplied.{Asked, Multiplied}
-use Rattle.euclid_multipliers.specs.Ways.{Started, Descended, Raised, Rising, stage, f-at, g-at}
+use Rattle.euclid_multipliers.specs.StepsInBuffer.{Started, Descended, Raised, Rising, stage, f-at, g-at}
 use Rattle.euclid_multipliers.specs.declared.Descent.{Descent}
 use Rattle.euclid_multipliers.proofs.Trailing.{trail-degree}
 use Rattle.euclid_multipliers.proofs.Rounds.{bottomed}
@@ -86,20 +86,20 @@ module _ {m : Modulus} {f g w : List ℕ} {x : Stage} {w₁ : List ℕ} {y : Des
         ∙ first-bound .at i;
   }
 
-  abbrev LedFrom : ℕ → ℕ → ℕ → Type 0
-  LedFrom s p t = Led (m .n) (x .a) (x .d) (x .b) (x .e) s p t (values m w₁) (y .a) (y .d) (y .b) (y .e) (value m (y .s))
+  abbrev StateReachedFrom : ℕ → ℕ → ℕ → Type 0
+  StateReachedFrom s p t = StateReached (m .n) (x .a) (x .d) (x .b) (x .e) s p t (values m w₁) (y .a) (y .d) (y .b) (y .e) (value m (y .s))
       (value m (y .p)) (value m (y .t)) (values m w₂)
 
-  led : LedFrom 1 1 1
-  led =
-      subst (λ (s : ℕ). LedFrom s 1 1) (st .s-is)
-      (subst (λ (p : ℕ). LedFrom (value m (x .s)) p 1) (st .p-is)
-      (subst (λ (t : ℕ). LedFrom (value m (x .s)) (value m (x .p)) t) (st .t-is) (ds .descending .leads .led)))
+  state-reached : StateReachedFrom 1 1 1
+  state-reached =
+      subst (λ (s : ℕ). StateReachedFrom s 1 1) (st .s-is)
+      (subst (λ (p : ℕ). StateReachedFrom (value m (x .s)) p 1) (st .p-is)
+      (subst (λ (t : ℕ). StateReachedFrom (value m (x .s)) (value m (x .p)) t) (st .t-is) (ds .descending .reaching .state-reached)))
 
   reached : DescendedTo (m .n) (x .a) (x .d) (x .b) (x .e) (values m w₁) (meant m (stage y)) (values m w₂)
   reached =
       descended (m .n) (x .a) (x .d) (x .b) (x .e) (values m w₁) (meant m (stage y)) (values m w₂)
-      (standing-values m sound (x .a) (x .d) (x .b) (x .e) w₁ (st .asked .standing .placed)) led (ds .none)
+      (standing-values m sound (x .a) (x .d) (x .b) (x .e) w₁ (st .asked .standing .placed)) state-reached (ds .none)
 
   none : (i : ℕ) → i + 0 ≡ i
   none i = omega arith
@@ -113,10 +113,10 @@ module _ {m : Modulus} {f g w : List ℕ} {x : Stage} {w₁ : List ℕ} {y : Des
     below-v = top .held .below-v;
     k-below = top .k-below;
     c-below = subst (λ (i : ℕ). i < m .n) (sym (is ∙ ap (λ (i : ℕ). getD w₂ i 0) (sym (none (y .a)))))
-        (ds .descending .leads .standing .placed .pair .first .at 0 (omega arith));
-    s-below = ds .descending .leads .standing .s-below;
-    p-below = ds .descending .leads .standing .p-below;
-    t-below = ds .descending .leads .standing .t-below;
+        (ds .descending .reaching .standing .placed .pair .first .at 0 (omega arith));
+    s-below = ds .descending .reaching .standing .s-below;
+    p-below = ds .descending .reaching .standing .p-below;
+    t-below = ds .descending .reaching .standing .t-below;
     bound = subst (λ (i : ℕ). Bound (m .n) (coef f) (coef g) (value m (r .k)) (polynomial m w₄ (r .u) (length g))
         (polynomial m w₄ (r .v) (length g)) (value m i)) (sym is) bound-at;
     first-ends = λ q j l. top .held .first-ends (omega (arith, q, deg-g, ends .1 .1 .1)) j (omega (arith, l, deg-g, ends .1 .1 .1));
@@ -133,4 +133,4 @@ module _ {m : Modulus} {f g w : List ℕ} {x : Stage} {w₁ : List ℕ} {y : Des
   multiplied e = subst (λ (o : Ending). Multiplied m f g o w₄) e (multiplied-at refl)
 
   pub scratched : Scratch w w₄
-  scratched = record { same = rs .same ∙ bt .around .same ∙ leads-same (ds .descending .leads) ∙ st .same }
+  scratched = record { same = rs .same ∙ bt .around .same ∙ ds .descending .same ∙ st .same }

@@ -1,9 +1,10 @@
 -- A step in the log.
 --
---   reads-pair, reads-last, reads-turn, reads-drop        the step that the words tell
---   bit-swap-none, bit-swap-one, bit-none, bit-one        what is kept of the degrees
---   log-around, log-stands                                the five words are written, and nothing else
---   logs                                                  the rules
+--   reads-pair, reads-last, reads-elimination, reads-drop      the step that the words tell
+--   bit-swap-none, bit-swap-one, bit-none, bit-one             what is kept of the degrees
+--   second-room, third-room, fourth-room, fifth-room           the places of the words
+--   log-around, log-stands                                     the five words are written, and nothing else
+--   reading, bits, logs                                        the rules
 use mathlib.Core.Path.{_≡_, refl, _∙_, ap, ap₂}
 use mathlib.Core.List.{List}
 use mathlib.Core.Bool.{Bool, true, false}
@@ -17,7 +18,7 @@ use Rattle.windows.specs.Window.{Around}
 use Rattle.euclid_steps.specs.declared.Logged.{Logged}
 use Rattle.euclid_steps.specs.Steps.{Falls}
 use Rattle.euclid_steps.specs.Trails.{flag, bit, LoggedAt}
-use Rattle.euclid_multipliers.specs.Ways.{Reads}
+use Rattle.euclid_multipliers.specs.StepsInBuffer.{Reads}
 use Rattle.euclid_multipliers.proofs.Trailing.{bit-small}
 
 logged-same : (r x : Logged) → r .d ≡ x .d → r .e ≡ x .e → r .y ≡ x .y → r .c ≡ x .c → r .k ≡ x .k → r .swap ≡ x .swap → r ≡ x
@@ -33,10 +34,10 @@ swapped d e d' e' c b f true is z l h =
     (refl, (l .1 .0, ⊎-elim (λ p. omega (arith, l .1 .0)) (λ p. omega (arith, l .1 .0, p .0)) (l .0)))
 swapped d e d' e' c b f false is z l h = absurd (z is)
 
-turned : (d e d' e' c b f : ℕ) (s : Bool) → f ≡ flag s → f ≡ 0 → Falls d e d' e' c s → b ≡ bit d e e' s → (b ≡ 0 → ⊥)
+eliminated : (d e d' e' c b f : ℕ) (s : Bool) → f ≡ flag s → f ≡ 0 → Falls d e d' e' c s → b ≡ bit d e e' s → (b ≡ 0 → ⊥)
     → (false ≡ s) × ((d' ≡ d) × (e' + 1 ≡ e))
-turned d e d' e' c b f true is z l h o = absurd (omega arith)
-turned d e d' e' c b f false is z l h o = (refl, ⊎-elim (λ p. p) (λ p. absurd (o (omega (arith, p .1)))) (l .1))
+eliminated d e d' e' c b f true is z l h o = absurd (omega arith)
+eliminated d e d' e' c b f false is z l h o = (refl, ⊎-elim (λ p. p) (λ p. absurd (o (omega (arith, p .1)))) (l .1))
 
 dropped : (d e d' e' c b f : ℕ) (s : Bool) → f ≡ flag s → f ≡ 0 → Falls d e d' e' c s → b ≡ bit d e e' s → b ≡ 0
     → (false ≡ s) × ((d' + 1 ≡ d) × (e' ≡ e))
@@ -64,10 +65,10 @@ module _ (at d e : ℕ) (w : List ℕ) where
         read-as (d + 1) (d + 1) true x l (p .0, (p .1 .0, omega (arith, p .1 .1, o)));
   }
 
-  pub reads-turn : getD w at 0 ≡ 0 → (getD w (at + 1) 0 ≡ 0 → ⊥) → Reads at d e w (step-at at w d (e + 1) false)
-  reads-turn z o = record {
+  pub reads-elimination : getD w at 0 ≡ 0 → (getD w (at + 1) 0 ≡ 0 → ⊥) → Reads at d e w (step-at at w d (e + 1) false)
+  reads-elimination z o = record {
     is = λ x l f. read-as d (e + 1) false x l
-        (turned (x .d) (x .e) d e (x .c) (getD w (at + 1) 0) (getD w at 0) (x .swap) (l .swap-is) z f (l .bit-is) o);
+        (eliminated (x .d) (x .e) d e (x .c) (getD w (at + 1) 0) (getD w at 0) (x .swap) (l .swap-is) z f (l .bit-is) o);
   }
 
   pub reads-drop : getD w at 0 ≡ 0 → getD w (at + 1) 0 ≡ 0 → Reads at d e w (step-at at w (d + 1) e false)
@@ -112,6 +113,18 @@ module _ (at a b y c k : ℕ) (w : List ℕ) (room : at + 5 ≤ length w) where
   abbrev five : List ℕ
   five = set four (at + 4) k
 
+  pub second-room : at + 1 < length one
+  second-room = simp length-set (omega arith)
+
+  pub third-room : at + 2 < length two
+  third-room = simp length-set (omega arith)
+
+  pub fourth-room : at + 3 < length three
+  fourth-room = simp length-set (omega arith)
+
+  pub fifth-room : at + 4 < length four
+  fifth-room = simp length-set (omega arith)
+
   other : (i : ℕ) → ((j : ℕ) → j < 5 → i ≡ at + j → ⊥) → getD five i 0 ≡ getD w i 0
   other i h =
       getD-set-other four (at + 4) i k 0 (h 4 (omega arith)) ∙ getD-set-other three (at + 3) i c 0 (h 3 (omega arith))
@@ -148,16 +161,8 @@ module _ (at a b y c k : ℕ) (w : List ℕ) (room : at + 5 ≤ length w) where
       past-one : (i : ℕ) → i < at + 1 → getD five i 0 ≡ getD one i 0
       past-one i l = past-two i (omega arith) ∙ getD-set-other one (at + 1) i b 0 (λ e. omega arith)
 
-pub ruleset logs = (
-  needs,
-  reads-pair,
-  reads-last,
-  reads-turn,
-  reads-drop,
-  bit-swap-none,
-  bit-swap-one,
-  bit-none,
-  bit-one,
-  log-around,
-  log-stands,
-)
+pub ruleset reading = (needs, reads-pair, reads-last, reads-elimination, reads-drop)
+
+pub ruleset bits = (needs, bit-swap-none, bit-swap-one, bit-none, bit-one)
+
+pub ruleset logs = (needs, second-room, third-room, fourth-room, fifth-room, log-around, log-stands)

@@ -1,16 +1,17 @@
 -- The way back, over the trail that the log tells.
 --
---   read-asked, lift-asked    what a step backwards asks
---   raising-none              no step yet
---   raising-next              one step more
+--   read-first, read-second, lift-asked     what a step backwards asks
+--   raising-none, raising-next, raised      no step yet; one step more; the last one
+--   rounds                    the rules
 --   bottomed                  the end of the steps down is where the way back begins
 use mathlib.Core.Path.{_≡_, refl, sym, _∙_, ap, ap₂, subst, fun-ext}
 use mathlib.Core.List.{List}
 use Prim.Native.Nat.{ℕ, zero, suc, _+_, _-_, _*_, _%_, _≤_, _<_}
 use native.Mathlib.Omega.{arith}
 use lib.ListN.{length, getD}
+use borrow.Author.Needs.{needs}
 use Rattle.definitions.specs.Polynomials.{convolve, constant}
-use Rattle.theory.specs.ReachedSteps.{convolve-constant}
+use Rattle.law_polynomials.specs.ReachedSteps.{convolve-constant}
 use Rattle.windows.proofs.Leaf.{piece-at, piece-over}
 use Rattle.modulus.specs.declared.Modulus.{Modulus}
 use Rattle.modulus.specs.Values.{value, values}
@@ -19,10 +20,10 @@ use Rattle.euclid_steps.specs.declared.Logged.{Logged}
 use Rattle.euclid_steps.specs.declared.Found.{Found}
 use Rattle.euclid_steps.specs.Plain.{Sound, values-at}
 use Rattle.euclid_steps.specs.Steps.{bound-lifted}
-use Rattle.euclid_steps.specs.Stages.{polynomial}
+use Rattle.euclid_steps.specs.EuclidStages.{polynomial}
 use Rattle.euclid_steps.specs.Backs.{Held, Ended, LiftAsked, Lifted}
 use Rattle.euclid_steps.specs.Trails.{Passed, Trail}
-use Rattle.euclid_multipliers.specs.Ways.{Reads, Descended, Rising, Rises, Raising, stage, f-at, g-at}
+use Rattle.euclid_multipliers.specs.StepsInBuffer.{Reads, Descended, Rising, Rises, Raising, stage, f-at, g-at}
 use Rattle.euclid_multipliers.specs.declared.Descent.{Descent}
 use Rattle.euclid_multipliers.proofs.Trailing.{falls-least, trail-kept}
 
@@ -37,11 +38,11 @@ module _ {m : Modulus} {h : ℕ} {F₀ G₀ : ℕ → ℕ} {d₀ e₀ C j : ℕ}
   abbrev last : Passed m h (h + h + 5 * i) w (Trail m h w F₀ G₀ d₀ e₀ i) (k .F) (k .G) (r .d) (r .e)
   last = passed m h w F₀ G₀ d₀ e₀ i j (k .F) (k .G) (r .d) (r .e) is (k .trail)
 
-  rising-read : (h + h + 5 * i + 5 ≤ length w) × ((r .d + 2 ≤ length w) × (r .e + 1 ≤ length w))
+  rising-read : (r .d + 2 ≤ length w) × (r .e + 1 ≤ length w)
   rising-read =
       let p = last in
       let l = falls-least (p .x .d) (p .x .e) (r .d) (r .e) (p .x .c) (p .x .swap) (p .near) (p .falls) in
-      (omega (arith, k .room, is), (omega (arith, k .room, is, l .0, p .near, p .high), omega (arith, k .room, is, l .1, p .high)))
+      (omega (arith, k .room, is, l .0, p .near, p .high), omega (arith, k .room, is, l .1, p .high))
 
   module _ (x : Logged) (rd : Reads (h + h + 5 * i) (r .d) (r .e) w x) where
     is-last : x ≡ last .x
@@ -88,28 +89,40 @@ module _ {m : Modulus} {h : ℕ} {F₀ G₀ : ℕ → ℕ} {d₀ e₀ C j : ℕ}
 -- ---- with any trail
 
 pub raising-none : {m : Modulus} {h j : ℕ} {r : Found} {w : List ℕ} → Raising m h j r w j r w
-raising-none = record { same = refl; rising = λ F₀ G₀ d₀ e₀ C k. k }
+raising-none = record { same = refl; most = omega arith; rising = λ F₀ G₀ d₀ e₀ C k. k }
+
+module _ {m : Modulus} {h j : ℕ} {r : Found} {w : List ℕ} {i : ℕ} {o : Found} {v : List ℕ} (k : Rises m h j r w)
+    (g : Raising m h j r w i o v) (more : 0 < i) where
+  here : Rising m h (k .F₀) (k .G₀) (k .d₀) (k .e₀) (k .C) i o v
+  here = g .rising (k .F₀) (k .G₀) (k .d₀) (k .e₀) (k .C) (k .rising)
+
+  pub read-first : {d l : ℕ} → d ≡ o .d → l ≡ length v → d + 2 ≤ l
+  read-first ed el = omega (arith, rising-read here (i - 1) (omega arith) .0)
+
+  pub read-second : {e l : ℕ} → e ≡ o .e → l ≡ length v → e + 1 ≤ l
+  read-second ee el = omega (arith, rising-read here (i - 1) (omega arith) .1)
 
 module _ {m : Modulus} {h j : ℕ} {r : Found} {w : List ℕ} {i : ℕ} {o : Found} {v : List ℕ} (k : Rises m h j r w)
     (g : Raising m h j r w i o v) (i' : ℕ) (is : i' ≡ i - 1) (more : 0 < i) where
   next : i ≡ suc i'
   next = omega arith
 
-  here : Rising m h (k .F₀) (k .G₀) (k .d₀) (k .e₀) (k .C) i o v
-  here = g .rising (k .F₀) (k .G₀) (k .d₀) (k .e₀) (k .C) (k .rising)
-
-  pub read-asked : (h + h + 5 * i' + 5 ≤ length v) × ((o .d + 2 ≤ length v) × (o .e + 1 ≤ length v))
-  read-asked = rising-read here i' next
-
   pub lift-asked : {x : Logged} → Reads (h + h + 5 * i') (o .d) (o .e) v x → LiftAsked m h x o v
-  lift-asked {x} rd = rising-asked here i' next x rd
+  lift-asked {x} rd = rising-asked (here k g more) i' next x rd
 
   pub raising-next : {x : Logged} {o' : Found} {v' : List ℕ} → 2 ≤ m .n → Reads (h + h + 5 * i') (o .d) (o .e) v x → Lifted m h x o v o' v'
       → Raising m h j r w i' o' v'
   raising-next {x} {o'} {v'} two rd l = record {
     same = l .around .same ∙ g .same;
+    most = omega (arith, g .most);
     rising = λ F₀ G₀ d₀ e₀ C q. rising-next (g .rising F₀ G₀ d₀ e₀ C q) i' next x rd o' v' (omega (arith, two)) l;
   }
+
+pub raised : {m : Modulus} {h j i : ℕ} {r o : Found} {w v : List ℕ} → Raising m h j r w i o v → i ≤ 0 → Raising m h j r w 0 o v
+raised {m} {h} {j} {i} {r} {o} {w} {v} g l =
+    let z : i ≡ 0 = omega arith in subst (λ (k : ℕ). Raising m h j r w k o v) z g
+
+pub ruleset rounds = (needs, raising-none, read-first, read-second, lift-asked)
 
 -- ---- the end of the steps down
 
@@ -140,10 +153,10 @@ module _ {m : Modulus} {h : ℕ} {x : Stage} {w : List ℕ} {y : Descent} {v : L
   sum : (F G : ℕ → ℕ) (K k : ℕ) → (convolve (polynomial m v' (r .u) h) F k + K * convolve (polynomial m v' (r .v) h) G k) ≡ F k
   sum F G K k =
       ap₂ (λ (p q : ℕ → ℕ). convolve p F k + K * convolve q G k) beta-is gamma-is
-      ∙ ap₂ (λ (p q : ℕ). p + K * q) (convolve-constant 1 F k) (convolve-constant 0 G k) ∙ turn K (F k) (G k)
+      ∙ ap₂ (λ (p q : ℕ). p + K * q) (convolve-constant 1 F k) (convolve-constant 0 G k) ∙ elimination K (F k) (G k)
     where
-      turn : (K p q : ℕ) → 1 * p + K * (0 * q) ≡ p
-      turn K p q = omega arith
+      elimination : (K p q : ℕ) → 1 * p + K * (0 * q) ≡ p
+      elimination K p q = omega arith
 
   pub bottomed : Rising m h (f-at m x w) (g-at m x w) (x .d) (x .e) constant-at (y .steps) r v'
   bottomed =

@@ -11,16 +11,16 @@ use native.Mathlib.Nat.{mod-mod, mod-eq-of-lt}
 use lib.ListN.{length, getD}
 use Rattle.definitions.specs.Polynomials.{coef}
 use Rattle.definitions.specs.Resultants.{resultant}
-use Rattle.theory.specs.ReachedSteps.{coef-beyond}
-use Rattle.theory.specs.ResultantLaws.{resultant-cong}
+use Rattle.law_polynomials.specs.ReachedSteps.{coef-beyond}
+use Rattle.law_polynomials.specs.ResultantLaws.{resultant-cong}
 use Rattle.windows.specs.Window.{piece}
 use Rattle.windows.proofs.Leaf.{lt-or-le, piece-at, piece-over, piece-length}
 use Rattle.modulus.specs.declared.Modulus.{Modulus}
 use Rattle.modulus.specs.Values.{Enters, value, values}
-use Rattle.modulus_windows.specs.Standing.{Entered}
+use Rattle.modulus_windows.specs.LoopPromises.{Entered}
 use Rattle.modulus_windows.proofs.Forms.{values-length}
 use Rattle.euclid_steps.specs.Multiplied.{Asked}
-use Rattle.euclid_multipliers.specs.Ways.{Started}
+use Rattle.euclid_multipliers.specs.StepsInBuffer.{Started}
 
 module _ (m : Modulus) (f g w w₁ v : List ℕ) (two : 2 ≤ m .n) (k : Asked f g w) (lf : Entered m 0 f w w₁)
     (lg : Entered m (length g) g w₁ v) where

@@ -20,7 +20,7 @@ ghost use Rattle.windows.specs.Window.{Around, Scratch};
 ghost use Rattle.modulus.specs.Values.{Known};
 ghost use Rattle.euclid_steps.specs.Trails.{flag, bit, LoggedAt};
 ghost use Rattle.euclid_steps.specs.Multiplied.{Asked, Multiplied};
-ghost use Rattle.euclid_multipliers.specs.Ways.{Reads, DescentAsked, Descended, Rises, Raised, Started};
+ghost use Rattle.euclid_multipliers.specs.StepsInBuffer.{Reads, DescentAsked, Descended, Rises, Raised, Started};
 use euclid_steps::Ending;
 use euclid_steps::Found;
 use euclid_steps::Logged;

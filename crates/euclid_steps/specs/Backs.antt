@@ -16,7 +16,7 @@ use Rattle.windows.specs.Window.{Around, Apart, Below}
 use Rattle.euclid_steps.specs.Steps.{Falls, Lifts}
 use Rattle.modulus.specs.declared.Modulus.{Modulus}
 use Rattle.modulus.specs.Values.{value}
-use Rattle.euclid_steps.specs.Stages.{polynomial}
+use Rattle.euclid_steps.specs.EuclidStages.{polynomial}
 use Rattle.euclid_steps.specs.declared.Logged.{Logged}
 use Rattle.euclid_steps.specs.declared.Found.{Found}
 

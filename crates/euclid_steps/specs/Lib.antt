@@ -1,7 +1,7 @@
 pub mod Plain
 pub mod Steps
-pub mod Turning
-pub mod Stages
+pub mod Eliminations
+pub mod EuclidStages
 pub mod Backs
 pub mod Trails
 pub mod Multiplied

@@ -14,7 +14,7 @@ use Rattle.windows.specs.Window.{Below}
 use Rattle.euclid_steps.specs.Steps.{Bound}
 use Rattle.modulus.specs.declared.Modulus.{Modulus}
 use Rattle.modulus.specs.Values.{value}
-use Rattle.euclid_steps.specs.Stages.{polynomial}
+use Rattle.euclid_steps.specs.EuclidStages.{polynomial}
 use Rattle.euclid_steps.specs.declared.Ending.{Ending}
 
 pub record Asked (f g w : List ℕ) : Type 0 where

@@ -21,14 +21,14 @@ use native.Mathlib.Decide.{Fin·val-path}
 use native.Mathlib.Omega.{arith}
 use lib.IntN.{pos}
 use Rattle.definitions.specs.Polynomials.{coef, convolve, constant}
-use Rattle.algebra.specs.Normaliser.{by-ring, quote}
-use Rattle.algebra.specs.Reduction.{reduce-hom}
-use Rattle.algebra.specs.Residues.{Res, toRes, Res-ring}
-use Rattle.algebra.specs.Ring.{CRing}
-use Rattle.algebra.specs.Series.{series, conv, const, conv-const}
-use Rattle.theory.specs.Words.{convolve-is}
+use Rattle.law_algebra.specs.Normaliser.{by-ring, quote}
+use Rattle.law_algebra.specs.Reduction.{reduce-hom}
+use Rattle.law_algebra.specs.Residues.{Res, toRes, Res-ring}
+use Rattle.law_algebra.specs.Ring.{CRing}
+use Rattle.law_algebra.specs.Series.{series, conv, const, conv-const}
+use Rattle.law_polynomials.specs.Words.{convolve-is}
 use Rattle.windows.specs.Window.{behind}
-use Rattle.window_division.proofs.Turns.{spot, risen, risen-at, risen-low, convolve-add, convolve-spot}
+use Rattle.window_division.proofs.DivisionRounds.{spot, risen, risen-at, risen-low, convolve-add, convolve-spot}
 
 module _ {R : Type 0} (𝓡 : CRing R) where
   open CRing 𝓡 using (add as _+_, mul as _*_)
@@ -38,19 +38,19 @@ module _ {R : Type 0} (𝓡 : CRing R) where
   -- the step made F′ of G, and F is kept
   pub exchanged : {F G F′ β γ B C q y K : R} → F′ ≡ y * G + q * F → B ≡ K * γ + q * β → β * F′ + K * (γ * F) ≡ C → B * F + y * (β * G) ≡ C
   exchanged {F} {G} {F′} {β} {γ} {B} {C} {q} {y} {K} hf hb h =
-      ap (λ (x : R). x * F + y * (β * G)) hb ∙ turn F G β γ q y K ∙ ap (λ (x : R). β * x + K * (γ * F)) (sym hf) ∙ h
+      ap (λ (x : R). x * F + y * (β * G)) hb ∙ elimination F G β γ q y K ∙ ap (λ (x : R). β * x + K * (γ * F)) (sym hf) ∙ h
     where
-      turn : (F G β γ q y K : R) → (K * γ + q * β) * F + y * (β * G) ≡ β * (y * G + q * F) + K * (γ * F)
-      turn F G β γ q y K = by-ring 𝓡 (F ∷ G ∷ β ∷ γ ∷ q ∷ y ∷ K ∷ []) (search quote depth 20) (search quote depth 20) refl
+      elimination : (F G β γ q y K : R) → (K * γ + q * β) * F + y * (β * G) ≡ β * (y * G + q * F) + K * (γ * F)
+      elimination F G β γ q y K = by-ring 𝓡 (F ∷ G ∷ β ∷ γ ∷ q ∷ y ∷ K ∷ []) (search quote depth 20) (search quote depth 20) refl
 
   -- the step made G′ of G, and F is as it was
   pub stayed : {F G G′ β γ B C q y K L : R} → G′ ≡ y * G + q * F → B ≡ β + K * (q * γ) → L ≡ y * K → β * F + K * (γ * G′) ≡ C
       → B * F + L * (γ * G) ≡ C
   stayed {F} {G} {G′} {β} {γ} {B} {C} {q} {y} {K} {L} hg hb hl h =
-      ap₂ (λ (x z : R). x * F + z * (γ * G)) hb hl ∙ turn F G β γ q y K ∙ ap (λ (x : R). β * F + K * (γ * x)) (sym hg) ∙ h
+      ap₂ (λ (x z : R). x * F + z * (γ * G)) hb hl ∙ elimination F G β γ q y K ∙ ap (λ (x : R). β * F + K * (γ * x)) (sym hg) ∙ h
     where
-      turn : (F G β γ q y K : R) → (β + K * (q * γ)) * F + y * K * (γ * G) ≡ β * F + K * (γ * (y * G + q * F))
-      turn F G β γ q y K = by-ring 𝓡 (F ∷ G ∷ β ∷ γ ∷ q ∷ y ∷ K ∷ []) (search quote depth 20) (search quote depth 20) refl
+      elimination : (F G β γ q y K : R) → (β + K * (q * γ)) * F + y * K * (γ * G) ≡ β * F + K * (γ * (y * G + q * F))
+      elimination F G β γ q y K = by-ring 𝓡 (F ∷ G ∷ β ∷ γ ∷ q ∷ y ∷ K ∷ []) (search quote depth 20) (search quote depth 20) refl
 
 -- z = l y + q x
 pub record Mixture (n l : ℕ) (q x y z : ℕ → ℕ) : Type 0 where
@@ -140,17 +140,19 @@ module _ (m : ℕ) where
   exchanged-at : (F G F′ β γ B q : ℕ → ℕ) (y K C : ℕ) → Mixture (suc m) y q F G F′ → Mixture (suc m) K q β γ B
       → Bound (suc m) F′ F K β γ C → Bound (suc m) F G y B β C
   exchanged-at F G F′ β γ B q y K C hf hb h =
-      is-bound F G y B β C (exchanged (series (Res-ring m)) {γ = residues γ} {q = residues q} {y = number y} {K = number K} (mixture-is y q F G F′ hf) (mixture-is K q β γ B hb)
+      is-bound F G y B β C (exchanged (series (Res-ring m)) {γ = residues γ} {q = residues q} {y = number y} {K = number K}
+      (mixture-is y q F G F′ hf) (mixture-is K q β γ B hb)
       (bound-is F′ F K β γ C h))
 
   product-is : (L y K : ℕ) → L % suc m ≡ (y *ℕ K) % suc m → number L ≡ number y · number K
   product-is L y K h = ap (const (Res-ring m)) (Fin·val-path h ∙ reduce-hom m .h-mul (pos y) (pos K))
-      ∙ sym (Rattle.algebra.specs.Series.const-mul (Res-ring m) (toRes m y) (toRes m K))
+      ∙ sym (Rattle.law_algebra.specs.Series.const-mul (Res-ring m) (toRes m y) (toRes m K))
 
   stayed-at : (F G G′ β γ B q : ℕ → ℕ) (y K L C : ℕ) → Mixture (suc m) y q F G G′ → Added (suc m) K q γ β B → L % suc m ≡ (y *ℕ K) % suc m
       → Bound (suc m) F G′ K β γ C → Bound (suc m) F G L B γ C
   stayed-at F G G′ β γ B q y K L C hg hb hl h =
-      is-bound F G L B γ C (stayed (series (Res-ring m)) {β = residues β} {γ = residues γ} {q = residues q} {y = number y} {K = number K} (mixture-is y q F G G′ hg) (added-is K q γ β B hb)
+      is-bound F G L B γ C (stayed (series (Res-ring m)) {β = residues β} {γ = residues γ} {q = residues q} {y = number y} {K = number K}
+      (mixture-is y q F G G′ hg) (added-is K q γ β B hb)
       (product-is L y K hl) (bound-is F G′ K β γ C h))
 
 -- one step backwards keeps the combination

@@ -1,4 +1,5 @@
--- The log of the steps, five words a step from 2 h on, and what it says: how the pair at the beginning came to the pair where the run stands.
+-- The log of the steps, five words a step from 2 h on, and what it says: how the pair at the beginning came to the pair where the run
+-- stands.
 --
 --   flag, bit    what is kept of the degrees: whether f took the place of g; with it e - d, without it whether g lost its top word
 --   LoggedAt     the five words of a step stand in the buffer

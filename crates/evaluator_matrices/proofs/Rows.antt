@@ -5,7 +5,7 @@
 --   row-reduced, exchanged       the two row operations, as the code writes them, keep the leading minors
 --   combined-none                nothing is done
 --   divisor-first, divisor-second, exchange-asked     what the steps of Euclid's algorithm ask for
---   turn, falls, swapped, all-cleared                 a turn of it; the word that falls; its two ends
+--   round, falls, swapped, all-cleared                a round of it; the word that falls; its two ends
 --   words, rows                  the rules
 use mathlib.Core.Path.{_≡_, refl, sym, _∙_, ap, subst}
 use mathlib.Core.Logic.{_≢_}
@@ -17,7 +17,7 @@ use native.Mathlib.Omega.{arith}
 use lib.ListN.{length, getD, set, length-set}
 use lib.Seq.{getD-set-same, getD-set-other}
 use borrow.Author.Needs.{needs}
-use Rattle.numbers.specs.Congruence.{Cong, c-eq, c-mod, c-trans, c-add, c-refl}
+use Rattle.law_numbers.specs.Congruence.{Cong, c-eq, c-mod, c-trans, c-add, c-refl}
 use Rattle.evaluator_matrices.specs.LeadingMinors.{minor-add-row, minor-exchange}
 use Rattle.reduction.proofs.Reciprocals.{modulo}
 use Rattle.evaluator_matrices.specs.Elimination.{cell, ResidueCells, LessMultiple, Combined, RowReduced, Exchanged, EntryCleared}
@@ -177,7 +177,7 @@ combined-both h g =
       minor = λ k l p q. g .minor k l p q ∙ h .minor k l p q;
     }
 
--- what the steps of a turn ask for: row j by row i, then row i by row j, or an exchange
+-- what the steps of a round ask for: row j by row i, then row i by row j, or an exchange
 module _ {n i j : ℕ} {m : List (List ℕ)} (b : BelowDiagonal n i j m) where
   pub divisor-first : {r : List (List ℕ)} → Combined n i j m r → (cell r i j ≡ 0 → ⊥) → Reducible n j i j r
   divisor-first h z = record {
@@ -215,8 +215,8 @@ module _ {n i j : ℕ} {m : List (List ℕ)} (b : BelowDiagonal n i j m) where
     half : Combined n i j m r → Combined n i j m s
     half before = combined-both before (combined-flip (first .combined))
 
-    pub turn : {t : List (List ℕ)} → Combined n i j m r → RowReduced n i j j s t → Combined n i j m t
-    turn before second = combined-both (half before) (second .combined)
+    pub round : {t : List (List ℕ)} → Combined n i j m r → RowReduced n i j j s t → Combined n i j m t
+    round before second = combined-both (half before) (second .combined)
 
     pub swapped : {t : List (List ℕ)} → Combined n i j m r → Exchanged n i j s t → cell s j j ≡ 0 → EntryCleared n i j m t
     swapped {t} before e z = record {
@@ -240,6 +240,6 @@ all-cleared h z = record { combined = h; zero = z }
 
 pub ruleset words = (needs, array-none, less-next, less-end, quotient-fits)
 
-pub ruleset turns = (combined-none, divisor-first, divisor-second, exchange-asked, turn, falls, swapped, all-cleared)
+pub ruleset rounds = (combined-none, divisor-first, divisor-second, exchange-asked, round, falls, swapped, all-cleared)
 
-pub ruleset rows = (words, row-reduced, exchanged, turns)
+pub ruleset rows = (words, row-reduced, exchanged, rounds)

@@ -17,16 +17,16 @@ use lib.IntN.{pos}
 use Rattle.definitions.specs.Polynomials.{deg}
 use Rattle.definitions.specs.Expansions.{expansion}
 use Rattle.definitions.specs.Resultants.{sylvester, determinant, residue, resultant}
-use Rattle.theory.specs.Words.{residue-reduce, determinant-is}
-use Rattle.algebra.specs.Determinant.{det, det-cong, det-upper, prod}
-use Rattle.algebra.specs.Reduction.{reduce, reduce-hom, det-mod}
-use Rattle.algebra.specs.Form.{Form, det-form}
-use Rattle.algebra.specs.Index.{skip}
-use Rattle.algebra.specs.Integers.{ℤ-ring}
-use Rattle.algebra.specs.Rows.{put, put-same, put-other, add-row, exchange, lin-scale}
-use Rattle.algebra.specs.Residues.{Res, toRes, Res-ring, mul-mod-r}
-use Rattle.algebra.specs.Ring.{CRing, add-cancel, add-neg, neg-mul, neg-neg}
-use Rattle.numbers.specs.Congruence.{Cong}
+use Rattle.law_polynomials.specs.Words.{residue-reduce, determinant-is}
+use Rattle.law_algebra.specs.Determinant.{det, det-cong, det-upper, prod}
+use Rattle.law_algebra.specs.Reduction.{reduce, reduce-hom, det-mod}
+use Rattle.law_algebra.specs.Form.{Form, det-form}
+use Rattle.law_algebra.specs.Index.{skip}
+use Rattle.law_algebra.specs.Integers.{ℤ-ring}
+use Rattle.law_algebra.specs.Rows.{put, put-same, put-other, add-row, exchange, lin-scale}
+use Rattle.law_algebra.specs.Residues.{Res, toRes, Res-ring, mul-mod-r}
+use Rattle.law_algebra.specs.Ring.{CRing, add-cancel, add-neg, neg-mul, neg-neg}
+use Rattle.law_numbers.specs.Congruence.{Cong}
 
 unfoldable pub leading-minor : ℕ → ℕ → (ℕ → ℕ → ℕ) → ℕ
 leading-minor n k a = residue n (determinant k (λ r c. pos (a r c)))

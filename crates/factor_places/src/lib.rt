@@ -1,14 +1,15 @@
-// The sixteen places of the factors held, as words: where a number stands, the degrees and the resultants together, and the refusals that
+// The sixteen places of the factors present, as words: where a number stands, the degrees and the resultants together, and the refusals
+// that
 // go by them. A place is free where its number is 0.
 //
 //   place_of                     the first place that has a number
 //   degree_sum, multiplied       the sum of the degrees and the product of the resultants
-//   taken, unheld, full          what refuses an arrival with 14, a leaving with 14, an arrival with 13
+//   taken, absent, full          what refuses an arrival with 14, a leaving with 14, an arrival with 13
 //   arrival_refusal, leaving_refusal      the refusals in their order
 ghost use mathlib.Core.Path.{_≡_};
 ghost use Prim.Native.Nat.{_≤_};
 ghost use Rattle.refusals.specs.Refusals.{narrow, first-refusal};
-ghost use Rattle.factor_places.specs.Places.{place-of, sum, multiplied, taken, unheld, full, arrival-tests, leaving-tests};
+ghost use Rattle.factor_places.specs.Places.{place-of, sum, multiplied, taken, absent, full, arrival-tests, leaving-tests};
 
 // The first place that has the number k, or 16 where none has.
 pub fn place_of(number: [u16; 16], k: u16) -> usize
@@ -68,8 +69,8 @@ fn taken(number: [u16; 16], k: u16) -> bool
 }
 
 // "a number 0 or … one not held on leaving"
-fn unheld(number: [u16; 16], k: u16) -> bool
-    ensures { λ r. ⌜ r ≡ unheld k number ⌝ }
+fn absent(number: [u16; 16], k: u16) -> bool
+    ensures { λ r. ⌜ r ≡ absent k number ⌝ }
 {
     let i = place_of(number, k);
     if k != 0 {
@@ -87,7 +88,7 @@ fn full(number: [u16; 16], degree: [u32; 16], d: usize) -> bool
         return true;
     }
     let sum = degree_sum(degree) + (d as u64);
-    48 < sum
+    (refusals::MAX_DEGREE as u64) < sum
 }
 
 // The refusals of an arrival beside h, where room is the number of working words; 0 where none applies.
@@ -102,7 +103,7 @@ pub fn arrival_refusal(
 ) -> u32
     ensures { λ r. ⌜ r ≡ first-refusal (arrival-tests narrow n number degree k (now (f .entry)) (now (h .entry)) room) ⌝ }
 {
-    let status = refusals::refusal_two(n, f, h);
+    let status = refusals::refusal_of_pair(n, f, h);
     if status != 0 {
         return status;
     }
@@ -113,7 +114,7 @@ pub fn arrival_refusal(
     if full(number, degree, d) {
         return 13;
     }
-    if room < 8192 {
+    if room < refusals::WORKING_WORDS {
         return 7;
     }
     0
@@ -126,5 +127,5 @@ pub fn leaving_refusal(n: u32, number: [u16; 16], k: u16) -> u32
     if refusals::bad_modulus(n) {
         return 1;
     }
-    if unheld(number, k) { 14 } else { 0 }
+    if absent(number, k) { 14 } else { 0 }
 }

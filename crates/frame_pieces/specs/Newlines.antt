@@ -1,12 +1,12 @@
--- Newlines, and an unfinished line that is held in a buffer as far as it can be a frame. A text is the list of its characters; a
+-- Newlines, and an unfinished line that is kept in a buffer as far as it can be a frame. A text is the list of its characters; a
 -- newline is 10.
 --
---   has-newline t             whether a newline stands in t
---   Clear p a r               no newline stands in p from place a to place r
---   NewlineAt p a r           r is the place of the first newline of p from place a on, or the length of p
---   Held s h b                the unfinished line s is held: h counts its characters, up to 799, and they stand at the front of b
---   Holds h b p r b'          whatever line is held, the part p is held after it
---   LineAfter h b b'          what becomes of the buffer's words
+--   has-newline t                    whether a newline stands in t
+--   Clear p a r                      no newline stands in p from place a to place r
+--   NewlineAt p a r                  r is the place of the first newline of p from place a on, or the length of p
+--   Pending s h b                    the unfinished line s is kept: h counts its characters, up to 799, and they stand at the front of b
+--   KeepsPending h b p r b'          whatever line is kept, the part p is kept after it
+--   LineAfter h b b'                 what becomes of the buffer's words
 use mathlib.Core.Path.{_≡_, refl, sym, ap, ap₂, _∙_}
 use mathlib.Core.Bool.{Bool, true, false, _||_, true≢false}
 use mathlib.Core.List.{List, [], _∷_, _++_}
@@ -33,16 +33,16 @@ pub record NewlineAt (p : List ℕ) (a r : ℕ) : Type 0 where
   pub at : r < length p → getD p r 0 ≡ 10
 
 -- A line of more than 798 characters is no frame, whatever they are.
-pub record Held (s : List ℕ) (h : ℕ) (b : List ℕ) : Type 0 where
+pub record Pending (s : List ℕ) (h : ℕ) (b : List ℕ) : Type 0 where
   pub single : has-newline s ≡ false
   pub count : h ≡ min (length s) 799
   pub kept : h ≤ 798 → take h b ≡ s
 
--- Whatever line is held as h in b, the part p is held after it as r in b'.
-pub record Holds (h : ℕ) (b p : List ℕ) (r : ℕ) (b' : List ℕ) : Type 0 where
-  pub held : (s : List ℕ) → Held s h b → has-newline p ≡ false → Held (s ++ p) r b'
+-- Whatever line is kept as h in b, the part p is kept after it as r in b'.
+pub record KeepsPending (h : ℕ) (b p : List ℕ) (r : ℕ) (b' : List ℕ) : Type 0 where
+  pub pending : (s : List ℕ) → Pending s h b → has-newline p ≡ false → Pending (s ++ p) r b'
 
--- The buffer of the line held after a step or a part of one: h characters are held, at most 799; the words from 798 on are as they were,
+-- The buffer of the pending line after a step or a part of one: h characters are kept, at most 799; the words from 798 on are as they were,
 -- and those between are of no use.
 pub record LineAfter (h : ℕ) (b b' : List ℕ) : Type 0 where
   pub most : h ≤ 799

@@ -1,14 +1,14 @@
-// What an input's pieces are made of (S64): what a read's count means, where a line ends, and how an unfinished line is held.
+// What an input's pieces are made of (S64): what a read's count means, where a line ends, and how an unfinished line is kept.
 //
 //   Input, what_came      what the count of a read means
 //   skip                  how far there is no newline, at least
 //   find_newline          the end of a line
-//   hold                  an unfinished line
+//   keep                  an unfinished line
 ghost use mathlib.Core.Path.{_≡_};
 ghost use Prim.Native.Nat.{_≤_};
 ghost use lib.ListN.{length};
 ghost use Rattle.frame_pieces.specs.Inputs.{input-of};
-ghost use Rattle.frame_pieces.specs.Newlines.{Clear, NewlineAt, Holds, LineAfter};
+ghost use Rattle.frame_pieces.specs.Newlines.{Clear, NewlineAt, KeepsPending, LineAfter};
 
 // What the count of a read means: that many characters came, or the input has ended.
 pub enum Input {
@@ -56,22 +56,22 @@ pub fn find_newline(piece: &[u8], from: usize) -> usize
     j
 }
 
-// Holds part after what is held of an unfinished line. No more than the first 798 words of the buffer are used.
-pub fn hold(held: usize, line: &mut [u8], part: &[u8]) -> usize
+// Keeps part after what is kept of an unfinished line. No more than the first 798 words of the buffer are used.
+pub fn keep(pending: usize, line: &mut [u8], part: &[u8]) -> usize
     requires { ⌜ 798 ≤ length (now line) ⌝ }
-    ensures { λ r. ⌜ Holds held (now (line .entry)) (now (part .entry)) r (now (line .exit)) ⌝ }
+    ensures { λ r. ⌜ KeepsPending pending (now (line .entry)) (now (part .entry)) r (now (line .exit)) ⌝ }
     ensures { λ r. ⌜ LineAfter r (now (line .entry)) (now (line .exit)) ⌝ }
 {
-    if held > 798 {
+    if pending > 798 {
         return 799;
     }
-    if part.len() > 798 - held {
+    if part.len() > 798 - pending {
         return 799;
     }
     let mut i: usize = 0;
     while i < part.len() {
-        line[held + i] = part[i];
+        line[pending + i] = part[i];
         i += 1;
     }
-    held + part.len()
+    pending + part.len()
 }

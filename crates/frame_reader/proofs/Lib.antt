@@ -1,2 +1,2 @@
-pub mod HeldAnswers
+pub mod PendingAnswers
 pub mod Stepping

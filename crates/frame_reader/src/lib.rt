@@ -1,15 +1,15 @@
-// An input that comes in pieces of any size: the lines that end in a piece are answered, and the unfinished line is held until
-// the next. Of a line that is too long for a frame nothing but that is held.
+// An input that comes in pieces of any size: the lines that end in a piece are answered, and the unfinished line is kept until
+// the next. Of a line that is too long for a frame nothing but that is kept.
 ghost use mathlib.Core.Path.{_≡_};
 ghost use Prim.Native.Nat.{min, _+_, _*_, _≤_};
 ghost use lib.ListN.{length};
 ghost use Rattle.frame_runs.specs.Working.{Working};
 ghost use Rattle.frame_pieces.specs.Newlines.{LineAfter};
-ghost use Rattle.frame_reader.specs.Pieces.{HeldAnswered, PartAnswered, Steps, Ends};
+ghost use Rattle.frame_reader.specs.Pieces.{PendingAnswered, PartAnswered, Steps, Ends};
 
-// What a step leaves: the count of the line held, and of the characters written.
+// What a step leaves: the count of the pending line, and of the characters written.
 pub struct Progress {
-    pub held: usize,
+    pub pending: usize,
     pub written: usize,
 }
 
@@ -21,65 +21,65 @@ fn working_words() -> [u32; 8192]
     [0; 8192]
 }
 
-// A line of 799 characters or more is held as one of 799: it is no frame, whatever comes.
-fn counted(held: usize) -> usize
-    ensures { λ r. ⌜ r ≡ min held 799 ⌝ }
+// A line of 799 characters or more is kept as one of 799: it is no frame, whatever comes.
+fn counted(pending: usize) -> usize
+    ensures { λ r. ⌜ r ≡ min pending 799 ⌝ }
 {
-    if held > 799 {
+    if pending > 799 {
         return 799;
     }
-    held
+    pending
 }
 
-// Writes the answer to the line held.
-fn answer_held(held: usize, line: &[u8], work: &mut [u32], out: &mut [u8], at: usize)
+// Writes the answer to the pending line.
+fn answer_pending(pending: usize, line: &[u8], work: &mut [u32], out: &mut [u8], at: usize)
     requires { ⌜ (798 ≤ length (now line)) × ((Working (now work)) × (at + 13 ≤ length (now out))) ⌝ }
-    ensures { λ _. ⌜ HeldAnswered held (now (line .entry)) at (now (out .entry)) (now (out .exit))
+    ensures { λ _. ⌜ PendingAnswered pending (now (line .entry)) at (now (out .entry)) (now (out .exit))
         (now (work .entry)) (now (work .exit)) ⌝ }
     ensures { λ _. ⌜ Working (now (work .exit)) ⌝ }
 {
-    if held > 798 {
+    if pending > 798 {
         frame_lines::write_line(out, at, 255, 8, 0);
         return;
     }
-    frames::answer(&line[0..held], work, out, at);
+    frames::answer(&line[0..pending], work, out, at);
 }
 
 // Writes the answer to the line that part ends.
-fn close(held: usize, line: &mut [u8], part: &[u8], work: &mut [u32], out: &mut [u8], at: usize)
+fn close(pending: usize, line: &mut [u8], part: &[u8], work: &mut [u32], out: &mut [u8], at: usize)
     requires { ⌜ (798 ≤ length (now line)) × ((Working (now work)) × (at + 13 ≤ length (now out))) ⌝ }
-    ensures { λ _. ⌜ PartAnswered held (now (line .entry)) (now (part .entry)) at (now (out .entry)) (now (out .exit))
+    ensures { λ _. ⌜ PartAnswered pending (now (line .entry)) (now (part .entry)) at (now (out .entry)) (now (out .exit))
         (now (work .entry)) (now (work .exit)) ⌝ }
     ensures { λ _. ⌜ LineAfter 0 (now (line .entry)) (now (line .exit)) ⌝ }
     ensures { λ _. ⌜ Working (now (work .exit)) ⌝ }
 {
-    if held == 0 {
+    if pending == 0 {
         frames::answer(part, work, out, at);
         return;
     }
-    let h = frame_pieces::hold(held, line, part);
-    answer_held(h, line, work, out, at);
+    let h = frame_pieces::keep(pending, line, part);
+    answer_pending(h, line, work, out, at);
 }
 
-// Answers the lines that end in the piece and holds the unfinished one. held and line are what the step before left; before the
-// first, held is 0. Any held is taken: 799 and more stand for a line that is too long for a frame.
-pub fn step(held: usize, line: &mut [u8], piece: &[u8], out: &mut [u8]) -> Progress
+// Answers the lines that end in the piece and keeps the unfinished one. pending and line are what the step before left; before the
+// first, pending is 0. Any pending is taken: 799 and more stand for a line that is too long for a frame.
+pub fn step(pending: usize, line: &mut [u8], piece: &[u8], out: &mut [u8]) -> Progress
     requires { ⌜ (798 ≤ length (now line)) × (13 * length (now piece) ≤ length (now out)) ⌝ }
     ensures { λ r. ⌜ r .written ≤ length (now (out .entry)) ⌝ }
-    ensures { λ r. ⌜ Steps (min held 799) (now (line .entry)) (now (piece .entry)) (r .held) (now (line .exit)) (r .written)
+    ensures { λ r. ⌜ Steps (min pending 799) (now (line .entry)) (now (piece .entry)) (r .pending) (now (line .exit)) (r .written)
         (now (out .entry)) (now (out .exit)) ⌝ }
-    ensures { λ r. ⌜ LineAfter (r .held) (now (line .entry)) (now (line .exit)) ⌝ }
+    ensures { λ r. ⌜ LineAfter (r .pending) (now (line .entry)) (now (line .exit)) ⌝ }
 {
     let mut work = working_words();
-    let mut h = counted(held);
+    let mut h = counted(pending);
     let mut i: usize = 0;
     let mut w: usize = 0;
     while i < piece.len() {
         let j = frame_pieces::find_newline(piece, i);
         if j == piece.len() {
-            let rest = frame_pieces::hold(h, line, &piece[i..j]);
+            let rest = frame_pieces::keep(h, line, &piece[i..j]);
             return Progress {
-                held: rest,
+                pending: rest,
                 written: w,
             };
         }
@@ -89,22 +89,22 @@ pub fn step(held: usize, line: &mut [u8], piece: &[u8], out: &mut [u8]) -> Progr
         i = j + 1;
     }
     Progress {
-        held: h,
+        pending: h,
         written: w,
     }
 }
 
-// The end of the input: answers the line held, if there is one, and says how many characters it wrote.
-pub fn finish(held: usize, line: &[u8], out: &mut [u8]) -> usize
+// The end of the input: answers the pending line, if there is one, and says how many characters it wrote.
+pub fn finish(pending: usize, line: &[u8], out: &mut [u8]) -> usize
     requires { ⌜ (798 ≤ length (now line)) × (13 ≤ length (now out)) ⌝ }
     ensures { λ r. ⌜ r ≤ length (now (out .entry)) ⌝ }
-    ensures { λ r. ⌜ Ends (min held 799) (now (line .entry)) r (now (out .entry)) (now (out .exit)) ⌝ }
+    ensures { λ r. ⌜ Ends (min pending 799) (now (line .entry)) r (now (out .entry)) (now (out .exit)) ⌝ }
 {
-    let h = counted(held);
+    let h = counted(pending);
     if h == 0 {
         return 0;
     }
     let mut work = working_words();
-    answer_held(h, line, &mut work[0..8192], out, 0);
+    answer_pending(h, line, &mut work[0..8192], out, 0);
     13
 }

@@ -7,7 +7,7 @@ use mathlib.Core.List.{List, [], _∷_, _++_}
 use Prim.Native.Nat.{ℕ}
 use lib.Dec.{eqb}
 use Rattle.definitions.specs.Polynomials.{coef, deg}
-use Rattle.refusals.specs.Refusals.{narrow, Tested, refusals-two}
+use Rattle.refusals.specs.Refusals.{narrow, Tested, refusals-of-pair}
 
 -- the top word is that of the sent degree
 abbrev pub zero-top : List ℕ → Bool
@@ -20,4 +20,4 @@ top-refusals f g = (10, zero-top f) ∷ (10, zero-top g) ∷ []
 -- The refusals 1, 2 and 3, as of the services, and 10, "tested after 3 and printed as 0a" (S68, S69). A frame's line and the
 -- program's buffers leave none of the others.
 abbrev pub job-refusals : ℕ → List ℕ → List ℕ → List Tested
-job-refusals n f g = refusals-two narrow n f g ++ top-refusals f g
+job-refusals n f g = refusals-of-pair narrow n f g ++ top-refusals f g

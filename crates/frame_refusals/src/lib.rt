@@ -30,7 +30,7 @@ fn top_refusal(f: &[u32], g: &[u32]) -> u32
 pub fn job_refusal(n: u32, f: &[u32], g: &[u32]) -> u32
     ensures { λ r. ⌜ r ≡ first-refusal (job-refusals n (now (f .entry)) (now (g .entry))) ⌝ }
 {
-    let early = refusals::refusal_two(n, f, g);
+    let early = refusals::refusal_of_pair(n, f, g);
     let late = top_refusal(f, g);
     if early != 0 {
         return early;

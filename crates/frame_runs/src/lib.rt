@@ -18,16 +18,16 @@ ghost use Prim.Native.Nat.{_≤_};
 ghost use lib.ListN.{length, replicate};
 ghost use Rattle.definitions.specs.Resultants.{resultant, Reduced};
 ghost use Rattle.windows.specs.Window.{Scratch};
-ghost use Rattle.coprime_test.specs.Shown.{TestSizes};
-ghost use Rattle.resultant_pseudo.specs.Standing.{TriedAnswer};
-ghost use Rattle.divisor.specs.Sizes.{DivisorSizes};
+ghost use Rattle.coprime_test.specs.CoprimeAttempted.{TestLengthsAsked};
+ghost use Rattle.resultant_pseudo.specs.StandingRuns.{EuclidAttempted};
+ghost use Rattle.divisor.specs.Sizes.{DivisorLengthsAsked};
 ghost use Rattle.frame_runs.specs.Jobs.{EuclidAsked, JobAsked};
-use resultant_pseudo::Tried;
+use resultant_pseudo::EuclidAttempt;
 
 // Euclid without inverses: the value, or nothing where some leading word is no unit.
-fn ordered(w: &mut [u32], n: u32, f: &[u32], g: &[u32]) -> Tried
-    requires { ⌜ (2 ≤ n) × (TestSizes (now f) (now g) (now w) × (length (now f) ≤ length (now g))) ⌝ }
-    ensures { λ r. ⌜ TriedAnswer n (resultant n (now (f .entry)) (now (g .entry))) r ⌝ }
+fn ordered(w: &mut [u32], n: u32, f: &[u32], g: &[u32]) -> EuclidAttempt
+    requires { ⌜ (2 ≤ n) × (TestLengthsAsked (now f) (now g) (now w) × (length (now f) ≤ length (now g))) ⌝ }
+    ensures { λ r. ⌜ EuclidAttempted n (resultant n (now (f .entry)) (now (g .entry))) r ⌝ }
     ensures { λ _. ⌜ Scratch (now (w .entry)) (now (w .exit)) ⌝ }
 {
     let l = f.len();
@@ -39,27 +39,27 @@ fn ordered(w: &mut [u32], n: u32, f: &[u32], g: &[u32]) -> Tried
 }
 
 // A swap costs the sign (-1)^(d e).
-fn either(w: &mut [u32], n: u32, f: &[u32], g: &[u32]) -> Tried
+fn either(w: &mut [u32], n: u32, f: &[u32], g: &[u32]) -> EuclidAttempt
     requires { ⌜ EuclidAsked n (now f) (now g) (now w) ⌝ }
-    ensures { λ r. ⌜ TriedAnswer n (resultant n (now (f .entry)) (now (g .entry))) r ⌝ }
+    ensures { λ r. ⌜ EuclidAttempted n (resultant n (now (f .entry)) (now (g .entry))) r ⌝ }
     ensures { λ _. ⌜ Scratch (now (w .entry)) (now (w .exit)) ⌝ }
 {
     if f.len() <= g.len() {
         return ordered(w, n, f, g);
     }
     match ordered(w, n, g, f) {
-        Tried::Value(v) => Tried::Value(resultant_turns::with_sign(
+        EuclidAttempt::Value(v) => EuclidAttempt::Value(resultant_signs::with_sign(
             n,
             (f.len() - 1) * (g.len() - 1),
             v,
         )),
-        Tried::NotUnit(x) => Tried::NotUnit(x),
+        EuclidAttempt::NotUnit(x) => EuclidAttempt::NotUnit(x),
     }
 }
 
-fn euclid(w: &mut [u32], n: u32, f: &[u32], g: &[u32]) -> Tried
+fn euclid(w: &mut [u32], n: u32, f: &[u32], g: &[u32]) -> EuclidAttempt
     requires { ⌜ EuclidAsked n (now f) (now g) (now w) ⌝ }
-    ensures { λ r. ⌜ TriedAnswer n (resultant n (now (f .entry)) (now (g .entry))) r ⌝ }
+    ensures { λ r. ⌜ EuclidAttempted n (resultant n (now (f .entry)) (now (g .entry))) r ⌝ }
     ensures { λ _. ⌜ now (w .exit) ≡ replicate (length (now (w .entry))) 0 ⌝ }
 {
     let r = either(w, n, f, g);
@@ -84,8 +84,8 @@ fn euclid_first(n: u32, f: &[u32], g: &[u32], work: &mut [u32]) -> u32
 {
     let room = f.len() + g.len();
     match euclid(&mut work[0..room], n, f, g) {
-        Tried::Value(v) => v,
-        Tried::NotUnit(_) => general(n, f, g, work),
+        EuclidAttempt::Value(v) => v,
+        EuclidAttempt::NotUnit(_) => general(n, f, g, work),
     }
 }
 
@@ -117,7 +117,7 @@ pub fn resultant(n: u32, f: &[u32], g: &[u32], work: &mut [u32]) -> u32
 }
 
 fn divisor(part: &mut [u32], n: u32, f: &[u32], g: &[u32]) -> u32
-    requires { ⌜ (2 ≤ n) × DivisorSizes (now f) (now g) (now part) ⌝ }
+    requires { ⌜ (2 ≤ n) × DivisorLengthsAsked (now f) (now g) (now part) ⌝ }
     ensures { λ r. ⌜ Reduced n (now (f .entry)) (now (g .entry)) r ⌝ }
     ensures { λ _. ⌜ now (part .exit) ≡ replicate (length (now (part .entry))) 0 ⌝ }
 {

@@ -8,8 +8,8 @@ use Prim.Native.Nat.{ℕ, zero, suc, _+_, _-_, _≤_}
 use native.Mathlib.Omega.{arith}
 use lib.ListN.{length, take, drop, replicate}
 use Rattle.definitions.specs.Resultants.{resultant, Reduced}
-use Rattle.refusals.specs.Refusals.{narrow, first-refusal, refusals-two, left}
-use Rattle.refusals.specs.Conditions.{accepted-two}
+use Rattle.refusals.specs.Refusals.{narrow, first-refusal, refusals-of-pair, left}
+use Rattle.refusals.specs.Conditions.{accepted-pair}
 use Rattle.refusals.proofs.Statuses.{front-passes, left-refused}
 use Rattle.frame_refusals.specs.FrameRefusals.{top-refusals, job-refusals}
 use Rattle.frame_runs.specs.Working.{Working}
@@ -19,7 +19,7 @@ use Rattle.frames.proofs.Answering.{first-handed, second-handed}
 
 pub job-asked : {n r : ℕ} {f g w : List ℕ} → Working w → r ≡ first-refusal (job-refusals n f g) → r ≡ 0 → JobAsked n f g w
 job-asked {n} {r} {f} {g} {w} h e z =
-    let a = accepted-two narrow n f g (front-passes (refusals-two narrow n f g) (top-refusals f g) (sym e ∙ z)) in
+    let a = accepted-pair narrow n f g (front-passes (refusals-of-pair narrow n f g) (top-refusals f g) (sym e ∙ z)) in
     record {
       modulus = a .0 .modulus;
       least-f = a .0 .some;

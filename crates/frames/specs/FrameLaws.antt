@@ -7,7 +7,7 @@ use mathlib.Core.List.{List}
 use Prim.Native.Nat.{ℕ, zero, suc}
 use native.Mathlib.Nat.{le-trans}
 use native.Mathlib.Omega.{arith}
-use Rattle.theory.specs.ReachedLaws.{reduced-unique}
+use Rattle.law_polynomials.specs.ReachedLaws.{reduced-unique}
 use Rattle.frame_lines.specs.FrameLines.{kind-of, answer-line}
 use Rattle.frames.specs.Frames.{Value, Outcome, AnswerOf, refused, answered}
 

@@ -23,16 +23,16 @@ use lib.ListN.{length, getD, set, length-set}
 use lib.Seq.{getD-set-same, getD-set-other}
 use Rattle.definitions.specs.Polynomials.{total}
 use Rattle.definitions.specs.Residues.{Inverse, IsUnit}
-use Rattle.algebra.specs.Evaluation.{ev, ev-cong}
-use Rattle.algebra.specs.Newton.{num, nest, nest-cong, nest-out, nest-step, grow, diff}
-use Rattle.algebra.specs.Newton.{Stage, stage-first, stage-next, stage-last, newton-values}
-use Rattle.algebra.specs.Reduction.{reduce-hom}
-use Rattle.algebra.specs.Residues.{Res, toRes, Res-ring, mul-mod, mul-mod-r}
-use Rattle.algebra.specs.Ring.{neg-mul, mul-zero, add-zero, neg-zero}
-use Rattle.numbers.specs.Divisors.{GcdCofactor, bezout-exists}
-use Rattle.numbers.specs.PrimeTable.{differences-above}
-use Rattle.numbers.specs.Units.{cofactor-inverse, inverse-unique, gcd-of-coprime, coprime-of-unit}
-use Rattle.theory.specs.TwoVariablesLaws.{ev-total, num-is}
+use Rattle.law_algebra.specs.Evaluation.{ev, ev-cong}
+use Rattle.law_algebra.specs.Newton.{num, nest, nest-cong, nest-out, nest-step, grow, diff}
+use Rattle.law_algebra.specs.Newton.{Stage, stage-first, stage-next, stage-last, newton-values}
+use Rattle.law_algebra.specs.Reduction.{reduce-hom}
+use Rattle.law_algebra.specs.Residues.{Res, toRes, Res-ring, mul-mod, mul-mod-r}
+use Rattle.law_algebra.specs.Ring.{neg-mul, mul-zero, add-zero, neg-zero}
+use Rattle.law_numbers.specs.Divisors.{GcdCofactor, bezout-exists}
+use Rattle.law_numbers.specs.PrimeTable.{differences-above}
+use Rattle.law_numbers.specs.Units.{cofactor-inverse, inverse-unique, gcd-of-coprime, coprime-of-unit}
+use Rattle.law_polynomials.specs.BivariateLaws.{ev-total, num-is}
 use Rattle.windows.specs.Window.{Moved, addMul}
 use Rattle.interpolation.specs.Interpolated.{Valued, Interpolated, Differenced}
 use Rattle.interpolation.specs.NewtonWords.{Row, Passes, Grown, cofactor-of}

@@ -8,7 +8,7 @@ use mathlib.Core.List.{List}
 use Prim.Native.Nat.{ℕ, suc, _+_, _-_, _*_, _%_, _^_, _<_, _≤_}
 use lib.ListN.{length, getD}
 use Rattle.definitions.specs.Polynomials.{total}
-use Rattle.numbers.specs.PrimeTable.{UnitDifferences}
+use Rattle.law_numbers.specs.PrimeTable.{UnitDifferences}
 
 pub record Valued (n b : ℕ) (w : List ℕ) : Type 0 where
   pub two : 2 ≤ n

@@ -11,9 +11,9 @@ use mathlib.Core.List.{List}
 use Prim.Native.Nat.{ℕ, suc, _+_, _<_, _≤_}
 use native.Mathlib.Nat.{zero-lt-suc}
 use lib.ListN.{length, getD}
-use Rattle.algebra.specs.Newton.{nest, Stage}
-use Rattle.algebra.specs.Residues.{toRes, Res-ring}
-use Rattle.numbers.specs.Divisors.{bezout-exists}
+use Rattle.law_algebra.specs.Newton.{nest, Stage}
+use Rattle.law_algebra.specs.Residues.{toRes, Res-ring}
+use Rattle.law_numbers.specs.Divisors.{bezout-exists}
 
 pub record Row (n b : ℕ) (w : List ℕ) : Type 0 where
   pub one : 1 ≤ n

@@ -21,7 +21,8 @@ use reduction::Reciprocal;
 
 // n is the word, wide the same in 64 bits, v is 2^64 / n and c is 2^64 modulo n, which Montgomery's form wants too. Where words are held,
 // held is 1, negative is -n and inverse that of n modulo 2^32; else these three are 0. "the record of a modulus that both sets share holds
-// the wider n and its K" (02, W9): wide and k. There is no padding but at the end: a copy of the record is words that the reader finds whole.
+// the wider n and its K" (02, W9): wide and k. There is no padding but at the end: a copy of the record is words that the reader finds
+// whole.
 pub struct Modulus {
     pub wide: u64,
     pub v: u64,

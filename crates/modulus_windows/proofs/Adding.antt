@@ -1,30 +1,23 @@
 -- Multiples of words that are added to others: entered multipliers make of words as they are what the multipliers themselves make.
 --
---   formed-of                   where words can be held, the record has what the reductions need
---   paired-held, moved-held     what the held loop makes, with 1 entered for the words at dst
---   same-modulus, clear-of      what the other loops ask
---   additions                   the rules
+--   paired-held, moved-held, scaled-entered    what the held loops make, with 1 entered for the words at dst
+--   clear-of                                   what the other loops ask
+--   additions                                  the rules
 use mathlib.Core.Path.{_≡_, refl, ap, subst, _∙_}
 use mathlib.Core.List.{List}
 use Prim.Native.Nat.{ℕ, _+_, _*_, _%_, _≤_, _<_}
 use native.Mathlib.Nat.{one-mul, zero-mul, add-zero, le-of-lt}
 use native.Mathlib.Omega.{arith}
 use lib.ListN.{length, getD}
-use Rattle.numbers.specs.Congruence.{Cong, c-refl, c-trans, c-eq, c-mod, c-add, c-mul}
-use Rattle.windows.specs.Window.{Clear, Apart, Below, PairAsked, Paired, Moved, Written, addMul, behind}
-use Rattle.windows.proofs.Turns.{power-told}
+use Rattle.law_numbers.specs.Congruence.{Cong, c-refl, c-trans, c-eq, c-mod, c-add, c-mul}
+use Rattle.windows.specs.Window.{Clear, Apart, Below, PairAsked, Paired, Moved, Written, addMul, mulBy, behind}
+use Rattle.windows.proofs.WindowRounds.{power-told}
 use Rattle.window_combining.specs.Combined.{combination}
-use Rattle.montgomery.specs.Held.{plain, Formed}
-use Rattle.montgomery.specs.Turning.{plain-none}
-use Rattle.montgomery.specs.declared.Form.{Form}
+use Rattle.montgomery.specs.Held.{plain}
+use Rattle.montgomery.specs.Decoding.{plain-none}
 use Rattle.modulus.specs.declared.Modulus.{Modulus}
-use Rattle.reduction.specs.Moduli.{Ready}
-use Rattle.reduction.specs.declared.Reciprocal.{Reciprocal}
-use Rattle.modulus.specs.Values.{Known, value, form, reciprocal}
-use Rattle.modulus.proofs.Valuing.{value-held}
-
-pub formed-of : {m : Modulus} {f : Form} → Known m → (m .held ≡ 0 → ⊥) → f ≡ form m → Formed f
-formed-of k h e = rw e (k .formed h)
+use Rattle.modulus.specs.Values.{Known, value}
+use Rattle.modulus.proofs.Valuing.{value-held, formed-of, ready-of}
 
 -- what an entered multiplier is modulo n
 entered : (m : Modulus) (a x : ℕ) → (m .held ≡ 0 → ⊥) → value m x ≡ a % m .n → Cong (m .n) (plain (m .n) x) a
@@ -56,14 +49,20 @@ module _ (m : Modulus) (known : Known m) (held : m .held ≡ 0 → ⊥) {src dst
     high = wr .high;
   }
 
+  pub scaled-entered : (x c : ℕ) → Moved (mulBy (m .n) (plain (m .n) x)) src dst len w w' → value m x ≡ c % m .n
+      → Moved (mulBy (m .n) c) src dst len w w'
+  scaled-entered x c mv hx = record {
+    same = mv .same;
+    low = mv .low;
+    mid = λ i g. mv .mid i g ∙ c-mul (entered m c x held hx) c-refl .same;
+    high = mv .high;
+  }
+
 pub clear-of : {n e src dst len : ℕ} {w : List ℕ} → PairAsked n e src dst len w → Clear src dst len
 clear-of a = record { ok = λ i j p q h. a .apart .ok i j q (omega arith) h }
 
 pub none-most : (n : ℕ) → 0 ≤ n
 none-most n = omega arith
 
-pub same-modulus : {m : Modulus} {r : Reciprocal} → Known m → r ≡ reciprocal m → Ready r
-same-modulus k e = rw e (k .ready)
-
 -- `additions` at the returns and the calls; the rest are `needs`
-pub ruleset additions = (tt, refl, le-of-lt, none-most, power-told, formed-of, same-modulus, clear-of, paired-held, moved-held)
+pub ruleset additions = (tt, refl, le-of-lt, none-most, power-told, formed-of, ready-of, clear-of, paired-held, moved-held, scaled-entered)

@@ -1,5 +1,5 @@
 // The word loops of Euclid's steps over the record of a modulus: one test of the form at the top, and a loop for each form behind it. The
-// contracts but the last two are about what the words stand for, and say that the words stay residues.
+// contracts are about what the words stand for, and say that the words stay residues.
 //
 //   combine_pair    the words at dst, times l, less c and e times the words at src
 //   combine         the same with e alone
@@ -8,18 +8,107 @@
 //
 //   add_pair, add_scaled    multiples of the words at src added to the words at dst, words and multipliers as they are: where words can be
 //                           held, the multipliers are entered and the words are not
+//   set_scaled              a multiple of the words at src, words and multiplier as they are
+//
+//   combine_pair_held, scale_held, load_held    the loops where words can be held (S87), with held multipliers: the contracts of
+//                                               `window_combining` and `windows`, of the multipliers turned back. The words may be held or
+//                                               not: what a loop makes of them, it makes of what they stand for
+//   scale_plain                                 the loop where they cannot
 //
 //   m          the modulus
-//   l, c, e    words below n
-ghost use Prim.Native.Nat.{_+_, _-_, _<_, _≤_};
-ghost use lib.ListN.{length};
-ghost use Rattle.windows.specs.Window.{Clear, Apart, Below, PairAsked, Paired, Moved, addMul};
+//   l, c, e    words below n; held multipliers
+//   form       the modulus with what Montgomery's reductions need of it
+ghost use Prim.Native.Nat.{ℕ, _+_, _-_, _<_, _≤_};
+ghost use lib.ListN.{length, getD};
+ghost use Rattle.windows.specs.Window.{Clear, Apart, Below, PairAsked, Paired, Moved, Written, addMul, mulBy};
 ghost use Rattle.window_combining.specs.Combined.{combination};
+ghost use Rattle.montgomery.specs.Held.{held, plain, Formed};
 ghost use Rattle.modulus.specs.Values.{Known, value, values};
-ghost use Rattle.modulus_windows.specs.Standing.{Wrote, Scaled, Entered};
+ghost use Rattle.modulus_windows.specs.LoopPromises.{Wrote, Scaled, Entered};
 use modulus::Modulus;
 use montgomery::Form;
 use reduction::Reciprocal;
+
+// w[dst + j] = l * w[dst + j] + c * w[src + j - 1] + e * w[src + j], for j < len; the word before the first counts as 0.
+pub fn combine_pair_held(
+    w: &mut [u32],
+    form: Form,
+    l: u32,
+    c: u32,
+    e: u32,
+    src: usize,
+    dst: usize,
+    len: usize,
+)
+    requires { ⌜ Formed form ⌝ }
+    requires { ⌜ (l ≤ form .n) × ((c ≤ form .n) × ((e ≤ form .n) × ((src + len ≤ length (now w)) × (dst + len ≤ length (now w))))) ⌝ }
+    requires { ⌜ (Apart src len dst len) × ((Below (form .n) src len (now w)) × (Below (form .n) dst len (now w))) ⌝ }
+    ensures { λ _. ⌜ Written (combination (form .n) (plain (form .n) l) (plain (form .n) c) (plain (form .n) e) src dst (now (w .entry)))
+        dst len (now (w .entry)) (now (w .exit)) ⌝ }
+{
+    let mut j: usize = 0;
+    let mut y: u32 = 0;
+    while j < len {
+        let z = w[src + j];
+        w[dst + j] = montgomery::sum_three(form, l, w[dst + j], c, y, e, z);
+        y = z;
+        j += 1;
+    }
+}
+
+// w[dst + j] = c * w[src + j], for j < len.
+pub fn scale_held(w: &mut [u32], form: Form, c: u32, src: usize, dst: usize, len: usize)
+    requires { ⌜ Formed form ⌝ }
+    requires { ⌜ (c ≤ form .n) × ((src + len ≤ length (now w)) × (dst + len ≤ length (now w))) ⌝ }
+    requires { ⌜ Clear src dst len ⌝ }
+    ensures { λ _. ⌜ Moved (mulBy (form .n) (plain (form .n) c)) src dst len (now (w .entry)) (now (w .exit)) ⌝ }
+{
+    let mut j: usize = 0;
+    while j < len {
+        w[dst + j] = montgomery::product(form, c, w[src + j]);
+        j += 1;
+    }
+}
+
+// The same with a multiplier as it is, by the reciprocal.
+fn scale_plain(w: &mut [u32], m: Modulus, c: u32, src: usize, dst: usize, len: usize)
+    requires { ⌜ Known m ⌝ }
+    requires { ⌜ (src + len ≤ length (now w)) × (dst + len ≤ length (now w)) ⌝ }
+    requires { ⌜ Clear src dst len ⌝ }
+    ensures { λ _. ⌜ Moved (mulBy (m .n) c) src dst len (now (w .entry)) (now (w .exit)) ⌝ }
+{
+    let n = m.n;
+    if reduction::power_of_two(n) {
+        windows::scale_masked(w, n, c, src, dst, len);
+        return;
+    }
+    windows::scale_by(
+        w,
+        n,
+        Reciprocal {
+            n,
+            v: m.v,
+            c: m.c as u64,
+        },
+        c,
+        src,
+        dst,
+        len,
+    );
+}
+
+// w[at + j] = f[j] held, for each word of f, whatever it is.
+pub fn load_held(w: &mut [u32], at: usize, f: &[u32], form: Form)
+    requires { ⌜ (Formed form) × (at + length (now f) ≤ length (now w)) ⌝ }
+    ensures { λ _. ⌜ Written (λ (k : ℕ). held (form .n) (getD (now (f .entry)) k 0)) at (length (now (f .entry)))
+        (now (w .entry)) (now (w .exit)) ⌝ }
+{
+    let mut j: usize = 0;
+    while j < f.len() {
+        w[at + j] = montgomery::enter(form, f[j]);
+        j += 1;
+    }
+}
 
 // w[dst + j] = l * w[dst + j] - c * w[src + j - 1] - e * w[src + j], for j < len; the word before the first counts as 0.
 pub fn combine_pair(
@@ -40,7 +129,7 @@ pub fn combine_pair(
 {
     let n = m.n;
     if m.held != 0 {
-        held_windows::combine_pair(
+        combine_pair_held(
             w,
             Form {
                 n,
@@ -84,7 +173,7 @@ pub fn combine(w: &mut [u32], m: Modulus, l: u32, e: u32, src: usize, dst: usize
 {
     let n = m.n;
     if m.held != 0 {
-        held_windows::combine_pair(
+        combine_pair_held(
             w,
             Form {
                 n,
@@ -125,23 +214,23 @@ pub fn scale(w: &mut [u32], m: Modulus, c: u32, src: usize, dst: usize, len: usi
     ensures { λ _. ⌜ Scaled m c src dst len (now (w .entry)) (now (w .exit)) ⌝ }
 {
     let n = m.n;
-    if m.held != 0 {
-        held_windows::scale(
-            w,
-            Form {
-                n,
-                k: m.negative,
-                m: m.inverse,
-                r2: m.c,
-            },
-            c,
-            src,
-            dst,
-            len,
-        );
+    if m.held == 0 {
+        scale_plain(w, m, c, src, dst, len);
         return;
     }
-    windows::scale(w, n, c, src, dst, len);
+    scale_held(
+        w,
+        Form {
+            n,
+            k: m.negative,
+            m: m.inverse,
+            r2: m.c,
+        },
+        c,
+        src,
+        dst,
+        len,
+    );
 }
 
 // w[at + j] = f[j], for each word of f, whatever it is.
@@ -151,7 +240,7 @@ pub fn load(w: &mut [u32], at: usize, f: &[u32], m: Modulus)
 {
     let n = m.n;
     if m.held != 0 {
-        held_windows::load(
+        load_held(
             w,
             at,
             f,
@@ -178,7 +267,7 @@ pub fn add_pair(w: &mut [u32], m: Modulus, c: u32, e: u32, src: usize, dst: usiz
         let one = modulus::enter(m, 1);
         let x = modulus::enter(m, c);
         let y = modulus::enter(m, e);
-        held_windows::combine_pair(
+        combine_pair_held(
             w,
             Form {
                 n,
@@ -231,7 +320,7 @@ pub fn add_scaled(w: &mut [u32], m: Modulus, c: u32, src: usize, dst: usize, len
             m: m.inverse,
             r2: m.c,
         };
-        held_windows::combine_pair(w, form, one, 0, x, src, dst, len);
+        combine_pair_held(w, form, one, 0, x, src, dst, len);
         return;
     }
     if reduction::power_of_two(n) {
@@ -251,4 +340,26 @@ pub fn add_scaled(w: &mut [u32], m: Modulus, c: u32, src: usize, dst: usize, len
         dst,
         len,
     );
+}
+
+// w[dst + j] = c * w[src + j], for j < len.
+pub fn set_scaled(w: &mut [u32], m: Modulus, c: u32, src: usize, dst: usize, len: usize)
+    requires { ⌜ Known m ⌝ }
+    requires { ⌜ (src + len ≤ length (now w)) × (dst + len ≤ length (now w)) ⌝ }
+    requires { ⌜ Clear src dst len ⌝ }
+    ensures { λ _. ⌜ Moved (mulBy (m .n) c) src dst len (now (w .entry)) (now (w .exit)) ⌝ }
+{
+    let n = m.n;
+    if m.held != 0 {
+        let x = modulus::enter(m, c);
+        let form = Form {
+            n,
+            k: m.negative,
+            m: m.inverse,
+            r2: m.c,
+        };
+        scale_held(w, form, x, src, dst, len);
+        return;
+    }
+    scale_plain(w, m, c, src, dst, len);
 }

@@ -1,7 +1,7 @@
 -- The steps backwards over the words of the buffer and what they stand for.
 --
 --   exchange-…, exchanging    what the word loop asks over a division's end: two windows of e words, apart, of residues
---   raise-…, raising          what it asks over a turn before it: two windows of d words
+--   raise-…, raising          what it asks over an elimination before it: two windows of d words
 --   exchanged, raised         the step backwards that it makes
 --   ended                     the end of the steps
 --   exchanging, raising, backs    the rules
@@ -19,19 +19,19 @@ use lib.ListN.{length, getD, set, length-set}
 use lib.Seq.{getD-set-same, getD-set-other}
 use borrow.Author.Needs.{needs}
 use Rattle.definitions.specs.Polynomials.{coef, constant}
-use Rattle.numbers.specs.Congruence.{Cong, c-refl, c-sym, c-trans, c-eq, c-mul, c-neg, c-cancel}
+use Rattle.law_numbers.specs.Congruence.{Cong, c-refl, c-sym, c-trans, c-eq, c-mul, c-neg, c-cancel}
 use Rattle.windows.specs.Window.{piece, Moved, zeroed, Written, Around, Apart, Below}
 use Rattle.windows.proofs.Leaf.{lt-or-le, piece-at, piece-over, apart-at}
 use Rattle.windows.proofs.Lift.{around-wide}
-use Rattle.window_division.proofs.Turns.{spot}
+use Rattle.window_division.proofs.DivisionRounds.{spot}
 use Rattle.window_combining.specs.Combined.{combination}
 use Rattle.modulus.specs.declared.Modulus.{Modulus}
 use Rattle.modulus.specs.Values.{value, values, Enters, Multiplies}
-use Rattle.modulus_windows.specs.Standing.{Wrote}
+use Rattle.modulus_windows.specs.LoopPromises.{Wrote}
 use Rattle.modulus_windows.proofs.Forms.{values-length}
 use Rattle.euclid_steps.specs.Plain.{Sound, known-sound, plain-sound, values-at}
 use Rattle.euclid_steps.specs.Steps.{Mixture, Added, Falls, Lifts, two}
-use Rattle.euclid_steps.specs.Stages.{polynomial}
+use Rattle.euclid_steps.specs.EuclidStages.{polynomial}
 use Rattle.euclid_steps.specs.Backs.{Held, Ended, LiftAsked, Lifted}
 use Rattle.euclid_steps.specs.declared.Logged.{Logged}
 use Rattle.euclid_steps.specs.declared.Found.{Found}

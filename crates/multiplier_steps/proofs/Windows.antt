@@ -1,7 +1,7 @@
 -- What the word loops of a step backwards make of two windows of one list, whatever the list is of: words, or what words stand for.
 --
 --   first-kept, first-nil, first-mixed      over a division's end: the window at u is kept, the one at v ends and is a mixture
---   second-kept, second-high, second-added  over a turn before it: the window at v is kept, the one at u gains the other, risen
+--   second-kept, second-high, second-added  over an elimination before it: the window at v is kept, the one at u gains the other, risen
 --
 -- Letters: h is the length of a window, beta stands at u, gamma at v; d and e are the degrees of f and g before the step.
 use mathlib.Core.Path.{_≡_, refl, sym, ap, ap₂, _∙_}
@@ -12,16 +12,13 @@ use native.Mathlib.Omega.{arith}
 use native.Mathlib.Nat.{mod-mod, add-assoc}
 use lib.ListN.{length, getD}
 use Rattle.definitions.specs.Polynomials.{coef, convolve}
-use Rattle.numbers.specs.Congruence.{Cong, c-refl, c-sym, c-trans, c-eq, c-add, c-mul}
+use Rattle.law_numbers.specs.Congruence.{Cong, c-refl, c-sym, c-trans, c-eq, c-add, c-mul}
 use Rattle.windows.specs.Window.{piece, Written, Around, Apart, behind}
 use Rattle.windows.proofs.Leaf.{lt-or-le, piece-at, piece-over, piece-same, apart-at}
-use Rattle.window_division.proofs.Turns.{spot, risen, risen-at, risen-low, convolve-spot}
+use Rattle.windows.proofs.Pairs.{behind-same}
+use Rattle.window_division.proofs.DivisionRounds.{spot, risen, risen-at, risen-low, convolve-spot}
 use Rattle.window_combining.specs.Combined.{combination}
 use Rattle.euclid_steps.specs.Steps.{Mixture, Added, two, convolve-two}
-
-behind-same : (F G : ℕ → ℕ) (k : ℕ) → ((j : ℕ) → j < k → F j ≡ G j) → behind F k ≡ behind G k
-behind-same F G zero h = refl
-behind-same F G (suc k) h = h k (omega arith)
 
 behind-nil : (F : ℕ → ℕ) (d k : ℕ) → ((j : ℕ) → d ≤ j → F j ≡ 0) → d + 1 ≤ k → behind F k ≡ 0
 behind-nil F d zero h l = refl
@@ -82,7 +79,7 @@ module _ (n h d e c q k u v : ℕ) (w w' : List ℕ) (fits : u + h ≤ length w)
         ∙ ap (λ (x : ℕ). (k * coef (piece w v h) j + x) % n) (sym (convolve-two q c (coef (piece w u h)) j));
   }
 
--- ---- over a turn
+-- ---- over an elimination
 
 module _ (n h d e z K q u v : ℕ) (w w' : List ℕ) (fits : v + h ≤ length w) (apart : Apart u h v h) (near : d ≤ e) (high : e < h)
     (γ-nil : (j : ℕ) → d ≤ j → coef (piece w v h) j ≡ 0) (factor : Cong n z (K * q))
@@ -141,13 +138,13 @@ module _ (n h d e z K q u v : ℕ) (w w' : List ℕ) (fits : v + h ≤ length w)
   pub second-added : Added n K (spot (e - d) q) (coef (piece w v h)) (coef (piece w u h)) (coef (piece w' u h))
   second-added = record { at = λ j. raised-word j ∙ scaled j }
     where
-      turn : (x : ℕ) → K * q * x ≡ K * (q * x)
-      turn x = omega arith
+      elimination : (x : ℕ) → K * q * x ≡ K * (q * x)
+      elimination x = omega arith
 
       scaled : (j : ℕ) → (coef (piece w u h) j + z * risen (e - d) (coef (piece w v h)) j) % n
           ≡ (coef (piece w u h) j + K * convolve (spot (e - d) q) (coef (piece w v h)) j) % n
       scaled j =
           c-add (c-refl {a = coef (piece w u h) j}) (c-trans (c-mul factor (c-refl {a = risen (e - d) (coef (piece w v h)) j}))
-          (c-eq (turn (risen (e - d) (coef (piece w v h)) j)
+          (c-eq (elimination (risen (e - d) (coef (piece w v h)) j)
           ∙ ap (λ (x : ℕ). K * x) (sym (convolve-spot (e - d) q (coef (piece w v h)) j)))))
           .same

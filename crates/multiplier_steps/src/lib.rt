@@ -9,7 +9,7 @@
 //
 //   combine_back      the word loop of a step backwards, in either form
 //   bottom            the end of the steps
-//   exchange, raise   a step backwards: over a division's end, over a turn before it
+//   exchange, raise   a step backwards: over a division's end, over an elimination before it
 //   lift              the one of the two that the step asks for
 ghost use mathlib.Core.Path.{_≡_};
 ghost use mathlib.Core.Bool.{true, false};
@@ -18,7 +18,7 @@ ghost use lib.ListN.{length};
 ghost use Rattle.windows.specs.Window.{Apart, Below};
 ghost use Rattle.window_combining.specs.Combined.{combination};
 ghost use Rattle.modulus.specs.Values.{Known, value, values};
-ghost use Rattle.modulus_windows.specs.Standing.{Wrote};
+ghost use Rattle.modulus_windows.specs.LoopPromises.{Wrote};
 ghost use Rattle.euclid_steps.specs.Backs.{Ended, LiftAsked, Lifted};
 use euclid_steps::Found;
 use euclid_steps::Logged;
@@ -64,7 +64,7 @@ fn combine_back(
 {
     let n = m.n;
     if m.held != 0 {
-        held_windows::combine_pair(
+        modulus_windows::combine_pair_held(
             w,
             Form {
                 n,

@@ -12,7 +12,7 @@ use lib.ListN.{length, getD, set, replicate, length-set, length-replicate}
 use lib.Seq.{getD-set-same, getD-set-other}
 use borrow.Author.Needs.{needs}
 use Rattle.definitions.specs.Polynomials.{coef}
-use Rattle.numbers.specs.Congruence.{c-refl, c-eq, c-trans, c-mod, c-mul}
+use Rattle.law_numbers.specs.Congruence.{c-refl, c-eq, c-trans, c-mod, c-mul}
 use Rattle.convolution.specs.Sums.{zeros-at}
 use Rattle.windows.specs.Window.{piece, Below}
 use Rattle.windows.proofs.Leaf.{lt-or-le, piece-at, piece-over}

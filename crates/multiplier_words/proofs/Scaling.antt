@@ -12,15 +12,15 @@ use native.Mathlib.Omega.{arith}
 use lib.ListN.{length}
 use Rattle.definitions.specs.Polynomials.{coef, convolve, constant}
 use Rattle.definitions.specs.Resultants.{Combination}
-use Rattle.numbers.specs.Congruence.{Cong, c-refl, c-sym, c-trans, c-eq, c-add, c-mul}
-use Rattle.theory.specs.ReachedSteps.{convolve-mod, convolve-scale-left, constant-scale}
+use Rattle.law_numbers.specs.Congruence.{Cong, c-refl, c-sym, c-trans, c-eq, c-add, c-mul}
+use Rattle.law_polynomials.specs.ReachedSteps.{convolve-mod, convolve-scale-left, constant-scale}
 use Rattle.windows.specs.Window.{piece}
 use Rattle.windows.proofs.Leaf.{lt-or-le, piece-at, piece-over}
 use Rattle.modulus.specs.declared.Modulus.{Modulus}
 use Rattle.modulus.specs.Values.{value, values}
 use Rattle.euclid_steps.specs.declared.Ending.{Ending}
 use Rattle.euclid_steps.specs.Steps.{Bound}
-use Rattle.euclid_steps.specs.Stages.{polynomial}
+use Rattle.euclid_steps.specs.EuclidStages.{polynomial}
 use Rattle.euclid_steps.specs.Multiplied.{Multiplied}
 use Rattle.multiplier_words.specs.Words.{Put, Handed}
 
@@ -29,7 +29,7 @@ pub bound-scaled : (n z K C x : ℕ) (f g u v : List ℕ) (β γ : ℕ → ℕ) 
 bound-scaled n z K C x f g u v β γ pos hu hv hx h = record {
   sum = λ k.
       c-trans (c-add (part f u β z hu k) (part g v γ (z * K) hv k))
-      (c-trans (c-eq (turn z K (convolve β (coef f) k) (convolve γ (coef g) k)))
+      (c-trans (c-eq (elimination z K (convolve β (coef f) k) (convolve γ (coef g) k)))
       (c-trans (c-mul (c-refl {a = z}) (record { same = h .at k })) (c-trans (c-eq (sym (constant-scale z C k))) (ends k)))) .same;
 }
   where
@@ -38,8 +38,8 @@ bound-scaled n z K C x f g u v β γ pos hu hv hx h = record {
     part f u β z h k = c-trans (record { same = convolve-mod n pos (coef u) (λ j. z * β j) (coef f) (coef f) h (λ j. refl) k })
         (c-eq (convolve-scale-left z β (coef f) k))
 
-    turn : (z K x y : ℕ) → z * x + z * K * y ≡ z * (x + K * y)
-    turn z K x y = omega arith
+    elimination : (z K x y : ℕ) → z * x + z * K * y ≡ z * (x + K * y)
+    elimination z K x y = omega arith
 
     ends : (k : ℕ) → Cong n (constant (z * C) k) (constant x k)
     ends zero = record { same = sym hx }

@@ -1,7 +1,7 @@
 // Product and division for the benchmark in bench/polynomial.c: the services, callable from C.
 ghost use Rattle.refusals.specs.Refusals.{narrow};
-ghost use Rattle.polynomial_product.specs.ProductService.{ProductAnswer};
-ghost use Rattle.polynomial_division.specs.DivisionService.{DivisionAnswer};
+ghost use Rattle.product_service.specs.ProductService.{ProductAnswer};
+ghost use Rattle.division_service.specs.DivisionService.{DivisionAnswer};
 use refusals::Answer;
 
 #[no_mangle]
@@ -9,7 +9,7 @@ pub extern "C" fn polynomial_bench_product(n: u32, f: &[u32], g: &[u32], out: &m
     ensures { λ r. ⌜ ProductAnswer narrow n (now (f .entry)) (now (g .entry)) (now (out .entry)) (now (out .exit))
         (r .value) (r .status) ⌝ }
 {
-    polynomial_product::product(n, f, g, out)
+    product_service::product(n, f, g, out)
 }
 
 #[no_mangle]
@@ -23,5 +23,5 @@ pub extern "C" fn polynomial_bench_division(
     ensures { λ a. ⌜ DivisionAnswer narrow n (now (f .entry)) (now (g .entry)) (now (q .entry)) (now (q .exit)) (now (r .entry))
         (now (r .exit)) (a .value) (a .status) ⌝ }
 {
-    polynomial_division::division(n, f, g, q, r)
+    division_service::division(n, f, g, q, r)
 }

@@ -11,8 +11,8 @@ use Rattle.window_factor.specs.Factors.{SplitOf}
 use Rattle.residue.specs.declared.Attempt.{Attempt}
 use Rattle.residue.specs.declared.Attempt.the-variants.{Value, Splits}
 use Rattle.reduced_cofactors.specs.Cofactors.{Certified}
-use Rattle.reduced_attempt.specs.Attempts.{Attempted}
-use Rattle.reduced.proofs.Turns.{by-factors}
+use Rattle.reduced_attempt.specs.ReducedAttempts.{Attempted}
+use Rattle.reduced.proofs.MixRounds.{by-factors}
 
 module _ (n : ℕ) (f g u v u' v' : List ℕ) (r : Attempt) (x : Attempted n f g u v u' v' r) where
   pub value-at : (D : ℕ) → r ≡ Value D → Certified n (L n (length f - 1) (length g - 1)) f g u' v' D

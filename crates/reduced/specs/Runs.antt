@@ -16,7 +16,7 @@ use Rattle.definitions.specs.Polynomials.{coef, L}
 use Rattle.windows.specs.Window.{piece}
 use Rattle.window_factor.specs.Factors.{SplitOf}
 use Rattle.reduced_cofactors.specs.Cofactors.{Certified}
-use Rattle.reduced_attempt.specs.Attempts.{attempt-room}
+use Rattle.reduced_attempt.specs.ReducedAttempts.{attempt-room}
 
 -- each word is a times that of s and b times that of u, also above s, where s counts as 0
 pub record MixedWords (n a b : ℕ) (s u u' : List ℕ) : Type 0 where

@@ -2,7 +2,7 @@
 --
 --   lead-at, factors-at, nilpotents-at       of the highest coefficient that is not nilpotent
 --   over-word, leave-at, over-found, over-splits    of the core
---   found-at, divisors-at, parted-at, parted-turned, nilpotent-at, later-at, other-at    of a half
+--   found-at, divisors-at, parted-at, parted-from, nilpotent-at, later-at, other-at    of a half
 --   unit-never, nilpotent-never, kind-splits    of the kind of a residue
 --   attempts                                 the rules
 use mathlib.Core.Path.{_≡_, subst}
@@ -21,10 +21,10 @@ use Rattle.window_factor.specs.Factors.{HighestOf, SplitOf, LeadingUnit, AllNil
 use Rattle.windows.specs.Window.{Scratch}
 use Rattle.reduced_units.specs.States.{Splitter}
 use Rattle.reduced_cofactors.specs.Cofactors.{Certified, CoreAnswer}
-use Rattle.reduced_attempt.specs.declared.Trial.{Trial}
-use Rattle.reduced_attempt.specs.declared.Trial.the-variants.{Found, Divisors, Nilpotent}
-use Rattle.reduced_attempt.specs.Attempts.{NilpotentOver, HalfAsked, OverAsked, OtherAsked, TrialAnswers, Parted, Attempted}
-use Rattle.reduced_attempt.specs.Attempts.{BothLeave, Left}
+use Rattle.reduced_attempt.specs.declared.HalfAttempt.{HalfAttempt}
+use Rattle.reduced_attempt.specs.declared.HalfAttempt.the-variants.{Found, Divisors, Nilpotent}
+use Rattle.reduced_attempt.specs.ReducedAttempts.{NilpotentOver, HalfAsked, OverAsked, OtherAsked, HalfAttempted, Parted, Attempted}
+use Rattle.reduced_attempt.specs.ReducedAttempts.{BothLeave, Left}
 use Rattle.reduced_attempt.proofs.Halves.{product-word, over-splitter, leaving, half-certified}
 use Rattle.reduced_attempt.proofs.Halves.{split-unit, split-nilpotent, split-factors}
 use Rattle.reduced_attempt.proofs.Whole.{later-asked, parted, other-told}
@@ -40,6 +40,11 @@ module _ (n : ℕ) (f : List ℕ) (h : Highest) where
   pub nilpotents-at : h ≡ AllNilpotent → HighestOf n f h → AllNilpotents n f
   nilpotents-at e = subst (HighestOf n f) e
 
+-- the modulus has a record of its own
+pub core-told : (n ν c d e : ℕ) (w x y x₁ y₁ : List ℕ) (s : Attempt) → CoreAnswer ν d e w x y x₁ y₁ s → ν ≡ n / c
+    → CoreAnswer (n / c) d e w x y x₁ y₁ s
+core-told n ν c d e w x y x₁ y₁ s z h = subst (λ (v : ℕ). CoreAnswer v d e w x y x₁ y₁ s) h z
+
 module _ (n c r t i : ℕ) (a b x y w x₁ y₁ : List ℕ) (s : Attempt) where
   abbrev answer : Attempt → Type 0
   answer s = CoreAnswer (n / c) (length a - 1) (length b - 1) w x y x₁ y₁ s
@@ -47,40 +52,40 @@ module _ (n c r t i : ℕ) (a b x y w x₁ y₁ : List ℕ) (s : Attempt) where
   pub over-word : (D m : ℕ) → s ≡ Value D → OverAsked n c r t i a b x y w → answer s → n < m → c * D < m
   over-word D m e o z l = product-word o (subst answer e z) l
 
-  pub leave-at : (D : ℕ) → s ≡ Value D → OverAsked n c r t i a b x y w → answer s → BothLeave n r x₁ y₁
+  pub leave-at : (D : ℕ) → s ≡ Value D → OverAsked n c r t i a b x y w → answer s → BothLeave n x₁ y₁
   leave-at D e o z = leaving o (subst answer e z)
 
   pub over-found : (x₂ y₂ : List ℕ) (D : ℕ) → s ≡ Value D → OverAsked n c r t i a b x y w → answer s → Left n r x₁ x₂ → Left n r y₁ y₂
       → Certified n (L n (length a - 1) (length b - 1)) a b x₂ y₂ (c * D)
   over-found x₂ y₂ D e o z lx ly = half-certified o (subst answer e z) lx ly
 
-  pub over-splits : (p q : ℕ) → s ≡ Splits p q → OverAsked n c r t i a b x y w → answer s → TrialAnswers n c a b x y x₁ y₁ (Divisors p q)
+  pub over-splits : (p q : ℕ) → s ≡ Splits p q → OverAsked n c r t i a b x y w → answer s → HalfAttempted n c a b x y x₁ y₁ (Divisors p q)
   over-splits p q e o z = over-splitter o (subst answer e z)
 
-module _ (n c : ℕ) (a b x y x' y' : List ℕ) (t : Trial) where
-  pub found-at : (D : ℕ) → t ≡ Found D → TrialAnswers n c a b x y x' y' t → Certified n (L n (length a - 1) (length b - 1)) a b x' y' D
-  found-at D e = subst (TrialAnswers n c a b x y x' y') e
+module _ (n c : ℕ) (a b x y x' y' : List ℕ) (t : HalfAttempt) where
+  pub found-at : (D : ℕ) → t ≡ Found D → HalfAttempted n c a b x y x' y' t → Certified n (L n (length a - 1) (length b - 1)) a b x' y' D
+  found-at D e = subst (HalfAttempted n c a b x y x' y') e
 
-  pub divisors-at : (p q : ℕ) → t ≡ Divisors p q → TrialAnswers n c a b x y x' y' t → Splitter n p q
-  divisors-at p q e z = subst (TrialAnswers n c a b x y x' y') e z .0
+  pub divisors-at : (p q : ℕ) → t ≡ Divisors p q → HalfAttempted n c a b x y x' y' t → Splitter n p q
+  divisors-at p q e z = subst (HalfAttempted n c a b x y x' y') e z .0
 
-  pub parted-at : (p q : ℕ) (r : Attempt) → t ≡ Divisors p q → TrialAnswers n c a b x y x' y' t → Parted n r → Attempted n a b x y x' y' r
-  parted-at p q r e z v = let k = subst (TrialAnswers n c a b x y x' y') e z .1 in parted n a b x y x' y' r (k .0) (k .1) v
+  pub parted-at : (p q : ℕ) (r : Attempt) → t ≡ Divisors p q → HalfAttempted n c a b x y x' y' t → Parted n r → Attempted n a b x y x' y' r
+  parted-at p q r e z v = let k = subst (HalfAttempted n c a b x y x' y') e z .1 in parted n a b x y x' y' r (k .0) (k .1) v
 
-  pub parted-turned : (p q : ℕ) (r : Attempt) → t ≡ Divisors p q → TrialAnswers n c a b x y x' y' t → Parted n r
+  pub parted-from : (p q : ℕ) (r : Attempt) → t ≡ Divisors p q → HalfAttempted n c a b x y x' y' t → Parted n r
       → Attempted n b a y x y' x' r
-  parted-turned p q r e z v = let k = subst (TrialAnswers n c a b x y x' y') e z .1 in parted n b a y x y' x' r (k .1) (k .0) v
+  parted-from p q r e z v = let k = subst (HalfAttempted n c a b x y x' y') e z .1 in parted n b a y x y' x' r (k .1) (k .0) v
 
-  pub nilpotent-at : t ≡ Nilpotent → TrialAnswers n c a b x y x' y' t → NilpotentOver n c a
-  nilpotent-at e z = subst (TrialAnswers n c a b x y x' y') e z .0
+  pub nilpotent-at : t ≡ Nilpotent → HalfAttempted n c a b x y x' y' t → NilpotentOver n c a
+  nilpotent-at e z = subst (HalfAttempted n c a b x y x' y') e z .0
 
-  pub later-at : (w w' : List ℕ) → t ≡ Nilpotent → TrialAnswers n c a b x y x' y' t → HalfAsked n c b a y x w → Scratch w w'
+  pub later-at : (w w' : List ℕ) → t ≡ Nilpotent → HalfAttempted n c a b x y x' y' t → HalfAsked n c b a y x w → Scratch w w'
       → OtherAsked n c a b x' y' w'
-  later-at w w' e z h sw = let k = subst (TrialAnswers n c a b x y x' y') e z in later-asked h (k .1 .0) (k .1 .1) sw (k .0)
+  later-at w w' e z h sw = let k = subst (HalfAttempted n c a b x y x' y') e z in later-asked h (k .1 .0) (k .1 .1) sw (k .0)
 
-  pub other-at : (u v : List ℕ) (r : Attempt) → t ≡ Nilpotent → TrialAnswers n c a b x y x' y' t → Attempted n a b x' y' u v r
+  pub other-at : (u v : List ℕ) (r : Attempt) → t ≡ Nilpotent → HalfAttempted n c a b x y x' y' t → Attempted n a b x' y' u v r
       → Attempted n a b x y u v r
-  other-at u v r e z q = let k = subst (TrialAnswers n c a b x y x' y') e z .1 in other-told n a b x y x' y' u v r (k .0) (k .1) q
+  other-at u v r e z q = let k = subst (HalfAttempted n c a b x y x' y') e z .1 in other-told n a b x y x' y' u v r (k .0) (k .1) q
 
 module _ (n p : ℕ) (k : Kind) where
   pub unit-never : (q i : ℕ) → k ≡ UnitKind i → KindOf n p k → Splitter n p q → ⊥
@@ -96,8 +101,8 @@ pub ruleset highest = (lead-at, factors-at, nilpotents-at)
 
 pub ruleset cores = (over-word, leave-at, over-found, over-splits)
 
-pub ruleset trials = (found-at, divisors-at, parted-at, parted-turned, nilpotent-at, later-at, other-at)
+pub ruleset half-attempts = (found-at, divisors-at, parted-at, parted-from, nilpotent-at, later-at, other-at)
 
 pub ruleset kinds = (unit-never, nilpotent-never, kind-splits)
 
-pub ruleset attempts = (attempt, highest, cores, trials, kinds)
+pub ruleset attempts = (attempt, highest, cores, half-attempts, kinds)

@@ -14,28 +14,29 @@ use native.Mathlib.Omega.{arith}
 use native.Mathlib.Nat.{sub-zero, mod-lt, mod-mod, zero-mod, zero-add, zero-div, mul-zero, mul-one, mul-le-mul-left, mul-le-mul-right}
 use native.Mathlib.Nat.{mul-div-cancel', mul-dvd-mul-left, dvd-zero, dvd-trans, dvd-refl, dvd-mul-left, pos-of-dvd-of-pos, le-of-dvd}
 use native.Mathlib.Nat.{dvd-of-mod-eq-zero}
+use borrow.Author.Needs.{needs}
 use lib.ListN.{length, getD}
 use borrow.Rule.Slice.PartMut.{midOf}
 use Rattle.definitions.specs.Residues.{K, Inverse, IsNilpotent, Splitting}
 use Rattle.definitions.specs.Polynomials.{coef, L}
 use Rattle.definitions.specs.Resultants.{Combination, Reduced}
-use Rattle.numbers.specs.Coprimality.{coprime-power, coprime-sym}
-use Rattle.numbers.specs.Logarithm.{K-monotone}
-use Rattle.numbers.specs.Nilpotents.{nilpotent-radical}
-use Rattle.numbers.specs.Primes.{prime-of}
-use Rattle.numbers.specs.Units.{coprime-of-unit}
-use Rattle.theory.specs.ReachedSteps.{Times, coef-beyond}
-use Rattle.theory.specs.ReducedLaws.{reduced-content}
+use Rattle.law_numbers.specs.Coprimality.{coprime-power, coprime-sym}
+use Rattle.law_numbers.specs.Logarithm.{K-monotone}
+use Rattle.law_numbers.specs.Nilpotents.{nilpotent-radical}
+use Rattle.law_numbers.specs.Primes.{prime-of}
+use Rattle.law_numbers.specs.Units.{coprime-of-unit}
+use Rattle.law_polynomials.specs.ReachedSteps.{Times, coef-beyond}
+use Rattle.law_polynomials.specs.ReducedLaws.{reduced-content}
 use Rattle.windows.specs.Window.{piece, Moved, quotient-by, Loaded, Content, Below}
 use Rattle.windows.proofs.Leaf.{lt-or-le, piece-at, piece-over, piece-length}
 use Rattle.window_factor.specs.Factors.{SplitOf, LeadingUnit, AllNilpotents as NilpotentWords}
-use Rattle.reduced_multipliers.specs.Joining.{combination-content}
+use Rattle.law_multipliers.specs.Joining.{combination-content}
 use Rattle.reduced_units.specs.States.{Splitter}
 use Rattle.reduced_units.proofs.Regions.{part-piece}
 use Rattle.reduced_clearing.proofs.UnitSteps.{split-splitter}
-use Rattle.reduced_cofactors.specs.Cofactors.{core-room, Certified, CoreCertified}
-use Rattle.reduced_attempt.specs.Attempts.{CommonContent, PairLoaded, Arranged, BothLeave, Left}
-use Rattle.reduced_attempt.specs.Attempts.{NilpotentOver, HalfAsked, OverAsked, CoreOver}
+use Rattle.reduced_cofactors.specs.Cofactors.{core-room, CoreAsked, Certified, CoreCertified}
+use Rattle.reduced_attempt.specs.ReducedAttempts.{CommonContent, PairLoaded, Arranged, BothLeave, Left}
+use Rattle.reduced_attempt.specs.ReducedAttempts.{NilpotentOver, HalfAsked, OverAsked, CoreOver}
 use Rattle.reduced_attempt.proofs.Scalings.{scaled, scaled-at, scaled-times, reduced-unscaled, combination-unscaled, divides-scaled}
 use Rattle.reduced_attempt.proofs.Scalings.{nilpotent-unscaled, pair-plain, left-one}
 
@@ -87,7 +88,6 @@ module _ {n c r : ℕ} {f g w w₂ w₃ : List ℕ} (fits : length f + length g 
   pub arranged-of : PairLoaded n r (length f) f g w w₂ → Arranged n c r g f w w₃
   arranged-of ld = record {
     unit = ld .unit;
-    form = ld .form;
     same = mv .same ∙ ld .same;
     first = λ k h. word (length f + k) (omega arith) ∙ ap (λ (x : ℕ). x / c) (ld .second k h);
     second = λ k h. word k (omega arith) ∙ ap (λ (x : ℕ). x / c) (ld .first k h);
@@ -242,7 +242,7 @@ module _ {n c r : ℕ} {a b x y w w₁ : List ℕ} (ha : HalfAsked n c a b x y w
       content = ha .content;
       proper = ha .proper;
     };
-    words = record { unit = ar .unit; form = ar .form; same = refl; first = ar .first; second = ar .second };
+    words = record { unit = ar .unit; same = refl; first = ar .first; second = ar .second };
     lead = subst (LeadingUnit (n / c) t i) part-is l;
   }
 
@@ -263,6 +263,14 @@ module _ {n c r : ℕ} {a b x y w w₁ : List ℕ} (ha : HalfAsked n c a b x y w
   times-second = times b (piece w₁ 0 (length b - 1 + 1)) second-at (ha .content .divides-g)
 
 -- ---- words over the content
+
+-- the modulus has a record of its own
+module _ {n c t i : ℕ} {a b x y w : List ℕ} (o : CoreOver n c t i a b x y w) where
+  pub core-above : 1 ≤ n / c
+  core-above = omega (arith, o .asked .space .above)
+
+  pub core-known : {ν : ℕ} → ν ≡ n / c → CoreAsked ν (length a - 1) (length b - 1) t i w x y
+  core-known e = rw e (o .asked)
 
 module _ {n c r t i : ℕ} {a b x y w : List ℕ} (o : OverAsked n c r t i a b x y w) where
   abbrev d : ℕ
@@ -308,10 +316,10 @@ module _ {n c r t i : ℕ} {a b x y w : List ℕ} (o : OverAsked n c r t i a b x
     pub product-word : {m : ℕ} → n < m → c * D < m
     product-word h = omega (arith, subst (λ (z : ℕ). c * D ≤ z) (sym (whole ha)) (mul-le-mul-left c (ce .reduced .most)))
 
-    pub leaving : BothLeave n r x₁ y₁
+    pub leaving : BothLeave n x₁ y₁
     leaving = record {
-      first = record { form = o .words .form; below = λ k. omega (arith, ce .below-u k, most ha) };
-      second = record { form = o .words .form; below = λ k. omega (arith, ce .below-v k, most ha) };
+      first = record { positive = omega (arith, ha .modulus); below = λ k. omega (arith, ce .below-u k, most ha) };
+      second = record { positive = omega (arith, ha .modulus); below = λ k. omega (arith, ce .below-v k, most ha) };
     }
 
     pub half-certified : {x₂ y₂ : List ℕ} → Left n r x₁ x₂ → Left n r y₁ y₂
@@ -388,5 +396,7 @@ module _ {n p q : ℕ} (s : Splitter n p q) where
 
 pub split-factors : {n p a b : ℕ} → Splitting n p a b → SplitOf n a b
 split-factors s = record { product = s .product; above₁ = s .above₁; above₂ = s .above₂; coprime = s .coprime }
+
+pub ruleset records = (needs, core-above, core-known)
 
 pub ruleset halves = (common-of, arranged-of, arranged-plain, positive, above, half-splits, nilpotents-told, over-asked, core-asked)

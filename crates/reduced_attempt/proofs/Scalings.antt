@@ -5,33 +5,33 @@
 --   combination-unscaled   u (r f) + v (r g) = (r u) f + (r v) g
 --   divides-scaled         what divides n and a word divides r times the word
 --   nilpotent-unscaled     r x over c is nilpotent modulo n / c only where x over c is
---   fits-told              the test of the form
---   pair-held, pair-plain  words loaded held, or as they are
+--   pair-entered, pair-plain  words entered, or as they are
 --   left-scaled, left-one  words times r
 --   scalings               the rules
 use mathlib.Core.Path.{_≡_, refl, sym, ap, subst, _∙_}
-use mathlib.Core.Bool.{Bool, true}
 use mathlib.Core.List.{List, map}
 use mathlib.Core.Logic.{⊎-elim}
-use Prim.Native.Nat.{ℕ, _+_, _*_, _/_, _%_, _^_, _≤_, _<_, _∣_}
+use Prim.Native.Nat.{ℕ, zero, suc, _+_, _*_, _/_, _%_, _^_, _≤_, _<_, _∣_}
 use native.Mathlib.Omega.{arith}
-use native.Mathlib.Nat.{mod-eq-of-lt, zero-mod, zero-add, mul-zero, mul-one, one-mul, mul-comm, mul-assoc, dvd-mod-iff, dvd-mul-left}
-use native.Mathlib.Nat.{dvd-mul-left-of-dvd, mul-div-cancel'}
+use native.Mathlib.Nat.{mod-eq-of-lt, zero-mod, zero-add, zero-mul, mul-zero, mul-one, one-mul, mul-comm, mul-assoc, dvd-mod-iff}
+use native.Mathlib.Nat.{dvd-mul-left, dvd-mul-left-of-dvd, mul-div-cancel'}
 use lib.ListN.{length, getD, List·getD-map}
 use Rattle.definitions.specs.Residues.{IsUnit, IsNilpotent}
 use Rattle.definitions.specs.Polynomials.{coef, convolve}
 use Rattle.definitions.specs.Resultants.{Combination, Reduced}
-use Rattle.numbers.specs.Congruence.{Cong, c-refl, c-sym, c-trans, c-eq, c-add, c-mul, c-mod, c-dvd, ring}
-use Rattle.numbers.specs.Nilpotents.{InRadical, nilpotent-radical, radical-nilpotent, radical-mul, radical-mod}
-use Rattle.numbers.specs.Units.{inverse-times, unit-of}
-use Rattle.theory.specs.ReachedSteps.{Times, coef-beyond, convolve-mod, convolve-scale, convolve-scale-left, drop-mod}
-use Rattle.theory.specs.ReducedLaws.{reduced-flip}
+use Rattle.law_numbers.specs.Congruence.{Cong, c-refl, c-sym, c-trans, c-eq, c-add, c-mul, c-mod, c-dvd, ring}
+use Rattle.law_numbers.specs.Nilpotents.{InRadical, nilpotent-radical, radical-nilpotent, radical-mul, radical-mod}
+use Rattle.law_numbers.specs.Units.{inverse-times, unit-of}
+use Rattle.law_polynomials.specs.ReachedSteps.{Times, coef-beyond, convolve-mod, convolve-scale, convolve-scale-left, drop-mod}
+use Rattle.law_polynomials.specs.ReducedLaws.{reduced-flip}
 use Rattle.windows.specs.Window.{Written, Moved, mulBy, Loaded}
 use Rattle.windows.proofs.Leaf.{lt-or-le}
-use Rattle.montgomery.specs.Held.{held, plain, Fits, Fitting}
-use Rattle.montgomery.specs.Turning.{held-below, held-cong, radix-back, leave-enter}
-use Rattle.reduced_multipliers.specs.Reductions.{reduced-scaled}
-use Rattle.reduced_attempt.specs.Attempts.{PairLoaded, LeaveAsked, Left}
+use Rattle.montgomery.specs.Held.{plain}
+use Rattle.modulus.specs.declared.Modulus.{Modulus}
+use Rattle.modulus.specs.Values.{value, value-by, values, Enters}
+use Rattle.modulus_windows.specs.LoopPromises.{Entered}
+use Rattle.law_multipliers.specs.Reductions.{reduced-scaled}
+use Rattle.reduced_attempt.specs.ReducedAttempts.{PairLoaded, LeaveAsked, Left}
 
 -- ---- r f and r g
 
@@ -115,20 +115,59 @@ nilpotent-unscaled n c m r x whole c-pos m-pos u d h small nil =
 unit-one : (n : ℕ) → 1 ≤ n → IsUnit n 1
 unit-one n pos = unit-of 1 pos (c-eq (mul-one 1))
 
-unit-held : (n : ℕ) → 1 ≤ n → n % 2 ≡ 1 → (r : ℕ) → r ≡ held n 1 → IsUnit n r
-unit-held n pos odd r e = subst (IsUnit n) (sym e) (unit-of ((n / 2 + 1) ^ 32) pos
-    (c-trans (c-mul (c-refl {a = (n / 2 + 1) ^ 32}) (c-trans (held-cong n odd 1) (c-eq (one-mul 4294967296))))
-    (c-trans (c-eq (mul-comm ((n / 2 + 1) ^ 32) 4294967296)) (radix-back n odd))))
-
--- a word that is held is 1, held, times the word
-held-word : (n : ℕ) → n % 2 ≡ 1 → (r x : ℕ) → r ≡ held n 1 → held n x ≡ (r * x) % n
-held-word n odd r x e =
-    sym (mod-eq-of-lt (held-below n odd x))
-    ∙ c-trans (held-cong n odd x) (c-trans (c-eq (swap 4294967296)) (c-mul (c-trans (c-sym (held-cong n odd 1)) (c-eq (sym e)))
-    (c-refl {a = x}))) .same
+-- what x stands for is x times what 1 stands for
+value-times : (m : Modulus) (x : ℕ) → Cong (m .n) (value m x) (x * value m 1)
+unfolding value plain
+value-times m x = go (m .held) (m .n)
   where
-    swap : (v : ℕ) → x * v ≡ 1 * v * x
-    swap v = mul-comm x v ∙ ap (λ (s : ℕ). s * x) (sym (one-mul v))
+    go : (h n : ℕ) → Cong n (value-by h n x) (x * value-by h n 1)
+    go zero n = c-eq (sym (mul-one x))
+    go (suc h) n =
+        c-trans (c-mod _)
+        (c-mul (c-refl {a = x}) (c-trans (c-eq (sym (one-mul ((n / 2 + 1) ^ 32)))) (c-sym (c-mod (1 * (n / 2 + 1) ^ 32)))))
+
+value-none : (m : Modulus) → value m 0 ≡ 0
+unfolding value plain
+value-none m = go (m .held) (m .n)
+  where
+    go : (h n : ℕ) → value-by h n 0 ≡ 0
+    go zero n = refl
+    go (suc h) n = ap (λ (x : ℕ). x % n) (zero-mul ((n / 2 + 1) ^ 32)) ∙ zero-mod n
+
+values-word : (m : Modulus) (w : List ℕ) (i : ℕ) → getD (values m w) i 0 ≡ value m (getD w i 0)
+unfolding values
+values-word m w i = ap (λ (z : ℕ). getD (values m w) i z) (sym (value-none m)) ∙ List·getD-map (value m) w i 0
+
+-- r is the word for 1: a unit, and the word for a is r a
+module _ (m : Modulus) (r : ℕ) (pos : 1 ≤ m .n) (e : Enters m 1 r) where
+  entered-one : Cong (m .n) (r * value m 1) 1
+  entered-one = c-trans (c-sym (value-times m r)) (c-trans (c-eq (e .1)) (c-mod 1))
+
+  entered-unit : IsUnit (m .n) r
+  entered-unit = unit-of (value m 1) pos (c-trans (c-eq (mul-comm (value m 1) r)) entered-one)
+
+  entered-word : (x a : ℕ) → x < m .n → value m x ≡ a % m .n → x ≡ (r * a) % m .n
+  entered-word x a l h =
+      sym (mod-eq-of-lt l)
+      ∙ c-trans (c-eq (sym (mul-one x))) (c-trans (c-mul (c-refl {a = x}) (c-sym entered-one))
+      (c-trans (c-eq (round (value m 1))) (c-mul (c-refl {a = r}) (c-trans (c-sym (value-times m x)) (c-trans (c-eq h) (c-mod a)))))) .same
+    where
+      round : (v : ℕ) → x * (r * v) ≡ r * (x * v)
+      round v = omega arith
+
+  entered-at : {a : ℕ} {f w w' : List ℕ} → Entered m a f w w' → (k : ℕ) → k < length f → getD w' (a + k) 0 ≡ (r * coef f k) % m .n
+  entered-at {a} {f} {w} {w'} en k h = entered-word _ _ (en .below .at k h) (sym (values-word m w' (a + k)) ∙ en .stands .mid k h)
+
+  pub pair-entered : (n j : ℕ) (f g w w₁ w₂ : List ℕ) → m .n ≡ n → length f ≤ j → Entered m 0 f w w₁ → Entered m j g w₁ w₂
+      → PairLoaded n r j f g w w₂
+  pair-entered n j f g w w₁ w₂ is le ef eg = subst (λ (v : ℕ). PairLoaded v r j f g w w₂) is (record {
+    unit = entered-unit;
+    same = eg .around .same ∙ ef .around .same;
+    first = λ k h. eg .around .low k (omega arith) ∙ ap (λ (x : ℕ). getD w₁ x 0) (sym (zero-add k)) ∙ entered-at ef k h;
+    second = λ k h. entered-at eg k h;
+    between = λ k p q. eg .around .low k q ∙ ef .around .high k (omega arith);
+    high = λ k p. eg .around .high k p ∙ ef .around .high k (omega arith);
+  })
 
 plain-word : (n x : ℕ) → x % n ≡ (1 * x) % n
 plain-word n x = ap (λ (v : ℕ). v % n) (sym (one-mul x))
@@ -136,12 +175,11 @@ plain-word n x = ap (λ (v : ℕ). v % n) (sym (one-mul x))
 loaded-written : {n a : ℕ} {f w w' : List ℕ} → Loaded n a f w w' → Written (λ (k : ℕ). getD f k 0 % n) a (length f) w w'
 loaded-written l = record { same = l .same; low = l .low; mid = l .mid; high = l .high }
 
-pair-loaded : (n r j : ℕ) (f g : List ℕ) (F G : ℕ → ℕ) {w w₁ w₂ : List ℕ} → IsUnit n r → ((r ≡ 1 → ⊥) → Fits n) → length f ≤ j
+pair-loaded : (n r j : ℕ) (f g : List ℕ) (F G : ℕ → ℕ) {w w₁ w₂ : List ℕ} → IsUnit n r → length f ≤ j
     → Written F 0 (length f) w w₁
     → Written G j (length g) w₁ w₂ → ((k : ℕ) → F k ≡ (r * coef f k) % n) → ((k : ℕ) → G k ≡ (r * coef g k) % n) → PairLoaded n r j f g w w₂
-pair-loaded n r j f g F G {w} {w₁} {w₂} u fo le wf wg hf hg = record {
+pair-loaded n r j f g F G {w} {w₁} {w₂} u le wf wg hf hg = record {
   unit = u;
-  form = fo;
   same = wg .same ∙ wf .same;
   first = λ k h. wg .low k (omega arith) ∙ ap (λ (x : ℕ). getD w₁ x 0) (sym (zero-add k)) ∙ wf .mid k h ∙ hf k;
   second = λ k h. wg .mid k h ∙ hg k;
@@ -149,21 +187,10 @@ pair-loaded n r j f g F G {w} {w₁} {w₂} u fo le wf wg hf hg = record {
   high = λ k p. wg .high k p ∙ wf .high k (omega arith);
 }
 
-pub fits-told : {n : ℕ} (b : Bool) → Fitting n b → b ≡ true → Fits n
-fits-told {n} b x e = subst (Fitting n) e x
-
-pub pair-held : (n N r j : ℕ) (f g : List ℕ) {w w₁ w₂ : List ℕ} → N ≡ n → Fits N → r ≡ held N 1 → length f ≤ j
-    → Written (λ (k : ℕ). held N (getD f k 0)) 0 (length f) w w₁ → Written (λ (k : ℕ). held N (getD g k 0)) j (length g) w₁ w₂
-    → PairLoaded n r j f g w w₂
-pair-held n N r j f g {w} {w₁} {w₂} e fits is le wf wg =
-    subst (λ (x : ℕ). PairLoaded x r j f g w w₂) e
-    (pair-loaded N r j f g _ _ (unit-held N (omega (arith, fits .least)) (fits .odd) r is) (λ _. fits) le wf wg
-    (λ k. held-word N (fits .odd) r (getD f k 0) is) (λ k. held-word N (fits .odd) r (getD g k 0) is))
-
 pub pair-plain : (n j : ℕ) (f g : List ℕ) {w w₁ w₂ : List ℕ} → 1 ≤ n → length f ≤ j → Loaded n 0 f w w₁ → Loaded n j g w₁ w₂
     → PairLoaded n 1 j f g w w₂
 pair-plain n j f g pos le lf lg =
-    pair-loaded n 1 j f g _ _ (unit-one n pos) (λ ne. absurd (ne refl)) le (loaded-written lf) (loaded-written lg)
+    pair-loaded n 1 j f g _ _ (unit-one n pos) le (loaded-written lf) (loaded-written lg)
     (λ k. plain-word n (getD f k 0)) (λ k. plain-word n (getD g k 0))
 
 pub pair-as-is : {n j : ℕ} {f g w w₁ w₂ : List ℕ} → 2 ≤ n → length f ≤ j → Loaded n 0 f w w₁ → Loaded n j g w₁ w₂
@@ -172,31 +199,19 @@ pair-as-is {n} {j} {f} {g} two le lf lg = pair-plain n j f g (omega arith) le lf
 
 -- ---- words that leave
 
-pub leave-form : {n r : ℕ} {x : List ℕ} → LeaveAsked n r x → (r ≡ 1 → ⊥) → Fits n
-leave-form a h = a .form h
-
-pub held-most : (N r : ℕ) {c : ℕ} → Fits N → c ≡ held N r → c ≤ N
-held-most N r fits e = omega (arith, e, held-below N (fits .odd) r)
-
-pub left-scaled : (n N r c : ℕ) (x x' : List ℕ) → N ≡ n → Fits N → c ≡ held N r → Moved (mulBy N (plain N c)) 0 0 (length x) x x'
-    → Left n r x x'
-left-scaled n N r c x x' e fits is mv = subst (λ (v : ℕ). Left v r x x') e (record {
+pub left-scaled : (n N r : ℕ) (x x' : List ℕ) → N ≡ n → Moved (mulBy N r) 0 0 (length x) x x' → Left n r x x'
+left-scaled n N r x x' e mv = subst (λ (v : ℕ). Left v r x x') e (record {
   same = mv .same;
-  at = λ k. ⊎-elim (λ h. ap (λ (v : ℕ). getD x' v 0) (sym (zero-add k)) ∙ mv .mid k h ∙ ap (λ (v : ℕ). (plain N c * getD x v 0) % N)
-      (zero-add k)
-      ∙ c-mul factor (c-refl {a = getD x k 0}) .same)
+  at = λ k. ⊎-elim (λ h. ap (λ (v : ℕ). getD x' v 0) (sym (zero-add k)) ∙ mv .mid k h ∙ ap (λ (v : ℕ). (r * getD x v 0) % N) (zero-add k))
       (λ h. coef-beyond x' k (omega (arith, mv .same))
       ∙ sym (ap (λ (v : ℕ). (r * v) % N) (coef-beyond x k h) ∙ ap (λ (v : ℕ). v % N) (mul-zero r) ∙ zero-mod N))
       (lt-or-le k (length x));
 })
-  where
-    factor : Cong N (plain N c) r
-    factor = c-trans (c-eq (ap (plain N) is ∙ leave-enter N (fits .odd) r)) (c-mod r)
 
-pub left-one : (n r : ℕ) (x : List ℕ) → LeaveAsked n r x → r ≡ 1 → Left n r x x
+pub left-one : (n r : ℕ) (x : List ℕ) → LeaveAsked n x → r ≡ 1 → Left n r x x
 left-one n r x k e = record {
   same = refl;
   at = λ i. sym (ap (λ (v : ℕ). (v * coef x i) % n) e ∙ ap (λ (v : ℕ). v % n) (one-mul (coef x i)) ∙ mod-eq-of-lt (k .below i));
 }
 
-pub ruleset scalings = (fits-told, pair-held, pair-as-is, leave-form, held-most, left-scaled, left-one)
+pub ruleset scalings = (pair-entered, pair-as-is, left-scaled, left-one)

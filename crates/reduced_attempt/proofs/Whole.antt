@@ -2,7 +2,7 @@
 --
 --   none-certified, certified-flip                        D of polynomials that are 0 modulo n; f and g exchanged
 --   first-asked, other-asked, later-asked                 what the two halves ask
---   none-told, parted, other-told, turned-told, never-told    what an attempt answers
+--   none-told, parted, other-told, swapped-told, never-told    what an attempt answers
 --   wholes                                                the rules
 use mathlib.Core.Path.{_≡_, sym, ap, subst, _∙_}
 use mathlib.Core.List.{List, []}
@@ -13,16 +13,16 @@ use lib.ListN.{length, replicate}
 use Rattle.definitions.specs.Residues.{K}
 use Rattle.definitions.specs.Polynomials.{coef, L}
 use Rattle.definitions.specs.Resultants.{Combination, Reduced}
-use Rattle.theory.specs.ReachedSteps.{Times}
-use Rattle.theory.specs.ReducedLaws.{reduced-content, reduced-one, reduced-flip}
-use Rattle.reduced_multipliers.specs.Joining.{combination-content, combination-flip}
+use Rattle.law_polynomials.specs.ReachedSteps.{Times}
+use Rattle.law_polynomials.specs.ReducedLaws.{reduced-content, reduced-one, reduced-flip}
+use Rattle.law_multipliers.specs.Joining.{combination-content, combination-flip}
 use Rattle.reduced_cofactors.specs.Cofactors.{Certified, core-room}
 use Rattle.convolution.specs.Sums.{zeros-at}
 use Rattle.residue.specs.declared.Attempt.{Attempt}
 use Rattle.residue.specs.declared.Attempt.the-variants.{Value, Splits}
 use Rattle.windows.specs.Window.{Scratch}
-use Rattle.reduced_attempt.specs.Attempts.{CommonContent, NilpotentOver, HalfAsked, OtherAsked, Parted}
-use Rattle.reduced_attempt.specs.Attempts.{attempt-room, AttemptAsked, Attempted}
+use Rattle.reduced_attempt.specs.ReducedAttempts.{CommonContent, NilpotentOver, HalfAsked, OtherAsked, Parted}
+use Rattle.reduced_attempt.specs.ReducedAttempts.{attempt-room, AttemptAsked, Attempted}
 use Rattle.reduced_attempt.proofs.Halves.{common-swap, common-primitive}
 
 -- ---- both polynomials are 0 modulo n
@@ -137,9 +137,9 @@ other-told n f g u v u₁ v₁ u' v' r hu hv x =
     subst (λ (y : List ℕ). Attempted n f g u y u' v' r) hv (subst (λ (y : List ℕ). Attempted n f g y v₁ u' v' r) hu x)
 
 module _ {n c : ℕ} {f g u v w : List ℕ} (h : HalfAsked n c g f v u w) where
-  pub turned-told : {D : ℕ} {u' v' : List ℕ} → Certified n (L n (length g - 1) (length f - 1)) g f v' u' D
+  pub swapped-told : {D : ℕ} {u' v' : List ℕ} → Certified n (L n (length g - 1) (length f - 1)) g f v' u' D
       → Certified n (L n (length f - 1) (length g - 1)) f g u' v' D
-  turned-told {D} {u'} {v'} x =
+  swapped-told {D} {u'} {v'} x =
       subst (λ (len : ℕ). Certified n len f g u' v' D) (sym (length-swap n (length f - 1) (length g - 1)))
       (certified-flip _ _ _ _ _ _ _ (h .modulus) x)
 
@@ -147,4 +147,4 @@ module _ {n c : ℕ} {f g u v w : List ℕ} (h : HalfAsked n c g f v u w) where
       → Certified n (L n (length f - 1) (length g - 1)) f g u' v' D
   never-told x y = absurd (common-primitive n c g f (h .modulus) (h .content) (h .proper) y x)
 
-pub ruleset wholes = (none-told, first-asked, other-asked, turned-told, never-told)
+pub ruleset wholes = (none-told, first-asked, other-asked, swapped-told, never-told)

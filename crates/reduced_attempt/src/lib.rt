@@ -1,11 +1,11 @@
 // An attempt at the reduced resultant of two polynomials modulo n. It finishes, or it meets a coefficient that splits n into two coprime
 // factors.
 //
-// For odd n below 2^31 the words of f and g are loaded held, and what is worked on is 2^32 f and 2^32 g: D is the same, and cofactors leave
-// times 2^32. Elsewhere the factor is 1.
+// The words of f and g are entered, and what is worked on is r f and r g, where r is the word for 1: D is the same, and cofactors leave
+// times r.
 //
 //   common_content   the content of both polynomials, which divides D
-//   load_pair        both polynomials, held where n has the form
+//   load_pair        both polynomials, entered
 //   arrange          the same, over a content
 //   leave            a cofactor times what the polynomials were multiplied by; leave_both does both
 //   half             the attempt where the first polynomial is the one that is factored
@@ -17,13 +17,14 @@ ghost use lib.ListN.{length};
 ghost use Rattle.windows.specs.Window.{Scratch};
 ghost use Rattle.reduced_units.specs.States.{Splitter};
 ghost use Rattle.reduced_cofactors.specs.Cofactors.{CoreAnswer};
-ghost use Rattle.reduced_attempt.specs.Attempts.{CommonContent, PairLoaded, Arranged, LeaveAsked, BothLeave, Left, HalfAsked};
-ghost use Rattle.reduced_attempt.specs.Attempts.{OverAsked, CoreOver, OtherAsked, TrialAnswers, Parted, AttemptAsked, Attempted};
+ghost use Rattle.reduced_attempt.specs.ReducedAttempts.{CommonContent, PairLoaded, Arranged, LeaveAsked, BothLeave, Left, HalfAsked};
+ghost use Rattle.reduced_attempt.specs.ReducedAttempts.{OverAsked, CoreOver, OtherAsked, HalfAttempted, Parted, AttemptAsked};
+ghost use Rattle.reduced_attempt.specs.ReducedAttempts.{Attempted};
 use residue::Attempt;
 
 // What the half of an attempt comes to that factors the first polynomial: D; two coprime divisors of n; or all coefficients of that
 // polynomial, over the common content, are nilpotent.
-pub enum Trial {
+pub enum HalfAttempt {
     Found(u32),
     Divisors(u32, u32),
     Nilpotent,
@@ -42,20 +43,15 @@ pub fn common_content(w: &mut [u32], n: u32, f: &[u32], g: &[u32]) -> u32
     windows::content(&w[0..m], n)
 }
 
-// The words of f from 0 on and those of g from j on, times the unit that is answered: held, or as they are modulo n.
+// The words of f from 0 on and those of g from j on, entered: times the unit that is answered.
 pub fn load_pair(w: &mut [u32], n: u32, f: &[u32], j: usize, g: &[u32]) -> u32
     requires { ⌜ (2 ≤ n) × ((length (now f) ≤ j) × (j + length (now g) ≤ length (now w))) ⌝ }
     ensures { λ r. ⌜ PairLoaded n r j (now (f .entry)) (now (g .entry)) (now (w .entry)) (now (w .exit)) ⌝ }
 {
-    if montgomery::fits_form(n) {
-        let form = montgomery::form_of(n);
-        held_windows::load(w, 0, f, form);
-        held_windows::load(w, j, g, form);
-        return montgomery::enter(form, 1);
-    }
-    windows::load(w, 0, f, n);
-    windows::load(w, j, g, n);
-    1
+    let m = modulus::modulus_of(n);
+    modulus_windows::load(w, 0, f, m);
+    modulus_windows::load(w, j, g, m);
+    modulus::enter(m, 1)
 }
 
 // The words of b over c, and then those of a, times the unit that is answered.
@@ -72,21 +68,20 @@ fn arrange(w: &mut [u32], n: u32, c: u32, a: &[u32], b: &[u32]) -> u32
 
 // The words of x times r modulo n. Times 1 there is nothing to do.
 fn leave(x: &mut [u32], n: u32, r: u32)
-    requires { ⌜ LeaveAsked n r (now x) ⌝ }
+    requires { ⌜ LeaveAsked n (now x) ⌝ }
     ensures { λ _. ⌜ Left n r (now (x .entry)) (now (x .exit)) ⌝ }
 {
     if r == 1 {
         return;
     }
-    let form = montgomery::form_of(n);
-    let c = montgomery::enter(form, r);
+    let m = modulus::modulus_of(n);
     let z = x.len();
-    held_windows::scale(x, form, c, 0, 0, z);
+    modulus_windows::set_scaled(x, m, r, 0, 0, z);
 }
 
 // Both cofactors so.
 fn leave_both(x: &mut [u32], y: &mut [u32], n: u32, r: u32)
-    requires { ⌜ BothLeave n r (now x) (now y) ⌝ }
+    requires { ⌜ BothLeave n (now x) (now y) ⌝ }
     ensures { λ _. ⌜ (Left n r (now (x .entry)) (now (x .exit))) × (Left n r (now (y .entry)) (now (y .exit))) ⌝ }
 {
     leave(x, n, r);
@@ -94,9 +89,17 @@ fn leave_both(x: &mut [u32], y: &mut [u32], n: u32, r: u32)
 }
 
 // The reduced resultant of a and b, c their common content, with the cofactors x of a and y of b, if a can be factored.
-fn half(x: &mut [u32], y: &mut [u32], w: &mut [u32], n: u32, c: u32, a: &[u32], b: &[u32]) -> Trial
+fn half(
+    x: &mut [u32],
+    y: &mut [u32],
+    w: &mut [u32],
+    n: u32,
+    c: u32,
+    a: &[u32],
+    b: &[u32],
+) -> HalfAttempt
     requires { ⌜ HalfAsked n c (now a) (now b) (now x) (now y) (now w) ⌝ }
-    ensures { λ r. ⌜ TrialAnswers n c (now (a .entry)) (now (b .entry)) (now (x .entry)) (now (y .entry))
+    ensures { λ r. ⌜ HalfAttempted n c (now (a .entry)) (now (b .entry)) (now (x .entry)) (now (y .entry))
         (now (x .exit)) (now (y .exit)) r ⌝ }
     ensures { λ _. ⌜ Scratch (now (w .entry)) (now (w .exit)) ⌝ }
 {
@@ -105,8 +108,8 @@ fn half(x: &mut [u32], y: &mut [u32], w: &mut [u32], n: u32, c: u32, a: &[u32], 
     let m = l + a.len();
     match window_factor::highest_of(&w[l..m], n / c) {
         window_factor::Highest::UnitAt(t, i) => over_content(x, y, w, n, c, r, a, b, t, i),
-        window_factor::Highest::Splits(p, q) => Trial::Divisors(p, q),
-        window_factor::Highest::AllNilpotent => Trial::Nilpotent,
+        window_factor::Highest::Splits(p, q) => HalfAttempt::Divisors(p, q),
+        window_factor::Highest::AllNilpotent => HalfAttempt::Nilpotent,
     }
 }
 
@@ -123,22 +126,22 @@ fn over_content(
     b: &[u32],
     t: usize,
     i: u32,
-) -> Trial
+) -> HalfAttempt
     requires { ⌜ OverAsked n c r t i (now a) (now b) (now x) (now y) (now w) ⌝ }
-    ensures { λ z. ⌜ TrialAnswers n c (now (a .entry)) (now (b .entry)) (now (x .entry)) (now (y .entry))
+    ensures { λ z. ⌜ HalfAttempted n c (now (a .entry)) (now (b .entry)) (now (x .entry)) (now (y .entry))
         (now (x .exit)) (now (y .exit)) z ⌝ }
     ensures { λ _. ⌜ Scratch (now (w .entry)) (now (w .exit)) ⌝ }
 {
     match core_over(x, y, w, n, c, a, b, t, i) {
         Attempt::Value(d) => {
             leave_both(x, y, n, r);
-            Trial::Found(c * d)
+            HalfAttempt::Found(c * d)
         }
-        Attempt::Splits(p, q) => Trial::Divisors(p, q),
+        Attempt::Splits(p, q) => HalfAttempt::Divisors(p, q),
     }
 }
 
-// What the core comes to there, modulo n / c.
+// What the core comes to there, modulo n / c, whose record is found here.
 fn core_over(
     x: &mut [u32],
     y: &mut [u32],
@@ -155,7 +158,8 @@ fn core_over(
         (now (y .entry)) (now (x .exit)) (now (y .exit)) z ⌝ }
     ensures { λ _. ⌜ Scratch (now (w .entry)) (now (w .exit)) ⌝ }
 {
-    reduced_cofactors::core(x, y, w, n / c, a.len() - 1, b.len() - 1, t, i)
+    let m = modulus::modulus_of(n / c);
+    reduced_cofactors::core(x, y, w, m, a.len() - 1, b.len() - 1, t, i)
 }
 
 // n as a product of two coprime factors, from two coprime divisors: what n has in common with p, and the rest. The first two cases are
@@ -201,9 +205,9 @@ fn both_halves(
     ensures { λ _. ⌜ Scratch (now (w .entry)) (now (w .exit)) ⌝ }
 {
     match half(u, v, w, n, c, f, g) {
-        Trial::Found(d) => Attempt::Value(d),
-        Trial::Divisors(p, q) => split(n, p, q),
-        Trial::Nilpotent => other_half(u, v, w, n, c, f, g),
+        HalfAttempt::Found(d) => Attempt::Value(d),
+        HalfAttempt::Divisors(p, q) => split(n, p, q),
+        HalfAttempt::Nilpotent => other_half(u, v, w, n, c, f, g),
     }
 }
 
@@ -222,8 +226,8 @@ fn other_half(
     ensures { λ _. ⌜ Scratch (now (w .entry)) (now (w .exit)) ⌝ }
 {
     match half(v, u, w, n, c, g, f) {
-        Trial::Found(d) => Attempt::Value(d),
-        Trial::Divisors(p, q) => split(n, p, q),
-        Trial::Nilpotent => Attempt::Value(n),
+        HalfAttempt::Found(d) => Attempt::Value(d),
+        HalfAttempt::Divisors(p, q) => split(n, p, q),
+        HalfAttempt::Nilpotent => Attempt::Value(n),
     }
 }

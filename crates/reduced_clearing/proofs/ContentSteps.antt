@@ -1,6 +1,5 @@
 -- The content c of B is taken out: B over c, the multiplier of A times c, A modulo ν / c. The facts are those of the code, which reads B
--- as a
--- part of the window.
+-- as a part of the window.
 --
 --   part                         the a words from p on, as the code lends them
 --   none-solved, none-kept       B is 0 modulo ν
@@ -17,16 +16,16 @@ use lib.ListN.{length, getD, take, drop}
 use Rattle.definitions.specs.Residues.{IsUnit, IsNilpotent, Inverse}
 use Rattle.definitions.specs.Polynomials.{coef, constant}
 use Rattle.definitions.specs.Resultants.{Reduced}
-use Rattle.numbers.specs.Congruence.{Cong, c-refl, c-sym, c-trans, c-eq, c-mod, c-mul}
-use Rattle.numbers.specs.Nilpotents.{nilpotent-radical}
-use Rattle.numbers.specs.Primes.{prime-of}
-use Rattle.numbers.specs.Units.{unit-of, unit-dvd}
-use Rattle.theory.specs.ReachedSteps.{Times}
+use Rattle.law_numbers.specs.Congruence.{Cong, c-refl, c-sym, c-trans, c-eq, c-mod, c-mul}
+use Rattle.law_numbers.specs.Nilpotents.{nilpotent-radical}
+use Rattle.law_numbers.specs.Primes.{prime-of}
+use Rattle.law_numbers.specs.Units.{unit-of, unit-dvd}
+use Rattle.law_polynomials.specs.ReachedSteps.{Times}
 use Rattle.windows.specs.Window.{piece, Moved, mulBy, quotient-by, reduced-by, zeroed, Content, Below, Around, Apart, Kept}
 use Rattle.windows.proofs.Leaf.{lt-or-le, piece-at, piece-over, piece-same, piece-length, apart-at}
 use Rattle.windows.proofs.Lift.{moved-around}
-use Rattle.reduced_multipliers.specs.Leads.{Leads, Completes, lifted, leads-scaled, completes-none}
-use Rattle.reduced_multipliers.specs.Reductions.{UnitLead, reduced-same, reduced-lead, reduced-none}
+use Rattle.law_multipliers.specs.Multipliers.{HasMultiplier, Completes, lifted, multiplier-scaled, completes-none}
+use Rattle.law_multipliers.specs.Reductions.{UnitLead, reduced-same, reduced-lead, reduced-none}
 use Rattle.reduced_products.specs.Products.{MonicAtZero}
 use Rattle.reduced_units.specs.States.{Multiplier, Stage, StageAt, Solved, Change}
 use Rattle.reduced_units.specs.declared.Places.{Places}
@@ -232,19 +231,19 @@ module _ (n ν t pa a pb al be l c : ℕ) (w : List ℕ) (st : Stage n ν t pa a
           (subst (λ (y : ℕ). UnitLead y a (piece w pa (a + 1))) content-whole (unit-lead st))
           (piece w pb a) (piece w' pb a) D times (reduced-same (ν / c) (omega (arith, two)) (piece w pa (a + 1)) (piece w' pa (a + 1))
           (piece w' pb a) D same-a x));
-      first = λ g m p e x. leads-scaled n c m (m * c) (st .positive) (piece w 0 (t + 1)) g (piece w al (2 * (t + 1)))
+      first = λ g m p e x. multiplier-scaled n c m (m * c) (st .positive) (piece w 0 (t + 1)) g (piece w al (2 * (t + 1)))
           (piece w' al (2 * (t + 1))) (piece w pa (a + 1)) (piece w' pa (a + 1))
-          times-al (λ k. sym (ap (λ (y : ℕ). y % n) (turn c m (coef (piece w pa (a + 1)) k)) ∙ lifted n (m * c) (ν / c) _ _
+          times-al (λ k. sym (ap (λ (y : ℕ). y % n) (round c m (coef (piece w pa (a + 1)) k)) ∙ lifted n (m * c) (ν / c) _ _
           (mul-pos p content-positive) (omega (arith, two)) (modulus m e) (same-a k))) x;
-      second = λ g m p e x. leads-scaled n 1 m (m * c) (st .positive) (piece w 0 (t + 1)) g (piece w be (2 * (t + 1)))
+      second = λ g m p e x. multiplier-scaled n 1 m (m * c) (st .positive) (piece w 0 (t + 1)) g (piece w be (2 * (t + 1)))
           (piece w' be (2 * (t + 1))) (piece w pb a) (piece w' pb a)
           (λ k. ap (λ (y : ℕ). y % n) (ap (λ (f : List ℕ). coef f k) same-be ∙ sym (one-mul (coef (piece w be (2 * (t + 1))) k))))
           (λ k. ap (λ (y : ℕ). y % n) (mul-assoc m c (coef (piece w' pb a) k) ∙ ap (λ (y : ℕ). m * y) (sym (times-c k)) ∙ sym
           (one-mul _))) x;
     }
       where
-        turn : (c m x : ℕ) → c * (m * x) ≡ m * c * x
-        turn c m x = omega arith
+        round : (c m x : ℕ) → c * (m * x) ≡ m * c * x
+        round c m x = omega arith
 
         modulus : (m : ℕ) → n ≡ m * ν → n ≡ m * c * (ν / c)
         modulus m e = e ∙ ap (λ (y : ℕ). m * y) content-whole ∙ sym (mul-assoc m c (ν / c))

@@ -1,28 +1,30 @@
 -- The unit factor of B is taken out: B is monic of degree s, and its multiplier is over the unit. Together with the content this is what
--- the
--- clearing promises.
+-- the clearing promises.
 --
 --   unit-…, monic-…, taken-…    the unit factor alone
 --   both-…, last-…              the content and then the unit factor
 --   cleared-…                   the same, as the clearing promises it
---   monics, units, contents     the rules of `take_monic`, `clear_unit` and `clear_contents`
+--   over-…                      the same modulo ν / c, where that has a record of its own
+--   monics, units, moduli, contents    the rules of `take_monic`, `clear_unit`, `modulus_over` with `clear_over`, and `clear_contents`
 use mathlib.Core.Path.{_≡_, refl, sym, ap, ap₂, subst, _∙_, fun-ext}
 use mathlib.Core.List.{List, []}
 use mathlib.Core.Logic.{⊎-elim}
 use Prim.Native.Nat.{ℕ, zero, suc, _+_, _-_, _*_, _/_, _%_, _≤_, _<_, _∣_}
 use native.Mathlib.Omega.{arith}
-use native.Mathlib.Nat.{mul-one, mul-assoc, mul-pos, dvd-trans, dvd-mul-left, dvd-mul-right, le-of-dvd, add-zero, pos-of-ne-zero}
+use native.Mathlib.Nat.{div-one, mul-one, mul-assoc, mul-pos, dvd-trans, dvd-mul-left, dvd-mul-right, le-of-dvd, add-zero, pos-of-ne-zero}
+use borrow.Author.Needs.{needs}
 use lib.ListN.{length, getD}
 use Rattle.definitions.specs.Residues.{IsUnit, IsNilpotent, Coprime}
 use Rattle.definitions.specs.Polynomials.{coef, constant}
 use Rattle.definitions.specs.Resultants.{Reduced}
-use Rattle.theory.specs.ReachedSteps.{coef-beyond}
+use Rattle.law_polynomials.specs.ReachedSteps.{coef-beyond}
 use Rattle.windows.specs.Window.{piece, Moved, second, Content, Below, Around, Apart, Kept}
 use Rattle.windows.proofs.Leaf.{lt-or-le, piece-at, piece-over, piece-same, piece-length}
 use Rattle.windows.proofs.Lift.{moved-around}
 use Rattle.window_factor.specs.Factors.{SplitOf, LeadingUnit, AllNilpotents}
-use Rattle.reduced_multipliers.specs.Leads.{Leads, Completes, leads-unit, leads-completes, completes-same, inverse-of-negated}
-use Rattle.reduced_multipliers.specs.Reductions.{reduced-unit-second, reduced-unity}
+use Rattle.law_multipliers.specs.Multipliers.{HasMultiplier, Completes, multiplier-unit, multiplier-completes, completes-same}
+use Rattle.law_multipliers.specs.Multipliers.{inverse-of-negated}
+use Rattle.law_multipliers.specs.Reductions.{reduced-unit-second, reduced-unity}
 use Rattle.reduced_products.specs.Products.{MonicAtZero}
 use Rattle.reduced_units.specs.States.{Multiplier, Stage, StageAt, Solved, Splitter, Change, UnitCleared}
 use Rattle.reduced_units.specs.Factorings.{UnitTaken}
@@ -100,10 +102,10 @@ module _ (n ν t pa a pb al be l s r : ℕ) (w w' : List ℕ) (st : Stage n ν t
       (ut .equation) (i .1)
       (subst (λ (f : List ℕ). Reduced ν f (piece w' pb (s + 1)) D) same-a x)
 
-  unit-second : (g : List ℕ) (m : ℕ) → 1 ≤ m → n ≡ m * ν → Leads n m (piece w 0 (t + 1)) g (piece w be (2 * (t + 1))) (piece w pb a)
-      → Leads n m (piece w 0 (t + 1)) g (piece w' be (2 * (t + 1))) (piece w' pb (s + 1))
+  unit-second : (g : List ℕ) (m : ℕ) → 1 ≤ m → n ≡ m * ν → HasMultiplier n m (piece w 0 (t + 1)) g (piece w be (2 * (t + 1))) (piece w pb a)
+      → HasMultiplier n m (piece w 0 (t + 1)) g (piece w' be (2 * (t + 1))) (piece w' pb (s + 1))
   unit-second g m p e x =
-      leads-unit n m ν p (omega (arith, st .above)) e (piece w 0 (t + 1)) g [] (piece w be (2 * (t + 1))) (piece w' be (2 * (t + 1)))
+      multiplier-unit n m ν p (omega (arith, st .above)) e (piece w 0 (t + 1)) g [] (piece w be (2 * (t + 1))) (piece w' be (2 * (t + 1)))
       (ut .j) (ut .u) (piece w' pb (s + 1)) (piece w pb a)
       (λ k. coef-beyond [] k (omega arith)) (ut .taken) (ut .equation) (ut .inverse) x
 
@@ -130,20 +132,22 @@ module _ (n ν t pa a pb al be l c s r : ℕ) (w w₁ w₂ : List ℕ) (st : Sta
   modulus : (m : ℕ) → n ≡ m * ν → n ≡ m * c * (ν / c)
   modulus m e = e ∙ ap (λ (y : ℕ). m * y) (content-whole n ν t pa a pb al be l c w st ct) ∙ sym (mul-assoc m c (ν / c))
 
-  both-first : (g : List ℕ) (m : ℕ) → 1 ≤ m → n ≡ m * ν → Leads n m (piece w 0 (t + 1)) g (piece w al (2 * (t + 1))) (piece w pa (a + 1))
-      → Leads n (m * c) (piece w 0 (t + 1)) g (piece w₂ al (2 * (t + 1))) (piece w₂ pa (a + 1))
+  both-first : (g : List ℕ) (m : ℕ) → 1 ≤ m → n ≡ m * ν
+      → HasMultiplier n m (piece w 0 (t + 1)) g (piece w al (2 * (t + 1))) (piece w pa (a + 1))
+      → HasMultiplier n (m * c) (piece w 0 (t + 1)) g (piece w₂ al (2 * (t + 1))) (piece w₂ pa (a + 1))
   both-first g m p e x =
-      subst (λ (f : List ℕ). Leads n (m * c) (piece w 0 (t + 1)) g f (piece w₂ pa (a + 1)))
+      subst (λ (f : List ℕ). HasMultiplier n (m * c) (piece w 0 (t + 1)) g f (piece w₂ pa (a + 1)))
       (sym (same-al n (ν / c) t pa a pb al be l s r w₁ w₂ stage₁ shorter ut))
-      (subst (λ (f : List ℕ). Leads n (m * c) (piece w 0 (t + 1)) g (piece w₁ al (2 * (t + 1))) f)
+      (subst (λ (f : List ℕ). HasMultiplier n (m * c) (piece w 0 (t + 1)) g (piece w₁ al (2 * (t + 1))) f)
       (sym (same-a n (ν / c) t pa a pb al be l s r w₁ w₂ stage₁ shorter ut)) (change₁ .first g m p e x))
 
-  both-second : (g : List ℕ) (m : ℕ) → 1 ≤ m → n ≡ m * ν → Leads n m (piece w 0 (t + 1)) g (piece w be (2 * (t + 1))) (piece w pb a)
-      → Leads n (m * c) (piece w 0 (t + 1)) g (piece w₂ be (2 * (t + 1))) (piece w₂ pb (s + 1))
+  both-second : (g : List ℕ) (m : ℕ) → 1 ≤ m → n ≡ m * ν → HasMultiplier n m (piece w 0 (t + 1)) g (piece w be (2 * (t + 1))) (piece w pb a)
+      → HasMultiplier n (m * c) (piece w 0 (t + 1)) g (piece w₂ be (2 * (t + 1))) (piece w₂ pb (s + 1))
   both-second g m p e x =
-      subst (λ (h : List ℕ). Leads n (m * c) h g (piece w₂ be (2 * (t + 1))) (piece w₂ pb (s + 1))) same-h₁
+      subst (λ (h : List ℕ). HasMultiplier n (m * c) h g (piece w₂ be (2 * (t + 1))) (piece w₂ pb (s + 1))) same-h₁
       (unit-second n (ν / c) t pa a pb al be l s r w₁ w₂ stage₁ shorter ut g (m * c) (mul-pos p c-pos) (modulus m e)
-      (subst (λ (h : List ℕ). Leads n (m * c) h g (piece w₁ be (2 * (t + 1))) (piece w₁ pb a)) (sym same-h₁) (change₁ .second g m p e x)))
+      (subst (λ (h : List ℕ). HasMultiplier n (m * c) h g (piece w₁ be (2 * (t + 1))) (piece w₁ pb a)) (sym same-h₁)
+      (change₁ .second g m p e x)))
 
   both-reduced : (D : ℕ) → Reduced (ν / c) (piece w₂ pa (a + 1)) (piece w₂ pb (s + 1)) D → Reduced ν (piece w pa (a + 1)) (piece w pb a)
       (c * D)
@@ -180,7 +184,7 @@ module _ (n ν t pa a pb al be l c s r : ℕ) (w w₁ w₂ : List ℕ) (st : Sta
       below = record { at = λ k h. subst (λ (x : ℕ). x < n) (sym (cp .mid k h)) (ut .multiplier .below .at k (omega arith)) };
       completes = λ g m p e x y.
           completes-same n (m * c) (piece w 0 (t + 1)) g (piece w₂ be (2 * (t + 1))) (piece w₃ (t + 1) t) found
-          (leads-completes n (m * c) (ν / c) (mul-pos p c-pos) (omega (arith, stage₁ .above)) (modulus m e) (piece w 0 (t + 1)) g
+          (multiplier-completes n (m * c) (ν / c) (mul-pos p c-pos) (omega (arith, stage₁ .above)) (modulus m e) (piece w 0 (t + 1)) g
           (piece w₂ be (2 * (t + 1))) (piece w₂ pb (s + 1))
           (λ k. ap (λ (z : ℕ). z % (ν / c)) (unity k)) (both-second g m p e y));
     }
@@ -232,6 +236,18 @@ kept-same x w = record { same = refl; low = λ k h. refl }
 
 -- ---- the content and the unit factor, as the clearing promises them
 
+-- the modulus does not change where the content is 1
+pub over-one : {n c : ℕ} → c ≡ 1 → n ≡ n / c
+over-one {n} e = rw e (sym (div-one n))
+
+-- nor does anything else where the record is that of ν
+module _ (n ν ν' a l : ℕ) (P : Places) (w : List ℕ) where
+  pub over-asked : UnitAsked n ν P a l w → ν' ≡ ν → UnitAsked n ν' P a l w
+  over-asked x e = rw e x
+
+  pub over-clears : (c : ℕ) (w' : List ℕ) (r : Clearing) → UnitClears n ν' c P a l w w' r → ν' ≡ ν → UnitClears n ν c P a l w w' r
+  over-clears c w' r x e = subst (λ (y : ℕ). UnitClears n y c P a l w w' r) e x
+
 module _ (n ν a l c : ℕ) (P : Places) (w w₁ : List ℕ) (st : StageAt n ν P a a l w) (ct : Content ν (part w (P .pb) a) c) (ne : c ≡ ν → ⊥)
     (tk : ContentTaken n ν c (P .t) (P .pa) a (P .pb) (P .al) w w₁) where
   pub cleared-asked : UnitAsked n (ν / c) P a l w₁
@@ -256,5 +272,7 @@ cleared-kept n ν t pa a pb al be l c w w₁ w₂ st ct ne tk k = kept-trans (co
 pub ruleset monics = (tt, taken-kept, taken-next, taken-last, taken-last-kept)
 
 pub ruleset units = (tt, monic-asked, never-nilpotent, kept-same)
+
+pub ruleset moduli = (needs, over-one, over-asked, over-clears)
 
 pub ruleset contents = (tt, none-solved, none-kept, content-positive, content-asked, cleared-asked, cleared, cleared-kept)

@@ -3,14 +3,18 @@
 //   take_content      the content of B is taken out of it and of the modulus
 //   take_monic        a monic polynomial in the place of B
 //   clear_unit        the same, where not all is nilpotent
+//   modulus_over      the modulus over a content; clear_over is clear_unit modulo that
 //   clear_contents    the content, then the unit factor
 //
-//   n, v    the modulus of the multipliers, and that of the polynomials A, of degree a, and B, of a words
+//   m, v    the records of the modulus of the multipliers, and of that of the polynomials A, of degree a, and B, of a words
 //   p       the places of A, of B and of their multipliers, of l words each
-ghost use Prim.Native.Nat.{_+_};
+ghost use mathlib.Core.Path.{_≡_};
+ghost use Prim.Native.Nat.{_+_, _/_, _≤_};
+ghost use Rattle.modulus.specs.Values.{Known};
 ghost use Rattle.windows.specs.Window.{Kept};
 ghost use Rattle.reduced_units.specs.States.{StageAt};
 ghost use Rattle.reduced_clearing.specs.Clearings.{ContentAsked, ContentTaken, MonicAsked, UnitAsked, UnitClears, Clears};
+use modulus::Modulus;
 use reduced_units::Places;
 
 // What the clearing of contents and unit factors comes to: the reduced resultant; two coprime divisors of the modulus; or the content,
@@ -22,11 +26,11 @@ pub enum Clearing {
 }
 
 // B over its content c, the multiplier of A times c, and A modulo v / c.
-fn take_content(w: &mut [u32], n: u32, v: u32, c: u32, p: Places, a: usize)
-    requires { ⌜ ContentAsked n v c p a (now w) ⌝ }
-    ensures { λ _. ⌜ ContentTaken n v c (p .t) (p .pa) a (p .pb) (p .al) (now (w .entry)) (now (w .exit)) ⌝ }
+fn take_content(w: &mut [u32], m: Modulus, v: u32, c: u32, p: Places, a: usize)
+    requires { ⌜ (Known m) × (ContentAsked (m .n) v c p a (now w)) ⌝ }
+    ensures { λ _. ⌜ ContentTaken (m .n) v c (p .t) (p .pa) a (p .pb) (p .al) (now (w .entry)) (now (w .exit)) ⌝ }
 {
-    windows::scale(w, n, c, p.al, p.al, 2 * (p.t + 1));
+    modulus_windows::set_scaled(w, m, c, p.al, p.al, 2 * (p.t + 1));
     windows::divide_words(w, c, p.pb, a);
     windows::reduce_words(w, v / c, p.pa, a + 1);
 }
@@ -35,8 +39,8 @@ fn take_content(w: &mut [u32], n: u32, v: u32, c: u32, p: Places, a: usize)
 // that was taken out before.
 fn take_monic(
     w: &mut [u32],
-    n: u32,
-    v: u32,
+    m: Modulus,
+    v: Modulus,
     c: u32,
     p: Places,
     a: usize,
@@ -44,44 +48,89 @@ fn take_monic(
     s: usize,
     i: u32,
 ) -> Clearing
-    requires { ⌜ MonicAsked n v p a l s i (now w) ⌝ }
-    ensures { λ r. ⌜ UnitClears n v c p a l (now (w .entry)) (now (w .exit)) r ⌝ }
+    requires { ⌜ (Known m) × ((Known v) × (MonicAsked (m .n) (v .n) p a l s i (now w))) ⌝ }
+    ensures { λ r. ⌜ UnitClears (m .n) (v .n) c p a l (now (w .entry)) (now (w .exit)) r ⌝ }
     ensures { λ _. ⌜ Kept (p .t + 1) (now (w .entry)) (now (w .exit)) ⌝ }
 {
-    let m = reduced_units::take_unit(w, n, v, p, a, l, s, i);
+    let k = reduced_units::take_unit(w, m, v, p, a, l, s, i);
     if s == 0 {
         windows::copy(w, p.be, p.t + 1, p.t);
         return Clearing::Done(c);
     }
-    Clearing::Next(c, s, m)
+    Clearing::Next(c, s, k)
 }
 
 // The same where the coefficients of B are not all nilpotent.
-fn clear_unit(w: &mut [u32], n: u32, v: u32, c: u32, p: Places, a: usize, l: usize) -> Clearing
-    requires { ⌜ UnitAsked n v p a l (now w) ⌝ }
-    ensures { λ r. ⌜ UnitClears n v c p a l (now (w .entry)) (now (w .exit)) r ⌝ }
+fn clear_unit(
+    w: &mut [u32],
+    m: Modulus,
+    v: Modulus,
+    c: u32,
+    p: Places,
+    a: usize,
+    l: usize,
+) -> Clearing
+    requires { ⌜ (Known m) × ((Known v) × (UnitAsked (m .n) (v .n) p a l (now w))) ⌝ }
+    ensures { λ r. ⌜ UnitClears (m .n) (v .n) c p a l (now (w .entry)) (now (w .exit)) r ⌝ }
     ensures { λ _. ⌜ Kept (p .t + 1) (now (w .entry)) (now (w .exit)) ⌝ }
 {
     let pb = p.pb;
-    match window_factor::highest_of(&w[pb..pb + a], v) {
-        window_factor::Highest::UnitAt(s, i) => take_monic(w, n, v, c, p, a, l, s, i),
+    match window_factor::highest_of(&w[pb..pb + a], v.n) {
+        window_factor::Highest::UnitAt(s, i) => take_monic(w, m, v, c, p, a, l, s, i),
         window_factor::Highest::Splits(f, g) => Clearing::Parts(f, g),
-        window_factor::Highest::AllNilpotent => Clearing::Done(v),
+        window_factor::Highest::AllNilpotent => Clearing::Done(v.n),
     }
 }
 
+// The modulus over a content c of it: the record where it changes, and v itself where it does not.
+pub fn modulus_over(v: Modulus, c: u32) -> Modulus
+    requires { ⌜ (Known v) × ((1 ≤ c) × (1 ≤ v .n / c)) ⌝ }
+    ensures { λ r. ⌜ (Known r) × (r .n ≡ v .n / c) ⌝ }
+{
+    if c == 1 {
+        return v;
+    }
+    modulus::modulus_of(v.n / c)
+}
+
+// The unit factor of B where its content c was taken out, and the modulus is v / c.
+fn clear_over(
+    w: &mut [u32],
+    m: Modulus,
+    v: Modulus,
+    c: u32,
+    p: Places,
+    a: usize,
+    l: usize,
+) -> Clearing
+    requires { ⌜ (Known m) × ((Known v) × (1 ≤ c)) ⌝ }
+    requires { ⌜ UnitAsked (m .n) (v .n / c) p a l (now w) ⌝ }
+    ensures { λ r. ⌜ UnitClears (m .n) (v .n / c) c p a l (now (w .entry)) (now (w .exit)) r ⌝ }
+    ensures { λ _. ⌜ Kept (p .t + 1) (now (w .entry)) (now (w .exit)) ⌝ }
+{
+    let r = modulus_over(v, c);
+    clear_unit(w, m, r, c, p, a, l)
+}
+
 // The content of B is taken out of it and of the modulus, then the unit factor of B.
-pub fn clear_contents(w: &mut [u32], n: u32, v: u32, p: Places, a: usize, l: usize) -> Clearing
-    requires { ⌜ StageAt n v p a a l (now w) ⌝ }
-    ensures { λ r. ⌜ Clears n v p a (now (w .entry)) (now (w .exit)) r ⌝ }
+pub fn clear_contents(
+    w: &mut [u32],
+    m: Modulus,
+    v: Modulus,
+    p: Places,
+    a: usize,
+    l: usize,
+) -> Clearing
+    requires { ⌜ (Known m) × ((Known v) × (StageAt (m .n) (v .n) p a a l (now w))) ⌝ }
+    ensures { λ r. ⌜ Clears (m .n) (v .n) p a (now (w .entry)) (now (w .exit)) r ⌝ }
     ensures { λ _. ⌜ Kept (p .t + 1) (now (w .entry)) (now (w .exit)) ⌝ }
 {
     let pb = p.pb;
-    let c = windows::content(&w[pb..pb + a], v);
-    if c == v {
+    let c = windows::content(&w[pb..pb + a], v.n);
+    if c == v.n {
         windows::clear(w, p.t + 1, p.t);
-        return Clearing::Done(v);
+        return Clearing::Done(v.n);
     }
-    take_content(w, n, v, c, p, a);
-    clear_unit(w, n, v / c, c, p, a, l)
+    take_content(w, m, v.n, c, p, a);
+    clear_over(w, m, v, c, p, a, l)
 }

@@ -9,14 +9,14 @@ use borrow.Author.Needs.{needs}
 use Rattle.residue.specs.declared.Attempt.{Attempt}
 use Rattle.residue.specs.declared.Attempt.the-variants.{Value, Splits}
 use Rattle.reduced_units.specs.States.{Splitter}
-use Rattle.reduced_cofactors.specs.Cofactors.{CoreSpace, CoreAnswer, FactoredAt, Found, FinishAsked, Finished, monic-place}
+use Rattle.reduced_cofactors.specs.Cofactors.{CoreLengthsAsked, CoreAnswer, FactoredAt, Found, FinishAsked, Finished, monic-place}
 use Rattle.reduced_cofactors.proofs.Solving.{find-asked, found-asked, found-certified, found-scratch}
 
 module _ (n d e t : ℕ) (w w' : List ℕ) (r : Attempt) (x : Found n d e t w w' r) where
   pub splits-at : {p q : ℕ} → r ≡ Splits p q → Splitter n p q
   splits-at h = subst (Found n d e t w w') h x
 
-  module _ {D : ℕ} {u v : List ℕ} (h : r ≡ Value D) (sp : CoreSpace n d e w u v) (one : 1 ≤ t) (within : t ≤ d)
+  module _ {D : ℕ} {u v : List ℕ} (h : r ≡ Value D) (sp : CoreLengthsAsked n d e w u v) (one : 1 ≤ t) (within : t ≤ d)
       (fa : FactoredAt n d e t w) where
     pub asked-at : FinishAsked n e (monic-place d e) t (d - t) w' u v
     asked-at = found-asked sp one within fa (subst (Found n d e t w w') h x)

@@ -1,35 +1,36 @@
 -- The cofactors of D: from the multiplier that completes to it, and for a unit polynomial. The rules take what the calls promise, as the
 -- code hands it over, for words of any width.
 --
---   divide-asked, finish-…, finished                              what `finish` asks and promises
+--   divide-asked, quotient-asked, finish-…, finished              what `finish` asks and promises
 --   cofactor-fits, degree-fits                                    lengths
 --   constant-room, constant-unit, constant-certified, constant-length, constant-scratch    the same for `constant`
---   finishes, constants                                           the rules
+--   divides, finishes, constants                                  the rules
 use mathlib.Core.Path.{_≡_, refl, sym, ap, ap₂, subst, _∙_, fun-ext}
 use mathlib.Core.List.{List, [], _∷_}
 use mathlib.Core.Logic.{⊎-elim}
 use Prim.Native.Nat.{ℕ, zero, suc, max, _+_, _-_, _*_, _%_, _≤_, _<_}
 use native.Mathlib.Omega.{arith}
 use native.Mathlib.Nat.{mod-lt, mod-mod, zero-mod, zero-add, add-zero, one-mul, mul-le-mul, mul-le-mul-left, le-max-left, le-max-right}
+use borrow.Author.Needs.{needs}
 use lib.ListN.{length, getD, set, take, drop, replicate, length-set}
 use lib.Seq.{getD-set-same, getD-set-other}
 use Rattle.definitions.specs.Residues.{K}
 use Rattle.definitions.specs.Polynomials.{coef, convolve, constant, L, Monic, Divided, UnitPolynomial}
-use Rattle.numbers.specs.Logarithm.{K-positive}
-use Rattle.theory.specs.ReachedSteps.{coef-beyond}
-use Rattle.theory.specs.ReducedLaws.{reduced-unit, reduced-flip}
+use Rattle.law_numbers.specs.Logarithm.{K-positive}
+use Rattle.law_polynomials.specs.ReachedSteps.{coef-beyond}
+use Rattle.law_polynomials.specs.ReducedLaws.{reduced-unit, reduced-flip}
 use Rattle.convolution.specs.Sums.{convolve-constant, zeros-at}
-use Rattle.window_division.proofs.Turns.{convolve-none}
-use Rattle.windows.specs.Window.{piece, Moved, second, Loaded, Around, Scratch}
+use Rattle.window_division.proofs.DivisionRounds.{convolve-none}
+use Rattle.windows.specs.Window.{piece, Moved, second, Loaded, Below, Around, Scratch}
 use Rattle.windows.proofs.Leaf.{lt-or-le, piece-at, piece-over, piece-same, piece-length}
 use Rattle.windows.proofs.Lift.{moved-around, moved-copy}
-use Rattle.reduced_multipliers.specs.Leads.{NegatedInverse, completed, leads-first, leads-completes, inverse-of-negated}
-use Rattle.reduced_multipliers.specs.Joining.{combination-same}
-use Rattle.reduced_multipliers.specs.Reductions.{reduced-unity}
-use Rattle.reduced_units.proofs.Regions.{apart-low, piece-apart, part-piece}
-use Rattle.reduced_cofactors.specs.Cofactors.{CoreSpace, CoreCertified, FactoredAt, monic-place}
+use Rattle.law_multipliers.specs.Multipliers.{NegatedInverse, completed, multiplier-first, multiplier-completes, inverse-of-negated}
+use Rattle.law_multipliers.specs.Joining.{combination-same}
+use Rattle.law_multipliers.specs.Reductions.{reduced-unity}
+use Rattle.reduced_units.proofs.Regions.{apart-low, below-apart, piece-apart, part-piece}
+use Rattle.reduced_cofactors.specs.Cofactors.{CoreLengthsAsked, CoreCertified, FactoredAt, monic-place}
 use Rattle.reduced_cofactors.specs.Cofactors.{FinishAsked, Finished, DivideAsked, DividedBy}
-use Rattle.reduced_quotients.specs.Quotients.{OverRoom, OverFirst, ExactQuotient}
+use Rattle.reduced_quotients.specs.Quotients.{OverUnitAsked, OverFirst, ExactQuotientAsked, ExactQuotient}
 
 -- the polynomial of degree t at q, with a leading 1
 pub monic-at : (n q t : ℕ) (w : List ℕ) → 1 ≤ n → getD w (q + t) 0 ≡ 1 → Monic n t (piece w q (t + 1))
@@ -52,10 +53,21 @@ divide-asked p = record {
   above = p .above;
   degree = p .degree;
   near = p .near;
+  second = p .second;
   room = omega arith;
   below-h = p .below-h;
   lead = p .lead;
   multiplier = p .multiplier;
+}
+
+-- and what it asks of the exact quotient
+pub quotient-asked : {n e q t k : ℕ} {w : List ℕ} → DivideAsked n e q t k w → ExactQuotientAsked n e q t w
+quotient-asked p = record {
+  modulus = p .above;
+  degree = p .degree;
+  lies = omega (arith, p .near);
+  room = omega (arith, p .room);
+  second = p .second;
 }
 
 module _ {n e q t k c : ℕ} {w w₂ x₀ y₀ : List ℕ} (asked : FinishAsked n e q t k w x₀ y₀) (dv : DividedBy n e q t k c w w₂) where
@@ -82,13 +94,20 @@ module _ {n e q t k c : ℕ} {w w₂ x₀ y₀ : List ℕ} (asked : FinishAsked 
   long : q + 2 * (t + 1) + (t + e + 1) + (k + 1) + (2 * (K n * k + 1) + (e + 1)) ≤ length w₂
   long = omega (arith, cp .same, eq .around .same)
 
+  below-z : Below n (q + 2 * (t + 1) + t) (e + 1) w₂
+  below-z = below-apart (apart-low (q + 2 * (t + 1) + t) (e + 1) (q + 2 * (t + 1) + (t + e + 1)) (k + 1) (omega arith)) copied (record {
+    at = λ i h. let z : q + 2 * (t + 1) + (t + i) ≡ q + 2 * (t + 1) + t + i = omega arith in
+        subst (λ (x : ℕ). getD w₁ x 0 < n) z (eq .below .at (t + i) (omega arith));
+  })
+
   pub finish-room : {n' up k' zp lz : ℕ} {v u : List ℕ} → n' ≡ n → up ≡ q + 2 * (t + 1) + (t + e + 1) → k' ≡ k
-      → zp ≡ q + 2 * (t + 1) + t → lz ≡ e + 1 → v ≡ w₂ → u ≡ x₀ → OverRoom n' up k' zp lz v u
+      → zp ≡ q + 2 * (t + 1) + t → lz ≡ e + 1 → v ≡ w₂ → u ≡ x₀ → OverUnitAsked n' up k' zp lz v u
   finish-room en eu ek ez el ev ex =
       rw (en, eu, ek, ez, el, ev, ex) (record {
         modulus = asked .above;
         some = omega arith;
         lies = omega arith;
+        below = below-z;
         room = long;
         quotient = asked .long-x;
       })
@@ -182,7 +201,7 @@ degree-fits n d e t two h = omega (arith, le-max-left d e, more (K n) (max d e) 
 
 -- ---- F is a unit polynomial
 
-module _ {n d e : ℕ} {w x₀ y₀ : List ℕ} (space : CoreSpace n d e w x₀ y₀) (fa : FactoredAt n d e 0 w) where
+module _ {n d e : ℕ} {w x₀ y₀ : List ℕ} (space : CoreLengthsAsked n d e w x₀ y₀) (fa : FactoredAt n d e 0 w) where
   two : 2 ≤ n
   two = space .above
 
@@ -195,11 +214,15 @@ module _ {n d e : ℕ} {w x₀ y₀ : List ℕ} (space : CoreSpace n d e w x₀ 
   pub constant-unit : UnitPolynomial n (piece (set w 0 1) (monic-place d e + (0 + 1) + 0) (d + 1))
   constant-unit = subst (UnitPolynomial n) (sym same-unit) (fa .unit)
 
-  pub constant-room : OverRoom n (monic-place d e + (0 + 1) + 0) d 0 1 (set w 0 1) x₀
+  one-below : (k : ℕ) → k ≡ 0 → getD (set w 0 1) (0 + k) 0 < n
+  one-below k z = rw (z, getD-set-same w 0 1 0 (omega arith)) two
+
+  pub constant-room : OverUnitAsked n (monic-place d e + (0 + 1) + 0) d 0 1 (set w 0 1) x₀
   constant-room = record {
     modulus = two;
     some = omega arith;
     lies = omega arith;
+    below = record { at = λ k h. one-below k (omega arith) };
     room = omega (arith, length-set w 0 1);
     quotient = omega (arith, space .long-x, cofactor-fits n d e d two (omega arith));
   }
@@ -226,9 +249,10 @@ module _ {n d e : ℕ} {w x₀ y₀ : List ℕ} (space : CoreSpace n d e w x₀ 
         completed n (omega arith) 0 1 f g (piece w (monic-place d e) (0 + 1)) u (of .j) (replicate (length y₀) 0) (1 ∷ [])
         (piece (set w 0 1) 0 1) [] x [] (1 ∷ [])
         (monic-at n (monic-place d e) 0 w (omega arith) (fa .monic))
-        (leads-completes n 1 n (omega arith) (omega arith) (sym (one-mul n)) (piece w (monic-place d e) (0 + 1)) g (replicate (length y₀)
+        (multiplier-completes n 1 n (omega arith) (omega arith) (sym (one-mul n)) (piece w (monic-place d e) (0 + 1)) g
+        (replicate (length y₀)
         0) (piece w (monic-place d e) (0 + 1)) (λ k. ap (λ (z : ℕ). z % n) (unity k))
-        (leads-first n (omega arith) (piece w (monic-place d e) (0 + 1)) g (replicate (length y₀) 0) (zeros-at (length y₀))))
+        (multiplier-first n (omega arith) (piece w (monic-place d e) (0 + 1)) g (replicate (length y₀) 0) (zeros-at (length y₀))))
         (λ k. ap (λ (z : ℕ). z % n) (single k))
         (record { at = λ k. ap (λ (z : ℕ). z % n) (ap (λ (z : ℕ). z + coef (1 ∷ []) k) (nothing (coef g) k) ∙ zero-add _) })
         (record {
@@ -272,6 +296,8 @@ constant-length w sc = sc .same ∙ length-set w 0 1
 
 pub constant-scratch : {w w' : List ℕ} → Scratch (set w 0 1) w' → Scratch w w'
 constant-scratch {w} sc = record { same = sc .same ∙ length-set w 0 1 }
+
+pub ruleset divides = (needs, quotient-asked)
 
 pub ruleset finishes = (divide-asked, finish-part, finish-place, finish-room, finish-unit, finished, finish-scratch)
 

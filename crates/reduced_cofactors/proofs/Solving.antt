@@ -20,21 +20,22 @@ use borrow.Rule.Slice.PartMut.{putMid, midOf}
 use Rattle.definitions.specs.Residues.{K, IsNilpotent}
 use Rattle.definitions.specs.Polynomials.{coef, constant, L, Multiplied, Divided, UnitPolynomial}
 use Rattle.definitions.specs.Resultants.{Combination, Reduced}
-use Rattle.numbers.specs.Units.{unit-of}
-use Rattle.theory.specs.ReducedLaws.{reduced-unit, reduced-rest}
+use Rattle.law_numbers.specs.Units.{unit-of}
+use Rattle.law_polynomials.specs.ReducedLaws.{reduced-unit, reduced-rest}
 use Rattle.windows.specs.Window.{piece, Moved, second, Below, Around, Apart, Kept, Scratch}
 use Rattle.windows.proofs.Leaf.{lt-or-le, piece-at, piece-over, piece-same, piece-length}
 use Rattle.windows.proofs.Lift.{moved-around, moved-copy, mid-length, was, piece-mid, window, is-now, piece-put, lift-below}
 use Rattle.window_factor.specs.Factors.{Given, Factored}
-use Rattle.reduced_multipliers.specs.Leads.{Leads, Completes, NegatedInverse, leads-first, leads-second, inverse-of-negated}
+use Rattle.law_multipliers.specs.Multipliers.{HasMultiplier, Completes, NegatedInverse, multiplier-first, multiplier-second}
+use Rattle.law_multipliers.specs.Multipliers.{inverse-of-negated}
 use Rattle.residue.specs.declared.Attempt.{Attempt}
 use Rattle.residue.specs.declared.Attempt.the-variants.{Value, Splits}
 use Rattle.reduced_units.specs.declared.Places.{Places}
 use Rattle.reduced_units.specs.States.{Stage, Solved, stage-room}
 use Rattle.reduced_units.proofs.Regions.{apart-low, piece-apart, below-apart}
 use Rattle.reduced_stages.specs.StageAnswers.{StageAnswer}
-use Rattle.reduced_quotients.specs.Quotients.{PrepareRoom, Prepared}
-use Rattle.reduced_cofactors.specs.Cofactors.{CoreSpace, CoreAsked, CoreCertified, CoreAnswer, Certified, core-room}
+use Rattle.reduced_quotients.specs.Quotients.{PrepareAsked, Prepared}
+use Rattle.reduced_cofactors.specs.Cofactors.{CoreLengthsAsked, CoreAsked, CoreCertified, CoreAnswer, Certified, core-room}
 use Rattle.reduced_cofactors.specs.Cofactors.{FactoredAt, FindAsked, FoundAt, Found, FinishAsked, Finished, monic-place}
 use Rattle.reduced_cofactors.proofs.Finishing.{cofactor-fits, degree-fits}
 
@@ -66,7 +67,7 @@ module _ {n d e t : ℕ} {w w₁ : List ℕ} (asked : FindAsked n d e t w)
   bound-unit : K n * (d - t) ≤ K n * d
   bound-unit = mul-le-mul-left (K n) (omega arith)
 
-  pub prepare-asked : PrepareRoom n e (monic-place d e) t w₁
+  pub prepare-asked : PrepareAsked n e (monic-place d e) t w₁
   prepare-asked = record { modulus = two; degree = one; lies = omega arith; room = omega (arith, cp .same) }
 
   pub solve-second : Below n 0 (e + 1) w₁
@@ -251,11 +252,11 @@ module _ {n d e t : ℕ} {w w₁ : List ℕ} (asked : FindAsked n d e t w)
               subst (Completes n (piece w (monic-place d e) (t + 1)) (piece w 0 (e + 1)) (piece ws (t + 1) t)) (one-mul D)
               (subst (λ (h : List ℕ). Completes n h (piece w 0 (e + 1)) (piece ws (t + 1) t) (1 * D)) mid-h
               (sv .completes (piece w 0 (e + 1)) 1 (omega arith) (sym (one-mul n))
-              (subst (λ (f : List ℕ). Leads n 1 (piece (midOf (monic-place d e) m w₂) 0 (t + 1)) (piece w 0 (e + 1))
+              (subst (λ (f : List ℕ). HasMultiplier n 1 (piece (midOf (monic-place d e) m w₂) 0 (t + 1)) (piece w 0 (e + 1))
               (piece (midOf (monic-place d e) m w₂) (4 * (t + 1)) (2 * (t + 1))) f) (mid-h ∙ sym mid-a)
-              (leads-first n (omega arith) (piece (midOf (monic-place d e) m w₂) 0 (t + 1)) (piece w 0 (e + 1))
+              (multiplier-first n (omega arith) (piece (midOf (monic-place d e) m w₂) 0 (t + 1)) (piece w 0 (e + 1))
               (piece (midOf (monic-place d e) m w₂) (4 * (t + 1)) (2 * (t + 1))) alpha-zero))
-              (leads-second n (omega arith) (piece (midOf (monic-place d e) m w₂) 0 (t + 1)) (piece w 0 (e + 1))
+              (multiplier-second n (omega arith) (piece (midOf (monic-place d e) m w₂) 0 (t + 1)) (piece w 0 (e + 1))
               (piece (midOf (monic-place d e) m w₂) (6 * (t + 1)) (2 * (t + 1))) (pr .z)
               (piece (midOf (monic-place d e) m w₂) (3 * (t + 1)) t) beta-one
               (subst (λ (f : List ℕ). Divided n (piece w 0 (e + 1)) f (pr .z) (piece (midOf (monic-place d e) m w₂) (3 * (t + 1)) t))
@@ -291,19 +292,20 @@ pub ruleset finds = (prepare-asked, solve-second, solve-monic, solve-lead, solve
 
 -- ---- D is found
 
-pub find-asked : {n d e t : ℕ} {w x y : List ℕ} → CoreSpace n d e w x y → 1 ≤ t → t ≤ d → FactoredAt n d e t w → FindAsked n d e t w
+pub find-asked : {n d e t : ℕ} {w x y : List ℕ} → CoreLengthsAsked n d e w x y → 1 ≤ t → t ≤ d → FactoredAt n d e t w → FindAsked n d e t w
 find-asked sp one within fa = record { above = sp .above; degree = one; within = within; room = sp .room; factored = fa }
 
 pub found-scratch : {w w₁ w₂ : List ℕ} → Scratch w w₁ → Scratch w₁ w₂ → Scratch w w₂
 found-scratch p q = record { same = q .same ∙ p .same }
 
-module _ {n d e t D : ℕ} {w w' x y : List ℕ} (sp : CoreSpace n d e w x y) (one : 1 ≤ t) (within : t ≤ d) (fa : FactoredAt n d e t w)
+module _ {n d e t D : ℕ} {w w' x y : List ℕ} (sp : CoreLengthsAsked n d e w x y) (one : 1 ≤ t) (within : t ≤ d) (fa : FactoredAt n d e t w)
     (fd : FoundAt n d e t D w w') where
   pub found-asked : FinishAsked n e (monic-place d e) t (d - t) w' x y
   found-asked = record {
     above = sp .above;
     degree = one;
     near = omega arith;
+    second = record { at = λ k h. subst (λ (x : ℕ). x < n) (sym (word k h)) (fa .second .at k h) };
     room = omega (arith, fd .same, sp .room, bound (K n));
     long-x = omega (arith, sp .long-x, cofactor-fits n d e (d - t) (sp .above) (omega arith));
     long-y = omega (arith, sp .long-y, degree-fits n d e t (sp .above) within);
@@ -313,6 +315,9 @@ module _ {n d e t D : ℕ} {w w' x y : List ℕ} (sp : CoreSpace n d e w x y) (o
     unit = subst (UnitPolynomial n) (sym (fd .first)) (fa .unit);
   }
     where
+      word : (k : ℕ) → k < e + 1 → getD w' (0 + k) 0 ≡ getD w (0 + k) 0
+      word k h = sym (piece-at w' 0 (e + 1) k h) ∙ ap (λ (f : List ℕ). coef f k) (fd .second) ∙ piece-at w 0 (e + 1) k h
+
       bound : (k : ℕ) → k * (d - t) ≤ k * d
       bound k = mul-le-mul-left k (omega arith)
 
@@ -378,6 +383,7 @@ module _ {n d e t i : ℕ} {w x y : List ℕ} (asked : CoreAsked n d e t i w x y
 
   pub core-given : Given n d t i (midOf (e + 1) span w)
   core-given = record {
+    small = asked .lead .inverse .below;
     below = record {
       at = λ k h. subst (λ (x : ℕ). x < n) (sym (was (e + 1) span w core-inside (e + 1 + k) (0 + k) (omega arith)
           (omega arith))) (asked .first .at k h);
@@ -390,7 +396,7 @@ module _ {n d e t i : ℕ} {w x y : List ℕ} (asked : CoreAsked n d e t i w x y
     core-around : Around (e + 1) span w (putMid (e + 1) span w ys)
     core-around = window (e + 1) span w core-inside ys ly
 
-    pub core-space : CoreSpace n d e (putMid (e + 1) span w ys) x y
+    pub core-space : CoreLengthsAsked n d e (putMid (e + 1) span w ys) x y
     core-space = record {
       above = asked .space .above;
       room = omega (arith, core-around .same);

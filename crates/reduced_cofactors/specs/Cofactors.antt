@@ -1,9 +1,9 @@
 -- What the core of an attempt asks and promises. F and G are polynomials modulo n, of degrees d and e; F = U H with U a unit polynomial and
 -- H monic of degree t. The window holds G at 0, then F, and at q = e + 1 + (d + 1) the polynomial H.
 --
---   CoreSpace, CoreAsked            room for an attempt; and F and G in the window
---   Certified n len f g u v D       D is the reduced resultant of f and g, u f + v g = D, the cofactors have at most len words
---   CoreCertified, CoreAnswer       such a D for F and G; or two coprime divisors of n, with nothing written to the cofactors
+--   CoreLengthsAsked, CoreAsked       room for an attempt; and F and G in the window
+--   Certified n len f g u v D         D is the reduced resultant of f and g, u f + v g = D, the cofactors have at most len words
+--   CoreCertified, CoreAnswer         such a D for F and G; or two coprime divisors of n, with nothing written to the cofactors
 --   FactoredAt, FindAsked, FoundAt, Found, DivideAsked, DividedBy, FinishAsked, Finished    what the parts of the core ask and promise
 use mathlib.Core.Path.{_≡_}
 use mathlib.Core.List.{List}
@@ -14,7 +14,7 @@ use Rattle.definitions.specs.Polynomials.{coef, L, Multiplied, UnitPolynomial}
 use Rattle.definitions.specs.Resultants.{Combination, Reduced}
 use Rattle.windows.specs.Window.{piece, Below, Moved, second}
 use Rattle.window_factor.specs.Factors.{LeadingUnit}
-use Rattle.reduced_multipliers.specs.Leads.{NegatedInverse, Completes}
+use Rattle.law_multipliers.specs.Multipliers.{NegatedInverse, Completes}
 use Rattle.reduced_units.specs.States.{Splitter}
 use Rattle.reduced_quotients.specs.Quotients.{ExactQuotient}
 use Rattle.residue.specs.declared.Attempt.{Attempt}
@@ -25,7 +25,7 @@ abbrev pub core-room : ℕ → ℕ → ℕ → ℕ
 core-room n d e = 3 * (e + 1) + 13 * (d + 1) + 2 * (K n * d)
 
 -- room for an attempt: "Each cofactor buffer must have L words or more", and the window has the words that it needs
-pub record CoreSpace (n d e : ℕ) (w x y : List ℕ) : Type 0 where
+pub record CoreLengthsAsked (n d e : ℕ) (w x y : List ℕ) : Type 0 where
   pub above : 2 ≤ n
   pub room : core-room n d e ≤ length w
   pub long-x : L n d e ≤ length x
@@ -33,7 +33,7 @@ pub record CoreSpace (n d e : ℕ) (w x y : List ℕ) : Type 0 where
 
 -- G at 0 and F after it; the coefficient of F at t has the inverse i, and those above it are nilpotent
 pub record CoreAsked (n d e t i : ℕ) (w x y : List ℕ) : Type 0 where
-  pub space : CoreSpace n d e w x y
+  pub space : CoreLengthsAsked n d e w x y
   pub second : Below n 0 (e + 1) w
   pub first : Below n (e + 1) (d + 1) w
   pub lead : LeadingUnit n t i (piece w (e + 1) (d + 1))
@@ -62,6 +62,7 @@ pub record FinishAsked (n e q t k : ℕ) (w x y : List ℕ) : Type 0 where
   pub above : 2 ≤ n
   pub degree : 1 ≤ t
   pub near : e + 1 + (k + 1) ≤ q
+  pub second : Below n 0 (e + 1) w
   pub room : q + 2 * (t + 1) + (t + e + 1) + ((k + 1) + (2 * (K n * k + 1) + (e + 1))) ≤ length w
   pub long-x : (K n - 1) * k + (e + 1) ≤ length x
   pub long-y : t ≤ length y
@@ -75,6 +76,7 @@ pub record DivideAsked (n e q t k : ℕ) (w : List ℕ) : Type 0 where
   pub above : 2 ≤ n
   pub degree : 1 ≤ t
   pub near : e + 1 + (k + 1) ≤ q
+  pub second : Below n 0 (e + 1) w
   pub room : q + 2 * (t + 1) + (t + e + 1) + (k + 1) ≤ length w
   pub below-h : Below n q (t + 1) w
   pub lead : getD w (q + t) 0 ≡ 1

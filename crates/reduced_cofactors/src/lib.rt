@@ -8,66 +8,78 @@
 //   solve       and the cofactors
 //   core        F is factored, and one of the two
 //
+//   m       the record of n
 //   d, e    the degrees of F and of G
 //   t       the degree of H, monic, where F = U H with a unit polynomial U of degree k = d - t
 //   q       the place of H, behind G at 0 and F at e + 1
 //   x, y    the cofactors of F and of G
 //   w       the window: what it holds afterwards is for no caller to use
 ghost use Prim.Native.Nat.{_-_, _≤_};
+ghost use Rattle.modulus.specs.Values.{Known};
 ghost use Rattle.windows.specs.Window.{Scratch};
-ghost use Rattle.reduced_cofactors.specs.Cofactors.{CoreSpace, CoreAsked, CoreCertified, CoreAnswer};
+ghost use Rattle.reduced_cofactors.specs.Cofactors.{CoreLengthsAsked, CoreAsked, CoreCertified, CoreAnswer};
 ghost use Rattle.reduced_cofactors.specs.Cofactors.{FactoredAt, FindAsked, Found, monic-place};
 ghost use Rattle.reduced_cofactors.specs.Cofactors.{FinishAsked, Finished, DivideAsked, DividedBy};
+use modulus::Modulus;
 use reduced_units::Places;
 use residue::Attempt;
 
 // c less the product of G and the multiplier at q + (t + 1), over H, and behind it a copy of the unit polynomial of k + 1 words at e + 1.
-fn divide(w: &mut [u32], n: u32, d: usize, e: usize, t: usize, c: u32)
-    requires { ⌜ (t ≤ d) × (DivideAsked n e (monic-place d e) t (d - t) (now w)) ⌝ }
-    ensures { λ _. ⌜ DividedBy n e (monic-place d e) t (d - t) c (now (w .entry)) (now (w .exit)) ⌝ }
+fn divide(w: &mut [u32], m: Modulus, d: usize, e: usize, t: usize, c: u32)
+    requires { ⌜ (Known m) × ((t ≤ d) × (DivideAsked (m .n) e (monic-place d e) t (d - t) (now w))) ⌝ }
+    ensures { λ _. ⌜ DividedBy (m .n) e (monic-place d e) t (d - t) c (now (w .entry)) (now (w .exit)) ⌝ }
 {
     let q = e + 1 + (d + 1);
     let k = d - t;
-    reduced_quotients::exact_quotient(w, n, e, q, t, c);
+    reduced_quotients::exact_quotient(w, m, e, q, t, c);
     let up = q + 2 * (t + 1) + (t + e + 1);
     windows::copy(w, e + 1, up, k + 1);
 }
 
 // The cofactors of c, from the multiplier at q + (t + 1): y is that multiplier, and x is the exact quotient over the unit polynomial of
 // k + 1 words at e + 1.
-fn finish(x: &mut [u32], y: &mut [u32], w: &mut [u32], n: u32, d: usize, e: usize, t: usize, c: u32)
-    requires { ⌜ (t ≤ d) × (FinishAsked n e (monic-place d e) t (d - t) (now w) (now x) (now y)) ⌝ }
-    ensures { λ _. ⌜ Finished n e (monic-place d e) t (d - t) c (now (w .entry)) (now (x .exit)) (now (y .exit)) ⌝ }
+fn finish(
+    x: &mut [u32],
+    y: &mut [u32],
+    w: &mut [u32],
+    m: Modulus,
+    d: usize,
+    e: usize,
+    t: usize,
+    c: u32,
+)
+    requires { ⌜ (Known m) × ((t ≤ d) × (FinishAsked (m .n) e (monic-place d e) t (d - t) (now w) (now x) (now y))) ⌝ }
+    ensures { λ _. ⌜ Finished (m .n) e (monic-place d e) t (d - t) c (now (w .entry)) (now (x .exit)) (now (y .exit)) ⌝ }
     ensures { λ _. ⌜ Scratch (now (w .entry)) (now (w .exit)) ⌝ }
 {
-    divide(w, n, d, e, t, c);
+    divide(w, m, d, e, t, c);
     let q = e + 1 + (d + 1);
     let a = q + (t + 1);
-    reduced_quotients::place(y, &w[a..a + t], n);
+    reduced_quotients::place(y, &w[a..a + t], m.n);
     let up = q + 2 * (t + 1) + (t + e + 1);
-    reduced_quotients::over_first(x, w, n, up, d - t, q + 2 * (t + 1) + t, e + 1);
+    reduced_quotients::over_first(x, w, m, up, d - t, q + 2 * (t + 1) + t, e + 1);
 }
 
 // F is a unit polynomial: its inverse and 0.
-fn constant(x: &mut [u32], y: &mut [u32], w: &mut [u32], n: u32, d: usize, e: usize)
-    requires { ⌜ (CoreSpace n d e (now w) (now x) (now y)) × (FactoredAt n d e 0 (now w)) ⌝ }
-    ensures { λ _. ⌜ CoreCertified n d e (now (w .entry)) (now (x .exit)) (now (y .exit)) 1 ⌝ }
+fn constant(x: &mut [u32], y: &mut [u32], w: &mut [u32], m: Modulus, d: usize, e: usize)
+    requires { ⌜ (Known m) × ((CoreLengthsAsked (m .n) d e (now w) (now x) (now y)) × (FactoredAt (m .n) d e 0 (now w))) ⌝ }
+    ensures { λ _. ⌜ CoreCertified (m .n) d e (now (w .entry)) (now (x .exit)) (now (y .exit)) 1 ⌝ }
     ensures { λ _. ⌜ Scratch (now (w .entry)) (now (w .exit)) ⌝ }
 {
     w[0] = 1;
     windows::wipe(y);
-    reduced_quotients::over_first(x, w, n, e + 1 + (d + 1) + (0 + 1) + 0, d, 0, 1);
+    reduced_quotients::over_first(x, w, m, e + 1 + (d + 1) + (0 + 1) + 0, d, 0, 1);
 }
 
 // H has degree t above 0: the stages find D and the multiplier of G, which is left behind H; U is moved to the place of F.
-fn find(w: &mut [u32], n: u32, d: usize, e: usize, t: usize) -> Attempt
-    requires { ⌜ FindAsked n d e t (now w) ⌝ }
-    ensures { λ r. ⌜ Found n d e t (now (w .entry)) (now (w .exit)) r ⌝ }
+fn find(w: &mut [u32], m: Modulus, d: usize, e: usize, t: usize) -> Attempt
+    requires { ⌜ (Known m) × (FindAsked (m .n) d e t (now w)) ⌝ }
+    ensures { λ r. ⌜ Found (m .n) d e t (now (w .entry)) (now (w .exit)) r ⌝ }
     ensures { λ _. ⌜ Scratch (now (w .entry)) (now (w .exit)) ⌝ }
 {
     let q = e + 1 + (d + 1);
     windows::copy(w, q + (t + 1) + t, e + 1, d - t + 1);
-    reduced_quotients::prepare(w, n, e, q, t);
+    reduced_quotients::prepare(w, m, e, q, t);
     let z = w.len();
     let p = Places {
         t,
@@ -76,7 +88,7 @@ fn find(w: &mut [u32], n: u32, d: usize, e: usize, t: usize) -> Attempt
         al: 4 * (t + 1),
         be: 6 * (t + 1),
     };
-    reduced_stages::content_stage(&mut w[q..z], n, n, p, t, 1)
+    reduced_stages::content_stage(&mut w[q..z], m, m, p, t, 1)
 }
 
 // H has degree t above 0: D is found, and the cofactors from the multiplier of G.
@@ -84,19 +96,19 @@ fn solve(
     x: &mut [u32],
     y: &mut [u32],
     w: &mut [u32],
-    n: u32,
+    m: Modulus,
     d: usize,
     e: usize,
     t: usize,
 ) -> Attempt
-    requires { ⌜ CoreSpace n d e (now w) (now x) (now y) ⌝ }
-    requires { ⌜ (1 ≤ t) × ((t ≤ d) × (FactoredAt n d e t (now w))) ⌝ }
-    ensures { λ r. ⌜ CoreAnswer n d e (now (w .entry)) (now (x .entry)) (now (y .entry)) (now (x .exit)) (now (y .exit)) r ⌝ }
+    requires { ⌜ (Known m) × (CoreLengthsAsked (m .n) d e (now w) (now x) (now y)) ⌝ }
+    requires { ⌜ (1 ≤ t) × ((t ≤ d) × (FactoredAt (m .n) d e t (now w))) ⌝ }
+    ensures { λ r. ⌜ CoreAnswer (m .n) d e (now (w .entry)) (now (x .entry)) (now (y .entry)) (now (x .exit)) (now (y .exit)) r ⌝ }
     ensures { λ _. ⌜ Scratch (now (w .entry)) (now (w .exit)) ⌝ }
 {
-    match find(w, n, d, e, t) {
+    match find(w, m, d, e, t) {
         Attempt::Value(c) => {
-            finish(x, y, w, n, d, e, t, c);
+            finish(x, y, w, m, d, e, t, c);
             Attempt::Value(c)
         }
         Attempt::Splits(f, g) => Attempt::Splits(f, g),
@@ -109,21 +121,21 @@ pub fn core(
     x: &mut [u32],
     y: &mut [u32],
     w: &mut [u32],
-    n: u32,
+    m: Modulus,
     d: usize,
     e: usize,
     t: usize,
     i: u32,
 ) -> Attempt
-    requires { ⌜ CoreAsked n d e t i (now w) (now x) (now y) ⌝ }
-    ensures { λ r. ⌜ CoreAnswer n d e (now (w .entry)) (now (x .entry)) (now (y .entry)) (now (x .exit)) (now (y .exit)) r ⌝ }
+    requires { ⌜ (Known m) × (CoreAsked (m .n) d e t i (now w) (now x) (now y)) ⌝ }
+    ensures { λ r. ⌜ CoreAnswer (m .n) d e (now (w .entry)) (now (x .entry)) (now (y .entry)) (now (x .exit)) (now (y .exit)) r ⌝ }
     ensures { λ _. ⌜ Scratch (now (w .entry)) (now (w .exit)) ⌝ }
 {
     let b = e + 1;
-    window_factor::unit_times_monic(&mut w[b..b + (d + 1 + (t + 1 + (d + 1)))], n, d, t, i);
+    window_factor::unit_times_monic(&mut w[b..b + (d + 1 + (t + 1 + (d + 1)))], m, d, t, i);
     if t == 0 {
-        constant(x, y, w, n, d, e);
+        constant(x, y, w, m, d, e);
         return Attempt::Value(1);
     }
-    solve(x, y, w, n, d, e, t)
+    solve(x, y, w, m, d, e, t)
 }

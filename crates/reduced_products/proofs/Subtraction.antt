@@ -1,8 +1,8 @@
--- The subtraction of a product, at any width: what a turn keeps, two words of the first factor at a time.
+-- The subtraction of a product, at any width: what a round keeps, two words of the first factor at a time.
 --
 --   Taking          the invariant of the loop
---   taking-…        its start, turn and ends
---   pair-asked, first-…, second-…, last-…    what the places in between ask
+--   taking-…        its start, round and ends
+--   pair-asked, first-…, second-…, factor-below, last-…    what the places in between ask
 --   subtractions    the rules
 use mathlib.Core.Path.{_≡_, refl, sym, ap, ap₂, subst, _∙_, fun-ext}
 use mathlib.Core.List.{List}
@@ -14,14 +14,15 @@ use native.Mathlib.Decide.{ℕ-discrete}
 use borrow.Author.Needs.{needs}
 use lib.ListN.{length, getD, set, length-set}
 use lib.Seq.{getD-set-same, getD-set-other}
-use Rattle.numbers.specs.Congruence.{Cong, c-refl, c-trans, c-eq, c-add}
+use Rattle.law_numbers.specs.Congruence.{Cong, c-refl, c-trans, c-eq, c-add}
 use Rattle.definitions.specs.Polynomials.{coef, convolve, Divided}
-use Rattle.windows.specs.Window.{piece, Moved, addMul, Below, Around, Apart, Clear, PairAsked, Paired, behind}
+use Rattle.windows.specs.Window.{piece, Moved, addMul, Below, Around, Apart, PairAsked, Paired, behind}
 use Rattle.windows.proofs.Leaf.{lt-or-le, piece-at, piece-over, apart-at}
-use Rattle.window_division.proofs.Turns.{convolve-none, convolve-add, convolve-spot, spot, spot-off, spot-low, spot-at, risen, risen-at}
-use Rattle.window_division.proofs.Turns.{risen-low, back}
+use Rattle.window_division.proofs.DivisionRounds.{convolve-none, convolve-add, convolve-spot, spot, spot-off, spot-low, spot-at, risen}
+use Rattle.window_division.proofs.DivisionRounds.{risen-at}
+use Rattle.window_division.proofs.DivisionRounds.{risen-low, back}
 use Rattle.window_division.proofs.Double.{back-two}
-use Rattle.reduced_products.specs.Products.{ProductRoom, Factors, Subtracted}
+use Rattle.reduced_products.specs.Products.{ProductAsked, Factors, Subtracted}
 
 -- the first j words of the first factor have been taken; l words stand at dst
 pub record Subtracting (n p lp q lq dst l j : ℕ) (w₀ w : List ℕ) : Type 0 where
@@ -61,16 +62,16 @@ first-small : {n p lp q lq dst l j : ℕ} {w₀ w : List ℕ} → Subtracting n 
     (i : ℕ) → i < lp → getD w (p + i) 0 < n
 first-small {n} s a b i h = subst (λ (x : ℕ). x < n) (sym (apart-at a (s .around) i h)) (b .at i h)
 
--- the words that a turn changes
-turn-below : {n p lp q lq dst l j : ℕ} {w₀ w : List ℕ} → Subtracting n p lp q lq dst l j w₀ w → j + lq ≤ l → Below n (dst + j) lq w
-turn-below {n} {p} {lp} {q} {lq} {dst} {l} {j} {w₀} {w} s h =
+-- the words that a round changes
+round-under : {n p lp q lq dst l j : ℕ} {w₀ w : List ℕ} → Subtracting n p lp q lq dst l j w₀ w → j + lq ≤ l → Below n (dst + j) lq w
+round-under {n} {p} {lp} {q} {lq} {dst} {l} {j} {w₀} {w} s h =
     record {
       at = λ k b. subst (λ (x : ℕ). getD w x 0 < n) (let z : dst + (j + k) ≡ dst + j + k = omega arith in z)
           (s .below .at (j + k) (omega arith));
     }
 
-turn-apart : {q lq dst l : ℕ} → Apart q lq dst l → (j : ℕ) → j + lq ≤ l → Apart q lq (dst + j) lq
-turn-apart a j h = record { ok = λ i k p r e. a .ok i (j + k) p (omega arith) (omega arith) }
+round-apart : {q lq dst l : ℕ} → Apart q lq dst l → (j : ℕ) → j + lq ≤ l → Apart q lq (dst + j) lq
+round-apart a j h = record { ok = λ i k p r e. a .ok i (j + k) p (omega arith) (omega arith) }
 
 -- some words more of the first factor are taken, F of them
 advance : (n p lp q lq dst l j j' : ℕ) (w₀ w w' : List ℕ) (F : ℕ → ℕ) → j ≤ j' → Subtracting n p lp q lq dst l j w₀ w → Around dst l w w'
@@ -78,7 +79,7 @@ advance : (n p lp q lq dst l j j' : ℕ) (w₀ w w' : List ℕ) (F : ℕ → ℕ
     → ((i : ℕ) → j ≤ i → i < j' → F i ≡ coef (piece w₀ p lp) i) → ((i : ℕ) → i < j → F i ≡ 0) → ((i : ℕ) → j' ≤ i → F i ≡ 0)
     → ((k : ℕ) → Cong n (convolve F (coef (piece w₀ q lq)) k + coef (piece w' dst l) k) (coef (piece w dst l) k))
     → Subtracting n p lp q lq dst l j' w₀ w'
-advance n p lp q lq dst l j j' w₀ w w' F more s around below new old none turn = record {
+advance n p lp q lq dst l j j' w₀ w w' F more s around below new old none round = record {
   around = record {
     same = around .same ∙ s .around .same;
     low = λ k h. around .low k h ∙ s .around .low k h;
@@ -93,7 +94,7 @@ advance n p lp q lq dst l j j' w₀ w w' F more s around below new old none turn
   rest = λ i h. ap₂ (λ (x y : ℕ). x + y) (s .rest i (omega arith)) (none i h);
   at = λ k.
       c-trans (c-eq (ap (λ (x : ℕ). x + coef (piece w' dst l) k) (convolve-add (s .part) F (coef (piece w₀ q lq)) k) ∙ add-assoc _ _ _))
-      (c-trans (c-add c-refl (turn k)) (s .at k));
+      (c-trans (c-add c-refl (round k)) (s .at k));
 }
 
 module _ (n p lp q lq dst l j m : ℕ) (w₀ w : List ℕ) (pos : 0 < n) (some : 1 ≤ lq) (apart-p : Apart p lp dst l)
@@ -118,8 +119,8 @@ module _ (n p lp q lq dst l j m : ℕ) (w₀ w : List ℕ) (pos : 0 < n) (some :
   -- ---- one word
 
   module _ (w' : List ℕ) (within : j < lp) (fits : j + lq ≤ l) (mv : Moved (addMul n (n - m)) q (dst + j) lq w w') where
-    single-turn : (k : ℕ) → Cong n (m * risen j Q k + coef (piece w' dst l) k) (coef (piece w dst l) k)
-    single-turn k =
+    single-round : (k : ℕ) → Cong n (m * risen j Q k + coef (piece w' dst l) k) (coef (piece w dst l) k)
+    single-round k =
         ⊎-elim
         (λ h. none k (risen-low j Q k h) (⊎-elim (λ b. piece-at w' dst l k b ∙ mv .low (dst + k) (omega arith) ∙ sym
         (piece-at w dst l k b)) (λ b. piece-over w' dst l k b ∙ sym (piece-over w dst l k b)) (lt-or-le k l)))
@@ -164,7 +165,7 @@ module _ (n p lp q lq dst l j m : ℕ) (w₀ w : List ℕ) (pos : 0 < n) (some :
         (λ i h b. spot-at j m i (omega arith) ∙ word m i (let z : j ≡ i = omega arith in is-m ∙ ap (λ (x : ℕ). getD w (p + x) 0) z)
         (omega arith))
         (λ i h. spot-low j m i h) (λ i h. spot-off j m i (omega arith))
-        (λ k. c-trans (c-eq (ap (λ (x : ℕ). x + coef (piece w' dst l) k) (convolve-spot j m (coef (piece w₀ q lq)) k))) (single-turn k))
+        (λ k. c-trans (c-eq (ap (λ (x : ℕ). x + coef (piece w' dst l) k) (convolve-spot j m (coef (piece w₀ q lq)) k))) (single-round k))
 
   -- ---- two words
 
@@ -246,8 +247,8 @@ module _ (n p lp q lq dst l j m : ℕ) (w₀ w : List ℕ) (pos : 0 < n) (some :
         kept : getD w' (q + (lq - 1)) 0 ≡ getD w (q + (lq - 1)) 0
         kept = apart-at apart-q paired (lq - 1) (omega arith)
 
-    turn : (k : ℕ) → Goal k
-    turn k =
+    round : (k : ℕ) → Goal k
+    round k =
         ⊎-elim
         (λ h. nothing k (risen-low (suc j) Q k (omega arith)) (risen-low j Q k h)
         (other k (omega arith) (λ e. omega arith) ∙ mv .low (dst + k) (omega arith) ∙ sym (piece-at w dst l k (omega arith))))
@@ -306,7 +307,7 @@ module _ (n p lp q lq dst l j m : ℕ) (w₀ w : List ℕ) (pos : 0 < n) (some :
         (λ k. c-trans (c-eq (ap (λ (x : ℕ). x + coef (piece (set w' (dst + (j + lq)) v) dst l) k)
         (convolve-add (spot (suc j) c) (spot j m) (coef (piece w₀ q lq)) k
         ∙ ap₂ (λ (x y : ℕ). x + y) (convolve-spot (suc j) c (coef (piece w₀ q lq)) k) (convolve-spot j m (coef (piece w₀ q lq)) k))))
-        (turn k))
+        (round k))
 
 -- ---- as the code has it
 
@@ -320,7 +321,7 @@ taking-start n p lp q lq dst w fs = record { most = omega arith; done = subtract
 pub taking-end : (n p lp q lq dst j : ℕ) (w₀ w : List ℕ) → Taking n p lp q lq dst w₀ w j → j ≡ lp → Subtracted n p lp q lq dst w₀ w
 taking-end n p lp q lq dst j w₀ w x e = subtracting-end _ _ _ _ _ _ _ j _ _ e refl (x .done)
 
-module _ (n p lp q lq dst j : ℕ) (w₀ w : List ℕ) (x : Taking n p lp q lq dst w₀ w j) (room : ProductRoom n p lp q lq dst w₀)
+module _ (n p lp q lq dst j : ℕ) (w₀ w : List ℕ) (x : Taking n p lp q lq dst w₀ w j) (room : ProductAsked n p lp q lq dst w₀)
     (fs : Factors n p lp q lq dst w₀) where
   small : (i : ℕ) → i < lp → getD w (p + i) 0 < n
   small = first-small (x .done) (fs .apart-first) (fs .first)
@@ -334,14 +335,26 @@ module _ (n p lp q lq dst j : ℕ) (w₀ w : List ℕ) (x : Taking n p lp q lq d
   pub last-most : (j ≡ lp → ⊥) → getD w (p + j) 0 ≤ n
   last-most ne = le-of-lt (small j (omega (arith, x .most)))
 
-  pub pair-asked : (m : ℕ) → j + 1 < lp → PairAsked n (n - m) q (dst + j) lq w
-  pair-asked m h = record {
+  asked-at : (m : ℕ) → j < lp → PairAsked n (n - m) q (dst + j) lq w
+  asked-at m h = record {
     modulus = room .modulus;
     factor = omega arith;
     source = omega (arith, room .second, x .done .around .same);
     target = omega (arith, room .product, x .done .around .same);
-    apart = turn-apart (fs .apart-second) j (omega arith);
-    below = turn-below (x .done) (omega arith);
+    apart = round-apart (fs .apart-second) j (omega arith);
+    below = round-under (x .done) (omega arith);
+  }
+
+  pub pair-asked : (m : ℕ) → j + 1 < lp → PairAsked n (n - m) q (dst + j) lq w
+  pair-asked m h = asked-at m (omega arith)
+
+  pub last-asked : (m : ℕ) → (j ≡ lp → ⊥) → PairAsked n (n - m) q (dst + j) lq w
+  last-asked m ne = asked-at m (omega (arith, x .most))
+
+  -- the second factor is as it was
+  pub factor-below : Below n q lq w
+  factor-below = record {
+    at = λ k l. subst (λ (y : ℕ). y < n) (sym (apart-at (fs .apart-second) (x .done .around) k l)) (fs .second .at k l);
   }
 
   pub taking-next : (v j' : ℕ) (w' w'' : List ℕ) → j + 1 < lp
@@ -356,15 +369,6 @@ module _ (n p lp q lq dst j : ℕ) (w₀ w : List ℕ) (x : Taking n p lp q lq d
             (omega (arith, room .product, x .done .around .same)) refl mv is;
       })
 
-  pub last-source : q + lq ≤ length w
-  last-source = omega (arith, room .second, x .done .around .same)
-
-  pub last-target : (j ≡ lp → ⊥) → dst + j + lq ≤ length w
-  last-target ne = omega (arith, room .product, room .some-second, x .most, x .done .around .same)
-
-  pub last-clear : (j ≡ lp → ⊥) → Clear q (dst + j) lq
-  last-clear ne = record { ok = λ i k a b e. fs .apart-second .ok i (j + k) b (omega (arith, x .most)) (omega arith) }
-
   pub taking-last : (w' : List ℕ) → (j ≡ lp → ⊥) → lp ≤ j + 1 → Moved (addMul n (n - getD w (p + j) 0)) q (dst + j) lq w w'
       → Subtracted n p lp q lq dst w₀ w'
   taking-last w' ne h mv =
@@ -372,6 +376,6 @@ module _ (n p lp q lq dst j : ℕ) (w₀ w : List ℕ) (x : Taking n p lp q lq d
       (subtracting-one _ _ _ _ _ _ _ j _ w₀ w (room .modulus) (room .some-second) (fs .apart-first) (fs .apart-second)
       (small j (omega (arith, x .most))) refl (x .done) w' (omega (arith, x .most)) (omega (arith, x .most, room .some-second)) mv)
 
-pub ruleset asked = (first-most, second-most, last-most, pair-asked, last-source, last-target, last-clear)
+pub ruleset asked = (first-most, second-most, last-most, pair-asked, last-asked, factor-below)
 
 pub ruleset subtractions = (needs, asked, taking-start, taking-next, taking-end, taking-last)

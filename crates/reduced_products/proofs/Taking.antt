@@ -12,21 +12,21 @@ use native.Mathlib.Omega.{arith}
 use native.Mathlib.Nat.{mod-lt, zero-add, add-zero, add-assoc, one-mul}
 use borrow.Author.Needs.{needs}
 use lib.ListN.{length, getD}
-use Rattle.numbers.specs.Congruence.{Cong, c-refl, c-trans, c-eq, c-add}
+use Rattle.law_numbers.specs.Congruence.{Cong, c-refl, c-trans, c-eq, c-add}
 use Rattle.definitions.specs.Polynomials.{coef, convolve, tabulate, Divided}
-use Rattle.theory.specs.ReachedSteps.{coef-whole, coef-beyond}
+use Rattle.law_polynomials.specs.ReachedSteps.{coef-whole, coef-beyond}
 use Rattle.windows.specs.Window.{piece, Moved, zeroed, Below, Around, Apart}
 use Rattle.windows.proofs.Leaf.{lt-or-le, piece-at, piece-over, piece-same}
-use Rattle.window_division.specs.Remainders.{DivisionSizes, Pair, Remainder}
-use Rattle.window_division.proofs.Turns.{convolve-none}
-use Rattle.reduced_multipliers.specs.Leads.{Taken}
-use Rattle.reduced_products.specs.Products.{ProductRoom, Factors, FactorsModulo, Subtracted, MonicAtZero, TakenFrom}
+use Rattle.window_division.specs.Remainders.{DivisionLengthsAsked, Pair, Remainder}
+use Rattle.window_division.proofs.DivisionRounds.{convolve-none}
+use Rattle.law_multipliers.specs.Multipliers.{Taken}
+use Rattle.reduced_products.specs.Products.{ProductAsked, Factors, FactorsModulo, Subtracted, MonicAtZero, TakenFrom}
 
 convolve-empty : (F : ℕ → ℕ) (k : ℕ) → convolve (coef []) F k ≡ 0
 convolve-empty F k = ap (λ (a : ℕ → ℕ). convolve a F k) (fun-ext (λ i. coef-beyond [] i (omega arith))) ∙ convolve-none F k
 
 -- t words hold what is left
-pub taken-short : (n t p lp q lq dst : ℕ) (w w' : List ℕ) → ProductRoom n p lp q lq dst w → Subtracted n p lp q lq dst w w'
+pub taken-short : (n t p lp q lq dst : ℕ) (w w' : List ℕ) → ProductAsked n p lp q lq dst w → Subtracted n p lp q lq dst w w'
     → lp + lq - 1 ≤ t → TakenFrom n t p lp q lq dst (lp + lq - 1) w w'
 taken-short n t p lp q lq dst w w' room s h = record {
   around = s .around;
@@ -78,7 +78,7 @@ module _ (n t p lp q lq dst l : ℕ) (w w₁ w₂ w₃ : List ℕ) (pos : 1 ≤ 
   whole : (k : ℕ) → (convolve (coef Z) (coef (piece w 0 (t + 1))) k + convolve (coef (piece w p lp)) (coef (piece w q lq)) k + coef
       (piece w₃ dst l) k) % n ≡ coef (piece w dst l) k % n
   whole k =
-      c-trans (c-eq (turn (convolve (coef Z) (coef (piece w 0 (t + 1))) k) (convolve (coef (piece w p lp)) (coef (piece w q lq)) k)
+      c-trans (c-eq (round (convolve (coef Z) (coef (piece w 0 (t + 1))) k) (convolve (coef (piece w p lp)) (coef (piece w q lq)) k)
       (coef (piece w₃ dst l) k)))
       (c-trans (c-add (c-refl {a = convolve (coef (piece w p lp)) (coef (piece w q lq)) k}) rest)
       (record {
@@ -86,8 +86,8 @@ module _ (n t p lp q lq dst l : ℕ) (w w₁ w₂ w₃ : List ℕ) (pos : 1 ≤ 
             (piece w dst x) k % n) (sym is-l) (s .divided .at k);
       })) .same
     where
-      turn : (a b c : ℕ) → a + b + c ≡ b + (a + c)
-      turn a b c = omega arith
+      round : (a b c : ℕ) → a + b + c ≡ b + (a + c)
+      round a b c = omega arith
 
       rest : Cong n (convolve (coef Z) (coef (piece w 0 (t + 1))) k + coef (piece w₃ dst l) k) (coef (piece w₁ dst l) k)
       rest = record {
@@ -132,9 +132,9 @@ module _ (n t p lp q lq dst l : ℕ) (w w₁ w₂ w₃ : List ℕ) (pos : 1 ≤ 
 
 -- ---- as the code has it
 
-module _ (n t p lp q lq dst : ℕ) (w w₁ : List ℕ) (room : ProductRoom n p lp q lq dst w) (fm : FactorsModulo n t p lp q lq dst w)
+module _ (n t p lp q lq dst : ℕ) (w w₁ : List ℕ) (room : ProductAsked n p lp q lq dst w) (fm : FactorsModulo n t p lp q lq dst w)
     (s : Subtracted n p lp q lq dst w w₁) where
-  pub long-sizes : t < lp + lq - 1 → DivisionSizes n 0 t dst (lp + lq - 1 - 1) w₁
+  pub long-sizes : t < lp + lq - 1 → DivisionLengthsAsked n 0 t dst (lp + lq - 1 - 1) w₁
   long-sizes h = record {
     modulus = room .modulus;
     degree = fm .degree;

@@ -1,8 +1,8 @@
 -- Products of two windows taken from a third. The factors are the lp words at p and the lq words at q of one buffer w; their product, of
 -- lp + lq - 1 words, is taken from the words at dst.
 --
---   ProductRoom n p lp q lq dst w    the factors have words, and these and the product's words stand in the buffer
---   Factors n p lp q lq dst w    the factors are apart from the words at dst; residues at p and dst
+--   ProductAsked n p lp q lq dst w    the factors have words, and these and the product's words stand in the buffer
+--   Factors n p lp q lq dst w    the factors are apart from the words at dst; all of them residues
 --   FactorsModulo n t p lp q lq dst w    the same, with a monic polynomial of degree t at 0, before dst
 --   Subtracted n p lp q lq dst w w'    the words at dst have lost the product
 --   MonicAtZero n t w            the monic polynomial of degree t at 0 of a stage's window
@@ -13,10 +13,10 @@ use Prim.Native.Nat.{ℕ, _+_, _-_, _*_, _%_, _<_, _≤_}
 use lib.ListN.{length, getD}
 use Rattle.definitions.specs.Polynomials.{Divided}
 use Rattle.windows.specs.Window.{piece, Below, Around, Apart}
-use Rattle.reduced_multipliers.specs.Leads.{Taken}
+use Rattle.law_multipliers.specs.Multipliers.{Taken}
 
 -- two factors of at least one word each, and the words that lose their product, stand in the buffer
-pub record ProductRoom (n p lp q lq dst : ℕ) (w : List ℕ) : Type 0 where
+pub record ProductAsked (n p lp q lq dst : ℕ) (w : List ℕ) : Type 0 where
   pub modulus : 1 ≤ n
   pub some-first : 1 ≤ lp
   pub some-second : 1 ≤ lq
@@ -27,6 +27,7 @@ pub record ProductRoom (n p lp q lq dst : ℕ) (w : List ℕ) : Type 0 where
 -- no word of a factor is one of those that lose the product, and what is read and written are residues
 pub record Factors (n p lp q lq dst : ℕ) (w : List ℕ) : Type 0 where
   pub first : Below n p lp w
+  pub second : Below n q lq w
   pub product : Below n dst (lp + lq - 1) w
   pub apart-first : Apart p lp dst (lp + lq - 1)
   pub apart-second : Apart q lq dst (lp + lq - 1)

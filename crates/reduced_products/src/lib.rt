@@ -6,36 +6,40 @@
 //   p, lp    the place and the number of words of the first factor
 //   q, lq    those of the second
 //   dst      the place of the words that lose the product
-ghost use Rattle.reduced_products.specs.Products.{ProductRoom, Factors, Subtracted, FactorsModulo, TakenFrom};
+//   m        the record of the modulus n
+ghost use Rattle.modulus.specs.Values.{Known};
+ghost use Rattle.reduced_products.specs.Products.{ProductAsked, Factors, Subtracted, FactorsModulo, TakenFrom};
+use modulus::Modulus;
 
 // The lp + lq - 1 words at dst lose the product of the lp words at p and the lq words at q. Two words of the first share one
 // reduction.
-pub fn sub_product(w: &mut [u32], n: u32, p: usize, lp: usize, q: usize, lq: usize, dst: usize)
-    requires { ⌜ ProductRoom n p lp q lq dst (now w) ⌝ }
-    requires { ⌜ Factors n p lp q lq dst (now w) ⌝ }
-    ensures { λ _. ⌜ Subtracted n p lp q lq dst (now (w .entry)) (now (w .exit)) ⌝ }
+pub fn sub_product(w: &mut [u32], m: Modulus, p: usize, lp: usize, q: usize, lq: usize, dst: usize)
+    requires { ⌜ (Known m) × (ProductAsked (m .n) p lp q lq dst (now w)) ⌝ }
+    requires { ⌜ Factors (m .n) p lp q lq dst (now w) ⌝ }
+    ensures { λ _. ⌜ Subtracted (m .n) p lp q lq dst (now (w .entry)) (now (w .exit)) ⌝ }
 {
+    let n = m.n;
     let mut j: usize = 0;
     while j + 1 < lp {
-        let m = w[p + j];
+        let b = w[p + j];
         let c = w[p + (j + 1)];
-        windows::add_pair(w, n, n - c, n - m, q, dst + j, lq);
-        let top = arithmetic::mul_add_mod(n, w[dst + (j + lq)], n - c, w[q + (lq - 1)]);
+        modulus_windows::add_pair(w, m, n - c, n - b, q, dst + j, lq);
+        let top = modulus::multiply_add(m, w[dst + (j + lq)], n - c, w[q + (lq - 1)]);
         w[dst + (j + lq)] = top;
         j += 2;
     }
     if j == lp {
         return;
     }
-    let m = w[p + j];
-    windows::add_scaled(w, n, n - m, q, dst + j, lq);
+    let b = w[p + j];
+    modulus_windows::add_scaled(w, m, n - b, q, dst + j, lq);
 }
 
 // As `sub_product`, modulo the monic polynomial of degree t at 0 where t words do not hold what is left. Answers the number of
 // words left.
 pub fn take_product(
     w: &mut [u32],
-    n: u32,
+    m: Modulus,
     t: usize,
     p: usize,
     lp: usize,
@@ -43,16 +47,16 @@ pub fn take_product(
     lq: usize,
     dst: usize,
 ) -> usize
-    requires { ⌜ ProductRoom n p lp q lq dst (now w) ⌝ }
-    requires { ⌜ FactorsModulo n t p lp q lq dst (now w) ⌝ }
-    ensures { λ r. ⌜ TakenFrom n t p lp q lq dst r (now (w .entry)) (now (w .exit)) ⌝ }
+    requires { ⌜ (Known m) × (ProductAsked (m .n) p lp q lq dst (now w)) ⌝ }
+    requires { ⌜ FactorsModulo (m .n) t p lp q lq dst (now w) ⌝ }
+    ensures { λ r. ⌜ TakenFrom (m .n) t p lp q lq dst r (now (w .entry)) (now (w .exit)) ⌝ }
 {
-    sub_product(w, n, p, lp, q, lq, dst);
+    sub_product(w, m, p, lp, q, lq, dst);
     let l = lp + lq - 1;
     if l <= t {
         return l;
     }
-    window_division::divide(w, n, 0, t, dst, l - 1, 1);
+    window_division::divide_by(w, m, 0, t, dst, l - 1, 1);
     windows::clear(w, dst + t, l - t);
     t
 }

@@ -13,8 +13,8 @@ ghost use lib.ListN.{length};
 ghost use Rattle.windows.specs.Window.{Scratch};
 ghost use Rattle.modulus.specs.Values.{Known};
 ghost use Rattle.multiplier_words.specs.Words.{HandAsked};
-ghost use Rattle.reduced_attempt.specs.Attempts.{AttemptAsked, Attempted};
-ghost use Rattle.reduced_quick.specs.Quick.{QuickAsked, Settled, Tried};
+ghost use Rattle.reduced_attempt.specs.ReducedAttempts.{AttemptAsked, Attempted};
+ghost use Rattle.reduced_quick.specs.Quick.{QuickAsked, Settled, QuickAttempted};
 use euclid_steps::Ending;
 use modulus::Modulus;
 use residue::Attempt;
@@ -37,7 +37,7 @@ fn settle(u: &mut [u32], v: &mut [u32], w: &[u32], m: Modulus, r: Ending, h: usi
 // D = 1 with its cofactors, or false, where f is not the longer.
 fn ordered(u: &mut [u32], v: &mut [u32], w: &mut [u32], m: Modulus, f: &[u32], g: &[u32]) -> bool
     requires { ⌜ (Known m) × ((QuickAsked (m .n) (now f) (now g) (now u) (now v) (now w)) × (length (now f) ≤ length (now g))) ⌝ }
-    ensures { λ r. ⌜ Tried (m .n) (now (f .entry)) (now (g .entry)) (now (u .entry)) (now (v .entry)) (now (u .exit)) (now (v .exit)) r ⌝ }
+    ensures { λ r. ⌜ QuickAttempted (m .n) (now (f .entry)) (now (g .entry)) (now (u .entry)) (now (v .entry)) (now (u .exit)) (now (v .exit)) r ⌝ }
     ensures { λ _. ⌜ Scratch (now (w .entry)) (now (w .exit)) ⌝ }
 {
     let r = euclid_multipliers::multipliers(w, m, f, g);
@@ -47,7 +47,7 @@ fn ordered(u: &mut [u32], v: &mut [u32], w: &mut [u32], m: Modulus, f: &[u32], g
 // The same for polynomials in any order.
 fn quick(u: &mut [u32], v: &mut [u32], w: &mut [u32], n: u32, f: &[u32], g: &[u32]) -> bool
     requires { ⌜ QuickAsked n (now f) (now g) (now u) (now v) (now w) ⌝ }
-    ensures { λ r. ⌜ Tried n (now (f .entry)) (now (g .entry)) (now (u .entry)) (now (v .entry)) (now (u .exit)) (now (v .exit)) r ⌝ }
+    ensures { λ r. ⌜ QuickAttempted n (now (f .entry)) (now (g .entry)) (now (u .entry)) (now (v .entry)) (now (u .exit)) (now (v .exit)) r ⌝ }
     ensures { λ _. ⌜ Scratch (now (w .entry)) (now (w .exit)) ⌝ }
 {
     let m = modulus::modulus_of(n);

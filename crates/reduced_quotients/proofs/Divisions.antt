@@ -14,21 +14,21 @@ use lib.ListN.{length, getD, set, take, drop, replicate, length-set}
 use lib.Seq.{getD-set-same, getD-set-other}
 use Rattle.definitions.specs.Residues.{K}
 use Rattle.definitions.specs.Polynomials.{coef, convolve, constant, Divided}
-use Rattle.numbers.specs.Congruence.{c-refl, c-trans, c-eq, c-add, c-mod}
-use Rattle.theory.specs.ReachedSteps.{coef-beyond}
+use Rattle.law_numbers.specs.Congruence.{c-refl, c-trans, c-eq, c-add, c-mod}
+use Rattle.law_polynomials.specs.ReachedSteps.{coef-beyond}
 use Rattle.convolution.specs.Sums.{zeros-at}
 use Rattle.windows.specs.Window.{piece, Moved, zeroed, Loaded, Below, Around, Apart, Scratch}
 use Rattle.windows.proofs.Leaf.{lt-or-le, piece-at, piece-over, piece-length}
 use Rattle.windows.proofs.Lift.{moved-around}
-use Rattle.window_division.specs.Remainders.{DivisionSizes, Pair, Quotient}
-use Rattle.reduced_products.specs.Products.{ProductRoom, Factors, Subtracted}
+use Rattle.window_division.specs.Remainders.{DivisionLengthsAsked, Pair, Quotient}
+use Rattle.reduced_products.specs.Products.{ProductAsked, Factors, Subtracted}
 use Rattle.reduced_units.specs.Factorings.{Negated}
 use Rattle.reduced_units.proofs.Regions.{apart-low, below-apart, piece-apart, part-piece}
-use Rattle.reduced_quotients.specs.Quotients.{OverRoom, OverFirst, QuotientRoom, ExactQuotient}
+use Rattle.reduced_quotients.specs.Quotients.{OverUnitAsked, OverFirst, ExactQuotientAsked, ExactQuotient}
 
 -- ---- by a unit polynomial
 
-module _ {n up k zp lz len : ℕ} {w w₁ x₀ : List ℕ} (asked : OverRoom n up k zp lz w x₀) (ng : Negated n up k len w w₁) where
+module _ {n up k zp lz len : ℕ} {w w₁ x₀ : List ℕ} (asked : OverUnitAsked n up k zp lz w x₀) (ng : Negated n up k len w w₁) where
   some : 1 ≤ len
   some = omega (arith, ng .is-len)
 
@@ -45,7 +45,7 @@ module _ {n up k zp lz len : ℕ} {w w₁ x₀ : List ℕ} (asked : OverRoom n u
     cleared : Around (up + (k + 1) + len) (len + lz - 1) w₁ w₂
     cleared = moved-around cl
 
-    pub over-bounds : ProductRoom n (up + (k + 1)) len zp lz (up + (k + 1) + len) w₂
+    pub over-bounds : ProductAsked n (up + (k + 1)) len zp lz (up + (k + 1) + len) w₂
     over-bounds = let r = over-room in let s = cl .same in
         record {
           modulus = omega arith;
@@ -59,6 +59,8 @@ module _ {n up k zp lz len : ℕ} {w w₁ x₀ : List ℕ} (asked : OverRoom n u
     pub over-factors : Factors n (up + (k + 1)) len zp lz (up + (k + 1) + len) w₂
     over-factors = record {
       first = below-apart (apart-low (up + (k + 1)) len (up + (k + 1) + len) (len + lz - 1) (omega arith)) cleared (ng .below);
+      second = below-apart (apart-low zp lz (up + (k + 1) + len) (len + lz - 1) (omega arith)) cleared
+          (below-apart (apart-low zp lz (up + (k + 1)) len (omega arith)) (ng .around) (asked .below));
       product = record { at = λ i h. subst (λ (x : ℕ). x < n) (sym (cl .mid i h)) (omega arith) };
       apart-first = apart-low (up + (k + 1)) len (up + (k + 1) + len) (len + lz - 1) (omega arith);
       apart-second = apart-low zp lz (up + (k + 1) + len) (len + lz - 1) (omega arith);
@@ -132,7 +134,7 @@ module _ {n up k zp lz len : ℕ} {w w₁ x₀ : List ℕ} (asked : OverRoom n u
 
 -- ---- by H
 
-module _ {n e q t v : ℕ} {w w₁ : List ℕ} (c : ℕ) (asked : QuotientRoom n e q t w) (below-h : Below n q (t + 1) w)
+module _ {n e q t v : ℕ} {w w₁ : List ℕ} (c : ℕ) (asked : ExactQuotientAsked n e q t w) (below-h : Below n q (t + 1) w)
     (lead : getD w (q + t) 0 ≡ 1) (below-v : Below n (q + (t + 1)) t w)
     (cl : Moved zeroed (q + 2 * (t + 1)) (q + 2 * (t + 1)) (t + e + 1) w w₁) (is-v : v ≡ c % n) where
   quotient-start : Around (q + 2 * (t + 1)) (t + e + 1) w (set w₁ (q + 2 * (t + 1)) v)
@@ -155,7 +157,7 @@ module _ {n e q t v : ℕ} {w w₁ : List ℕ} (c : ℕ) (asked : QuotientRoom n
   below-start : Below n (q + 2 * (t + 1)) (t + e + 1) (set w₁ (q + 2 * (t + 1)) v)
   below-start = record { at = λ k h. subst (λ (x : ℕ). x < n) (sym (first-word k h)) (small k) }
 
-  bounds : ProductRoom n (q + (t + 1)) t 0 (e + 1) (q + 2 * (t + 1)) (set w₁ (q + 2 * (t + 1)) v)
+  bounds : ProductAsked n (q + (t + 1)) t 0 (e + 1) (q + 2 * (t + 1)) (set w₁ (q + 2 * (t + 1)) v)
   bounds = let s = quotient-start .same in
       record {
         modulus = omega arith;
@@ -169,6 +171,7 @@ module _ {n e q t v : ℕ} {w w₁ : List ℕ} (c : ℕ) (asked : QuotientRoom n
   factors : Factors n (q + (t + 1)) t 0 (e + 1) (q + 2 * (t + 1)) (set w₁ (q + 2 * (t + 1)) v)
   factors = record {
     first = below-apart (apart-low (q + (t + 1)) t (q + 2 * (t + 1)) (t + e + 1) (omega arith)) quotient-start below-v;
+    second = below-apart (apart-low 0 (e + 1) (q + 2 * (t + 1)) (t + e + 1) (omega arith)) quotient-start (asked .second);
     product = record { at = λ k h. below-start .at k (omega arith) };
     apart-first = apart-low (q + (t + 1)) t (q + 2 * (t + 1)) (t + (e + 1) - 1) (omega arith);
     apart-second = apart-low 0 (e + 1) (q + 2 * (t + 1)) (t + (e + 1) - 1) (omega arith);
@@ -176,7 +179,7 @@ module _ {n e q t v : ℕ} {w w₁ : List ℕ} (c : ℕ) (asked : QuotientRoom n
 
   module _ {n' p lp z lz dst : ℕ} {u : List ℕ} (en : n' ≡ n) (ep : p ≡ q + (t + 1)) (el : lp ≡ t) (ez : z ≡ 0) (em : lz ≡ e + 1)
       (ed : dst ≡ q + 2 * (t + 1)) (eu : u ≡ set w₁ (q + 2 * (t + 1)) v) where
-    pub quotient-bounds : ProductRoom n' p lp z lz dst u
+    pub quotient-bounds : ProductAsked n' p lp z lz dst u
     quotient-bounds = rw (en, ep, el, ez, em, ed, eu) bounds
 
     pub quotient-factors : Factors n' p lp z lz dst u
@@ -213,13 +216,13 @@ module _ {n e q t v : ℕ} {w w₁ : List ℕ} (c : ℕ) (asked : QuotientRoom n
     pub quotient-unit : (n' q' t' : ℕ) (u : List ℕ) → n' ≡ n → q' ≡ q → t' ≡ t → u ≡ w₃ → (1 * getD u (q' + t') 0) % n' ≡ 1 % n'
     quotient-unit n' q' t' u en eq et eu = rw (en, eq, et, eu) (ap (λ (x : ℕ). x % n) (one-mul _ ∙ lead₃))
 
-    sizes : DivisionSizes n q t (q + 2 * (t + 1)) (t + e) w₃
+    sizes : DivisionLengthsAsked n q t (q + 2 * (t + 1)) (t + e) w₃
     sizes = let s = later .same in let r = quotient-start .same in
         record { modulus = omega arith; degree = asked .degree; near = omega arith; divisor = omega arith; dividend = omega arith }
 
     module _ {n' q' t' b e' : ℕ} {u : List ℕ} (en : n' ≡ n) (eq : q' ≡ q) (et : t' ≡ t) (eb : b ≡ q + 2 * (t + 1)) (ee : e' ≡ t + e)
         (eu : u ≡ w₃) where
-      pub quotient-sizes : DivisionSizes n' q' t' b e' u
+      pub quotient-sizes : DivisionLengthsAsked n' q' t' b e' u
       quotient-sizes = rw (en, eq, et, eb, ee, eu) sizes
 
       pub quotient-pair : Pair n' q' t' b e' u
@@ -276,6 +279,7 @@ module _ {n e q t v : ℕ} {w w₁ : List ℕ} (c : ℕ) (asked : QuotientRoom n
           low = λ k h. dv .around .low k h ∙ later .low k h ∙ quotient-start .low k h;
           high = λ k h. dv .around .high k (omega arith) ∙ later .high k h ∙ quotient-start .high k h;
         };
+        below = dv .below;
         s = piece (set w₁ (q + 2 * (t + 1)) v) (q + 2 * (t + 1)) (t + (e + 1) - 1);
         r = piece w₃ (q + 2 * (t + 1)) (t + e + 1);
         start = start-at;

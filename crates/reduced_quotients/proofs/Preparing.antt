@@ -13,21 +13,21 @@ use native.Mathlib.Nat.{one-mul, add-zero, zero-add}
 use lib.ListN.{length, getD, set, length-set}
 use lib.Seq.{getD-set-same, getD-set-other}
 use Rattle.definitions.specs.Polynomials.{coef, convolve, constant, tabulate, Divided}
-use Rattle.theory.specs.ReachedSteps.{coef-whole, coef-beyond}
+use Rattle.law_polynomials.specs.ReachedSteps.{coef-whole, coef-beyond}
 use Rattle.windows.specs.Window.{piece, Moved, zeroed, second, Below, Around, Apart}
 use Rattle.windows.proofs.Leaf.{lt-or-le, piece-at, piece-over}
 use Rattle.windows.proofs.Lift.{moved-around, moved-copy, piece-equal}
-use Rattle.window_division.specs.Remainders.{DivisionSizes, Pair, Remainder}
-use Rattle.window_division.proofs.Turns.{convolve-none}
+use Rattle.window_division.specs.Remainders.{DivisionLengthsAsked, Pair, Remainder}
+use Rattle.window_division.proofs.DivisionRounds.{convolve-none}
 use Rattle.reduced_units.proofs.Regions.{apart-low, below-apart, piece-apart}
-use Rattle.reduced_quotients.specs.Quotients.{PrepareRoom, RestAt, Prepared}
+use Rattle.reduced_quotients.specs.Quotients.{PrepareAsked, RestAt, Prepared}
 
 convolve-empty : (F : ℕ → ℕ) (k : ℕ) → convolve (coef []) F k ≡ 0
 convolve-empty F k = ap (λ (a : ℕ → ℕ). convolve a F k) (fun-ext (λ i. coef-beyond [] i (omega arith))) ∙ convolve-none F k
 
 -- ---- the remainder
 
-module _ {n e q t : ℕ} {w w₁ w₂ : List ℕ} (asked : PrepareRoom n e q t w) (below-g : Below n 0 (e + 1) w)
+module _ {n e q t : ℕ} {w w₁ w₂ : List ℕ} (asked : PrepareAsked n e q t w) (below-g : Below n 0 (e + 1) w)
     (below-h : Below n q (t + 1) w) (lead : getD w (q + t) 0 ≡ 1)
     (cl : Moved zeroed (q + 8 * (t + 1)) (q + 8 * (t + 1)) (e + 1 + t) w w₁) (cp : Moved second 0 (q + 8 * (t + 1)) (e + 1) w₁ w₂) where
   start : Around (q + 8 * (t + 1)) (e + 1 + t) w w₂
@@ -82,13 +82,13 @@ module _ {n e q t : ℕ} {w w₁ w₂ : List ℕ} (asked : PrepareRoom n e q t w
   pub rest-unit : (n' q' t' : ℕ) (u : List ℕ) → n' ≡ n → q' ≡ q → t' ≡ t → u ≡ w₂ → (1 * getD u (q' + t') 0) % n' ≡ 1 % n'
   rest-unit n' q' t' u en eq et eu = rw (en, eq, et, eu) (ap (λ (x : ℕ). x % n) (one-mul _ ∙ start .low (q + t) (omega arith) ∙ lead))
 
-  sizes : t ≤ e + 1 → DivisionSizes n q t (q + 8 * (t + 1)) e w₂
+  sizes : t ≤ e + 1 → DivisionLengthsAsked n q t (q + 8 * (t + 1)) e w₂
   sizes near = let s = start .same in
       record { modulus = omega arith; degree = asked .degree; near = near; divisor = omega arith; dividend = omega arith }
 
   module _ {n' q' t' b e' : ℕ} {u : List ℕ} (en : n' ≡ n) (eq : q' ≡ q) (et : t' ≡ t) (eb : b ≡ q + 8 * (t + 1)) (ee : e' ≡ e)
       (eu : u ≡ w₂) where
-    pub rest-sizes : t ≤ e + 1 → DivisionSizes n' q' t' b e' u
+    pub rest-sizes : t ≤ e + 1 → DivisionLengthsAsked n' q' t' b e' u
     rest-sizes near = rw (en, eq, et, eb, ee, eu) (sizes near)
 
     pub rest-pair : Pair n' q' t' b e' u
@@ -121,7 +121,7 @@ module _ {n e q t : ℕ} {w w₁ w₂ : List ℕ} (asked : PrepareRoom n e q t w
 
 -- ---- the window
 
-module _ {n e q t : ℕ} {w w₁ w₂ w₃ w₄ : List ℕ} (asked : PrepareRoom n e q t w) (rs : RestAt n e q t w w₁)
+module _ {n e q t : ℕ} {w w₁ w₂ w₃ w₄ : List ℕ} (asked : PrepareAsked n e q t w) (rs : RestAt n e q t w w₁)
     (ca : Moved second q (q + 2 * (t + 1)) (t + 1) w₁ w₂) (cb : Moved second (q + 8 * (t + 1)) (q + 3 * (t + 1)) t w₂ w₃)
     (cl : Moved zeroed (q + 4 * (t + 1)) (q + 4 * (t + 1)) (4 * (t + 1)) w₃ w₄) where
   long : length w₄ ≡ length w

@@ -1,8 +1,8 @@
 -- What the quotients and the preparation ask and promise of the words of one window: G of degree e at 0, and H, monic of degree t, at q.
 --
---   OverRoom, OverFirst             a polynomial over a unit polynomial
---   PrepareRoom, RestAt, Prepared   G modulo H, and the window from q on, ready for the content stage
---   QuotientRoom, ExactQuotient     a constant less a product, by H
+--   OverUnitAsked, OverFirst            a polynomial over a unit polynomial
+--   PrepareAsked, RestAt, Prepared      G modulo H, and the window from q on, ready for the content stage
+--   ExactQuotientAsked, ExactQuotient   a constant less a product, by H
 use mathlib.Core.Path.{_≡_}
 use mathlib.Core.List.{List, []}
 use Prim.Native.Nat.{ℕ, _+_, _-_, _*_, _%_, _<_, _≤_}
@@ -10,13 +10,15 @@ use lib.ListN.{length, getD}
 use Rattle.definitions.specs.Residues.{K}
 use Rattle.definitions.specs.Polynomials.{coef, constant, Divided}
 use Rattle.windows.specs.Window.{piece, Below, Around}
-use Rattle.reduced_multipliers.specs.Leads.{NegatedInverse}
+use Rattle.law_multipliers.specs.Multipliers.{NegatedInverse}
 
--- lz words at zp lie before the unit polynomial at up; above it is room for its inverse twice and for the product, and x holds the quotient
-pub record OverRoom (n up k zp lz : ℕ) (w x : List ℕ) : Type 0 where
+-- lz residues at zp lie before the unit polynomial at up; above it is room for its inverse twice and for the product, and x holds the
+-- quotient
+pub record OverUnitAsked (n up k zp lz : ℕ) (w x : List ℕ) : Type 0 where
   pub modulus : 2 ≤ n
   pub some : 1 ≤ lz
   pub lies : zp + lz ≤ up
+  pub below : Below n zp lz w
   pub room : up + (k + 1) + (2 * (K n * k + 1) + lz) ≤ length w
   pub quotient : (K n - 1) * k + lz ≤ length x
 
@@ -29,7 +31,7 @@ pub record OverFirst (n up k zp lz : ℕ) (w x : List ℕ) : Type 0 where
   pub short : (i : ℕ) → (K n - 1) * k + lz ≤ i → coef x i ≡ 0
 
 -- G lies before H, H has degree above 0, and from q on there is room for eight polynomials like H and for the division of G
-pub record PrepareRoom (n e q t : ℕ) (w : List ℕ) : Type 0 where
+pub record PrepareAsked (n e q t : ℕ) (w : List ℕ) : Type 0 where
   pub modulus : 2 ≤ n
   pub degree : 1 ≤ t
   pub lies : e + 1 ≤ q
@@ -53,17 +55,19 @@ pub record Prepared (n e q t : ℕ) (w w' : List ℕ) : Type 0 where
   pub none : (k : ℕ) → k < 2 * (t + 1) → getD w' (q + 4 * (t + 1) + k) 0 ≡ 0
   pub one : (k : ℕ) → k < 2 * (t + 1) → getD w' (q + 6 * (t + 1) + k) 0 ≡ constant 1 k
 
--- G lies before H, H has degree above 0, and above H and the multiplier there is room for their product
-pub record QuotientRoom (n e q t : ℕ) (w : List ℕ) : Type 0 where
+-- G, of residues, lies before H, H has degree above 0, and above H and the multiplier there is room for their product
+pub record ExactQuotientAsked (n e q t : ℕ) (w : List ℕ) : Type 0 where
   pub modulus : 2 ≤ n
   pub degree : 1 ≤ t
   pub lies : e + 1 ≤ q
   pub room : q + 2 * (t + 1) + (t + e + 1) ≤ length w
+  pub second : Below n 0 (e + 1) w
 
 -- c less the product of G and the t words at q + (t + 1), by H: the remainder, t words, and the quotient, e + 1 words, from
 -- q + 2 (t + 1) on
 pub record ExactQuotient (n e q t c : ℕ) (w w' : List ℕ) : Type 0 where
   pub around : Around (q + 2 * (t + 1)) (t + e + 1) w w'
+  pub below : Below n (q + 2 * (t + 1)) (t + e + 1) w'
   pub s : List ℕ
   pub r : List ℕ
   pub start : (k : ℕ) → coef s k % n ≡ constant c k % n

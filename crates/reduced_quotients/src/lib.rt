@@ -5,13 +5,17 @@
 //   remainder         G modulo H
 //   prepare           H and G modulo H, with the multipliers 0 and 1, for the content stage
 //   exact_quotient    a constant less a product, by H
+//
+//   m    the record of the modulus n
 ghost use mathlib.Core.Path.{_≡_};
 ghost use Prim.Native.Nat.{_+_, _≤_};
 ghost use lib.ListN.{length, getD, replicate};
 ghost use Rattle.definitions.specs.Polynomials.{UnitPolynomial};
+ghost use Rattle.modulus.specs.Values.{Known};
 ghost use Rattle.windows.specs.Window.{piece, Below, Loaded, Scratch};
-ghost use Rattle.reduced_quotients.specs.Quotients.{OverRoom, OverFirst};
-ghost use Rattle.reduced_quotients.specs.Quotients.{PrepareRoom, RestAt, Prepared, QuotientRoom, ExactQuotient};
+ghost use Rattle.reduced_quotients.specs.Quotients.{OverUnitAsked, OverFirst};
+ghost use Rattle.reduced_quotients.specs.Quotients.{PrepareAsked, RestAt, Prepared, ExactQuotientAsked, ExactQuotient};
+use modulus::Modulus;
 
 // x becomes the words of s modulo n, and zeros above.
 pub fn place(x: &mut [u32], s: &[u32], n: u32)
@@ -23,26 +27,34 @@ pub fn place(x: &mut [u32], s: &[u32], n: u32)
 }
 
 // x becomes the lz words at zp over the unit polynomial of k + 1 words at up; what lies above that is room.
-pub fn over_first(x: &mut [u32], w: &mut [u32], n: u32, up: usize, k: usize, zp: usize, lz: usize)
-    requires { ⌜ OverRoom n up k zp lz (now w) (now x) ⌝ }
-    requires { ⌜ UnitPolynomial n (piece (now w) up (k + 1)) ⌝ }
-    ensures { λ _. ⌜ OverFirst n up k zp lz (now (w .entry)) (now (x .exit)) ⌝ }
+pub fn over_first(
+    x: &mut [u32],
+    w: &mut [u32],
+    m: Modulus,
+    up: usize,
+    k: usize,
+    zp: usize,
+    lz: usize,
+)
+    requires { ⌜ (Known m) × (OverUnitAsked (m .n) up k zp lz (now w) (now x)) ⌝ }
+    requires { ⌜ UnitPolynomial (m .n) (piece (now w) up (k + 1)) ⌝ }
+    ensures { λ _. ⌜ OverFirst (m .n) up k zp lz (now (w .entry)) (now (x .exit)) ⌝ }
     ensures { λ _. ⌜ Scratch (now (w .entry)) (now (w .exit)) ⌝ }
 {
-    let len = reduced_units::negate_inverse(w, n, up, k);
+    let len = reduced_units::negate_inverse(w, m.n, up, k);
     let a = up + (k + 1);
     let b = a + len;
     let l = len + lz - 1;
     windows::clear(w, b, l);
-    reduced_products::sub_product(w, n, a, len, zp, lz, b);
-    place(x, &w[b..b + l], n);
+    reduced_products::sub_product(w, m, a, len, zp, lz, b);
+    place(x, &w[b..b + l], m.n);
 }
 
 // G at 0 modulo H at q.
-fn remainder(w: &mut [u32], n: u32, e: usize, q: usize, t: usize)
-    requires { ⌜ PrepareRoom n e q t (now w) ⌝ }
-    requires { ⌜ (Below n 0 (e + 1) (now w)) × ((Below n q (t + 1) (now w)) × (getD (now w) (q + t) 0 ≡ 1)) ⌝ }
-    ensures { λ _. ⌜ RestAt n e q t (now (w .entry)) (now (w .exit)) ⌝ }
+fn remainder(w: &mut [u32], m: Modulus, e: usize, q: usize, t: usize)
+    requires { ⌜ (Known m) × (PrepareAsked (m .n) e q t (now w)) ⌝ }
+    requires { ⌜ (Below (m .n) 0 (e + 1) (now w)) × ((Below (m .n) q (t + 1) (now w)) × (getD (now w) (q + t) 0 ≡ 1)) ⌝ }
+    ensures { λ _. ⌜ RestAt (m .n) e q t (now (w .entry)) (now (w .exit)) ⌝ }
 {
     let b = q + 8 * (t + 1);
     windows::clear(w, b, e + 1 + t);
@@ -50,16 +62,16 @@ fn remainder(w: &mut [u32], n: u32, e: usize, q: usize, t: usize)
     if e + 1 < t {
         return;
     }
-    window_division::divide(w, n, q, t, b, e, 1);
+    window_division::divide_by(w, m, q, t, b, e, 1);
 }
 
 // The window from q on is made ready for the content stage.
-pub fn prepare(w: &mut [u32], n: u32, e: usize, q: usize, t: usize)
-    requires { ⌜ PrepareRoom n e q t (now w) ⌝ }
-    requires { ⌜ (Below n 0 (e + 1) (now w)) × ((Below n q (t + 1) (now w)) × (getD (now w) (q + t) 0 ≡ 1)) ⌝ }
-    ensures { λ _. ⌜ Prepared n e q t (now (w .entry)) (now (w .exit)) ⌝ }
+pub fn prepare(w: &mut [u32], m: Modulus, e: usize, q: usize, t: usize)
+    requires { ⌜ (Known m) × (PrepareAsked (m .n) e q t (now w)) ⌝ }
+    requires { ⌜ (Below (m .n) 0 (e + 1) (now w)) × ((Below (m .n) q (t + 1) (now w)) × (getD (now w) (q + t) 0 ≡ 1)) ⌝ }
+    ensures { λ _. ⌜ Prepared (m .n) e q t (now (w .entry)) (now (w .exit)) ⌝ }
 {
-    remainder(w, n, e, q, t);
+    remainder(w, m, e, q, t);
     windows::copy(w, q, q + 2 * (t + 1), t + 1);
     windows::copy(w, q + 8 * (t + 1), q + 3 * (t + 1), t);
     windows::clear(w, q + 4 * (t + 1), 4 * (t + 1));
@@ -67,14 +79,14 @@ pub fn prepare(w: &mut [u32], n: u32, e: usize, q: usize, t: usize)
 }
 
 // c less the product of G at 0 and the multiplier at q + (t + 1), divided by H at q.
-pub fn exact_quotient(w: &mut [u32], n: u32, e: usize, q: usize, t: usize, c: u32)
-    requires { ⌜ QuotientRoom n e q t (now w) ⌝ }
-    requires { ⌜ (Below n q (t + 1) (now w)) × ((getD (now w) (q + t) 0 ≡ 1) × (Below n (q + (t + 1)) t (now w))) ⌝ }
-    ensures { λ _. ⌜ ExactQuotient n e q t c (now (w .entry)) (now (w .exit)) ⌝ }
+pub fn exact_quotient(w: &mut [u32], m: Modulus, e: usize, q: usize, t: usize, c: u32)
+    requires { ⌜ (Known m) × (ExactQuotientAsked (m .n) e q t (now w)) ⌝ }
+    requires { ⌜ (Below (m .n) q (t + 1) (now w)) × ((getD (now w) (q + t) 0 ≡ 1) × (Below (m .n) (q + (t + 1)) t (now w))) ⌝ }
+    ensures { λ _. ⌜ ExactQuotient (m .n) e q t c (now (w .entry)) (now (w .exit)) ⌝ }
 {
     let z = q + 2 * (t + 1);
     windows::clear(w, z, t + e + 1);
-    w[z] = windows::residue(c, n);
-    reduced_products::sub_product(w, n, q + (t + 1), t, 0, e + 1, z);
-    window_division::divide_keeping(w, n, q, t, z, t + e, 1);
+    w[z] = windows::residue(c, m.n);
+    reduced_products::sub_product(w, m, q + (t + 1), t, 0, e + 1, z);
+    window_division::divide_keeping_by(w, m, q, t, z, t + e, 1);
 }

@@ -1,2 +1,2 @@
-pub mod Returning
+pub mod ReducedReturns
 pub mod OneWord

@@ -16,10 +16,10 @@ use lib.Seq.{getD-set-same, getD-set-other}
 use Rattle.definitions.specs.Residues.{LeastCofactors}
 use Rattle.definitions.specs.Polynomials.{coef, convolve, constant, L}
 use Rattle.definitions.specs.Resultants.{Combination, Reached}
-use Rattle.numbers.specs.Congruence.{Cong, c-trans, c-sym, c-dvd, c-zero, dvd-c}
-use Rattle.theory.specs.Words.{convolve-zero}
-use Rattle.theory.specs.ReachedSteps.{convolve-constant}
-use Rattle.theory.specs.ReachedLaws.{reduced-from}
+use Rattle.law_numbers.specs.Congruence.{Cong, c-trans, c-sym, c-dvd, c-zero, dvd-c}
+use Rattle.law_polynomials.specs.Words.{convolve-zero}
+use Rattle.law_polynomials.specs.ReachedSteps.{convolve-constant}
+use Rattle.law_polynomials.specs.ReachedLaws.{reduced-from}
 use Rattle.convolution.specs.Sums.{zeros-at}
 use Rattle.reduced_cofactors.specs.Cofactors.{Certified}
 use Rattle.reduced.specs.Runs.{RunAsked}

@@ -15,14 +15,14 @@ use lib.ListN.{length, take}
 use Rattle.definitions.specs.Residues.{LeastCofactors}
 use Rattle.definitions.specs.Polynomials.{coef, deg, L}
 use Rattle.definitions.specs.Resultants.{Combination, Reduced}
-use Rattle.refusals.specs.Refusals.{Width, Tested, short, first-refusal, refusals-two, left}
+use Rattle.refusals.specs.Refusals.{Width, Tested, short, first-refusal, refusals-of-pair, left}
 pub use Rattle.answers.specs.Cofactors.{HoldsCofactor}
-use Rattle.refusals.specs.Conditions.{Listed, conditions-two, modulus-fails, length-fails, words-fail, short-fails}
+use Rattle.refusals.specs.Conditions.{Listed, conditions-of-pair, modulus-fails, length-fails, words-fail, short-fails}
 
 -- 1, 2, 3, 6 of u before 6 of v, and 7; lu, lv and l are the lengths of the buffers
 abbrev pub reduced-refusals : Width → ℕ → List ℕ → List ℕ → ℕ → ℕ → ℕ → List Tested
 reduced-refusals W n f g lu lv l =
-    refusals-two W n f g
+    refusals-of-pair W n f g
     ++ ((6, short lu (L n (deg f) (deg g))) ∷ (6, short lv (L n (deg f) (deg g))) ∷ (7, short l (W .working)) ∷ [])
 
 abbrev pub reduced-status : Width → ℕ → List ℕ → List ℕ → ℕ → ℕ → ℕ → ℕ
@@ -59,7 +59,7 @@ pub record ReducedAnswer (W : Width) (n : ℕ) (f g u u' v v' work work' : List 
 -- the conditions of an answer: so `status-zero` and `status-is` (refusals/Conditions) say when the status is 0, and when it is k
 abbrev pub reduced-conditions : Width → ℕ → List ℕ → List ℕ → ℕ → ℕ → ℕ → List (Type 0)
 reduced-conditions W n f g lu lv l =
-    conditions-two W n f g ++ ((L n (deg f) (deg g) ≤ lu) ∷ (L n (deg f) (deg g) ≤ lv) ∷ (W .working ≤ l) ∷ [])
+    conditions-of-pair W n f g ++ ((L n (deg f) (deg g) ≤ lu) ∷ (L n (deg f) (deg g) ≤ lv) ∷ (W .working ≤ l) ∷ [])
 
 pub reduced-listed : (W : Width) (n : ℕ) (f g : List ℕ) (lu lv l : ℕ)
     → Listed (reduced-refusals W n f g lu lv l) (reduced-conditions W n f g lu lv l)

@@ -93,7 +93,7 @@ pub fn reduced_resultant(
     ensures { λ r. ⌜ ReducedAnswer narrow n (now (f .entry)) (now (g .entry)) (now (u .entry)) (now (u .exit)) (now (v .entry))
         (now (v .exit)) (now (work .entry)) (now (work .exit)) (r .value) (r .status) ⌝ }
 {
-    let refusal = refusals::refusal_two(n, f, g);
+    let refusal = refusals::refusal_of_pair(n, f, g);
     if refusal != 0 {
         return Answer {
             value: 0,
@@ -113,7 +113,7 @@ pub fn reduced_resultant(
             status: 6,
         };
     }
-    if work.len() < 8192 {
+    if work.len() < refusals::WORKING_WORDS {
         return Answer {
             value: 0,
             status: 7,

@@ -15,13 +15,13 @@ use lib.ListN.{length, getD}
 use Rattle.definitions.specs.Residues.{IsUnit, K}
 use Rattle.definitions.specs.Polynomials.{coef, convolve, Divided}
 use Rattle.definitions.specs.Resultants.{Reduced}
-use Rattle.numbers.specs.Units.{unit-of}
+use Rattle.law_numbers.specs.Units.{unit-of}
 use Rattle.windows.specs.Window.{piece, Below, Around, Apart, Kept}
 use Rattle.windows.proofs.Leaf.{lt-or-le, piece-at, piece-over, piece-same, apart-at}
-use Rattle.window_division.specs.Remainders.{DivisionSizes, Pair, Quotient}
-use Rattle.reduced_multipliers.specs.Leads.{Leads, Completes, Taken, leads-taken}
-use Rattle.reduced_multipliers.specs.Reductions.{reduced-step}
-use Rattle.reduced_products.specs.Products.{ProductRoom, Factors, FactorsModulo, MonicAtZero, TakenFrom}
+use Rattle.window_division.specs.Remainders.{DivisionLengthsAsked, Pair, Quotient}
+use Rattle.law_multipliers.specs.Multipliers.{HasMultiplier, Completes, Taken, multiplier-taken}
+use Rattle.law_multipliers.specs.Reductions.{reduced-step}
+use Rattle.reduced_products.specs.Products.{ProductAsked, Factors, FactorsModulo, MonicAtZero, TakenFrom}
 use Rattle.reduced_units.specs.States.{Multiplier, StageAt, Solved}
 use Rattle.reduced_units.specs.declared.Places.{Places}
 use Rattle.reduced_stages.specs.StageAnswers.{DivisionAsked, StageAnswer}
@@ -60,7 +60,7 @@ module _ {n ν a b i l : ℕ} {p : Places} {w : List ℕ} (asked : DivisionAsked
   one = asked .degree
 
   -- what the division asks
-  pub step-sizes : DivisionSizes ν pb b pa a w
+  pub step-sizes : DivisionLengthsAsked ν pb b pa a w
   step-sizes = record {
     modulus = omega (arith, st .above);
     degree = one;
@@ -98,6 +98,7 @@ module _ {n ν a b i l : ℕ} {p : Places} {w : List ℕ} (asked : DivisionAsked
         at = λ k h. lower (subst (λ (x : ℕ). getD w₁ x 0 < ν) (sym (add-assoc pa b k)) (dv .below .at (b + k)
             (omega arith)));
       };
+      second = record { at = λ k h. below-apart apart-be (dv .around) (st .beta .below) .at k (omega (arith, st .most)) };
       product = record {
         at = λ k h. below-apart apart-al (dv .around) (st .alpha .below) .at k
             (omega (arith, st .within, st .most, st .some));
@@ -114,7 +115,7 @@ module _ {n ν a b i l : ℕ} {p : Places} {w : List ℕ} (asked : DivisionAsked
         lower h = omega (arith, small)
 
     -- what the product asks
-    pub step-room : ProductRoom n (pa + b) (a + 1 - b) be l al w₁
+    pub step-room : ProductAsked n (pa + b) (a + 1 - b) be l al w₁
     step-room = record {
       modulus = st .positive;
       some-first = omega (arith, low);
@@ -255,12 +256,13 @@ module _ {n ν a b i l : ℕ} {p : Places} {w : List ℕ} (asked : DivisionAsked
         completes = λ g m p e x y.
             subst (λ (h : List ℕ). Completes n h g (piece w' (t + 1) t) (m * D)) same-h
             (s .completes g m p e
-            (subst (λ (h : List ℕ). Leads n m h g (piece w₂ be (2 * (t + 1))) (piece w₂ pb (b + 1))) (sym same-h)
-            (subst (λ (f : List ℕ). Leads n m (piece w 0 (t + 1)) g f (piece w₂ pb (b + 1))) (sym same-be)
-            (subst (λ (f : List ℕ). Leads n m (piece w 0 (t + 1)) g (piece w be (2 * (t + 1))) f) (sym same-b) y)))
-            (subst (λ (h : List ℕ). Leads n m h g (piece w₂ al (2 * (t + 1))) (piece w₂ pa b)) (sym same-h)
-            (subst (λ (f : List ℕ). Leads n m (piece w 0 (t + 1)) g (piece w₂ al (2 * (t + 1))) f) (sym same-r)
-            (leads-taken n m ν p (omega (arith, st .above)) e (piece w 0 (t + 1)) g (piece w al (2 * (t + 1))) (piece w be (2 * (t + 1)))
+            (subst (λ (h : List ℕ). HasMultiplier n m h g (piece w₂ be (2 * (t + 1))) (piece w₂ pb (b + 1))) (sym same-h)
+            (subst (λ (f : List ℕ). HasMultiplier n m (piece w 0 (t + 1)) g f (piece w₂ pb (b + 1))) (sym same-be)
+            (subst (λ (f : List ℕ). HasMultiplier n m (piece w 0 (t + 1)) g (piece w be (2 * (t + 1))) f) (sym same-b) y)))
+            (subst (λ (h : List ℕ). HasMultiplier n m h g (piece w₂ al (2 * (t + 1))) (piece w₂ pa b)) (sym same-h)
+            (subst (λ (f : List ℕ). HasMultiplier n m (piece w 0 (t + 1)) g (piece w₂ al (2 * (t + 1))) f) (sym same-r)
+            (multiplier-taken n m ν p (omega (arith, st .above)) e (piece w 0 (t + 1)) g (piece w al (2 * (t + 1)))
+            (piece w be (2 * (t + 1)))
             (piece w₂ al (2 * (t + 1))) q
             (piece w pa (a + 1)) (piece w pb (b + 1)) (piece w₁ pa b) wide (dv .divided) x y))));
       }

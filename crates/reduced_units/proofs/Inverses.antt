@@ -15,16 +15,16 @@ use lib.ListN.{length, getD}
 use borrow.Rule.Slice.PartMut.{putMid, midOf}
 use Rattle.definitions.specs.Residues.{K, Inverse, IsUnit}
 use Rattle.definitions.specs.Polynomials.{coef, constant, convolve, UnitPolynomial}
-use Rattle.numbers.specs.Congruence.{Cong, c-refl, c-sym, c-trans, c-eq, c-add, c-mul}
-use Rattle.numbers.specs.Divisors.{GcdCofactor}
-use Rattle.numbers.specs.Logarithm.{K-positive}
-use Rattle.numbers.specs.Units.{cofactor-inverse, coprime-of-unit, gcd-of-coprime}
+use Rattle.law_numbers.specs.Congruence.{Cong, c-refl, c-sym, c-trans, c-eq, c-add, c-mul}
+use Rattle.law_numbers.specs.Divisors.{GcdCofactor}
+use Rattle.law_numbers.specs.Logarithm.{K-positive}
+use Rattle.law_numbers.specs.Units.{cofactor-inverse, coprime-of-unit, gcd-of-coprime}
 use Rattle.windows.specs.Window.{piece, Below, Around}
 use Rattle.windows.proofs.Leaf.{piece-at}
 use Rattle.windows.proofs.Lift.{mid-length, piece-mid, piece-put, lift-around, lift-below}
 use Rattle.window_factor.specs.Factors.{Series}
 use Rattle.window_factor.proofs.SeriesLaws.{SeriesInverse, series-exact}
-use Rattle.reduced_multipliers.specs.Leads.{NegatedInverse}
+use Rattle.law_multipliers.specs.Multipliers.{NegatedInverse}
 use Rattle.reduced_units.specs.Factorings.{Negated}
 
 -- the words of the inverse are no more than K k + 1

@@ -1,5 +1,5 @@
 pub mod Regions
-pub mod Overs
+pub mod OverUnits
 pub mod Splitting
 pub mod Inverses
 pub mod UnitFactor

@@ -9,7 +9,7 @@ use Rattle.definitions.specs.Residues.{IsUnit}
 use Rattle.definitions.specs.Polynomials.{coef}
 use Rattle.windows.specs.Window.{piece, Below, Around, Apart, Kept}
 use Rattle.windows.proofs.Leaf.{lt-or-le, piece-at, piece-over, piece-same, apart-at}
-use Rattle.reduced_multipliers.specs.Leads.{Leads}
+use Rattle.law_multipliers.specs.Multipliers.{HasMultiplier}
 use Rattle.reduced_products.specs.Products.{MonicAtZero}
 use Rattle.reduced_units.specs.States.{PlacesApart, Multiplier}
 

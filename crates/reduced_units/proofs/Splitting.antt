@@ -43,6 +43,7 @@ module _ (ν t pb a s i : ℕ) (w w₁ : List ℕ) (asked : SplitAsked ν t pb a
 
   pub split-given : Given ν (a - 1) s i (midOf (8 * (t + 1)) m w₁)
   split-given = record {
+    small = asked .lead .inverse .below;
     below = record {
       at = λ k h. subst (λ (x : ℕ). x < ν) (sym (was (8 * (t + 1)) m w₁ inside (8 * (t + 1) + k) (0 + k) (omega arith)
           (omega arith) ∙ cp .mid k (omega arith))) (asked .below .at k (omega arith));

@@ -1,5 +1,6 @@
 -- The unit factor of B is split off, inverted, and taken out of the multiplier of B, at any width.
 --
+--   split-asked              what the splitting asks
 --   unit-room, unit-given    what the inverse asks
 --   over-fits, over-asked    what the multiplier over the unit asks
 --   unit-taken               what comes of it
@@ -16,13 +17,14 @@ use borrow.Author.Needs.{needs}
 use lib.ListN.{length, getD}
 use Rattle.definitions.specs.Residues.{K}
 use Rattle.definitions.specs.Polynomials.{coef, Multiplied, UnitPolynomial}
-use Rattle.numbers.specs.Logarithm.{K-monotone, K-positive}
+use Rattle.law_numbers.specs.Logarithm.{K-monotone, K-positive}
 use Rattle.windows.specs.Window.{piece, Below, Around, Apart, Outside}
 use Rattle.windows.proofs.Leaf.{lt-or-le, piece-same, around-at}
-use Rattle.reduced_multipliers.specs.Leads.{Taken, NegatedInverse}
+use Rattle.law_multipliers.specs.Multipliers.{Taken, NegatedInverse}
+use Rattle.window_factor.specs.Factors.{LeadingUnit}
 use Rattle.reduced_products.specs.Products.{MonicAtZero}
 use Rattle.reduced_units.specs.States.{Multiplier, Stage, stage-room}
-use Rattle.reduced_units.specs.Factorings.{UnitSplit, Negated, OverAsked, OverUnit, UnitTaken, unit-place}
+use Rattle.reduced_units.specs.Factorings.{SplitAsked, UnitSplit, Negated, OverAsked, OverUnit, UnitTaken, unit-place}
 use Rattle.reduced_units.proofs.Regions.{apart-low, below-apart, piece-apart, multiplier-apart, monic-apart}
 
 -- the words of an inverse of a unit polynomial of degree below t
@@ -31,6 +33,19 @@ inverse-most n ν t k a b c =
     let p = K-positive ν a in
     let q : K ν * (k + 1) ≤ K n * t = mul-le-mul (K-monotone ν n (omega arith) b) c in
     omega arith
+
+-- what the splitting asks
+pub split-asked : (n ν t pa pb a al be l s i : ℕ) (w : List ℕ) → Stage n ν t pa a pb a al be l w → s < a → LeadingUnit ν s i (piece w pb a)
+    → SplitAsked ν t pb a s i w
+split-asked n ν t pa pb a al be l s i w st shorter lead = record {
+  above = st .above;
+  shorter = shorter;
+  within = st .within;
+  low = omega (arith, st .places .b-high, st .within);
+  room = omega (arith, st .room);
+  below = st .second;
+  lead = lead;
+}
 
 module _ (n ν t pa pb a al be l s : ℕ) (w w₁ : List ℕ) (stage : Stage n ν t pa a pb a al be l w) (shorter : s < a)
     (sp : UnitSplit ν t pb a s w w₁) where
@@ -171,4 +186,4 @@ module _ (n ν t pa pb a al be l s : ℕ) (w w₁ : List ℕ) (stage : Stage n �
             (piece w₃ be (2 * (t + 1)))) same-be₂ (ov .taken));
       }
 
-pub ruleset factorings = (needs, unit-room, unit-given, over-fits, over-asked, unit-taken)
+pub ruleset factorings = (needs, split-asked, unit-room, unit-given, over-fits, over-asked, unit-taken)

@@ -11,7 +11,7 @@ use lib.ListN.{length, getD}
 use Rattle.definitions.specs.Residues.{K}
 use Rattle.definitions.specs.Polynomials.{Multiplied, UnitPolynomial}
 use Rattle.windows.specs.Window.{piece, Below, Around, Outside}
-use Rattle.reduced_multipliers.specs.Leads.{Taken, NegatedInverse}
+use Rattle.law_multipliers.specs.Multipliers.{Taken, NegatedInverse}
 use Rattle.window_factor.specs.Factors.{LeadingUnit}
 use Rattle.reduced_products.specs.Products.{MonicAtZero}
 use Rattle.reduced_units.specs.States.{Multiplier}

@@ -20,7 +20,7 @@ use lib.ListN.{length, getD}
 use Rattle.definitions.specs.Residues.{K, IsUnit, Coprime}
 use Rattle.definitions.specs.Resultants.{Reduced}
 use Rattle.windows.specs.Window.{piece, Below, Apart}
-use Rattle.reduced_multipliers.specs.Leads.{Leads, Completes}
+use Rattle.law_multipliers.specs.Multipliers.{HasMultiplier, Completes}
 use Rattle.reduced_products.specs.Products.{MonicAtZero}
 use Rattle.reduced_units.specs.declared.Places.{Places}
 
@@ -81,8 +81,8 @@ pub record Solved (n ν t pa a pb c al be D : ℕ) (w w' : List ℕ) : Type 0 wh
   pub reduced : Reduced ν (piece w pa (a + 1)) (piece w pb c) D
   pub below : Below n (t + 1) t w'
   pub completes : (g : List ℕ) (m : ℕ) → 1 ≤ m → n ≡ m * ν
-      → Leads n m (piece w 0 (t + 1)) g (piece w al (2 * (t + 1))) (piece w pa (a + 1))
-      → Leads n m (piece w 0 (t + 1)) g (piece w be (2 * (t + 1))) (piece w pb c)
+      → HasMultiplier n m (piece w 0 (t + 1)) g (piece w al (2 * (t + 1))) (piece w pa (a + 1))
+      → HasMultiplier n m (piece w 0 (t + 1)) g (piece w be (2 * (t + 1))) (piece w pb c)
       → Completes n (piece w 0 (t + 1)) g (piece w' (t + 1) t) (m * D)
 
 -- B, of x words, and the modulus ν = c r have changed: B has y words now and the modulus is r. The reduced resultant is c times what it
@@ -91,11 +91,11 @@ pub record Change (n ν r c t pa a pb x y al be : ℕ) (w w' : List ℕ) : Type 
   pub whole : ν ≡ c * r
   pub reduced : (D : ℕ) → Reduced r (piece w' pa (a + 1)) (piece w' pb y) D → Reduced ν (piece w pa (a + 1)) (piece w pb x) (c * D)
   pub first : (g : List ℕ) (m : ℕ) → 1 ≤ m → n ≡ m * ν
-      → Leads n m (piece w 0 (t + 1)) g (piece w al (2 * (t + 1))) (piece w pa (a + 1))
-      → Leads n (m * c) (piece w 0 (t + 1)) g (piece w' al (2 * (t + 1))) (piece w' pa (a + 1))
+      → HasMultiplier n m (piece w 0 (t + 1)) g (piece w al (2 * (t + 1))) (piece w pa (a + 1))
+      → HasMultiplier n (m * c) (piece w 0 (t + 1)) g (piece w' al (2 * (t + 1))) (piece w' pa (a + 1))
   pub second : (g : List ℕ) (m : ℕ) → 1 ≤ m → n ≡ m * ν
-      → Leads n m (piece w 0 (t + 1)) g (piece w be (2 * (t + 1))) (piece w pb x)
-      → Leads n (m * c) (piece w 0 (t + 1)) g (piece w' be (2 * (t + 1))) (piece w' pb y)
+      → HasMultiplier n m (piece w 0 (t + 1)) g (piece w be (2 * (t + 1))) (piece w pb x)
+      → HasMultiplier n (m * c) (piece w 0 (t + 1)) g (piece w' be (2 * (t + 1))) (piece w' pb y)
 
 -- the content c of B is taken out of it and of the modulus, and a unit factor out of B, which is monic of degree s now
 pub record UnitCleared (n ν t pa a pb al be c s l : ℕ) (w w' : List ℕ) : Type 0 where

@@ -11,15 +11,18 @@
 //   pa, pb    the polynomials A and B
 //   al, be    the multiplier of A and that of B
 //
-// n is the modulus of the multipliers, v that of A and B; A has degree a, and B a words; the multipliers have l words, and zeros above.
+// m is the record of the modulus of the multipliers, v that of the modulus of A and B; A has degree a, and B a words; the multipliers have
+// l words, and zeros above. `negate_inverse` takes the modulus v itself.
 ghost use Prim.Native.Nat.{_+_, _*_, _<_, _≤_};
 ghost use lib.ListN.{length};
 ghost use Rattle.definitions.specs.Residues.{K};
 ghost use Rattle.definitions.specs.Polynomials.{UnitPolynomial};
+ghost use Rattle.modulus.specs.Values.{Known};
 ghost use Rattle.windows.specs.Window.{piece};
 ghost use Rattle.window_factor.specs.Factors.{LeadingUnit};
 ghost use Rattle.reduced_units.specs.States.{StageAt};
 ghost use Rattle.reduced_units.specs.Factorings.{SplitAsked, UnitSplit, Negated, OverAsked, OverUnit, UnitTaken};
+use modulus::Modulus;
 
 // Where a stage finds A, B and their multipliers.
 pub struct Places {
@@ -32,9 +35,9 @@ pub struct Places {
 
 // B of a words at pb, whose highest coefficient that is not nilpotent is that at s, with the inverse i: the monic factor of degree s
 // takes its place.
-fn split_unit(w: &mut [u32], v: u32, t: usize, pb: usize, a: usize, s: usize, i: u32)
-    requires { ⌜ SplitAsked v t pb a s i (now w) ⌝ }
-    ensures { λ _. ⌜ UnitSplit v t pb a s (now (w .entry)) (now (w .exit)) ⌝ }
+fn split_unit(w: &mut [u32], v: Modulus, t: usize, pb: usize, a: usize, s: usize, i: u32)
+    requires { ⌜ (Known v) × (SplitAsked (v .n) t pb a s i (now w)) ⌝ }
+    ensures { λ _. ⌜ UnitSplit (v .n) t pb a s (now (w .entry)) (now (w .exit)) ⌝ }
 {
     let b = 8 * (t + 1);
     windows::copy(w, pb, b, a);
@@ -57,7 +60,7 @@ pub fn negate_inverse(w: &mut [u32], v: u32, x: usize, k: usize) -> usize
 // number of its words.
 fn over_unit(
     w: &mut [u32],
-    n: u32,
+    m: Modulus,
     t: usize,
     x: usize,
     len: usize,
@@ -65,11 +68,11 @@ fn over_unit(
     l: usize,
     y: usize,
 ) -> usize
-    requires { ⌜ OverAsked n t x len be l y (now w) ⌝ }
-    ensures { λ r. ⌜ OverUnit n t x len be l y r (now (w .entry)) (now (w .exit)) ⌝ }
+    requires { ⌜ (Known m) × (OverAsked (m .n) t x len be l y (now w)) ⌝ }
+    ensures { λ r. ⌜ OverUnit (m .n) t x len be l y r (now (w .entry)) (now (w .exit)) ⌝ }
 {
     windows::clear(w, y, len + t);
-    let r = reduced_products::take_product(w, n, t, x, len, be, l, y);
+    let r = reduced_products::take_product(w, m, t, x, len, be, l, y);
     windows::copy(w, y, be, t);
     r
 }
@@ -78,16 +81,17 @@ fn over_unit(
 // the inverse i. Answers the number of words of the multiplier.
 pub fn take_unit(
     w: &mut [u32],
-    n: u32,
-    v: u32,
+    m: Modulus,
+    v: Modulus,
     p: Places,
     a: usize,
     l: usize,
     s: usize,
     i: u32,
 ) -> usize
-    requires { ⌜ (StageAt n v p a a l (now w)) × ((s < a) × (LeadingUnit v s i (piece (now w) (p .pb) a))) ⌝ }
-    ensures { λ r. ⌜ UnitTaken n v (p .t) (p .pb) a (p .be) s l r (now (w .entry)) (now (w .exit)) ⌝ }
+    requires { ⌜ (Known m) × (Known v) ⌝ }
+    requires { ⌜ (StageAt (m .n) (v .n) p a a l (now w)) × ((s < a) × (LeadingUnit (v .n) s i (piece (now w) (p .pb) a))) ⌝ }
+    ensures { λ r. ⌜ UnitTaken (m .n) (v .n) (p .t) (p .pb) a (p .be) s l r (now (w .entry)) (now (w .exit)) ⌝ }
 {
     let t = p.t;
     let pb = p.pb;
@@ -95,6 +99,6 @@ pub fn take_unit(
     split_unit(w, v, t, pb, a, s, i);
     let x = 8 * (t + 1) + (a + (s + 1) + s);
     let k = a - 1 - s;
-    let len = negate_inverse(w, v, x, k);
-    over_unit(w, n, t, x + (k + 1), len, be, l, x + (k + 1) + len)
+    let len = negate_inverse(w, v.n, x, k);
+    over_unit(w, m, t, x + (k + 1), len, be, l, x + (k + 1) + len)
 }

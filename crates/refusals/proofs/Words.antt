@@ -39,6 +39,10 @@ module _ {n i : ℕ} {f : List ℕ} (t : Testing n f i) where
   pub testing-failed : i < length f → n ≤ getD f i 0 → false ≡ all-below n f
   testing-failed h l = sym (step h ∙ rw (le-ltb _ _ l))
 
+  -- a test that stops at larger words only: what it lets pass is wrong, and shows at the round
+  pub testing-above : i < length f → n < getD f i 0 → false ≡ all-below n f
+  testing-above h l = testing-failed h (omega arith)
+
   pub testing-end : length f ≤ i → true ≡ all-below n f
   unfolding all-below
   testing-end h = sym (t .rest ∙ rw (drop-of-length-le f {i = i} h))
@@ -63,6 +67,7 @@ pub ruleset testing = (
   testing-none,
   testing-next,
   testing-failed,
+  testing-above,
   testing-end,
   length-none,
   length-some,

@@ -10,7 +10,7 @@
 --   Listed t c                      t tests the conditions c, one after the other
 --   Passed c, FirstFailing t c s    all of c hold; s is the number of the first that does not
 --   status-zero, status-is          the status is 0 exactly where all hold, and k exactly where the first that does not has number k
---   Accepted, accepted-one, accepted-two     what is known once none of the refusals 1, 2 and 3 applies
+--   Accepted, accepted-one, accepted-pair     what is known once none of the refusals 1, 2 and 3 applies
 --   narrow-bound                    at 32 bits a word is never at the bound
 use mathlib.Core.Path.{_≡_, refl, sym, ap, subst, _∙_}
 use mathlib.Core.Bool.{Bool, true, false, not, cond}
@@ -23,7 +23,7 @@ use lib.ListN.{length}
 use borrow.Author.Tests.{ltb-true, ltb-false, lt-ltb, eqb-true, eq-eqb, not-true, not-false}
 use Rattle.definitions.specs.Polynomials.{coef, Residues}
 use Rattle.refusals.specs.Refusals.{Width, narrow, bad-modulus, bad-length, all-below, short}
-use Rattle.refusals.specs.Refusals.{Tested, first-of, first-refusal, refusals-one, refusals-two}
+use Rattle.refusals.specs.Refusals.{Tested, first-of, first-refusal, refusals-one, refusals-of-pair}
 
 -- S3: "Modulus n: 2 to" the width's bound
 pub record ServedModulus (W : Width) (n : ℕ) : Type 0 where
@@ -154,14 +154,14 @@ status-is (t ∷ r) (P ∷ c) h k l = go (t .0) (t .1) (h .0 .0) (h .0 .1) (stat
 abbrev pub conditions-one : Width → ℕ → List ℕ → List (Type 0)
 conditions-one W n f = ServedModulus W n ∷ ServedLength f ∷ Residues n f ∷ []
 
-abbrev pub conditions-two : Width → ℕ → List ℕ → List ℕ → List (Type 0)
-conditions-two W n f g = ServedModulus W n ∷ ServedLength f ∷ ServedLength g ∷ Residues n f ∷ Residues n g ∷ []
+abbrev pub conditions-of-pair : Width → ℕ → List ℕ → List ℕ → List (Type 0)
+conditions-of-pair W n f g = ServedModulus W n ∷ ServedLength f ∷ ServedLength g ∷ Residues n f ∷ Residues n g ∷ []
 
 pub listed-one : (W : Width) (n : ℕ) (f : List ℕ) → Listed (refusals-one W n f) (conditions-one W n f)
 listed-one W n f = ((omega arith, modulus-fails W n), ((omega arith, length-fails f), ((omega arith, words-fail n f), tt)))
 
-pub listed-two : (W : Width) (n : ℕ) (f g : List ℕ) → Listed (refusals-two W n f g) (conditions-two W n f g)
-listed-two W n f g = (
+pub listed-pair : (W : Width) (n : ℕ) (f g : List ℕ) → Listed (refusals-of-pair W n f g) (conditions-of-pair W n f g)
+listed-pair W n f g = (
   (omega arith, modulus-fails W n),
   ((omega arith, length-fails f), ((omega arith, length-fails g), ((omega arith, words-fail n f), ((omega arith, words-fail n g), tt)))),
 )
@@ -178,9 +178,9 @@ accepted-one W n f h =
     let p = status-zero (refusals-one W n f) (conditions-one W n f) (listed-one W n f) .0 h in
     record { modulus = p .0 .least; bounded = p .0 .most; some = p .1 .0 .some; few = p .1 .0 .few; residues = p .1 .1 .0 }
 
-pub accepted-two : (W : Width) (n : ℕ) (f g : List ℕ) → first-refusal (refusals-two W n f g) ≡ 0 → Accepted W n f × Accepted W n g
-accepted-two W n f g h =
-    let p = status-zero (refusals-two W n f g) (conditions-two W n f g) (listed-two W n f g) .0 h in (
+pub accepted-pair : (W : Width) (n : ℕ) (f g : List ℕ) → first-refusal (refusals-of-pair W n f g) ≡ 0 → Accepted W n f × Accepted W n g
+accepted-pair W n f g h =
+    let p = status-zero (refusals-of-pair W n f g) (conditions-of-pair W n f g) (listed-pair W n f g) .0 h in (
       record {
         modulus = p .0 .least;
         bounded = p .0 .most;

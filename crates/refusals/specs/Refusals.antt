@@ -5,7 +5,7 @@
 --   bad-modulus, bad-length, all-below, short     the tests
 --   Tested                     a refusal's number, and whether its condition applies
 --   first-refusal t            the number of the first in t that applies, 0 where none does
---   refusals-one, refusals-two      1, 2 and 3 of one polynomial and of two, in their order
+--   refusals-one, refusals-of-pair      1, 2 and 3 of one polynomial and of two, in their order
 --   answered s x               the value of a service: x where the status s is 0, else 0
 --   left s w, replaced s x w   working words and result words after a call of status s
 use mathlib.Core.Path.{_≡_}
@@ -58,8 +58,8 @@ abbrev pub refusals-one : Width → ℕ → List ℕ → List Tested
 refusals-one W n f = (1, bad-modulus W n) ∷ (2, bad-length f) ∷ (3, not (all-below n f)) ∷ []
 
 -- S29: "within a number the first polynomial before the second"
-abbrev pub refusals-two : Width → ℕ → List ℕ → List ℕ → List Tested
-refusals-two W n f g =
+abbrev pub refusals-of-pair : Width → ℕ → List ℕ → List ℕ → List Tested
+refusals-of-pair W n f g =
     (1, bad-modulus W n) ∷ (2, bad-length f) ∷ (2, bad-length g) ∷ (3, not (all-below n f)) ∷ (3, not (all-below n g)) ∷ []
 
 -- S23: "Each returns its number and value 0"

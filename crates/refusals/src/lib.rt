@@ -1,7 +1,7 @@
 // The refusals that every service shares (S22, S29), and the answer of a service (S21).
 //
 //   bad_modulus, bad_length, all_below    the tests of the refusals 1, 2 and 3
-//   refusal_one, refusal_two              the first of them that applies to one polynomial, or to two
+//   refusal_one, refusal_of_pair          the first of them that applies to one polynomial, or to two
 //   refusal_lengths, refusal_words        2 of two polynomials, and 3
 ghost use mathlib.Core.Path.{_≡_};
 ghost use mathlib.Core.Bool.{not};
@@ -9,8 +9,16 @@ ghost use mathlib.Core.List.{[], _∷_};
 ghost use Prim.Native.Nat.{ℕ};
 ghost use lib.ListN.{length};
 ghost use Rattle.refusals.specs.Refusals.{narrow, bad-modulus, bad-length, all-below};
-ghost use Rattle.refusals.specs.Refusals.{first-refusal, refusals-one, refusals-two};
+ghost use Rattle.refusals.specs.Refusals.{first-refusal, refusals-one, refusals-of-pair};
 ghost use Rattle.refusals.specs.Conditions.{ServedLength};
+
+// The largest sent degree, and the words of a polynomial of that degree (S5).
+pub const MAX_DEGREE: usize = 48;
+
+pub const MAX_LENGTH: usize = 49;
+
+// The working words that a service is lent (S27).
+pub const WORKING_WORDS: usize = 8192;
 
 // What a service answers: the number, and 0 or the number of the refusal.
 #[repr(C)]
@@ -47,7 +55,7 @@ pub fn bad_length(f: &[u32]) -> bool
     if f.len() == 0 {
         return true;
     }
-    49 < f.len()
+    MAX_LENGTH < f.len()
 }
 
 // Refusals 1, 2 and 3 of one polynomial; 0 where none applies.
@@ -94,8 +102,8 @@ fn refusal_words(n: u32, f: &[u32], g: &[u32]) -> u32
 }
 
 // Refusals 1, 2 and 3 of two polynomials; 0 where none applies.
-pub fn refusal_two(n: u32, f: &[u32], g: &[u32]) -> u32
-    ensures { λ r. ⌜ r ≡ first-refusal (refusals-two narrow n (now (f .entry)) (now (g .entry))) ⌝ }
+pub fn refusal_of_pair(n: u32, f: &[u32], g: &[u32]) -> u32
+    ensures { λ r. ⌜ r ≡ first-refusal (refusals-of-pair narrow n (now (f .entry)) (now (g .entry))) ⌝ }
 {
     if bad_modulus(n) {
         return 1;

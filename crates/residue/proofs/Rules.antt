@@ -18,13 +18,13 @@ use mir.Val.{Fits, bits}
 use borrow.Author.Needs.{needs}
 use Rattle.arithmetic.proofs.Widths.{below, sum-below}
 use Rattle.definitions.specs.Residues.{K, IsNilpotent, GcdWithCofactors, LeastCofactors}
-use Rattle.numbers.specs.Divisors.{IsGcd, GcdCofactor}
-use Rattle.numbers.specs.Units.{gcd-of-coprime, cofactor-inverse}
-use Rattle.numbers.specs.Chinese.{Idempotent, Joined, idempotent-of, joined-of}
-use Rattle.numbers.specs.Kinds as numbers
-use Rattle.numbers.specs.Kinds.{Parts, parts-start, parts-step, parts-nilpotent, parts-splitting}
-use Rattle.numbers.specs.LeastCofactors.{positive, least-from}
-use Rattle.numbers.specs.Logarithm.{K-below, Halved, halved-start, halved-step, halved-end}
+use Rattle.law_numbers.specs.Divisors.{IsGcd, GcdCofactor}
+use Rattle.law_numbers.specs.Units.{gcd-of-coprime, cofactor-inverse}
+use Rattle.law_numbers.specs.Chinese.{Idempotent, Joined, idempotent-of, joined-of}
+use Rattle.law_numbers.specs.Kinds as numbers
+use Rattle.law_numbers.specs.Kinds.{Parts, parts-start, parts-step, parts-nilpotent, parts-splitting}
+use Rattle.law_numbers.specs.LeastCofactors.{positive, least-from}
+use Rattle.law_numbers.specs.Logarithm.{K-below, Halved, halved-start, halved-step, halved-end}
 use Rattle.residue.specs.Moduli.{CoprimeModuli}
 
 -- ---- the kind of a residue

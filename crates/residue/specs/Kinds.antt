@@ -7,8 +7,8 @@ use mathlib.Core.Path.{_≡_, refl, ap, ap₂}
 use mathlib.Core.Logic.{_⊎_, ⊎-elim}
 use Prim.Native.Nat.{ℕ, _≤_}
 use Rattle.definitions.specs.Residues.{Inverse, IsUnit, IsNilpotent, Splitting}
-use Rattle.numbers.specs.Units.{inverse-unique}
-use Rattle.numbers.specs.Kinds.{Splits, kind-exists, unit-not-nilpotent, unit-not-splitting, nilpotent-not-splitting, splitting-unique}
+use Rattle.law_numbers.specs.Units.{inverse-unique}
+use Rattle.law_numbers.specs.Kinds.{Splits, kind-exists, unit-not-nilpotent, unit-not-splitting, nilpotent-not-splitting, splitting-unique}
 use Rattle.residue.specs.declared.Kind.{Kind}
 use Rattle.residue.specs.declared.Kind.the-variants.{Unit as Unit', Nilpotent, Splits as Splits'}
 

@@ -1,5 +1,5 @@
 // Kinds of residues, greatest common divisors with cofactors, joining residues of coprime moduli, and the modulus with its K. The
-// functions here ask for what they need; the services that refuse stand in `residue_services`.
+// functions here ask for what they need; the services that refuse stand in `residue_service`.
 //
 //   Attempt       a value, or a split of the modulus
 //   kind_of       what a residue is: a unit, nilpotent, or splitting

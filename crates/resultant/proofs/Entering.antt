@@ -1,8 +1,8 @@
 -- The sent polynomials in the working buffer, as words that stand for them: f from 0 on and g after it.
 --
 --   words-placed, room-placed    what the two attempts at them ask
---   entered-tried                the attempt without inverses answers for what the words stand for, the sent polynomials
---   tried-found                  the same where the modulus of the record is n
+--   entered-attempt              the attempt without inverses answers for what the words stand for, the sent polynomials
+--   attempted-found              the same where the modulus of the record is n
 --   entered-answer               the general attempt answers for the words; with a power of what 1 stands for, for the sent polynomials
 use mathlib.Core.Path.{_≡_, refl, sym, ap, ap₂, subst, _∙_}
 use mathlib.Core.List.{List}
@@ -12,27 +12,28 @@ use native.Mathlib.Omega.{arith}
 use native.Mathlib.Nat.{mul-assoc, mul-comm, mul-one, mod-eq-of-lt}
 use lib.ListN.{length, getD}
 use lib.Pow.{pow-add}
-use Rattle.numbers.specs.Congruence.{Cong, c-refl, c-trans, c-eq, c-mod, c-mul}
+use borrow.Author.Needs.{needs}
+use Rattle.law_numbers.specs.Congruence.{Cong, c-refl, c-trans, c-eq, c-mod, c-mul}
 use Rattle.definitions.specs.Polynomials.{coef, deg}
 use Rattle.definitions.specs.Resultants.{resultant}
-use Rattle.theory.specs.ReachedSteps.{Times}
-use Rattle.theory.specs.ResultantLaws.{resultant-scale-first, resultant-scale-second}
+use Rattle.law_polynomials.specs.ReachedSteps.{Times}
+use Rattle.law_polynomials.specs.ResultantLaws.{resultant-scale-first, resultant-scale-second}
 use Rattle.windows.specs.Window.{piece}
 use Rattle.windows.proofs.Leaf.{lt-or-le, piece-at, piece-over, piece-length}
 use Rattle.residue.specs.declared.Attempt.{Attempt}
 use Rattle.modulus.specs.declared.Modulus.{Modulus}
-use Rattle.modulus.specs.Values.{Known, value, values, ModulusOf}
+use Rattle.modulus.specs.Values.{Known, value, values}
 use Rattle.modulus.proofs.Valuing.{value-none, value-scaled}
-use Rattle.modulus_windows.specs.Standing.{Entered}
+use Rattle.modulus_windows.specs.LoopPromises.{Entered}
 use Rattle.modulus_windows.proofs.Forms.{values-length, values-at}
-use Rattle.resultant_turns.specs.Degrees.{deg-of}
-use Rattle.resultant_pseudo.specs.Standing.{Placed as PairPlaced, TriedAnswer}
-use Rattle.resultant_pseudo.specs.declared.Tried.{Tried}
+use Rattle.resultant_signs.specs.Degrees.{deg-of}
+use Rattle.resultant_pseudo.specs.StandingRuns.{Placed as PairPlaced, EuclidAttempted}
+use Rattle.resultant_pseudo.specs.declared.EuclidAttempt.{EuclidAttempt}
 use Rattle.resultant_euclid.proofs.Placing.{placed-words}
 use Rattle.resultant_steps.specs.AttemptAnswers.{ValueOrSplit, Follows}
-use Rattle.resultant_attempt.specs.Stages.{Placed}
-use Rattle.resultant.specs.Sizes.{RunSizes}
-use Rattle.resultant.proofs.Loading.{pair-asked, placed-asked, loaded-tried, loaded-answer}
+use Rattle.resultant_attempt.specs.AttemptStages.{Placed}
+use Rattle.resultant.specs.Sizes.{RunLengthsAsked}
+use Rattle.resultant.proofs.Loading.{pair-asked, placed-asked, loaded-attempt, loaded-answer}
 
 -- both polynomials times c
 scaled-both : (n c : ℕ) → 1 ≤ n → (f f' g g' : List ℕ) → deg f' ≡ deg f → deg g' ≡ deg g → Times n c f' f → Times n c g' g
@@ -63,9 +64,9 @@ module _ (m : Modulus) (known : Known m) where
   values-degree : (w : List ℕ) (a l : ℕ) → a + l ≤ length w → deg (piece (values m w) a l) ≡ deg (piece w a l)
   values-degree w a l h = ap pred (piece-length (values m w) a l (omega (arith, values-length m w)) ∙ sym (piece-length w a l h))
 
-module _ (m : Modulus) (f g w w₁ w₂ : List ℕ) (two : 2 ≤ m .n) (s : RunSizes f g w) (near : length f ≤ length g)
+module _ (m : Modulus) (f g w w₁ w₂ : List ℕ) (two : 2 ≤ m .n) (s : RunLengthsAsked f g w) (near : length f ≤ length g)
     (lf : Entered m 0 f w w₁) (lg : Entered m (length f) g w₁ w₂) where
-  sizes : RunSizes f g (values m w)
+  sizes : RunLengthsAsked f g (values m w)
   sizes = record {
     least-f = s .least-f;
     most-f = s .most-f;
@@ -74,7 +75,7 @@ module _ (m : Modulus) (f g w w₁ w₂ : List ℕ) (two : 2 ≤ m .n) (s : RunS
     working = omega (arith, s .working, values-length m w);
   }
 
-  pub words-placed : PairPlaced (m .n) 0 (length f - 1) (length f) (length g - 1) w₂
+  words-placed : PairPlaced (m .n) 0 (length f - 1) (length f) (length g - 1) w₂
   words-placed =
       placed-words m f g w w₁ w₂ (s .least-f) (s .least-g) lf lg
       (pair-asked (m .n) f g (values m w) (values m w₁) (values m w₂) two sizes near (lf .stands) (lg .stands))
@@ -92,10 +93,10 @@ module _ (m : Modulus) (f g w w₁ w₂ : List ℕ) (two : 2 ≤ m .n) (s : RunS
         pair = words-placed .pair;
       }
 
-  pub entered-tried : (r : Tried) → TriedAnswer (m .n)
+  entered-attempt : (r : EuclidAttempt) → EuclidAttempted (m .n)
       (resultant (m .n) (piece (values m w₂) 0 (length f - 1 + 1)) (piece (values m w₂) (length f) (length g - 1 + 1))) r
-      → TriedAnswer (m .n) (resultant (m .n) f g) r
-  entered-tried = loaded-tried (m .n) f g (values m w) (values m w₁) (values m w₂) two sizes near (lf .stands) (lg .stands)
+      → EuclidAttempted (m .n) (resultant (m .n) f g) r
+  entered-attempt = loaded-attempt (m .n) f g (values m w) (values m w₁) (values m w₂) two sizes near (lf .stands) (lg .stands)
 
   power-is : Known m → (c x : ℕ) → x ≡ value m 1 → c ≡ (x ^ (length f - 1 + (length g - 1))) % m .n
       → (c * resultant (m .n) (piece w₂ 0 (length f - 1 + 1)) (piece w₂ (length f) (length g - 1 + 1))) % m .n
@@ -123,20 +124,23 @@ module _ (m : Modulus) (f g w w₁ w₂ : List ℕ) (two : 2 ≤ m .n) (s : RunS
 
 -- the same where the modulus of the record is n
 pub placed-found : {n : ℕ} {m : Modulus} {f g w w₁ w₂ : List ℕ} → Entered m 0 f w w₁ → Entered m (length f) g w₁ w₂ → m .n ≡ n
-    → 2 ≤ n → RunSizes f g w → length f ≤ length g → PairPlaced n 0 (length f - 1) (length f) (length g - 1) w₂
+    → 2 ≤ n → RunLengthsAsked f g w → length f ≤ length g → PairPlaced n 0 (length f - 1) (length f) (length g - 1) w₂
 placed-found {n} {m} {f} {g} {w} {w₁} {w₂} lf lg is two s near =
     subst (λ (z : ℕ). PairPlaced z 0 (length f - 1) (length f) (length g - 1) w₂) is
     (words-placed m f g w w₁ w₂ (omega arith) s near lf lg)
 
-pub tried-found : {n : ℕ} {m : Modulus} {f g w w₁ w₂ : List ℕ} (r : Tried) → Entered m 0 f w w₁ → Entered m (length f) g w₁ w₂ → m .n ≡ n
-    → 2 ≤ n → RunSizes f g w → length f ≤ length g
-    → TriedAnswer (m .n)
+pub attempted-found : {n : ℕ} {m : Modulus} {f g w w₁ w₂ : List ℕ} (r : EuclidAttempt) → Entered m 0 f w w₁ → Entered m (length f) g w₁ w₂
+    → m .n ≡ n
+    → 2 ≤ n → RunLengthsAsked f g w → length f ≤ length g
+    → EuclidAttempted (m .n)
     (resultant (m .n) (piece (values m w₂) 0 (length f - 1 + 1)) (piece (values m w₂) (length f) (length g - 1 + 1))) r
-    → TriedAnswer n (resultant n f g) r
-tried-found {n} {m} {f} {g} {w} {w₁} {w₂} r lf lg is two s near t =
-    subst (λ (z : ℕ). TriedAnswer z (resultant z f g) r) is (entered-tried m f g w w₁ w₂ (omega arith) s near lf lg r t)
+    → EuclidAttempted n (resultant n f g) r
+attempted-found {n} {m} {f} {g} {w} {w₁} {w₂} r lf lg is two s near t =
+    subst (λ (z : ℕ). EuclidAttempted z (resultant z f g) r) is (entered-attempt m f g w w₁ w₂ (omega arith) s near lf lg r t)
 
 -- the modulus of the record is the one that was asked for
-pub found-answer : {n : ℕ} {m : Modulus} (f g : List ℕ) (r : Attempt) → ModulusOf n m → ValueOrSplit (m .n) (resultant (m .n) f g) r
+pub found-answer : {n n' : ℕ} (f g : List ℕ) (r : Attempt) → ValueOrSplit n' (resultant n' f g) r → n' ≡ n
     → ValueOrSplit n (resultant n f g) r
-found-answer f g r found h = subst (λ (z : ℕ). ValueOrSplit z (resultant z f g) r) (found .is) h
+found-answer f g r h is = subst (λ (z : ℕ). ValueOrSplit z (resultant z f g) r) is h
+
+pub ruleset entering = (needs, room-placed, placed-found, attempted-found, entered-answer, found-answer)

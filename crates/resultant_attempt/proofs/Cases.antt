@@ -15,7 +15,7 @@ use Rattle.window_factor.proofs.Cases.{unit-at, highest}
 use Rattle.resultant_steps.specs.AttemptAnswers.{ValueOrSplit}
 use Rattle.resultant_attempt.proofs.Rules.{attempt, factors-answer, lead-below-degree}
 use Rattle.resultant_steps.proofs.Contents.{first-of}
-use Rattle.resultant_attempt.specs.Stages.{Stacked}
+use Rattle.resultant_attempt.specs.AttemptStages.{Stacked}
 
 pub degree-at : {n d e t i : ℕ} {w : List ℕ} (h : Highest) → Stacked n d e w → HighestOf n (first-of d e w) h → h ≡ UnitAt' t i
     → (t ≡ d → ⊥) → t < d

@@ -15,8 +15,8 @@ use borrow.Author.Needs.{needs}
 use borrow.Rule.Slice.PartMut.{midOf, putMid}
 use Rattle.definitions.specs.Residues.{IsUnit}
 use Rattle.definitions.specs.Resultants.{resultant}
-use Rattle.numbers.specs.Divisors.{GcdCofactor}
-use Rattle.theory.specs.ResultantLaws.{signed}
+use Rattle.law_numbers.specs.Divisors.{GcdCofactor}
+use Rattle.law_polynomials.specs.ResultantLaws.{signed}
 use Rattle.windows.specs.Window.{piece, Below, Kept, Scratch}
 use Rattle.residue.specs.declared.Attempt.{Attempt}
 use Rattle.residue.specs.declared.Attempt.the-variants.{Value}
@@ -26,16 +26,16 @@ use Rattle.resultant_steps.specs.AttemptAnswers.{ValueOrSplit, Follows, IsAnswe
 use Rattle.resultant_steps.specs.Layouts.{Primitive, ContentCleared, Beside, words-at, words-back}
 use Rattle.resultant_steps.proofs.SideBySide.{onward}
 use Rattle.resultant_steps.proofs.Contents.{first-of, lent, content-positive, content-whole, content-times}
-use Rattle.resultant_steps.proofs.Turned.{followed, answer-follows}
+use Rattle.resultant_steps.proofs.AnswerChanges.{followed, answer-follows}
 use Rattle.resultant_attempt.specs.Rooms.{place}
-use Rattle.resultant_attempt.specs.Stages.{Placed, Divisor, Stacked, Part}
+use Rattle.resultant_attempt.specs.AttemptStages.{Placed, DivisorPlaced, Stacked, Part}
 use Rattle.resultant_attempt.proofs.Remaining.{at-constant, divisor-asked, divide-asked, next-asked, times-next}
 use Rattle.resultant_attempt.proofs.Copies.{copies-fit, stacked-asked, stacked-answer, part-fits}
 use Rattle.resultant_attempt.proofs.Copies.{monic-constant, monic-asked, monic-answer}
 use Rattle.resultant_attempt.proofs.Copies.{monic-kept, kept-none, placed-part, unit-inverse}
 use Rattle.resultant_attempt.proofs.Copies.{reversed-asked, reversed-sign, dropped-asked, dropped-sign}
-use Rattle.resultant_attempt.proofs.Leads.{stacked-fits, cleared-asked, cleared-divides, not-all-nilpotent}
-use Rattle.resultant_attempt.proofs.Leads.{lead-asked, lead-below, given-in}
+use Rattle.resultant_attempt.proofs.Primitives.{stacked-fits, cleared-asked, cleared-divides, not-all-nilpotent}
+use Rattle.resultant_attempt.proofs.Primitives.{lead-asked, lead-below, given-in}
 use Rattle.resultant_attempt.proofs.Products.{monic-part, monic-lead, unit-part, unit-constant, product-times}
 
 -- ---- the measure
@@ -74,20 +74,26 @@ module _ {n d e : ℕ} {w : List ℕ} (st : Stacked n d e w) where
     pub whole-answer : c ≡ n → ValueOrSplit n (resultant n (piece w (e + 1) (d + 1)) (piece w 0 (e + 1))) (Value 0)
     whole-answer = content-whole n c d e w w' (st .two) (st .one) (st .near) (stacked-fits n d e w st) (st .below) cl
 
-    pub cleared-stacked : (c ≡ n → ⊥) → Stacked (n / c) d e w'
-    cleared-stacked ne = cleared-asked n c d e w w' st cl ne .0
+    pub cleared-some : (c ≡ n → ⊥) → 1 ≤ n / c
+    cleared-some ne = omega (arith, cleared-asked n c d e w w' st cl ne .0 .two)
 
-    pub cleared-primitive : (c ≡ n → ⊥) → Primitive (n / c) (piece w' (e + 1) (d + 1))
-    cleared-primitive ne = cleared-asked n c d e w w' st cl ne .1
+    -- n' is the modulus that is left
+    module _ {n' : ℕ} (ne : c ≡ n → ⊥) (is : n' ≡ n / c) where
+      pub cleared-stacked : Stacked n' d e w'
+      cleared-stacked = rw is (cleared-asked n c d e w w' st cl ne .0)
 
-    module _ {r : Attempt} (a : ValueOrSplit (n / c) (resultant (n / c) (piece w' (e + 1) (d + 1)) (piece w' 0 (e + 1))) r) where
+      pub cleared-primitive : Primitive n' (piece w' (e + 1) (d + 1))
+      cleared-primitive = rw is (cleared-asked n c d e w w' st cl ne .1)
+
+    module _ {n' : ℕ} {r : Attempt} (a : ValueOrSplit n' (resultant n' (piece w' (e + 1) (d + 1)) (piece w' 0 (e + 1))) r)
+        (is : n' ≡ n / c) where
       pub lifted-asked : Partial n r
-      lifted-asked = record { m = n / c; divides = cleared-divides n c d e w w' cl; answer = record { x = _; is = a } }
+      lifted-asked = record { m = n'; divides = rw is (cleared-divides n c d e w w' cl); answer = record { x = _; is = a } }
 
       pub content-answer : {p : ℕ} {s u : Attempt} → (c ≡ n → ⊥) → p ≡ (c ^ e) % n → Lifted n r s → Follows n (λ x. (p * x) % n) s u
           → ValueOrSplit n (resultant n (piece w (e + 1) (d + 1)) (piece w 0 (e + 1))) u
       content-answer {p} ne hp li fo =
-          followed fo (li .at _ _ (cleared-divides n c d e w w' cl) a)
+          followed fo (li .at _ _ (cleared-divides n c d e w w' cl) (rw is at a))
           (content-times n c d e w w' (st .two) (st .one) (st .near) (stacked-fits n d e w st) (st .below) cl ne p hp)
 
 -- ---- a leading word that is 0
@@ -112,7 +118,7 @@ constant-answer {n} {a} {d} {b} {e} {s} {r} {w} pl z h = at-constant n a d b e s
 pub inverse-of : {n x g i : ℕ} → GcdCofactor n x g i → g ≡ 1 → (i * x) % n ≡ 1 % n
 inverse-of {n} c e = c .bezout ∙ ap (λ (y : ℕ). y % n) e
 
-pub step-answer : {n a d b e s i p : ℕ} {w w₁ : List ℕ} {r u : Attempt} → Divisor n a d b e s i w → Remainder n a d b e w w₁
+pub step-answer : {n a d b e s i p : ℕ} {w w₁ : List ℕ} {r u : Attempt} → DivisorPlaced n a d b e s i w → Remainder n a d b e w w₁
     → p ≡ (getD w (a + d) 0 ^ (e + 1 - d)) % n → ValueOrSplit n (resultant n (piece w₁ b (d - 1 + 1)) (piece w₁ a (d + 1))) r
     → Follows n (λ x. (p * x) % n) r u → ValueOrSplit n (resultant n (piece w a (d + 1)) (piece w b (e + 1))) u
 step-answer {n} {a} {d} {b} {e} {s} {i} {p} {w} {w₁} dv rem hp v f = followed f v (times-next n a d b e s i w w₁ dv rem p hp)
@@ -136,7 +142,7 @@ pub one-answer : {n a t e x : ℕ} {w : List ℕ} → Part n a t 0 e x w → get
 one-answer {n} {a} {t} {e} {x} {w} pt h z = monic-constant n a t e x w pt h z
 
 module _ {n a t e x : ℕ} {w w₁ : List ℕ} (pt : Part n a t 0 e x w) (bs : Beside (words-at w a) (words-at w 0) (t + 1) (e + 1) x w w₁) where
-  pub monic-step-asked : getD w (a + t) 0 ≡ 1 → (t ≡ 0 → ⊥) → Divisor n 0 t (t + 1) e (t + 1 + (e + 1)) 1 (onward w₁ x)
+  pub monic-step-asked : getD w (a + t) 0 ≡ 1 → (t ≡ 0 → ⊥) → DivisorPlaced n 0 t (t + 1) e (t + 1 + (e + 1)) 1 (onward w₁ x)
   monic-step-asked = monic-asked n a t e x w w₁ pt bs
 
   pub monic-step-answer : (r : Attempt)
@@ -149,7 +155,7 @@ module _ {n a t e x : ℕ} {w w₁ : List ℕ} (pt : Part n a t 0 e x w) (bs : B
 
 module _ {n a k b e x : ℕ} {w w₁ : List ℕ} (pt : Part n a k b e x w)
     (bs : Beside (words-back w a (k + 1)) (words-back w b (e + 1)) (k + 1) (e + 1) x w w₁) where
-  pub reversed-step-asked : {i : ℕ} → 1 ≤ k → (i * getD w a 0) % n ≡ 1 % n → Divisor n 0 k (k + 1) e (k + 1 + (e + 1)) i (onward w₁ x)
+  pub reversed-step-asked : {i : ℕ} → 1 ≤ k → (i * getD w a 0) % n ≡ 1 % n → DivisorPlaced n 0 k (k + 1) e (k + 1 + (e + 1)) i (onward w₁ x)
   reversed-step-asked {i} = reversed-asked n a k b e x w w₁ pt bs i
 
   pub reversed-is-answer : {r : Attempt}
@@ -168,7 +174,7 @@ pub lead-lent : (n d e t i : ℕ) (w : List ℕ) → LeadingUnit n t i (first-of
 lead-lent n d e t i w = lent (LeadingUnit n t i) d e w
 
 module _ {n d e t i : ℕ} {w : List ℕ} (st : Stacked n d e w) (u : LeadingUnit n t i (first-of d e w)) where
-  pub lead-step-asked : t ≡ d → Divisor n (e + 1) d 0 e (e + 1 + (d + 1)) i w
+  pub lead-step-asked : t ≡ d → DivisorPlaced n (e + 1) d 0 e (e + 1 + (d + 1)) i w
   lead-step-asked = lead-asked n d e t i w st (lead-lent n d e t i w u)
 
   pub lead-below-degree : (t ≡ d → ⊥) → t < d
@@ -218,7 +224,9 @@ module _ {n d e t : ℕ} {w ys : List ℕ} (st : Stacked n d e w) (lt : t < d) (
 
 pub ruleset degrees = (same-degree, lower-degree, factor-degree, unit-degree, positive, difference-positive)
 
-pub ruleset contents = (clear-asked, cleared-positive, whole-answer, cleared-stacked, cleared-primitive, lifted-asked, content-answer)
+pub ruleset contents = (clear-asked, cleared-positive, cleared-some, whole-answer, cleared-stacked, cleared-primitive, lifted-asked)
+
+pub ruleset answers = (content-answer)
 
 pub ruleset divisions = (
   sign-asked,
@@ -248,4 +256,4 @@ pub ruleset leads = (lead-lent, lead-step-asked, nilpotent-answer)
 
 pub ruleset factors = (given-room, given-lead, monic-part-asked, monic-lead-asked, unit-part-asked, unit-constant-asked)
 
-pub ruleset attempt = (needs, degrees, contents, divisions, copies, parts, leads, factors)
+pub ruleset attempt = (needs, degrees, contents, answers, divisions, copies, parts, leads, factors)

@@ -1,8 +1,8 @@
 -- What a step does to the two polynomials, over the words of the buffer before and after: the equation that multipliers are made from.
 --
---   pair-moves, last-moves, turn-moves, drop-moves     of each step, from what the word loop wrote
+--   pair-moves, last-moves, elimination-moves, drop-moves     of each step, from what the word loop wrote
 --
--- Letters: n is the modulus; f of degree d stands at a, g of degree e at b; w₁ are the words between the two loops of a turn.
+-- Letters: n is the modulus; f of degree d stands at a, g of degree e at b; w₁ are the words between the two loops of an elimination.
 use mathlib.Core.Path.{_≡_, refl, sym, ap, ap₂, subst, _∙_, fun-ext}
 use mathlib.Core.List.{List}
 use mathlib.Core.Bool.{true, false}
@@ -11,16 +11,16 @@ use native.Mathlib.Omega.{arith}
 use native.Mathlib.Nat.{mod-lt, mul-mod-right, zero-mod, add-zero, le-of-lt}
 use lib.ListN.{getD}
 use Rattle.definitions.specs.Polynomials.{coef}
-use Rattle.numbers.specs.Congruence.{Cong, c-refl, c-sym, c-trans, c-eq, c-add, c-mod}
+use Rattle.law_numbers.specs.Congruence.{Cong, c-refl, c-sym, c-trans, c-eq, c-add, c-mod}
 use Rattle.windows.specs.Window.{piece, Moved, mulBy, Written, Around, behind}
 use Rattle.windows.proofs.Leaf.{piece-at, piece-length, apart-at, moved-none}
 use Rattle.window_combining.specs.Combined.{combination}
-use Rattle.window_division.proofs.Turns.{spot, risen, convolve-spot}
-use Rattle.resultant_turns.specs.TurnLaws.{Turned, TurnedTwice, dropped-words}
-use Rattle.resultant_pseudo.specs.Standing.{Placed}
+use Rattle.window_division.proofs.DivisionRounds.{spot, risen, convolve-spot}
+use Rattle.resultant_signs.specs.EliminationLaws.{Eliminated, EliminatedTwice, dropped-words}
+use Rattle.resultant_pseudo.specs.StandingRuns.{Placed}
 use Rattle.resultant_pseudo.proofs.Stepping.{kept}
 use Rattle.euclid_steps.specs.Steps.{Mixture, Moves, two, convolve-two}
-use Rattle.euclid_steps.specs.Turning.{pair-mixed, turn-mixed, last-mixed}
+use Rattle.euclid_steps.specs.Eliminations.{pair-mixed, elimination-mixed, last-mixed}
 
 c-is : {n x y : ℕ} → x ≡ y % n → Cong n x y
 c-is {n} {x} {y} e = c-trans (c-eq e) (c-mod y)
@@ -58,14 +58,14 @@ mixture-as {n} {l} {l'} {q} {q'} {F} {G} {H} hl hq h =
 last-whole : {n l : ℕ} (k : ℕ) {F G H : ℕ → ℕ} → Mixture n l (two k 0) F G H → Mixture n l (two k n) F G H
 last-whole {n} {l} k {F} {G} h = record {
   at = λ j. h .at j ∙ c-add (c-refl {a = l * G j}) (c-trans (c-eq (convolve-two k 0 F j ∙ none (behind F j) (k * F j)))
-      (c-trans (c-sym (gone n (k * F j) (behind F j))) (c-eq (turn n (behind F j) (k * F j) ∙ sym (convolve-two k n F j))))) .same;
+      (c-trans (c-sym (gone n (k * F j) (behind F j))) (c-eq (elimination n (behind F j) (k * F j) ∙ sym (convolve-two k n F j))))) .same;
 }
   where
     none : (x y : ℕ) → 0 * x + y ≡ y
     none x y = omega arith
 
-    turn : (m x y : ℕ) → y + m * x ≡ m * x + y
-    turn m x y = omega arith
+    elimination : (m x y : ℕ) → y + m * x ≡ m * x + y
+    elimination m x y = omega arith
 
 nothing-mixed : (n i : ℕ) (F G : ℕ → ℕ) → Mixture n 1 (spot i n) F G G
 nothing-mixed n i F G = record {
@@ -76,7 +76,7 @@ nothing-mixed n i F G = record {
     once : (x y : ℕ) → x + y ≡ 1 * x + y
     once x y = omega arith
 
--- ---- two turns
+-- ---- two eliminations
 
 module _ (n a d b : ℕ) (w w' : List ℕ) (y p q : ℕ) (pl : Placed n a d b (d + 1) w) (one : 1 ≤ d)
     (hy : y ≡ (getD w (a + d) 0 * getD w (a + d) 0) % n) (hp : p ≡ (getD w (a + d) 0 * getD w (b + (d + 1)) 0) % n)
@@ -88,7 +88,7 @@ module _ (n a d b : ℕ) (w w' : List ℕ) (y p q : ℕ) (pl : Placed n a d b (d
   at-most : {x : ℕ} (z : ℕ) → x ≡ z % n → x ≤ n
   at-most {x} z h = le-of-lt (subst (λ (u : ℕ). u < n) (sym h) (mod-lt z (pl .pos)))
 
-  twice : TurnedTwice n d y p q (piece w a (d + 1)) (piece w b (d + 1 + 1)) (piece w' b d)
+  twice : EliminatedTwice n d y p q (piece w a (d + 1)) (piece w b (d + 1 + 1)) (piece w' b d)
   unfolding combination
   twice = record {
     first = piece-length w a (d + 1) (omega (arith, pl .first));
@@ -146,7 +146,7 @@ pair-moves n a d b e w w' y p q pl one h hy hp hq wr =
     (coef (piece w' a (d + 1))) y (n - p) (n - q) true) (sym h)
     (pair-moves-at n a d b w w' y p q (subst (λ (z : ℕ). Placed n a d b z w) h pl) one hy hp hq wr (e - d))
 
--- ---- one turn, e = d + i
+-- ---- one elimination, e = d + i
 
 module _ (n a d b e i : ℕ) (w w₁ w' : List ℕ) (pl : Placed n a d b e w) (one : 1 ≤ d) (is : d + i ≡ e)
     (mv : Moved (mulBy n (getD w (a + d) 0)) b b i w w₁)
@@ -184,8 +184,8 @@ module _ (n a d b e i : ℕ) (w w₁ w' : List ℕ) (pl : Placed n a d b e w) (o
   lead-most : getD w (b + e) 0 ≤ n
   lead-most = le-of-lt (pl .pair .second .at e (omega arith))
 
-  turned : Turned n d i (piece w a (d + 1)) (piece w b (e + 1)) (piece w' b e)
-  turned = record {
+  eliminated : Eliminated n d i (piece w a (d + 1)) (piece w b (e + 1)) (piece w' b e)
+  eliminated = record {
     first = piece-length w a (d + 1) (omega (arith, pl .first));
     second = piece-length w b (e + 1) (omega (arith, pl .second)) ∙ ap (λ (z : ℕ). z + 1) (sym is);
     third = piece-length w' b e (omega (arith, wr .same, mv .same, pl .second)) ∙ sym is;
@@ -206,18 +206,19 @@ module _ (n a d b e i : ℕ) (w w₁ w' : List ℕ) (pl : Placed n a d b e w) (o
       (coef (piece w' b e))) g-lead
       (subst (λ (z : ℕ). Mixture n z (spot i (n - coef (piece w b (e + 1)) (d + i))) (coef (piece w a (d + 1))) (coef (piece w b (e + 1)))
       (coef (piece w' b e))) f-lead
-      (turn-mixed n d i (piece w a (d + 1)) (piece w b (e + 1)) (piece w' b e) (subst (λ (z : ℕ). z ≤ n) (sym g-lead) lead-most) turned))
+      (elimination-mixed n d i (piece w a (d + 1)) (piece w b (e + 1)) (piece w' b e)
+      (subst (λ (z : ℕ). z ≤ n) (sym g-lead) lead-most) eliminated))
 
   same-words : coef (piece w' a (d + 1)) ≡ coef (piece w a (d + 1))
   same-words = ap (λ (z : List ℕ). coef z) (kept n a d b e w w' pl one around)
 
-pub turn-moves : (n a d b e i : ℕ) (w w₁ w' : List ℕ) → Placed n a d b e w → 1 ≤ d → d < e → i ≡ e - d
+pub elimination-moves : (n a d b e i : ℕ) (w w₁ w' : List ℕ) → Placed n a d b e w → 1 ≤ d → d < e → i ≡ e - d
     → Moved (mulBy n (getD w (a + d) 0)) b b i w w₁
     → Written (combination n (getD w (a + d) 0) 0 (n - getD w (b + e) 0) a (b + i) w₁) (b + i) d w₁ w'
     → (y c k : ℕ) → getD w (a + d) 0 ≡ y → n - getD w (b + e) 0 ≡ k
     → Moves n (e - d) (coef (piece w a (d + 1))) (coef (piece w b (e + 1))) (coef (piece w' a (d + 1))) (coef (piece w' b (e - 1 + 1)))
     y c k false
-turn-moves n a d b e i w w₁ w' pl one lt is mv wr y c k hy hk = (
+elimination-moves n a d b e i w w₁ w' pl one lt is mv wr y c k hy hk = (
   same-words n a d b e i w w₁ w' pl one sum mv wr,
   subst (λ (z : ℕ). Mixture n y (spot (e - d) k) (coef (piece w a (d + 1))) (coef (piece w b (e + 1))) (coef (piece w' b z))) more
       (mixture-as hy (ap₂ spot is hk) (mixed n a d b e i w w₁ w' pl one sum mv wr)),

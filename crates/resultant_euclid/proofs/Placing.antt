@@ -8,9 +8,9 @@ use native.Mathlib.Omega.{arith}
 use lib.ListN.{length}
 use Rattle.modulus.specs.declared.Modulus.{Modulus}
 use Rattle.modulus.specs.Values.{values}
-use Rattle.modulus_windows.specs.Standing.{Entered}
+use Rattle.modulus_windows.specs.LoopPromises.{Entered}
 use Rattle.modulus_windows.proofs.Forms.{values-length}
-use Rattle.resultant_pseudo.specs.Standing.{Placed}
+use Rattle.resultant_pseudo.specs.StandingRuns.{Placed}
 
 pub placed-words : (m : Modulus) (f g w w₁ w₂ : List ℕ) → 1 ≤ length f → 1 ≤ length g → Entered m 0 f w w₁ → Entered m (length f) g w₁ w₂
     → Placed (m .n) 0 (length f - 1) (length f) (length g - 1) (values m w₂) → Placed (m .n) 0 (length f - 1) (length f) (length g - 1) w₂

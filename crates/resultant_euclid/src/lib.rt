@@ -5,28 +5,28 @@
 //   x, y         stages: the places and degrees of f and g, what is known of the resultant by them, and the step that led there
 //   l, c         the leading words of f and g
 //
-//   attempt      the value, or nothing where some leading word is no unit
-//   descend      all steps, whatever the leading words are: the resultant's equation, and the constant that is reached
-//   rest         all steps from a stage on, and the value
-//   finish       steps down to degree 0
-//   two_steps    two steps, or fewer where degree 0 is reached
-//   value_of     the value from the state at the end
-//   step         one step: a zero leading word dropped, or one or two turns of a division
-//   pair_step    two turns at once, where e = d + 1: the normal case
-//   last_step    the last turn, where e = d
-//   turn_step    a turn before the last
+//   attempt             the value, or nothing where some leading word is no unit
+//   descend             all steps, whatever the leading words are: the resultant's equation, and the constant that is reached
+//   rest                all steps from a stage on, and the value
+//   finish              steps down to degree 0
+//   two_steps           two steps, or fewer where degree 0 is reached
+//   value_of            the value from the state at the end
+//   step                one step: a zero leading word dropped, or one or two eliminations of a division
+//   pair_step           two eliminations at once, where e = d + 1: the normal case
+//   last_step           the last elimination, where e = d
+//   elimination_step    an elimination before the last
 ghost use mathlib.Core.Path.{_≡_};
 ghost use Prim.Native.Nat.{_+_, _<_, _≤_};
 ghost use Rattle.definitions.specs.Resultants.{resultant};
-ghost use Rattle.theory.specs.ResultantLaws.{signed};
+ghost use Rattle.law_polynomials.specs.ResultantLaws.{signed};
 ghost use Rattle.windows.specs.Window.{piece, Scratch};
 ghost use Rattle.modulus.specs.Values.{Known, value, values};
-ghost use Rattle.resultant_pseudo.specs.Standing.{Placed, TriedAnswer};
-ghost use Rattle.euclid_steps.specs.Stages.{Standing, Leads, Stepped, Finished, Told};
+ghost use Rattle.resultant_pseudo.specs.StandingRuns.{Placed, EuclidAttempted};
+ghost use Rattle.euclid_steps.specs.EuclidStages.{Standing, Reaches, Stepped, Finished, Told};
 ghost use Rattle.resultant_euclid.specs.Running.{Descends, Answering};
 use euclid_steps::Stage;
 use modulus::Modulus;
-use resultant_pseudo::Tried;
+use resultant_pseudo::EuclidAttempt;
 
 // x with the sign (-1)^e.
 fn with_sign(m: Modulus, e: usize, x: u32) -> u32
@@ -100,7 +100,7 @@ fn last_step(w: &mut [u32], m: Modulus, x: Stage) -> Stage
     }
 }
 
-fn turn_step(w: &mut [u32], m: Modulus, x: Stage) -> Stage
+fn elimination_step(w: &mut [u32], m: Modulus, x: Stage) -> Stage
     requires { ⌜ Known m ⌝ }
     requires { ⌜ (Standing m x (now w)) × ((1 ≤ x .d) × (x .d < x .e)) ⌝ }
     ensures { λ r. ⌜ Stepped m x (now (w .entry)) r (now (w .exit)) ⌝ }
@@ -165,7 +165,7 @@ pub fn step(w: &mut [u32], m: Modulus, x: Stage) -> Stage
     if e == d {
         return last_step(w, m, x);
     }
-    turn_step(w, m, x)
+    elimination_step(w, m, x)
 }
 
 // Steps down to degree 0.
@@ -185,7 +185,7 @@ fn finish(w: &mut [u32], m: Modulus, x: Stage) -> Stage
 fn two_steps(w: &mut [u32], m: Modulus, x: Stage) -> Stage
     requires { ⌜ (Known m) × (2 ≤ m .n) ⌝ }
     requires { ⌜ Standing m x (now w) ⌝ }
-    ensures { λ r. ⌜ Leads m x (now (w .entry)) r (now (w .exit)) ⌝ }
+    ensures { λ r. ⌜ Reaches m x (now (w .entry)) r (now (w .exit)) ⌝ }
 {
     if x.d == 0 {
         return x;
@@ -224,7 +224,7 @@ pub fn descend(w: &mut [u32], m: Modulus, a: usize, d: usize, b: usize, e: usize
 }
 
 // The value, from a state of degree 0: s times the resultant is p t times the power of the constant, and s is a unit.
-fn value_of(w: &[u32], m: Modulus, y: Stage) -> Tried
+fn value_of(w: &[u32], m: Modulus, y: Stage) -> EuclidAttempt
     requires { ⌜ Known m ⌝ }
     requires { ⌜ (Standing m y (now w)) × (y .d ≡ 0) ⌝ }
     ensures { λ r. ⌜ Answering m y (now (w .entry)) r ⌝ }
@@ -233,17 +233,17 @@ fn value_of(w: &[u32], m: Modulus, y: Stage) -> Tried
     let s = modulus::leave(m, y.s);
     let i = bezout::cofactor(n, s);
     if i.g != 1 {
-        return Tried::NotUnit(s);
+        return EuclidAttempt::NotUnit(s);
     }
     let k = y.a;
     let c = arithmetic::power(n, modulus::leave(m, w[k]), y.e);
     let z = modulus::product(m, y.p, y.t);
     let u = modulus::times(m, z, c);
-    Tried::Value(modulus::multiply(m, i.s, u))
+    EuclidAttempt::Value(modulus::multiply(m, i.s, u))
 }
 
 // All other steps, and the value.
-fn rest(w: &mut [u32], m: Modulus, x: Stage) -> Tried
+fn rest(w: &mut [u32], m: Modulus, x: Stage) -> EuclidAttempt
     requires { ⌜ (Known m) × (2 ≤ m .n) ⌝ }
     requires { ⌜ Standing m x (now w) ⌝ }
     ensures { λ r. ⌜ Answering m x (now (w .entry)) r ⌝ }
@@ -255,10 +255,10 @@ fn rest(w: &mut [u32], m: Modulus, x: Stage) -> Tried
 
 // The resultant of what the words stand for: f of degree d at a and g of degree e at b; both are lost. Where a test after the second
 // step already shows a zero divisor, nothing more is tried; where few steps are left the test costs more than they do.
-pub fn attempt(w: &mut [u32], m: Modulus, a: usize, d: usize, b: usize, e: usize) -> Tried
+pub fn attempt(w: &mut [u32], m: Modulus, a: usize, d: usize, b: usize, e: usize) -> EuclidAttempt
     requires { ⌜ (Known m) × (2 ≤ m .n) ⌝ }
     requires { ⌜ Placed (m .n) a d b e (now w) ⌝ }
-    ensures { λ r. ⌜ TriedAnswer (m .n) (resultant (m .n) (piece (values m (now (w .entry))) a (d + 1))
+    ensures { λ r. ⌜ EuclidAttempted (m .n) (resultant (m .n) (piece (values m (now (w .entry))) a (d + 1))
         (piece (values m (now (w .entry))) b (e + 1))) r ⌝ }
     ensures { λ _. ⌜ Scratch (now (w .entry)) (now (w .exit)) ⌝ }
 {
@@ -282,7 +282,7 @@ pub fn attempt(w: &mut [u32], m: Modulus, a: usize, d: usize, b: usize, e: usize
     );
     if 16 <= x.d {
         if bezout::gcd(m.n, x.s) != 1 {
-            return Tried::NotUnit(x.s);
+            return EuclidAttempt::NotUnit(x.s);
         }
     }
     rest(w, m, x)

@@ -1,11 +1,11 @@
 // Euclid without inverses: what it keeps and what it answers. The laws of its steps, for words of any width and form, are in
-// proofs/Stepping, and what they are about in specs/Standing; the functions are those of `resultant_euclid` and `wide_resultant_euclid`.
+// proofs/Stepping, and what they are about in specs/Standing; the functions are those of `resultant_euclid` and `resultant_euclid64`.
 //
-//   Tried    a value, or a product of leading words that is no unit
-//   State    where the run stands
+//   EuclidAttempt    a value, or a product of leading words that is no unit
+//   State            where the run stands
 
 // The value, by one inverse, if every lead was a unit; otherwise a product of leading words that is no unit.
-pub enum Tried {
+pub enum EuclidAttempt {
     Value(u32),
     NotUnit(u32),
 }

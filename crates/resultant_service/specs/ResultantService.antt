@@ -4,18 +4,17 @@
 --   ResultantAnswer                         all that is promised of a call
 --   resultant-listed                        each refusal under its condition and no other
 use mathlib.Core.Path.{_≡_}
-use mathlib.Core.Bool.{Bool}
 use mathlib.Core.List.{List, [], _∷_, _++_}
 use Prim.Native.Nat.{ℕ, _≤_}
 use native.Mathlib.Omega.{arith}
 use lib.ListN.{length}
 use Rattle.definitions.specs.Resultants.{resultant}
-use Rattle.refusals.specs.Refusals.{Width, Tested, short, first-refusal, refusals-two, answered, left}
-use Rattle.refusals.specs.Conditions.{Listed, conditions-two, modulus-fails, length-fails, words-fail, short-fails}
+use Rattle.refusals.specs.Refusals.{Width, Tested, short, first-refusal, refusals-of-pair, answered, left}
+use Rattle.refusals.specs.Conditions.{Listed, conditions-of-pair, modulus-fails, length-fails, words-fail, short-fails}
 
 -- 1, 2, 3 and 7; l is the length of the working buffer
 abbrev pub resultant-refusals : Width → ℕ → List ℕ → List ℕ → ℕ → List Tested
-resultant-refusals W n f g l = refusals-two W n f g ++ ((7, short l (W .working)) ∷ [])
+resultant-refusals W n f g l = refusals-of-pair W n f g ++ ((7, short l (W .working)) ∷ [])
 
 abbrev pub resultant-status : Width → ℕ → List ℕ → List ℕ → ℕ → ℕ
 resultant-status W n f g l = first-refusal (resultant-refusals W n f g l)
@@ -27,16 +26,7 @@ pub record ResultantAnswer (W : Width) (n : ℕ) (f g work work' : List ℕ) (va
 
 -- the conditions of an answer: so `status-zero` and `status-is` (refusals/Conditions) say when the status is 0, and when it is k
 abbrev pub resultant-conditions : Width → ℕ → List ℕ → List ℕ → ℕ → List (Type 0)
-resultant-conditions W n f g l = conditions-two W n f g ++ ((W .working ≤ l) ∷ [])
+resultant-conditions W n f g l = conditions-of-pair W n f g ++ ((W .working ≤ l) ∷ [])
 
 pub resultant-listed : (W : Width) (n : ℕ) (f g : List ℕ) (l : ℕ) → Listed (resultant-refusals W n f g l) (resultant-conditions W n f g l)
-resultant-listed W n f g l = (
-  (omega arith, modulus-fails W n),
-  (
-    (omega arith, length-fails f),
-    (
-      (omega arith, length-fails g),
-      ((omega arith, words-fail n f), ((omega arith, words-fail n g), ((omega arith, short-fails l (W .working)), tt))),
-    ),
-  ),
-)
+resultant-listed W n f g l = search (arith, tt, modulus-fails, length-fails, words-fail, short-fails) depth 20

@@ -18,14 +18,14 @@ use native.Mathlib.Nat.{zero-mod, mul-le-mul-left, mul-dvd-mul-left, dvd-mul-lef
 use lib.ListN.{length, getD}
 use Rattle.definitions.specs.Polynomials.{coef, deg}
 use Rattle.definitions.specs.Resultants.{resultant}
-use Rattle.numbers.specs.Congruence.{c-refl, c-mul, c-mod}
-use Rattle.theory.specs.ReachedSteps.{coef-beyond}
-use Rattle.theory.specs.ResultantLaws.{resultant-cong, resultant-content, resultant-scale-first}
+use Rattle.law_numbers.specs.Congruence.{c-refl, c-mul, c-mod}
+use Rattle.law_polynomials.specs.ReachedSteps.{coef-beyond}
+use Rattle.law_polynomials.specs.ResultantLaws.{resultant-cong, resultant-content, resultant-scale-first}
 use borrow.Rule.Slice.PartMut.{midOf}
 use Rattle.windows.specs.Window.{piece, Moved, quotient-by, reduced-by, Below, Content}
 use Rattle.windows.proofs.Leaf.{lt-or-le, piece-at, piece-length}
 use Rattle.resultant_steps.specs.Layouts.{Primitive, ContentCleared}
-use Rattle.resultant_turns.specs.Degrees.{deg-of}
+use Rattle.resultant_signs.specs.Degrees.{deg-of}
 
 -- ---- numbers
 

@@ -1,4 +1,4 @@
 pub mod Contents
 pub mod SideBySide
 pub mod Splitting
-pub mod Turned
+pub mod AnswerChanges

@@ -1,8 +1,8 @@
 // The steps of an attempt at a resultant that are no divisions.
 //
-//   w, n   the buffer and the modulus
+//   w, n   the buffer and the modulus; m the record of n
 //   d, e   the degrees of f and g
-//   a, b   the places of two polynomials of l and m words, and s the place that takes their copies
+//   a, b   the places of two polynomials of l and k words, and s the place that takes their copies
 //   r      the answer of an attempt: a value, or two coprime factors of the modulus
 //
 //   exchanged                      a residue with the sign of an exchange or of a reversal
@@ -13,11 +13,13 @@
 ghost use mathlib.Core.Path.{_≡_};
 ghost use Prim.Native.Nat.{_+_, _-_, _*_, _/_, _%_, _<_, _≤_, _∣_};
 ghost use lib.ListN.{length};
-ghost use Rattle.theory.specs.ResultantLaws.{signed};
+ghost use Rattle.law_polynomials.specs.ResultantLaws.{signed};
 ghost use Rattle.windows.specs.Window.{Below};
+ghost use Rattle.modulus.specs.Values.{Known};
 ghost use Rattle.window_factor.specs.Factors.{SplitOf};
 ghost use Rattle.resultant_steps.specs.AttemptAnswers.{IsAnswer, Partial, Follows, Lifted};
 ghost use Rattle.resultant_steps.specs.Layouts.{ContentCleared, Beside, words-at, words-back};
+use modulus::Modulus;
 use residue::Attempt;
 
 // Two coprime factors.
@@ -34,26 +36,26 @@ fn exchanged(n: u32, d: usize, e: usize, x: u32) -> u32
     if d % 2 == 0 {
         return x;
     }
-    resultant_turns::with_sign(n, e, x)
+    resultant_signs::with_sign(n, e, x)
 }
 
-// The l words at a and the m words at b, copied side by side to s.
-pub fn copy_pair(w: &mut [u32], a: usize, l: usize, b: usize, m: usize, s: usize)
-    requires { ⌜ (a + l ≤ s) × ((b + m ≤ s) × (s + (l + m) ≤ length (now w))) ⌝ }
-    ensures { λ _. ⌜ Beside (words-at (now (w .entry)) a) (words-at (now (w .entry)) b) l m s (now (w .entry)) (now (w .exit)) ⌝ }
+// The l words at a and the k words at b, copied side by side to s.
+pub fn copy_pair(w: &mut [u32], a: usize, l: usize, b: usize, k: usize, s: usize)
+    requires { ⌜ (a + l ≤ s) × ((b + k ≤ s) × (s + (l + k) ≤ length (now w))) ⌝ }
+    ensures { λ _. ⌜ Beside (words-at (now (w .entry)) a) (words-at (now (w .entry)) b) l k s (now (w .entry)) (now (w .exit)) ⌝ }
 {
     windows::copy(w, a, s, l);
-    windows::copy(w, b, s + l, m);
+    windows::copy(w, b, s + l, k);
 }
 
 // The same, each with its last word first.
-pub fn copy_pair_reversed(w: &mut [u32], a: usize, l: usize, b: usize, m: usize, s: usize)
-    requires { ⌜ (a + l ≤ s) × ((b + m ≤ s) × (s + (l + m) ≤ length (now w))) ⌝ }
-    ensures { λ _. ⌜ Beside (words-back (now (w .entry)) a l) (words-back (now (w .entry)) b m) l m s
+pub fn copy_pair_reversed(w: &mut [u32], a: usize, l: usize, b: usize, k: usize, s: usize)
+    requires { ⌜ (a + l ≤ s) × ((b + k ≤ s) × (s + (l + k) ≤ length (now w))) ⌝ }
+    ensures { λ _. ⌜ Beside (words-back (now (w .entry)) a l) (words-back (now (w .entry)) b k) l k s
         (now (w .entry)) (now (w .exit)) ⌝ }
 {
     windows::copy_reversed(w, a, s, l);
-    windows::copy_reversed(w, b, s + l, m);
+    windows::copy_reversed(w, b, s + l, k);
 }
 
 // The content c of f and n. f of degree d at e + 1 is divided by it, g of degree e at 0 is reduced modulo n / c.
@@ -70,7 +72,7 @@ pub fn clear_content(w: &mut [u32], n: u32, d: usize, e: usize) -> u32
     c
 }
 
-// A factor p of a split of a divisor m of n splits n as well. The last two cases are never met: p is above 1 and divides n, so it is no
+// A factor p of a split of a divisor of n splits n as well. The last two cases are never met: p is above 1 and divides n, so it is no
 // unit; q is above 1, divides n and is coprime to p, so no power of p is 0 modulo n.
 fn lift_split(n: u32, p: u32, q: u32) -> Split
     requires { ⌜ (2 ≤ n) × (SplitOf (p * q) p q × (p * q ∣ n)) ⌝ }
@@ -84,12 +86,12 @@ fn lift_split(n: u32, p: u32, q: u32) -> Split
 }
 
 // The answer times c.
-pub fn times(n: u32, c: u32, r: Attempt) -> Attempt
-    requires { ⌜ 1 ≤ n ⌝ }
-    ensures { λ s. ⌜ Follows n (λ x. (c * x) % n) r s ⌝ }
+pub fn times(m: Modulus, c: u32, r: Attempt) -> Attempt
+    requires { ⌜ Known m ⌝ }
+    ensures { λ s. ⌜ Follows (m .n) (λ x. (c * x) % m .n) r s ⌝ }
 {
     match r {
-        Attempt::Value(v) => Attempt::Value(arithmetic::mul_mod(n, c, v)),
+        Attempt::Value(v) => Attempt::Value(modulus::multiply(m, c, v)),
         Attempt::Splits(p, q) => Attempt::Splits(p, q),
     }
 }

@@ -6,7 +6,7 @@ use borrow.Author.Needs.{needs}
 use borrow.Rule.Slice.PartMut.{midOf}
 use Rattle.definitions.specs.Resultants.{resultant}
 use Rattle.batch_pairs.specs.Batches.{piece}
-use Rattle.batch_pairs.proofs.Turns.{part-is}
+use Rattle.batch_pairs.proofs.PairRounds.{part-is}
 
 pub resultant-of : (n i d e r : ℕ) (f g : List ℕ)
     → r ≡ resultant n (midOf (i * (d + 1)) (i * (d + 1) + (d + 1) - i * (d + 1)) f)

@@ -19,8 +19,8 @@ use Rattle.text_notation.specs.Notation.{text}
 use Rattle.text_notation.specs.Lengths.{text-short}
 use Rattle.text_notation.specs.Candidates.{same-text}
 use Rattle.text_notation.specs.NotationLaws.{same-true}
-use Rattle.text_writer.specs.Parts.{Put}
-use Rattle.text_writer.proofs.Putting.{put-length}
+use Rattle.text_writer_service.specs.Parts.{Put}
+use Rattle.text_writer_service.proofs.Putting.{put-length}
 
 pub record Alike (s t : List ℕ) (i : ℕ) : Type 0 where
   pub most : i ≤ length s

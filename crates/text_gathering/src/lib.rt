@@ -13,38 +13,41 @@ ghost use Rattle.text_notation.specs.Notation.{text};
 ghost use Rattle.text_notation.specs.Candidates.{number-after, coefficient-after, stored, gathered, same-text};
 ghost use Rattle.text_gathering.specs.InWord.{in-word};
 
+// The largest word: no residue, and no power.
+const LARGEST: u32 = 4294967295;
+
 // A plus sign, a star and a circumflex begin a number, and `x` alone is power 1. Any other character counts as a digit. A number
 // that does not fit in a word counts as the largest word, which is no residue and no power.
 fn number_after(b: u8, x: u32) -> u32
     ensures { λ r. ⌜ r ≡ number-after in-word b x ⌝ }
 {
-    if b == 43 {
+    if b == b'+' {
         return 0;
     }
-    if b == 42 {
+    if b == b'*' {
         return 0;
     }
-    if b == 94 {
+    if b == b'^' {
         return 0;
     }
-    if b == 120 {
+    if b == b'x' {
         return 1;
     }
     let y = (x as u64) * 10 + ((b % 16) as u64);
     if y < 4294967296 {
         return y as u32;
     }
-    4294967295
+    LARGEST
 }
 
 // The number before a star is a coefficient, up to the next plus sign.
 fn coefficient_after(b: u8, c: u32, x: u32) -> u32
     ensures { λ r. ⌜ r ≡ coefficient-after b c x ⌝ }
 {
-    if b == 43 {
+    if b == b'+' {
         return 0;
     }
-    if b == 42 {
+    if b == b'*' {
         return x;
     }
     c
@@ -70,7 +73,7 @@ fn end_term(words: &mut [u32], b: u8, c: u32, x: u32)
     requires { ⌜ 1 ≤ length (now words) ⌝ }
     ensures { λ _. ⌜ now (words .exit) ≡ cond (eqb b 43) (stored c x (now (words .entry))) (now (words .entry)) ⌝ }
 {
-    if b != 43 {
+    if b != b'+' {
         return;
     }
     store(words, c, x);
@@ -116,6 +119,6 @@ pub fn is_text_of(s: &[u8], f: &[u32]) -> bool
     ensures { λ r. ⌜ r ≡ same-text (now (s .entry)) (text (now (f .entry))) ⌝ }
 {
     let mut t = [0u8; 800];
-    let count = text_writer::put_text(f, &mut t);
+    let count = text_writer_service::put_text(f, &mut t);
     same_text(s, &t[0..count])
 }

@@ -15,7 +15,7 @@ use lib.ListN.{length, take, replicate}
 use lib.Seq.{take-append-le, length-take-le}
 use borrow.Author.Tests.{eqb-true}
 use Rattle.definitions.specs.Polynomials.{extent, TrueDegree, none, place, true-degree}
-use Rattle.polynomial_tests.specs.Counts.{extent-length}
+use Rattle.law_polynomial_tests.specs.Counts.{extent-length}
 use Rattle.text_notation.specs.Notation.{term, plus-joined, terms, or-zero, text, last-place, dropped, padded}
 
 terms-zeros : (k m : ℕ) → terms k (replicate m 0) ≡ []

@@ -2,32 +2,36 @@
 --
 --   coprime         d is 1
 --   both-zero       the first ground
---   degree-small, monic-asked, common-divisor    the second
---   wiped-long      the buffer keeps its length
+--   degree-fits, monic-asked, common-divisor     the second
+--   grounds         the rules
 use mathlib.Core.Path.{_≡_, refl, sym, ap, subst, _∙_}
 use mathlib.Core.List.{List}
 use mathlib.Core.Logic.{⊎-elim}
 use Prim.Native.Nat.{ℕ, _+_, _*_, _%_, _<_, _≤_, _∣_}
 use native.Mathlib.Nat.{mod-lt, mod-mod, mod-eq-of-lt, zero-mod, one-mul, mul-zero}
 use native.Mathlib.Omega.{arith}
+use mir.Syntax.{w32}
+use mir.Val.{Fits}
+use borrow.Author.Needs.{needs}
 use lib.ListN.{length, getD, replicate, length-replicate}
 use Rattle.definitions.specs.Polynomials.{coef}
-use Rattle.numbers.specs.Congruence.{Cong, c-refl, c-sym, c-trans, c-eq, c-mul, c-mod}
+use Rattle.law_numbers.specs.Congruence.{Cong, c-refl, c-sym, c-trans, c-eq, c-mul, c-mod}
 use Rattle.windows.specs.Window.{piece}
 use Rattle.windows.proofs.Leaf.{piece-at, piece-over, lt-or-le}
-use Rattle.common_divisor.specs.Common.{DividesModulo}
-use Rattle.common_divisor.specs.CommonLaws.{divides-constant, divides-trans}
-use Rattle.common_divisor.specs.Searches.{CommonIn, GroundIn, MonicAsked, MonicOf}
-use Rattle.common_divisor.specs.declared.Found.{Found}
-use Rattle.common_divisor.specs.declared.Ground.{Ground}
-use Rattle.common_divisor.specs.declared.Ground.the-variants.{Zero, Common}
+use Rattle.common_factor.specs.Common.{DividesModulo}
+use Rattle.common_factor.specs.CommonLaws.{divides-constant, divides-trans}
+use Rattle.common_factor.specs.Searches.{CommonIn, GroundIn, MonicAsked, MonicOf}
+use Rattle.common_factor.specs.declared.Found.{Found}
+use Rattle.common_factor.specs.declared.Ground.{Ground}
+use Rattle.common_factor.specs.declared.Ground.the-variants.{Zero, Common}
+use Rattle.why_service.specs.Asked.{GroundAsked}
 use Rattle.why_service.specs.WhyService.{NamedDivisor, Coprime, BothZero, CommonDivisor}
 
-zeros : (o w : List ℕ) → length w ≡ 49 → o ≡ replicate (length w) 0 → o ≡ replicate 49 0
-zeros o w l e = e ∙ ap (λ (x : ℕ). replicate x 0) l
+wiped-zeros : {d : ℕ} {f g o w work : List ℕ} → GroundAsked d f g w work → o ≡ replicate (length w) 0 → o ≡ replicate 49 0
+wiped-zeros a e = e ∙ ap (λ (x : ℕ). replicate x 0) (a .words)
 
-pub coprime : (d : ℕ) (o w : List ℕ) → length w ≡ 49 → o ≡ replicate (length w) 0 → d ≡ 1 → Coprime d o 0 0
-coprime d o w l e h = record { one = h; zeros = zeros o w l e; no-modulus = refl; no-degree = refl }
+pub coprime : {d : ℕ} {f g o w work : List ℕ} → GroundAsked d f g w work → o ≡ replicate (length w) 0 → d ≡ 1 → Coprime d o 0 0
+coprime a e h = record { one = h; zeros = wiped-zeros a e; no-modulus = refl; no-degree = refl }
 
 -- o' is the divisor times the inverse of its leading word
 module _ (m t a : ℕ) (w o o' : List ℕ) (two : 2 ≤ m) (r : MonicOf m a t w o o') where
@@ -50,16 +54,17 @@ module _ (m t a : ℕ) (w o o' : List ℕ) (two : 2 ≤ m) (r : MonicOf m a t w 
   back : (k : ℕ) → coef (piece w a (t + 1)) k % m ≡ (lead * coef o' k) % m
   back k = ⊎-elim low high (lt-or-le k (t + 1))
     where
-      turn : (l i x : ℕ) → l * (i * x) ≡ i * l * x
-      turn l i x = omega arith
+      round : (l i x : ℕ) → l * (i * x) ≡ i * l * x
+      round l i x = omega arith
 
       low : k < t + 1 → coef (piece w a (t + 1)) k % m ≡ (lead * coef o' k) % m
       low p = c-sym (c-trans (c-mul (c-refl {a = lead}) (c-trans (c-eq (r .words k (omega arith))) (c-mod (r .inverse * getD w (a + k) 0))))
-          (c-trans (c-eq (turn lead (r .inverse) (getD w (a + k) 0))) (c-trans (c-mul inverse-lead (c-refl {a = getD w (a + k) 0}))
+          (c-trans (c-eq (round lead (r .inverse) (getD w (a + k) 0))) (c-trans (c-mul inverse-lead (c-refl {a = getD w (a + k) 0}))
           (c-eq (one-mul (getD w (a + k) 0) ∙ sym (piece-at w a (t + 1) k p)))))) .same
 
       high : t + 1 ≤ k → coef (piece w a (t + 1)) k % m ≡ (lead * coef o' k) % m
-      high p = ap (λ (x : ℕ). x % m) (piece-over w a (t + 1) k p ∙ sym (ap (λ (x : ℕ). lead * x) (r .above k (omega arith)) ∙ mul-zero lead))
+      high p = ap (λ (x : ℕ). x % m)
+          (piece-over w a (t + 1) k p ∙ sym (ap (λ (x : ℕ). lead * x) (r .above k (omega arith)) ∙ mul-zero lead))
 
   pub monic-divides : DividesModulo m o' (piece w a (t + 1))
   monic-divides = divides-constant m lead o' _ back
@@ -71,36 +76,47 @@ module _ (m t a : ℕ) (w o o' : List ℕ) (two : 2 ≤ m) (r : MonicOf m a t w 
 named : (d m : ℕ) → m ∣ d → 2 ≤ m → NamedDivisor d d m
 named d m h l = record { divides-n = h; above = l; divides-D = h }
 
-module _ (d : ℕ) (f g work : List ℕ) (r : Ground) (y : GroundIn d f g work r) where
-  pub both-zero : (m : ℕ) → r ≡ Zero m → (o w : List ℕ) → length w ≡ 49 → o ≡ replicate (length w) 0 → BothZero d d f g o m 0
-  both-zero m e o w l h = let z = subst (GroundIn d f g work) e y in
+module _ (d : ℕ) (f g work : List ℕ) (r : Ground) where
+  pub both-zero : {m : ℕ} {o w work₀ : List ℕ} → r ≡ Zero m → GroundIn d f g work r → GroundAsked d f g w work₀ → o ≡ replicate (length w) 0
+      → BothZero d d f g o m 0
+  both-zero {m} e y a h = let z = subst (GroundIn d f g work) e y in
       record {
         modulus = named d m (z .divides) (z .two);
         first = z .first;
         second = z .second;
-        zeros = zeros o w l h;
+        zeros = wiped-zeros a h;
         no-degree = refl;
       }
 
-  module _ (h : Found) (e : r ≡ Common h) where
+  module _ (h : Found) (e : r ≡ Common h) (y : GroundIn d f g work r) where
     common : CommonIn d 48 f g work h
     common = subst (GroundIn d f g work) e y
 
-    pub degree-small : h .degree ≤ 48
-    degree-small = common .few
+    pub degree-fits : {t : ℕ} → t ≡ h .degree → Fits w32 t
+    degree-fits et = record { fits = omega (arith, common .few) }
 
-    pub monic-asked : (o : List ℕ) → length o ≡ 49 → MonicAsked (h .m) (h .at) (h .degree) o work
-    monic-asked o l = record { two = common .two; fits = omega (arith, degree-small); inside = common .inside; unit = common .unit }
+    pub monic-asked : {m a t : ℕ} {o w work₀ : List ℕ} → GroundAsked d f g w work₀ → o ≡ replicate (length w) 0 → m ≡ h .m → a ≡ h .at
+        → t ≡ h .degree → MonicAsked m a t o work
+    monic-asked {o = o} {w = w} s eo em ea et = rw (em, ea, et) (record {
+      two = common .two;
+      fits = omega (arith, common .few, ap length eo ∙ length-replicate (length w) 0 ∙ s .words);
+      inside = common .inside;
+      unit = common .unit;
+    })
 
-    pub common-divisor : (o o' : List ℕ) → MonicOf (h .m) (h .at) (h .degree) work o o' → CommonDivisor d d f g o' (h .m) (h .degree)
-    common-divisor o o' v = record {
+    pub common-divisor : {o o' : List ℕ} {m t : ℕ} → MonicOf (h .m) (h .at) (h .degree) work o o' → m ≡ h .m → t ≡ h .degree
+        → CommonDivisor d d f g o' m t
+    common-divisor {o} {o'} v em et = rw (em, et) (record {
       modulus = named d (h .m) (common .divides) (common .two);
       some = common .one;
       residues = record { at = λ k _. below (h .m) (h .degree) (h .at) work o o' (common .two) v k };
-      monic = record { lead = ap (λ (x : ℕ). x % h .m) (v .lead); above = λ k l. ap (λ (x : ℕ). x % h .m) (v .above k l) ∙ zero-mod (h .m) };
+      monic = record {
+        lead = ap (λ (x : ℕ). x % h .m) (v .lead);
+        above = λ k l. ap (λ (x : ℕ). x % h .m) (v .above k l) ∙ zero-mod (h .m);
+      };
       first = divides-trans (h .m) some-m o' _ f written (common .first);
       second = divides-trans (h .m) some-m o' _ g written (common .second);
-    }
+    })
       where
         some-m : 1 ≤ h .m
         some-m = omega (arith, common .two)
@@ -108,6 +124,4 @@ module _ (d : ℕ) (f g work : List ℕ) (r : Ground) (y : GroundIn d f g work r
         written : DividesModulo (h .m) o' (piece work (h .at) (h .degree + 1))
         written = monic-divides (h .m) (h .degree) (h .at) work o o' (common .two) v
 
--- a wiped buffer is as long as it was
-pub wiped-long : (o w : List ℕ) → o ≡ replicate (length w) 0 → length w ≡ 49 → length o ≡ 49
-wiped-long o w e l = ap length e ∙ length-replicate (length w) 0 ∙ l
+pub ruleset grounds = (needs, coprime, both-zero, degree-fits, monic-asked, common-divisor)

@@ -1,2 +1,2 @@
 pub mod Grounds
-pub mod Returning
+pub mod WhyReturns

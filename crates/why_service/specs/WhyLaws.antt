@@ -12,8 +12,8 @@ use native.Mathlib.Omega.{arith}
 use lib.ListN.{take, replicate}
 use Rattle.definitions.specs.Resultants.{Reduced}
 use Rattle.definitions.specs.Polynomials.{coef}
-use Rattle.theory.specs.Computed.{multiplied-by, below-by}
-use Rattle.theory.specs.ReachedLaws.{reduced-unique}
+use Rattle.law_polynomials.specs.Computed.{multiplied-by, below-by}
+use Rattle.law_polynomials.specs.ReachedLaws.{reduced-unique}
 use Rattle.convolution.specs.Sums.{zeros-at}
 use Rattle.why_service.specs.WhyService.{NamedDivisor, GroundHolds, HoldsReason, CommonDivisor, BothZero}
 

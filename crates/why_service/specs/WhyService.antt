@@ -15,13 +15,13 @@ use native.Mathlib.Omega.{arith}
 use lib.ListN.{length, take, drop, replicate}
 use Rattle.definitions.specs.Polynomials.{Residues, Monic}
 use Rattle.definitions.specs.Resultants.{Reduced}
-use Rattle.refusals.specs.Refusals.{Width, Tested, short, first-refusal, refusals-two, left}
-use Rattle.refusals.specs.Conditions.{Listed, conditions-two, modulus-fails, length-fails, words-fail, short-fails}
-use Rattle.common_divisor.specs.Common.{DividesModulo, ZeroModulo}
+use Rattle.refusals.specs.Refusals.{Width, Tested, short, first-refusal, refusals-of-pair, left}
+use Rattle.refusals.specs.Conditions.{Listed, conditions-of-pair, modulus-fails, length-fails, words-fail, short-fails}
+use Rattle.common_factor.specs.Common.{DividesModulo, ZeroModulo}
 
 -- 1, 2, 3, 6 and 7: "The buffer for w needs 49 words"; lw and l are the lengths of the buffers
 abbrev pub why-refusals : Width → ℕ → List ℕ → List ℕ → ℕ → ℕ → List Tested
-why-refusals W n f g lw l = refusals-two W n f g ++ ((6, short lw 49) ∷ (7, short l (W .working)) ∷ [])
+why-refusals W n f g lw l = refusals-of-pair W n f g ++ ((6, short lw 49) ∷ (7, short l (W .working)) ∷ [])
 
 abbrev pub why-status : Width → ℕ → List ℕ → List ℕ → ℕ → ℕ → ℕ
 why-status W n f g lw l = first-refusal (why-refusals W n f g lw l)
@@ -90,7 +90,7 @@ pub record WhyAnswer (W : Width) (n : ℕ) (f g w w' work work' : List ℕ) (gro
 
 -- the conditions of an answer: so `status-zero` and `status-is` (refusals/Conditions) say when the status is 0, and when it is k
 abbrev pub why-conditions : Width → ℕ → List ℕ → List ℕ → ℕ → ℕ → List (Type 0)
-why-conditions W n f g lw l = conditions-two W n f g ++ ((49 ≤ lw) ∷ (W .working ≤ l) ∷ [])
+why-conditions W n f g lw l = conditions-of-pair W n f g ++ ((49 ≤ lw) ∷ (W .working ≤ l) ∷ [])
 
 pub why-listed : (W : Width) (n : ℕ) (f g : List ℕ) (lw l : ℕ) → Listed (why-refusals W n f g lw l) (why-conditions W n f g lw l)
 why-listed W n f g lw l = (

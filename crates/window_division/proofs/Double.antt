@@ -1,4 +1,4 @@
--- Two turns of the division at once. Assumes nothing.
+-- Two rounds of the division at once. Assumes nothing.
 use mathlib.Core.Path.{_≡_, refl, sym, ap, ap₂, subst, _∙_}
 use mathlib.Core.List.{List}
 use mathlib.Core.Logic.{⊎-elim}
@@ -6,11 +6,11 @@ use Prim.Native.Nat.{ℕ, zero, suc, _+_, _-_, _*_, _%_, _≤_, _<_}
 use native.Mathlib.Omega.{arith}
 use native.Mathlib.Nat.{mod-lt, mul-mod-right, zero-mod, add-zero, add-assoc, mul-zero, mul-one, eq-or-lt-of-le}
 use lib.ListN.{getD}
-use Rattle.numbers.specs.Congruence.{Cong, c-refl, c-trans, c-eq, c-add, c-mul, c-mod, ring}
+use Rattle.law_numbers.specs.Congruence.{Cong, c-refl, c-trans, c-eq, c-add, c-mul, c-mod, ring}
 use Rattle.definitions.specs.Polynomials.{coef, convolve}
 use Rattle.windows.specs.Window.{piece, Apart}
 use Rattle.windows.proofs.Leaf.{lt-or-le, piece-at, piece-over, apart-at}
-use Rattle.window_division.proofs.Turns.{Dividing, convolve-add, convolve-spot, spot, spot-off, risen, risen-at, risen-low}
+use Rattle.window_division.proofs.DivisionRounds.{Dividing, convolve-add, convolve-spot, spot, spot-off, risen, risen-at, risen-low}
 use Rattle.windows.specs.Window.{Paired, behind}
 
 -- c y + m z taken away and put back
@@ -129,8 +129,8 @@ module _ (n a d b e s i c t m : ℕ) (w₀ w w' : List ℕ) (pos : 0 < n) (one :
       zeros : (v : ℕ) → c * 0 + m * 0 + v ≡ v
       zeros v = omega arith
 
-  turn : (k : ℕ) → Goal k
-  turn k =
+  round : (k : ℕ) → Goal k
+  round k =
       ⊎-elim
       (λ l. nothing k (getD w (b + k) 0) (risen-low (suc s) F k (omega arith)) (risen-low s F k l)
       (piece-at w' b (d + s) k (omega arith) ∙ mv .low (b + k) (omega arith)) (piece-at w b (d + (s + 2)) k (omega arith)))
@@ -175,7 +175,7 @@ module _ (n a d b e s i c t m : ℕ) (w₀ w w' : List ℕ) (pos : 0 < n) (one :
         (convolve-add (dv .q) (λ (j : ℕ). spot (suc s) c j + spot s m j) F k
         ∙ ap (λ (x : ℕ). convolve (dv .q) F k + x) (convolve-add (spot (suc s) c) (spot s m) F k ∙ ap₂ (λ (x y : ℕ). x + y)
         (convolve-spot (suc s) c F k) (convolve-spot s m F k))) ∙ add-assoc _ _ _))
-        (c-trans (c-add c-refl (turn k)) (dv .at k));
+        (c-trans (c-add c-refl (round k)) (dv .at k));
   }
 
   -- the two quotient words that were found

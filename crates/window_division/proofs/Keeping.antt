@@ -1,4 +1,4 @@
--- The division that keeps its quotient words: what a turn keeps. Assumes nothing.
+-- The division that keeps its quotient words: what a round keeps. Assumes nothing.
 use mathlib.Core.Path.{_≡_, refl, sym, ap, ap₂, subst, _∙_, fun-ext}
 use mathlib.Core.List.{List}
 use mathlib.Core.Logic.{⊎-elim}
@@ -8,13 +8,13 @@ use native.Mathlib.Nat.{mod-lt, eq-or-lt-of-le, add-assoc, add-zero, zero-add}
 use native.Mathlib.Decide.{ℕ-discrete}
 use lib.ListN.{length, getD, set, length-set}
 use lib.Seq.{getD-set-same, getD-set-other}
-use Rattle.numbers.specs.Congruence.{Cong}
+use Rattle.law_numbers.specs.Congruence.{Cong}
 use Rattle.definitions.specs.Polynomials.{coef, convolve}
 use Rattle.windows.specs.Window.{piece, Moved, addMul, Below, Apart, Paired}
 use Rattle.windows.proofs.Leaf.{lt-or-le, piece-at, piece-over, piece-same}
 use Rattle.window_division.specs.Remainders.{Quotient}
-use Rattle.window_division.proofs.Turns.{Dividing, dividing-start, start-quotient, dividing-step, dividing-quotient, spot}
-use Rattle.window_division.proofs.Turns.{spot-off, spot-low, spot-at}
+use Rattle.window_division.proofs.DivisionRounds.{Dividing, dividing-start, start-quotient, dividing-step, dividing-quotient, spot}
+use Rattle.window_division.proofs.DivisionRounds.{spot-off, spot-low, spot-at}
 use Rattle.window_division.proofs.Double.{double-step, double-quotient}
 
 -- s quotient words are still to come, and those that have come stand where they were found

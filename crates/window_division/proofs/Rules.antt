@@ -1,9 +1,9 @@
--- What each place of the two divisions asks, and what a turn keeps, at any width: each rule takes the facts as the code hands them over,
--- so that `search divisions` finds them. s quotient words are still to come before a turn, and s - 2 after it.
+-- What each place of the two divisions asks, and what a round keeps, at any width: each rule takes the facts as the code hands them over,
+-- so that `search divisions` finds them. s quotient words are still to come before a round, and s - 2 after it.
 --
 --   Steps, KeptSteps                 the invariants of the two loops
 --   word-most, pair-asked, last-…    what the places in between ask
---   steps-…, kept-…                  the start, a turn, and the ends
+--   steps-…, kept-…                  the start, a round, and the ends
 --   …-of                             a division by a modulus that is n
 --   divisions, words, lasts, moduli  the rules; `words` where a word is subtracted from n or written second, `lasts` before the last word,
 --                                    `moduli` where the record of n is found
@@ -16,8 +16,8 @@ use borrow.Author.Needs.{needs}
 use lib.ListN.{length, getD, set, length-set}
 use Rattle.windows.specs.Window.{Moved, addMul, Clear, Below, PairAsked, Paired}
 use Rattle.windows.proofs.Leaf.{apart-at}
-use Rattle.window_division.specs.Remainders.{DivisionSizes, Pair, Remainder, Quotient}
-use Rattle.window_division.proofs.Turns.{Dividing, dividing-start, dividing-step, dividing-end}
+use Rattle.window_division.specs.Remainders.{DivisionLengthsAsked, Pair, Remainder, Quotient}
+use Rattle.window_division.proofs.DivisionRounds.{Dividing, dividing-start, dividing-step, dividing-end}
 use Rattle.window_division.proofs.Double.{double-step}
 use Rattle.window_division.proofs.Keeping.{Keeping, keeping-start, keeping-double, keeping-single, keeping-end}
 
@@ -33,14 +33,15 @@ pub record KeptSteps (n a d b e : ℕ) (w₀ w : List ℕ) (s : ℕ) : Type 0 wh
 pub word-most : (n i y c c' n' : ℕ) → c ≡ (i * y) % n → c' ≡ c → n' ≡ n → 1 ≤ n → c' ≤ n'
 word-most n i y c c' n' e ec en l = rw (ec, en) (le-of-lt (subst (λ (x : ℕ). x < n) (sym e) (mod-lt (i * y) l)))
 
-module _ (n a d b e s : ℕ) (w : List ℕ) (sz : DivisionSizes n a d b e w) (pr : Pair n a d b e w) (is : s ≡ e + 1 - d) where
+module _ (n a d b e s : ℕ) (w : List ℕ) (sz : DivisionLengthsAsked n a d b e w) (pr : Pair n a d b e w) (is : s ≡ e + 1 - d) where
   pub steps-start : Steps n a d b e w w s
   steps-start = record { most = omega (arith, sz .near); done = dividing-start _ _ _ _ _ _ _ (omega (arith, sz .near)) (pr .second) }
 
   pub kept-start : KeptSteps n a d b e w w s
   kept-start = record { steps = steps-start; kept = keeping-start _ _ _ _ _ _ _ (omega (arith, sz .near)) (pr .second) }
 
-module _ (n a d b e s : ℕ) (w₀ w : List ℕ) (x : Steps n a d b e w₀ w s) (sz : DivisionSizes n a d b e w₀) (pr : Pair n a d b e w₀) where
+module _ (n a d b e s : ℕ) (w₀ w : List ℕ) (x : Steps n a d b e w₀ w s) (sz : DivisionLengthsAsked n a d b e w₀)
+    (pr : Pair n a d b e w₀) where
   asked-at : (t m : ℕ) → d + t ≤ e + 1 → PairAsked n (n - m) a (b + t) d w
   asked-at t m h = record {
     modulus = sz .modulus;
@@ -117,8 +118,8 @@ module _ (n a d b e s : ℕ) (w₀ w : List ℕ) (x : Steps n a d b e w₀ w s) 
   pub last-length : (p v c : ℕ) (w' : List ℕ) → Moved (addMul n c) a (b + 0) d w w' → length (set w' p v) ≡ length w₀
   last-length p v c w' mv = length-set w' p v ∙ mv .same ∙ x .done .around .same
 
--- the second of the two words that a turn writes
-pub second-write : (n a d b e s i c u m q : ℕ) (w₀ w w' z : List ℕ) → Steps n a d b e w₀ w s → DivisionSizes n a d b e w₀ → 1 < s
+-- the second of the two words that a round writes
+pub second-write : (n a d b e s i c u m q : ℕ) (w₀ w w' z : List ℕ) → Steps n a d b e w₀ w s → DivisionLengthsAsked n a d b e w₀ → 1 < s
     → c ≡ (i * getD w (b + (d + (s - 2) + 1)) 0) % n → Paired n u m a (b + (s - 2)) d w w' → z ≡ set w' (b + (d + (s - 2) + 1)) c
     → q ≡ b + (d + (s - 2)) → q < length z
 second-write n a d b e s i c u m q w₀ w w' z x sz more ic mv ez eq =
@@ -127,13 +128,13 @@ second-write n a d b e s i c u m q w₀ w w' z x sz more ic mv ez eq =
 pub steps-end : (n a d b e s : ℕ) (w₀ w : List ℕ) → Steps n a d b e w₀ w s → s ≡ 0 → Remainder n a d b e w₀ w
 steps-end n a d b e s w₀ w x z = dividing-end n a d b e s w₀ w z (x .done)
 
-pub kept-end : (n a d b e s : ℕ) (w₀ w : List ℕ) → KeptSteps n a d b e w₀ w s → DivisionSizes n a d b e w₀ → s ≡ 0
+pub kept-end : (n a d b e s : ℕ) (w₀ w : List ℕ) → KeptSteps n a d b e w₀ w s → DivisionLengthsAsked n a d b e w₀ → s ≡ 0
     → Quotient n a d b e w₀ w
 kept-end n a d b e s w₀ w x sz z = keeping-end n a d b e s w₀ w z (sz .near) (sz .dividend) (x .kept)
 
 -- the same for a modulus that is n
 module _ (n n' a d b e : ℕ) (w : List ℕ) (is : n' ≡ n) where
-  pub sizes-of : DivisionSizes n a d b e w → DivisionSizes n' a d b e w
+  pub sizes-of : DivisionLengthsAsked n a d b e w → DivisionLengthsAsked n' a d b e w
   sizes-of s = rw is s
 
   pub pair-of : Pair n a d b e w → Pair n' a d b e w

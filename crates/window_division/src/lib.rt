@@ -12,13 +12,13 @@ ghost use mathlib.Core.Path.{_≡_};
 ghost use Prim.Native.Nat.{_+_, _*_, _%_};
 ghost use lib.ListN.{getD};
 ghost use Rattle.modulus.specs.Values.{Known};
-ghost use Rattle.window_division.specs.Remainders.{DivisionSizes, Pair, Remainder, Quotient};
+ghost use Rattle.window_division.specs.Remainders.{DivisionLengthsAsked, Pair, Remainder, Quotient};
 use modulus::Modulus;
 
 // The remainder, d words, stands at b; the words after it, where the quotient would stand, are residues of no further meaning.
 // Two quotient words share one reduction a word.
 pub fn divide_by(w: &mut [u32], m: Modulus, a: usize, d: usize, b: usize, e: usize, i: u32)
-    requires { ⌜ (Known m) × (DivisionSizes (m .n) a d b e (now w)) ⌝ }
+    requires { ⌜ (Known m) × (DivisionLengthsAsked (m .n) a d b e (now w)) ⌝ }
     requires { ⌜ (Pair (m .n) a d b e (now w)) × ((i * getD (now w) (a + d) 0) % m .n ≡ 1 % m .n) ⌝ }
     ensures { λ _. ⌜ Remainder (m .n) a d b e (now (w .entry)) (now (w .exit)) ⌝ }
 {
@@ -39,7 +39,7 @@ pub fn divide_by(w: &mut [u32], m: Modulus, a: usize, d: usize, b: usize, e: usi
 }
 
 pub fn divide(w: &mut [u32], n: u32, a: usize, d: usize, b: usize, e: usize, i: u32)
-    requires { ⌜ DivisionSizes n a d b e (now w) ⌝ }
+    requires { ⌜ DivisionLengthsAsked n a d b e (now w) ⌝ }
     requires { ⌜ (Pair n a d b e (now w)) × ((i * getD (now w) (a + d) 0) % n ≡ 1 % n) ⌝ }
     ensures { λ _. ⌜ Remainder n a d b e (now (w .entry)) (now (w .exit)) ⌝ }
 {
@@ -49,7 +49,7 @@ pub fn divide(w: &mut [u32], n: u32, a: usize, d: usize, b: usize, e: usize, i: 
 
 // As `divide_by`, with the quotient kept: the remainder, d words, at b, and the e + 1 - d words of the quotient after it.
 pub fn divide_keeping_by(w: &mut [u32], m: Modulus, a: usize, d: usize, b: usize, e: usize, i: u32)
-    requires { ⌜ (Known m) × (DivisionSizes (m .n) a d b e (now w)) ⌝ }
+    requires { ⌜ (Known m) × (DivisionLengthsAsked (m .n) a d b e (now w)) ⌝ }
     requires { ⌜ (Pair (m .n) a d b e (now w)) × ((i * getD (now w) (a + d) 0) % m .n ≡ 1 % m .n) ⌝ }
     ensures { λ _. ⌜ Quotient (m .n) a d b e (now (w .entry)) (now (w .exit)) ⌝ }
 {
@@ -73,7 +73,7 @@ pub fn divide_keeping_by(w: &mut [u32], m: Modulus, a: usize, d: usize, b: usize
 }
 
 pub fn divide_keeping(w: &mut [u32], n: u32, a: usize, d: usize, b: usize, e: usize, i: u32)
-    requires { ⌜ DivisionSizes n a d b e (now w) ⌝ }
+    requires { ⌜ DivisionLengthsAsked n a d b e (now w) ⌝ }
     requires { ⌜ (Pair n a d b e (now w)) × ((i * getD (now w) (a + d) 0) % n ≡ 1 % n) ⌝ }
     ensures { λ _. ⌜ Quotient n a d b e (now (w .entry)) (now (w .exit)) ⌝ }
 {

@@ -14,14 +14,14 @@ use native.Mathlib.Nat.{add-zero, mul-zero, zero-mul, one-mul, mul-comm, mul-ass
 use native.Mathlib.Nat.{pos-of-dvd-of-pos, mod-eq-of-lt, dvd-one}
 use native.Mathlib.Decide.{ℕ-discrete}
 use native.Mathlib.Omega.{arith}
-use Rattle.numbers.specs.Congruence.{Cong, c-refl, c-sym, c-trans, c-eq, c-add, c-mul, c-dvd, c-zero, dvd-c, c-times, ring}
-use Rattle.numbers.specs.Primes.{Prime, prime-of, rise, rise-more}
-use Rattle.numbers.specs.Nilpotents.{InRadical}
-use Rattle.numbers.specs.Units.{unit-of-coprime}
+use Rattle.law_numbers.specs.Congruence.{Cong, c-refl, c-sym, c-trans, c-eq, c-add, c-mul, c-dvd, c-zero, dvd-c, c-times, ring}
+use Rattle.law_numbers.specs.Primes.{Prime, prime-of, rise, rise-more}
+use Rattle.law_numbers.specs.Nilpotents.{InRadical}
+use Rattle.law_numbers.specs.Units.{unit-of-coprime}
 use Rattle.definitions.specs.Residues.{IsUnit}
 use Rattle.definitions.specs.Polynomials.{convolve, constant}
 use Rattle.convolution.specs.Sums.{total-mod, convolve-mod, convolve-comm, convolve-constant}
-use Rattle.window_division.proofs.Turns.{convolve-add}
+use Rattle.window_division.proofs.DivisionRounds.{convolve-add}
 use Rattle.windows.proofs.Leaf.{lt-or-le}
 use Rattle.window_factor.proofs.Uniqueness.{MonicAt, DividedBy, one-quotient, one-remainder}
 

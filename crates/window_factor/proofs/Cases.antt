@@ -13,7 +13,7 @@ use Rattle.residue.specs.Kinds.{KindOf}
 use Rattle.window_factor.specs.declared.Highest.{Highest}
 use Rattle.window_factor.specs.declared.Highest.the-variants.{UnitAt as UnitAt', Splits as SplitsAt, AllNilpotent}
 use Rattle.window_factor.specs.Factors.{HighestOf, LeadingUnit, SplitOf, AllNilpotents}
-use Rattle.window_factor.proofs.Leads.{leads, split-of}
+use Rattle.window_factor.proofs.HighestCoefficient.{leads, split-of}
 
 module _ (n a : ℕ) (r : Kind) (p : KindOf n a r) where
   pub unit-kind : (i : ℕ) → r ≡ Unit' i → Inverse n a i

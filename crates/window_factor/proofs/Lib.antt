@@ -1,7 +1,7 @@
 pub mod Approaches
 pub mod Cases
-pub mod Leads
+pub mod HighestCoefficient
 pub mod Rounds
 pub mod SeriesLaws
-pub mod SeriesTurns
+pub mod SeriesRounds
 pub mod Uniqueness

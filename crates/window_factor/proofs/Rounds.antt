@@ -3,8 +3,8 @@
 --   round-sizes, round-pair, round-lead    what `divide_copy` asks of the division
 --   round, round-one, round-left           what comes of it
 --   RoundHolds, Nearing                    what the loop keeps of the buffer
---   enter, again, leave                    the loop's first turn, a turn, and its end
---   rounds, turns                          the rules of `divide_copy` and of the loop
+--   enter, again, leave                    the loop's first round, a round, and its end; again-… what a round asks of `add_scaled`
+--   rounds, loop-rounds, addings           the rules of `divide_copy`, of the loop and of `add_scaled` in it
 use mathlib.Core.Path.{_≡_, sym, ap, ap₂, subst, fun-ext, _∙_}
 use mathlib.Core.List.{List}
 use mathlib.Core.Logic.{_⊎_, inl, inr, ⊎-elim}
@@ -18,22 +18,22 @@ use borrow.Author.Needs.{needs}
 use lib.ListN.{length, getD, drop, length-drop}
 use lib.Seq.{length-take-le}
 use borrow.Rule.Slice.PartMut.{midOf}
-use Rattle.numbers.specs.Congruence.{Cong, c-trans, c-eq, c-mod}
-use Rattle.numbers.specs.Nilpotents.{InRadical, nilpotent-radical, radical-nilpotent}
+use Rattle.law_numbers.specs.Congruence.{Cong, c-trans, c-eq, c-mod}
+use Rattle.law_numbers.specs.Nilpotents.{InRadical, nilpotent-radical, radical-nilpotent}
 use Rattle.definitions.specs.Polynomials.{coef, convolve, constant, Multiplied, UnitPolynomial}
 use Rattle.convolution.specs.Sums.{convolve-comm, convolve-constant}
-use Rattle.windows.specs.Window.{piece, Moved, addMul, mulBy, second, Below, Around, Zeros}
+use Rattle.windows.specs.Window.{piece, Moved, addMul, mulBy, second, Below, PairAsked, Around, Zeros}
 use Rattle.windows.proofs.Leaf.{lt-or-le, piece-at, piece-over}
 use Rattle.windows.proofs.Lift.{piece-low, piece-equal, around-none, around-trans, around-wide, moved-around, moved-copy, below-is}
 use Rattle.windows.proofs.Parts.{mid-at}
-use Rattle.window_division.specs.Remainders.{DivisionSizes, Pair, Quotient}
-use Rattle.window_factor.specs.Factors.{Given, RoundGiven, Round, RoundLeft, Factored}
+use Rattle.window_division.specs.Remainders.{DivisionLengthsAsked, Pair, Quotient}
+use Rattle.window_factor.specs.Factors.{Given, RoundAsked, Round, RoundLeft, Factored}
 use Rattle.window_factor.proofs.Uniqueness.{MonicAt, DividedBy}
 use Rattle.window_factor.proofs.Approaches.{Near, near-start, near-next, done, quotient-nilpotent, quotient-unit}
 
 -- ---- a round: f copied, and divided by H
 
-module _ (n d t : ℕ) (w w2 : List ℕ) (g : RoundGiven n d t w) (mv : Moved second 0 (d + 1 + (t + 1)) (d + 1) w w2) where
+module _ (n d t : ℕ) (w w2 : List ℕ) (g : RoundAsked n d t w) (mv : Moved second 0 (d + 1 + (t + 1)) (d + 1) w w2) where
   same-h : piece w2 (d + 1) (t + 1) ≡ piece w (d + 1) (t + 1)
   same-h = piece-low (moved-around mv) (d + 1) (t + 1) (omega arith) (omega arith)
 
@@ -41,7 +41,7 @@ module _ (n d t : ℕ) (w w2 : List ℕ) (g : RoundGiven n d t w) (mv : Moved se
   copied = moved-copy (omega arith) (omega arith) mv
 
   -- what the division asks
-  pub round-sizes : (t ≡ 0 → ⊥) → DivisionSizes n (d + 1) t (d + 1 + (t + 1)) d w2
+  pub round-sizes : (t ≡ 0 → ⊥) → DivisionLengthsAsked n (d + 1) t (d + 1 + (t + 1)) d w2
   round-sizes ne = record {
     modulus = g .positive;
     degree = omega (arith, ne);
@@ -105,8 +105,8 @@ pub record RoundHolds (n d t k i : ℕ) (F w : List ℕ) : Type 0 where
   pub below : Below n (d + 1) (t + 1) w
   pub near : Near n d t k i (coef F) (coef (piece w (d + 1) (t + 1)))
 
-held-less : {n d t k i : ℕ} {F w : List ℕ} → 0 < n → RoundHolds n d t k i F w → k < n
-held-less pos x = let a = x .near .more in let b = le-of-dvd pos (x .near .divides) in omega arith
+round-below : {n d t k i : ℕ} {F w : List ℕ} → 0 < n → RoundHolds n d t k i F w → k < n
+round-below pos x = let a = x .near .more in let b = le-of-dvd pos (x .near .divides) in omega arith
 
 monic-piece : (n a t : ℕ) (w : List ℕ) → getD w (a + t) 0 ≡ 1 → MonicAt n t (coef (piece w a (t + 1)))
 monic-piece n a t w e = record {
@@ -115,10 +115,10 @@ monic-piece n a t w e = record {
       (omega arith);
 }
 
-held-start : (n d t i : ℕ) (w w' : List ℕ) → 2 ≤ n → t ≤ d → d + 1 + (t + 1 + (d + 1)) ≤ length w → Given n d t i w
+round-start : (n d t i : ℕ) (w w' : List ℕ) → 2 ≤ n → t ≤ d → d + 1 + (t + 1 + (d + 1)) ≤ length w → Given n d t i w
     → Moved (mulBy n i) 0 (d + 1) (t + 1) w w'
     → RoundHolds n d t 0 i (piece w 0 (d + 1)) w'
-held-start n d t i w w' two td fits g mv =
+round-start n d t i w w' two td fits g mv =
     let low : (k : ℕ) → k < d + 1 → getD w' (0 + k) 0 ≡ getD w (0 + k) 0 = λ k l. mv .low (0 + k) (omega arith) in
     let word : (j : ℕ) → j < t + 1 → getD w' (d + 1 + j) 0 ≡ (i * coef (piece w 0 (d + 1)) j) % n =
     λ j l. mv .mid j l ∙ ap (λ (x : ℕ). (i * x) % n) (sym (piece-at w 0 (d + 1) j (omega arith))) in
@@ -191,10 +191,10 @@ module _ (n d t k i : ℕ) (F w w' : List ℕ) (two : 2 ≤ n) (td : t ≤ d) (f
     ];
   }
 
-  held-end : (w₀ : List ℕ) → piece w₀ 0 (d + 1) ≡ F → Around (d + 1) (t + 1 + (d + 1)) w₀ w'
+  round-end : (w₀ : List ℕ) → piece w₀ 0 (d + 1) ≡ F → Around (d + 1) (t + 1 + (d + 1)) w₀ w'
       → ((j : ℕ) → j < t → getD w' (d + 1 + (t + 1) + j) 0 ≡ 0) → Factored n d t w₀ w'
   unfolding H Q
-  held-end w₀ e around zeros = record {
+  round-end w₀ e around zeros = record {
     around = around;
     equation = subst (λ (f : List ℕ). Multiplied n f Q (piece w' (d + 1) (t + 1))) (sym e) (product zeros);
     monic = ap (λ (h : List ℕ). coef h t) kept-h ∙ piece-at w (d + 1) (t + 1) t (omega arith) ∙ x .lead;
@@ -206,10 +206,10 @@ module _ (n d t k i : ℕ) (F w w' : List ℕ) (two : 2 ≤ n) (td : t ≤ d) (f
     };
   }
 
-  held-next : (z : ℕ) (w4 : List ℕ) → z < t → (getD w' (d + 1 + (t + 1) + z) 0 ≡ 0 → ⊥)
+  round-next : (z : ℕ) (w4 : List ℕ) → z < t → (getD w' (d + 1 + (t + 1) + z) 0 ≡ 0 → ⊥)
       → Moved (addMul n i) (d + 1 + (t + 1)) (d + 1) t w' w4 → RoundHolds n d t (k + 1) i F w4
   unfolding H R
-  held-next z w4 zt nz mv =
+  round-next z w4 zt nz mv =
       let lead : getD w4 (d + 1 + t) 0 ≡ 1 = mv .high (d + 1 + t) (omega arith) ∙ r .around .low (d + 1 + t) (omega arith) ∙ x .lead in
       let low : (j : ℕ) → j < d + 1 → getD w4 (0 + j) 0 ≡ getD w (0 + j) 0 = λ j l. mv .low (0 + j) (omega arith)
       ∙ r .around .low (0 + j) (omega arith) in
@@ -249,7 +249,7 @@ module _ (n d t k i : ℕ) (F w w' : List ℕ) (two : 2 ≤ n) (td : t ≤ d) (f
           ∙ ap (λ (y : ℕ). coef H j + y) (mul-zero i) ∙ add-zero _))
 
 -- the zeros of the remainder
-pub round-left : (n d t z : ℕ) (w w' : List ℕ) → RoundGiven n d t w → Round n d t w w'
+pub round-left : (n d t z : ℕ) (w w' : List ℕ) → RoundAsked n d t w → Round n d t w w'
     → Zeros (midOf (d + 1 + (t + 1)) (d + 1 + (t + 1) + t - (d + 1 + (t + 1))) w') z → RoundLeft n d t z w w'
 round-left n d t z w w' g r zs = record {
   round = r;
@@ -268,6 +268,7 @@ round-left n d t z w w' g r zs = record {
 
 pub record Nearing (n d t i : ℕ) (w₀ : List ℕ) (k : ℕ) (w : List ℕ) : Type 0 where
   pub two : 2 ≤ n
+  pub small : i < n
   pub within : t ≤ d
   pub fits : d + 1 + (t + 1 + (d + 1)) ≤ length w
   pub unit : (i * coef (piece w₀ 0 (d + 1)) t) % n ≡ 1 % n
@@ -279,6 +280,7 @@ pub enter : (n d t i : ℕ) (w w₀ : List ℕ) → Given n d t i w → Moved (m
     → d + 1 + (t + 1 + (d + 1)) ≤ length w → Nearing n d t i w₀ 0 w₀
 enter n d t i w w₀ g sc two td fits = record {
   two = two;
+  small = g .small;
   within = td;
   fits = omega (arith, sc .same);
   unit = ap (λ (F : List ℕ). (i * coef F t) % n) (begun .poly) ∙ g .unit;
@@ -288,11 +290,11 @@ enter n d t i w w₀ g sc two td fits = record {
 }
   where
     begun : RoundHolds n d t 0 i (piece w 0 (d + 1)) w₀
-    begun = held-start n d t i w w₀ two td fits g sc
+    begun = round-start n d t i w w₀ two td fits g sc
 
 module _ (n d t i k : ℕ) (w₀ w : List ℕ) (x : Nearing n d t i w₀ k w) where
-  pub turn-asked : (n' d' t' : ℕ) (w' : List ℕ) → n' ≡ n → d' ≡ d → t' ≡ t → w' ≡ w → RoundGiven n' d' t' w'
-  turn-asked n' d' t' w' en ed et ew = rw (en, ed, et, ew) (record {
+  pub round-started : (n' d' t' : ℕ) (w' : List ℕ) → n' ≡ n → d' ≡ d → t' ≡ t → w' ≡ w → RoundAsked n' d' t' w'
+  round-started n' d' t' w' en ed et ew = rw (en, ed, et, ew) (record {
     positive = omega (arith, x .two);
     within = x .within;
     fits = x .fits;
@@ -301,17 +303,34 @@ module _ (n d t i k : ℕ) (w₀ w : List ℕ) (x : Nearing n d t i w₀ k w) wh
     monic = x .holds .lead;
   })
 
-  pub turn-less : n - (k + 1) < n - k
-  turn-less = omega (arith, held-less (omega (arith, x .two)) (x .holds))
+  pub round-less : n - (k + 1) < n - k
+  round-less = omega (arith, round-below (omega (arith, x .two)) (x .holds))
 
-  pub turn-fits : (B : Width) → Fits B n → Fits B (k + 1)
-  turn-fits B h = fits-le (let l = held-less (omega (arith, x .two)) (x .holds) in omega arith) h
+  pub round-fits : (B : Width) → Fits B n → Fits B (k + 1)
+  round-fits B h = fits-le (let l = round-below (omega (arith, x .two)) (x .holds) in omega arith) h
 
   module _ (z : ℕ) (w₃ : List ℕ) (r : RoundLeft n d t z w w₃) where
+    -- what the remainder is added by
+    module _ {n' src len : ℕ} {w' : List ℕ} (en : n' ≡ n) (es : src ≡ d + 1 + (t + 1)) (el : len ≡ t) (ew : w' ≡ w₃) where
+      pub again-asked : {i' dst : ℕ} → i' ≡ i → dst ≡ d + 1 → PairAsked n' i' src dst len w'
+      again-asked ei ed = rw (en, ei, es, ed, el, ew) (record {
+        modulus = omega (arith, x .two);
+        factor = omega (arith, x .small);
+        source = omega (arith, r .round .around .same, x .fits, x .within);
+        target = omega (arith, r .round .around .same, x .fits);
+        apart = record { ok = λ a b p q e. omega arith };
+        below = below-is n (d + 1) (d + 1) t w w₃ (λ j l. r .round .around .low (d + 1 + j) (omega arith))
+            (record { at = λ j l. x .holds .below .at j (omega arith) });
+      })
+
+      pub again-below : Below n' src len w'
+      again-below = rw (en, es, el, ew) (record { at = λ j l. r .round .below .at j (omega (arith, x .within)) })
+
     pub again : (k' : ℕ) (w₄ : List ℕ) → (z ≡ t → ⊥) → Moved (addMul n i) (d + 1 + (t + 1)) (d + 1) t w₃ w₄ → k' ≡ k + 1
         → Nearing n d t i w₀ k' w₄
     again k' w₄ ne mv e = rw e (record {
       two = x .two;
+      small = x .small;
       within = x .within;
       fits = omega (arith, mv .same, r .round .around .same, x .fits);
       unit = x .unit;
@@ -319,13 +338,13 @@ module _ (n d t i k : ℕ) (w₀ w : List ℕ) (x : Nearing n d t i w₀ k w) wh
       around = around-trans (x .around)
           (around-trans (around-wide (d + 1) (t + 1 + (d + 1)) (omega arith) (omega arith) (r .round .around))
           (around-wide (d + 1) (t + 1 + (d + 1)) (omega arith) (omega arith) (moved-around mv)));
-      holds = held-next n d t k i _ w w₃ (x .two) (x .within) (x .fits) (x .unit) (x .radical) (x .holds) (r .round) z w₄
+      holds = round-next n d t k i _ w w₃ (x .two) (x .within) (x .fits) (x .unit) (x .radical) (x .holds) (r .round) z w₄
           (omega (arith, r .most)) (r .next (omega (arith, r .most))) mv;
     })
 
     pub leave : (w' : List ℕ) → Moved (mulBy n i) 0 (d + 1) (t + 1) w' w₀ → z ≡ t → Factored n d t w' w₃
     leave w' sc e =
-        held-end n d t k i _ w w₃ (x .two) (x .within) (x .fits) (x .unit) (x .radical) (x .holds) (r .round) w' same
+        round-end n d t k i _ w w₃ (x .two) (x .within) (x .fits) (x .unit) (x .radical) (x .holds) (r .round) w' same
         (around-trans (around-wide (d + 1) (t + 1 + (d + 1)) (omega arith) (omega arith) (moved-around sc))
         (around-trans (x .around) (around-wide (d + 1) (t + 1 + (d + 1)) (omega arith) (omega arith) (r .round .around))))
         (λ j l. r .zero j (omega arith))
@@ -335,4 +354,6 @@ module _ (n d t i k : ℕ) (w₀ w : List ℕ) (x : Nearing n d t i w₀ k w) wh
 
 pub ruleset rounds = (needs, round-sizes, round-pair, round-lead, round, round-one, round-left)
 
-pub ruleset turns = (tt, enter, turn-asked, turn-less, turn-fits, leave, again)
+pub ruleset loop-rounds = (tt, enter, round-started, round-less, round-fits, leave, again)
+
+pub ruleset addings = (again-asked, again-below)

@@ -12,13 +12,13 @@ use native.Mathlib.Omega.{arith}
 use native.Mathlib.Decide.{decLt}
 use native.Mathlib.Nat.{mod-eq-of-lt, mul-zero, zero-mul, one-mul, add-zero, zero-add, pow-zero, pow-suc, mul-comm, zero-mod, dvd-trans}
 use native.Mathlib.Nat.{dvd-mul-right, mul-div-cancel'}
-use Rattle.numbers.specs.Congruence.{Cong, c-refl, c-sym, c-trans, c-eq, c-add, c-mul, c-zero, ring}
-use Rattle.numbers.specs.Divisors.{gcd-exists}
-use Rattle.numbers.specs.Nilpotents.{InRadical, nilpotent-radical, radical-power}
-use Rattle.numbers.specs.Logarithm.{K-positive}
+use Rattle.law_numbers.specs.Congruence.{Cong, c-refl, c-sym, c-trans, c-eq, c-add, c-mul, c-zero, ring}
+use Rattle.law_numbers.specs.Divisors.{gcd-exists}
+use Rattle.law_numbers.specs.Nilpotents.{InRadical, nilpotent-radical, radical-power}
+use Rattle.law_numbers.specs.Logarithm.{K-positive}
 use Rattle.definitions.specs.Residues.{K}
 use Rattle.definitions.specs.Polynomials.{coef, total, convolve, constant, UnitPolynomial}
-use Rattle.theory.specs.Words.{convolve-suc}
+use Rattle.law_polynomials.specs.Words.{convolve-suc}
 use Rattle.convolution.specs.Sums.{convolve-comm}
 use Rattle.windows.specs.Window.{piece}
 use Rattle.windows.proofs.Leaf.{lt-or-le, piece-at, piece-over}

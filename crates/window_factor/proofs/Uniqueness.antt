@@ -9,7 +9,7 @@ use mathlib.Core.Logic.{⊎-elim}
 use Prim.Native.Nat.{ℕ, zero, suc, _+_, _-_, _*_, _≤_, _<_}
 use native.Mathlib.Nat.{add-comm, add-zero, mul-zero, mul-one}
 use native.Mathlib.Omega.{arith}
-use Rattle.numbers.specs.Congruence.{Cong, c-refl, c-sym, c-trans, c-eq, c-add, c-mul, c-cancel}
+use Rattle.law_numbers.specs.Congruence.{Cong, c-refl, c-sym, c-trans, c-eq, c-add, c-mul, c-cancel}
 use Rattle.definitions.specs.Polynomials.{convolve}
 use Rattle.convolution.specs.Sums.{total-at, convolve-mod}
 use Rattle.windows.proofs.Leaf.{lt-or-le}

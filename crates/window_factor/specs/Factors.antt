@@ -5,9 +5,9 @@
 --   LeadingUnit n t i f   coefficient t of f has the inverse i, and those above it are nilpotent
 --   AllNilpotents n f     every coefficient of f is nilpotent
 --   Given, Factored       unit times monic: what is asked of f, and what then stands in the buffer
---   RoundGiven, Round     one division of f by H: what is asked, and what it leaves
+--   RoundAsked, Round     one division of f by H: what is asked, and what it leaves
 --   RoundLeft             the same, and the number of zeros that the remainder begins with
---   SeriesGiven, Series   the words of a power series with a given product: what the next word asks, and what stands at the end
+--   SeriesAsked, Series   the words of a power series with a given product: what the next word asks, and what stands at the end
 use mathlib.Core.Path.{_≡_}
 use mathlib.Core.List.{List}
 use Prim.Native.Nat.{ℕ, zero, suc, _+_, _-_, _*_, _%_, _<_, _≤_}
@@ -44,12 +44,13 @@ HighestOf n f AllNilpotent = AllNilpotents n f
 -- ---- unit times monic: f of d + 1 words, H of t + 1 words, room for the division of f by H
 
 pub record Given (n d t i : ℕ) (w : List ℕ) : Type 0 where
+  pub small : i < n
   pub below : Below n 0 (d + 1) w
   pub unit : (i * coef (piece w 0 (d + 1)) t) % n ≡ 1 % n
   pub nilpotent : (k : ℕ) → t < k → IsNilpotent n (coef (piece w 0 (d + 1)) k)
 
 -- f and H are residues, H is monic, and the room takes a copy of f
-pub record RoundGiven (n d t : ℕ) (w : List ℕ) : Type 0 where
+pub record RoundAsked (n d t : ℕ) (w : List ℕ) : Type 0 where
   pub positive : 1 ≤ n
   pub within : t ≤ d
   pub fits : d + 1 + (t + 1 + (d + 1)) ≤ length w
@@ -88,7 +89,7 @@ next-word n i s U Y zero = s
 next-word n i s U Y (suc j) = ((n - i) * (convolve (λ x. U (suc x)) Y j % n)) % n
 
 -- j words of Y stand after U
-pub record SeriesGiven (n k i j : ℕ) (w : List ℕ) : Type 0 where
+pub record SeriesAsked (n k i j : ℕ) (w : List ℕ) : Type 0 where
   pub positive : 1 ≤ n
   pub inverse : i ≤ n
   pub fits : k + 1 + j ≤ length w

@@ -1,6 +1,6 @@
 // Unit times monic, in windows of one buffer, and what it stands on.
 //
-//   w, n   the buffer and the modulus
+//   w, n   the buffer and the modulus; m its record
 //   d      the degree of f, which stands at 0
 //   t, i   the place of the highest coefficient of f that is no nilpotent, a unit, and its inverse; H, monic of degree t, stands at h,
 //          the unit polynomial U in the upper words of the room at v
@@ -17,7 +17,10 @@ ghost use Prim.Native.Nat.{_+_, _*_, _%_, _<_, _≤_};
 ghost use lib.ListN.{length};
 ghost use Rattle.definitions.specs.Polynomials.{coef};
 ghost use Rattle.windows.specs.Window.{piece};
-ghost use Rattle.window_factor.specs.Factors.{HighestOf, RoundGiven, Round, RoundLeft, Given, Factored, SeriesGiven, next-word, Series};
+ghost use Rattle.modulus.specs.Values.{Known};
+ghost use Rattle.window_factor.specs.Factors.{HighestOf, RoundAsked, Round, RoundLeft, Given, Factored, SeriesAsked, next-word};
+ghost use Rattle.window_factor.specs.Factors.{Series};
+use modulus::Modulus;
 
 // A unit with its place and its inverse; a coefficient that splits n into two factors; or neither.
 pub enum Highest {
@@ -48,9 +51,9 @@ pub fn highest_of(s: &[u32], n: u32) -> Highest
 }
 
 // A copy of f divided by H: f of d + 1 words at 0, H of t + 1 words after it, and then d + 1 words for remainder and quotient.
-fn divide_copy(w: &mut [u32], n: u32, d: usize, t: usize)
-    requires { ⌜ RoundGiven n d t (now w) ⌝ }
-    ensures { λ _. ⌜ Round n d t (now (w .entry)) (now (w .exit)) ⌝ }
+fn divide_copy(w: &mut [u32], m: Modulus, d: usize, t: usize)
+    requires { ⌜ (Known m) × (RoundAsked (m .n) d t (now w)) ⌝ }
+    ensures { λ _. ⌜ Round (m .n) d t (now (w .entry)) (now (w .exit)) ⌝ }
 {
     let h = d + 1;
     let v = h + (t + 1);
@@ -58,42 +61,42 @@ fn divide_copy(w: &mut [u32], n: u32, d: usize, t: usize)
     if t == 0 {
         return;
     }
-    window_division::divide_keeping(w, n, h, t, v, d, 1);
+    window_division::divide_keeping_by(w, m, h, t, v, d, 1);
 }
 
 // A round: a copy of f divided by H, as in `divide_copy`. Answers the number of zeros that the t words of the remainder begin with.
-fn divide_round(w: &mut [u32], n: u32, d: usize, t: usize) -> usize
-    requires { ⌜ RoundGiven n d t (now w) ⌝ }
-    ensures { λ z. ⌜ RoundLeft n d t z (now (w .entry)) (now (w .exit)) ⌝ }
+fn divide_round(w: &mut [u32], m: Modulus, d: usize, t: usize) -> usize
+    requires { ⌜ (Known m) × (RoundAsked (m .n) d t (now w)) ⌝ }
+    ensures { λ z. ⌜ RoundLeft (m .n) d t z (now (w .entry)) (now (w .exit)) ⌝ }
 {
     let v = d + 1 + (t + 1);
-    divide_copy(w, n, d, t);
+    divide_copy(w, m, d, t);
     windows::zeros(&w[v..v + t])
 }
 
 // f = U H, where coefficient t of f has the inverse i and those above it are nilpotent: f at 0, H after it, U in the upper words of
 // the room after H. H is f_t^-1 (f_0 .. f_t) at first, and gains f_t^-1 times the remainder of f by H until that is 0.
-pub fn unit_times_monic(w: &mut [u32], n: u32, d: usize, t: usize, i: u32)
-    requires { ⌜ (2 ≤ n) × ((t ≤ d) × (d + 1 + (t + 1 + (d + 1)) ≤ length (now w))) ⌝ }
-    requires { ⌜ Given n d t i (now w) ⌝ }
-    ensures { λ _. ⌜ Factored n d t (now (w .entry)) (now (w .exit)) ⌝ }
+pub fn unit_times_monic(w: &mut [u32], m: Modulus, d: usize, t: usize, i: u32)
+    requires { ⌜ (Known m) × ((2 ≤ m .n) × ((t ≤ d) × (d + 1 + (t + 1 + (d + 1)) ≤ length (now w)))) ⌝ }
+    requires { ⌜ Given (m .n) d t i (now w) ⌝ }
+    ensures { λ _. ⌜ Factored (m .n) d t (now (w .entry)) (now (w .exit)) ⌝ }
 {
     let h = d + 1;
     let v = h + (t + 1);
-    windows::scale(w, n, i, 0, h, t + 1);
+    modulus_windows::set_scaled(w, m, i, 0, h, t + 1);
     let mut k: u32 = 0;
     loop {
-        if divide_round(w, n, d, t) == t {
+        if divide_round(w, m, d, t) == t {
             return;
         }
-        windows::add_scaled(w, n, i, v, h, t);
+        modulus_windows::add_scaled(w, m, i, v, h, t);
         k += 1;
     }
 }
 
 // Word j of Y, where Y U = s U_0 and i is the inverse of U_0: U stands at 0, and the words of Y before j stand after it.
 fn series_word(w: &[u32], n: u32, k: usize, i: u32, s: u32, j: usize) -> u32
-    requires { ⌜ SeriesGiven n k i j (now w) ⌝ }
+    requires { ⌜ SeriesAsked n k i j (now w) ⌝ }
     ensures { λ r. ⌜ r ≡ next-word n i s (coef (piece (now (w .entry)) 0 (k + 1))) (coef (piece (now (w .entry)) (k + 1) j)) j ⌝ }
 {
     if j == 0 {

@@ -9,7 +9,8 @@ returns c =
     record {
       evaluator-is = c .before .before .before .before .evaluate .ensures;
       resultant-is = c .before .before .resultant .ensures;
-      equal = evaluator-agrees narrow narrow _ _ _ _ _ _ _ _ _ (c .before .before .before .before .evaluate .ensures) (c .before .before .resultant .ensures);
+      equal = evaluator-agrees narrow narrow _ _ _ _ _ _ _ _ _ (c .before .before .before .before .evaluate .ensures)
+          (c .before .before .resultant .ensures);
     }
 
 pub both-spec : {M : Type 1} → statement M

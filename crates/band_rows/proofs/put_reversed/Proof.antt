@@ -1,7 +1,7 @@
 use borrow.Author.Needs.{needs}
 use Prim.Native.Nat.{_-_}
 use lib.ListN.{length}
-use Rattle.windows.proofs.Turns.{Writing}
+use Rattle.windows.proofs.WindowRounds.{Writing}
 use Rattle.band_clearing.specs.Bands.{from-top}
 use Rattle.band_rows.proofs.Rows.{puts}
 use Rattle.band_rows.proofs.put_reversed.Statement.{statement}

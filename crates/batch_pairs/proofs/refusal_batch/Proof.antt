@@ -9,9 +9,9 @@ pub refusal-batch-spec : {M : Type 1} → statement M
 refusal-batch-spec =
     tie.close
     (tie.spec
-    (λ c κs. search needs) (λ c. search cascade depth 8)
-    (λ c κs. search needs) (λ c. search (cascade, pair-stops) depth 8)
-    (λ c κs. let x = c .before .before .before .before .before .before .args in
+    (λ c κs. search needs) (λ c. search cascade depth 8) (λ c κs. search needs) (λ c. search (cascade, pair-stops) depth 8)
+    (λ c κs. let r = c .before .before .before in
+    let x = r .before .before .before .args in
     let p = pieces-told (x .d) (x .e) (x .count) (length (x .f .now)) (length (x .g .now)) _ (c .before .refusal-pieces .ensures)
     (c .if2 .left) in
     search (needs, p))

@@ -7,7 +7,5 @@ pub refusal-claim-spec : {M : Type 1} → statement M
 refusal-claim-spec =
     tie.close
     (tie.spec
-    (λ c κs. search needs) (λ c. search (needs, sizes-refused))
-    (λ c κs. let a = c .before .before .before .before .before .before .args in
-    sizes-served (a .n) _ _ _ _ _ (c .before .refusal-sizes .ensures) (c .if1 .left))
+    (λ c κs. search needs) (λ c. search (needs, sizes-refused)) (λ c κs. search (needs, sizes-served))
     (λ c. search (needs, words-refused)) (λ c κs. search needs) (λ c. search (needs, words-passed)))

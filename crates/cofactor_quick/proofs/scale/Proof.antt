@@ -1,4 +1,4 @@
-use Rattle.cofactor_quick.proofs.Knowing.{knows}
+use Rattle.cofactor_quick.proofs.QuickCofactors.{knows}
 use Rattle.cofactor_quick.proofs.scale.Statement.{statement}
 use Rattle.cofactor_quick.proofs.scale.Tie as tie
 
@@ -6,11 +6,5 @@ pub scale-spec : {M : Type 1} → statement M
 scale-spec =
     tie.close
     (tie.spec
-    (λ c κs. search knows)
-    (λ c κs. search knows)
-    (λ c κs. search knows)
-    (λ c κs. search knows)
-    (λ c κs. search knows)
-    (λ c. search knows)
-    (λ c. search knows)
-    (λ c. search knows))
+    (λ c κs. search knows) (λ c κs. search knows) (λ c κs. search knows) (λ c κs. search knows) (λ c κs. search knows) (λ c. search knows)
+    (λ c. search knows) (λ c. search knows))

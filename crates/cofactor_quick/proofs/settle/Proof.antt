@@ -1,4 +1,4 @@
-use Rattle.cofactor_quick.proofs.Knowing.{knows}
+use Rattle.cofactor_quick.proofs.QuickCofactors.{knows}
 use Rattle.cofactor_quick.proofs.settle.Statement.{statement}
 use Rattle.cofactor_quick.proofs.settle.Tie as tie
 
@@ -6,10 +6,5 @@ pub settle-spec : {M : Type 1} → statement M
 settle-spec =
     tie.close
     (tie.spec
-    (λ c κs. search knows)
-    (λ c κs. search knows)
-    (λ c. search knows)
-    (λ c κs. search knows)
-    (λ c. search knows)
-    (λ c. search knows)
+    (λ c κs. search knows) (λ c κs. search knows) (λ c. search knows) (λ c κs. search knows) (λ c. search knows) (λ c. search knows)
     (λ c. search knows))

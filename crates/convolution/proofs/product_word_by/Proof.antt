@@ -8,8 +8,7 @@ pub product-word-by-spec : {M : Type 1} → statement M
 product-word-by-spec =
     tie.close
     (tie.spec
-    (λ m f g k last i₀ x₀ h₀ i x h. (i ≤ last) × Summed k i x h f g)
-    (λ m f g k last i₀ x₀ h₀ i x h. last - i)
+    (λ m f g k last i₀ x₀ h₀ i x h. (i ≤ last) × Summed k i x h f g) (λ m f g k last i₀ x₀ h₀ i x h. last - i)
     (λ c. search terms) (λ c κs. search needs) (λ c κs. search needs) (λ c. search terms) (λ c. (search needs, search terms))
     (λ c. search needs) (λ c. search needs) (λ c. search needs) (λ c. search needs) (λ c. search needs) (λ c κs. search needs)
     (λ c κs. search needs) (λ c. search needs) (λ c κs. search needs) (λ c. search needs) (λ c. search needs)

@@ -5,11 +5,11 @@ use Rattle.desk.proofs.run.Statement.{statement}
 use Rattle.desk.proofs.run.Tie as tie
 
 abbrev Inv-loop : tie.InvT-loop
-Inv-loop line₀ piece₀ out₀ held₀ turns₀ line piece out held turns =
+Inv-loop line₀ piece₀ out₀ pending₀ rounds₀ line piece out pending rounds =
     (length line ≡ length line₀) × ((length piece ≡ length piece₀) × (length out ≡ length out₀))
 
 abbrev μ-loop : tie.MeasureT-loop
-μ-loop line₀ piece₀ out₀ held₀ turns₀ line piece out held turns = turns
+μ-loop line₀ piece₀ out₀ pending₀ rounds₀ line piece out pending rounds = rounds
 
 pub run-spec : {M : Type 1} → statement M
 run-spec =

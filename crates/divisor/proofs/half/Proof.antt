@@ -1,5 +1,5 @@
 use borrow.Author.Needs.{needs}
-use Rattle.divisor.proofs.Cases.{trials, fitting}
+use Rattle.divisor.proofs.Cases.{half-attempts, fitting}
 use Rattle.divisor.proofs.half.Statement.{statement}
 use Rattle.divisor.proofs.half.Tie as tie
 
@@ -7,6 +7,6 @@ pub half-spec : {M : Type 1} → statement M
 half-spec =
     tie.close
     (tie.spec
-    (λ c κs. search trials) (λ c. search trials) (λ c κs. search trials) (λ c. search needs) (λ c. search fitting) (λ c. search needs)
-    (λ c. search needs) (λ c. search needs) (λ c. (search trials, search needs)) (λ c. search needs) (λ c. (search trials, search needs))
-    (λ c. search needs) (λ c. (search trials, search needs)))
+    (λ c κs. search half-attempts) (λ c. search half-attempts) (λ c κs. search half-attempts) (λ c. search needs) (λ c. search fitting)
+    (λ c. search needs) (λ c. search needs) (λ c. search needs) (λ c. (search half-attempts, search needs)) (λ c. search needs)
+    (λ c. (search half-attempts, search needs)) (λ c. search needs) (λ c. (search half-attempts, search needs)))

@@ -9,6 +9,6 @@ clear-contents-spec =
     (tie.spec
     (λ c. search needs) (λ c. search needs) (λ c. search needs) (λ c. search needs) (λ c. search needs) (λ c κs. search needs)
     (λ c. search needs) (λ c. (search clearings, search needs)) (λ c κs. search clearings) (λ c. search clearings)
-    (λ c κs. search clearings) (λ c. search needs) (λ c. search needs) (λ c. search needs) (λ c. search needs)
+    (λ c κs. search clearings) (λ c κs. search clearings) (λ c. search needs) (λ c. search needs) (λ c. search needs) (λ c. search needs)
     (λ c. (search clearings, search needs)) (λ c. search needs) (λ c. (search clearings, search needs)) (λ c. search needs)
     (λ c. (search clearings, search needs)))

@@ -1,5 +1,5 @@
 use borrow.Author.Needs.{needs}
-use Rattle.divisor_stages.proofs.Cases.{leads}
+use Rattle.divisor_stages.proofs.Cases.{leadings}
 use Rattle.divisor_stages.proofs.monic_factor.Statement.{statement}
 use Rattle.divisor_stages.proofs.monic_factor.Tie as tie
 
@@ -8,5 +8,6 @@ monic-factor-spec =
     tie.close
     (tie.spec
     (λ c κs. search needs) (λ c. search needs) (λ c. search needs) (λ c. search needs) (λ c. search needs) (λ c. search needs)
-    (λ c. search needs) (λ c. search needs) (λ c κs. search leads) (λ c. search needs) (λ c. search needs) (λ c κs. search needs)
-    (λ c. search needs) (λ c. search leads))
+    (λ c. search needs) (λ c. search needs) (λ c κs. ((search needs, (search needs, (search needs, search leadings))), search leadings))
+    (λ c. search needs) (λ c. search needs) (λ c κs. search needs)
+    (λ c. search needs) (λ c. search leadings))

@@ -1,6 +1,6 @@
 use borrow.Author.Needs.{needs}
 use Rattle.refusals.specs.Refusals.{narrow}
-use Rattle.batch_pairs.proofs.Turns.{batch-asked, ends}
+use Rattle.batch_pairs.proofs.PairRounds.{batch-asked, ends}
 use Rattle.divisors_service.proofs.divisors.Statement.{statement}
 use Rattle.divisors_service.proofs.divisors.Tie as tie
 

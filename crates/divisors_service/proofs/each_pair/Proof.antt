@@ -3,7 +3,7 @@ use Prim.Native.Nat.{_+_, _-_, _≤_}
 use borrow.Author.Needs.{needs}
 use Rattle.windows.specs.Window.{Scratch}
 use Rattle.batch_pairs.specs.Batches.{Pairs}
-use Rattle.batch_pairs.proofs.Turns.{turns}
+use Rattle.batch_pairs.proofs.PairRounds.{rounds}
 use Rattle.definitions.specs.Resultants.{Reduced}
 use Rattle.divisors_service.proofs.each_pair.Statement.{statement}
 use Rattle.divisors_service.proofs.each_pair.Tie as tie
@@ -15,6 +15,6 @@ each-pair-spec =
     (λ out₀ work₀ n f d g e count i₀ next₀ out work i next. (next ≡ i + 1) × ((i ≤ count) × (Pairs (Reduced n) f d g e i out₀ out
     × Scratch work₀ work)))
     (λ out₀ work₀ n f d g e count i₀ next₀ out work i next. count - i)
-    (λ c. search turns) (λ c κs. search turns) (λ c. search needs) (λ c. search needs) (λ c. search needs) (λ c. search needs)
-    (λ c. (search needs, (search needs, (search turns, search turns)))) (λ c. search needs) (λ c. search needs)
-    (λ c. (search turns, search turns)))
+    (λ c. search rounds) (λ c κs. search rounds) (λ c. search needs) (λ c. search needs) (λ c. search needs) (λ c. search needs)
+    (λ c. (search needs, (search needs, (search rounds, search rounds)))) (λ c. search needs) (λ c. search needs)
+    (λ c. (search rounds, search rounds)))

@@ -1,4 +1,4 @@
-use Rattle.euclid_multipliers.proofs.Logging.{reads-pair, reads-last, reads-turn, reads-drop}
+use Rattle.euclid_multipliers.proofs.Logging.{reading}
 use borrow.Author.Needs.{needs}
 use Rattle.euclid_multipliers.proofs.read.Statement.{statement}
 use Rattle.euclid_multipliers.proofs.read.Tie as tie
@@ -7,27 +7,7 @@ pub read-spec : {M : Type 1} → statement M
 read-spec =
     tie.close
     (tie.spec
-    (λ c. search needs)
-    (λ c. search needs)
-    (λ c. search needs)
-    (λ c. search needs)
-    (λ c. search needs)
-    (λ c. search needs)
-    (λ c. search needs)
-    (λ c. search needs)
-    (λ c. search needs)
-    (λ c. search needs)
-    (λ c. search needs)
-    (λ c. search needs)
-    (λ c. search needs)
-    (λ c. search needs)
-    (λ c. search needs)
-    (λ c. search needs)
-    (λ c. search (needs, reads-pair))
-    (λ c. search needs)
-    (λ c. search needs)
-    (λ c. search (needs, reads-last))
-    (λ c. search needs)
-    (λ c. search (needs, reads-turn))
-    (λ c. search needs)
-    (λ c. search (needs, reads-drop)))
+    (λ c. search needs) (λ c. search needs) (λ c. search needs) (λ c. search needs) (λ c. search needs) (λ c. search needs)
+    (λ c. search needs) (λ c. search needs) (λ c. search needs) (λ c. search needs) (λ c. search needs) (λ c. search needs)
+    (λ c. search needs) (λ c. search needs) (λ c. search needs) (λ c. search needs) (λ c. search reading) (λ c. search needs)
+    (λ c. search needs) (λ c. search reading) (λ c. search needs) (λ c. search reading) (λ c. search needs) (λ c. search reading))

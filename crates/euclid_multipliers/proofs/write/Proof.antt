@@ -1,6 +1,4 @@
 use Rattle.euclid_multipliers.proofs.Logging.{logs}
-use native.Mathlib.Omega.{arith}
-use lib.ListN.{length-set}
 use borrow.Author.Needs.{needs}
 use Rattle.euclid_multipliers.proofs.write.Statement.{statement}
 use Rattle.euclid_multipliers.proofs.write.Tie as tie
@@ -9,21 +7,6 @@ pub write-spec : {M : Type 1} → statement M
 write-spec =
     tie.close
     (tie.spec
-    (λ c κs. search needs)
-    (λ c κs. search needs)
-    (λ c. search needs)
-    (λ c. search needs)
-    (λ c. search needs)
-    (λ c. search needs)
-    (λ c. simp length-set (omega (arith, c .before .before .before .pre .0)))
-    (λ c. search needs)
-    (λ c. search needs)
-    (λ c. simp length-set (omega (arith, c .before .before .before .pre .0)))
-    (λ c. search needs)
-    (λ c. search needs)
-    (λ c. simp length-set (omega (arith, c .before .before .before .pre .0)))
-    (λ c. search needs)
-    (λ c. search needs)
-    (λ c. simp length-set (omega (arith, c .before .before .before .pre .0)))
-    (λ c. search needs)
-    (λ c. (search logs, search logs)))
+    (λ c κs. search needs) (λ c κs. search needs) (λ c. search needs) (λ c. search needs) (λ c. search needs) (λ c. search needs)
+    (λ c. search logs) (λ c. search needs) (λ c. search needs) (λ c. search logs) (λ c. search needs) (λ c. search needs) (λ c. search logs)
+    (λ c. search needs) (λ c. search needs) (λ c. search logs) (λ c. search needs) (λ c. (search logs, search logs)))

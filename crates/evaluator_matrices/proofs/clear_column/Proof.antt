@@ -7,7 +7,6 @@ pub clear-column-spec : {M : Type 1} → statement M
 clear-column-spec =
     tie.close
     (tie.spec
-    (λ n size j r₀ i₀ r i. ColumnClearing n size j i r₀ r)
-    (λ n size j r₀ i₀ r i. size - i)
+    (λ n size j r₀ i₀ r i. ColumnClearing n size j i r₀ r) (λ n size j r₀ i₀ r i. size - i)
     (λ c. search columns) (λ c. search columns) (λ c κs. search columns) (λ c. search columns) (λ c. search columns) (λ c. search columns)
     (λ c. search columns))

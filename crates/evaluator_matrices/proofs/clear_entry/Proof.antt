@@ -7,8 +7,7 @@ pub clear-entry-spec : {M : Type 1} → statement M
 clear-entry-spec =
     tie.close
     (tie.spec
-    (λ n i j r₀ r. Combined n i j r₀ r)
-    (λ n i j r₀ r. cell r i j)
+    (λ n i j r₀ r. Combined n i j r₀ r) (λ n i j r₀ r. cell r i j)
     (λ c. search rows) (λ c. search rows) (λ c. search rows) (λ c. search rows) (λ c. search rows) (λ c κs. search rows)
     (λ c. search rows) (λ c. search rows) (λ c. search rows) (λ c. search rows) (λ c κs. search rows) (λ c. search rows)
     (λ c κs. search rows) (λ c. search rows) (λ c. search rows) (λ c. search rows))

@@ -7,8 +7,7 @@ pub diagonal-spec : {M : Type 1} → statement M
 diagonal-spec =
     tie.close
     (tie.spec
-    (λ n size m modulus x₀ k₀ x k. DiagonalProduct n size m x k)
-    (λ n size m modulus x₀ k₀ x k. size - k)
+    (λ n size m modulus x₀ k₀ x k. DiagonalProduct n size m x k) (λ n size m modulus x₀ k₀ x k. size - k)
     (λ c κs. search columns) (λ c κs. search columns) (λ c. search columns) (λ c. search columns) (λ c. search columns)
     (λ c. search columns) (λ c. search columns) (λ c κs. search columns) (λ c. search columns) (λ c. search columns) (λ c. search columns)
     (λ c. search columns))

@@ -8,8 +8,7 @@ pub subtract-multiple-spec : {M : Type 1} → statement M
 subtract-multiple-spec =
     tie.close
     (tie.spec
-    (λ n q x y m z₀ c₀ z c. ArrayWritten 0 (less n q x y) 8 c z)
-    (λ n q x y m z₀ c₀ z c. 8 - c)
+    (λ n q x y m z₀ c₀ z c. ArrayWritten 0 (less n q x y) 8 c z) (λ n q x y m z₀ c₀ z c. 8 - c)
     (λ c κs. search words) (λ c. search words) (λ c. search words) (λ c. search words) (λ c. search words) (λ c. search words)
     (λ c. search words) (λ c κs. search words) (λ c. search words) (λ c. search words) (λ c. search words) (λ c. search words)
     (λ c. search words) (λ c. search words))

@@ -7,6 +7,5 @@ pub triangulate-spec : {M : Type 1} → statement M
 triangulate-spec =
     tie.close
     (tie.spec
-    (λ n size r₀ j₀ r j. Triangulating n size j r₀ r)
-    (λ n size r₀ j₀ r j. size - j)
+    (λ n size r₀ j₀ r j. Triangulating n size j r₀ r) (λ n size r₀ j₀ r j. size - j)
     (λ c. search columns) (λ c κs. search columns) (λ c. search columns) (λ c. search columns) (λ c. search columns) (λ c. search columns))

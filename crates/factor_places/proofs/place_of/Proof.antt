@@ -7,7 +7,6 @@ pub place-of-spec : {M : Type 1} → statement M
 place-of-spec =
     tie.close
     (tie.spec
-    (λ k number i₀ i. Sought k number i)
-    (λ k number i₀ i. 16 - i)
+    (λ k number i₀ i. Sought k number i) (λ k number i₀ i. 16 - i)
     (λ c. search placing) (λ c. search placing) (λ c. search placing) (λ c. search placing) (λ c. search placing) (λ c. search placing)
     (λ c. search placing) (λ c. search placing))

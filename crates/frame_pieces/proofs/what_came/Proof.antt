@@ -1,4 +1,4 @@
-use Rattle.frame_pieces.proofs.Holding.{pieces}
+use Rattle.frame_pieces.proofs.PendingLines.{pieces}
 use Rattle.frame_pieces.proofs.what_came.Statement.{statement}
 use Rattle.frame_pieces.proofs.what_came.Tie as tie
 

@@ -1,4 +1,4 @@
-use Rattle.frame_reader.proofs.HeldAnswers.{held-answers}
+use Rattle.frame_reader.proofs.PendingAnswers.{pending-answers}
 use Rattle.frame_reader.proofs.close.Statement.{statement}
 use Rattle.frame_reader.proofs.close.Tie as tie
 
@@ -6,7 +6,7 @@ pub close-spec : {M : Type 1} → statement M
 close-spec =
     tie.close
     (tie.spec
-    (λ c κs. search held-answers) (λ c. search held-answers) (λ c. search held-answers)
-    (λ c. (search held-answers, (search held-answers, search held-answers))) (λ c κs. search held-answers)
-    (λ c κs. search held-answers) (λ c. search held-answers) (λ c. search held-answers) (λ c. search held-answers)
-    (λ c. (search held-answers, (search held-answers, search held-answers))))
+    (λ c κs. search pending-answers) (λ c. search pending-answers) (λ c. search pending-answers)
+    (λ c. (search pending-answers, (search pending-answers, search pending-answers))) (λ c κs. search pending-answers)
+    (λ c κs. search pending-answers) (λ c. search pending-answers) (λ c. search pending-answers) (λ c. search pending-answers)
+    (λ c. (search pending-answers, (search pending-answers, search pending-answers))))

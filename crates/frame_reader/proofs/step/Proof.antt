@@ -8,8 +8,8 @@ pub step-spec : {M : Type 1} → statement M
 step-spec =
     tie.close
     (tie.spec
-    (λ held line₀ piece out₀ work₀ h₀ i₀ w₀ line out work h i w. Underway held piece line₀ out₀ i h w line out work)
-    (λ held line₀ piece out₀ work₀ h₀ i₀ w₀ line out work h i w. length piece - i)
+    (λ pending line₀ piece out₀ work₀ h₀ i₀ w₀ line out work h i w. Underway pending piece line₀ out₀ i h w line out work)
+    (λ pending line₀ piece out₀ work₀ h₀ i₀ w₀ line out work h i w. length piece - i)
     (λ c κs. search steps) (λ c κs. search steps) (λ c. search steps) (λ c κs. search steps) (λ c. search steps)
     (λ c. search steps) (λ c. search steps) (λ c κs. search steps) (λ c. search steps) (λ c. search steps) (λ c. search steps)
     (λ c. search steps) (λ c. search steps) (λ c. search steps) (λ c. search steps) (λ c. search steps) (λ c. search steps)

@@ -7,13 +7,14 @@ returns : tie.Need-returns
 returns c =
     let early = c .before .before in
     let x = early .before .before .before .args in
-    early-refused (x .n) (x .f .now) (x .g .now) (early .refusal-two .result) (early .refusal-two .ensures) (c .if1 .taken)
+    early-refused (x .n) (x .f .now) (x .g .now) (early .refusal-of-pair .result) (early .refusal-of-pair .ensures) (c .if1 .taken)
 
 returns-2 : tie.Need-returns-2
 returns-2 c =
     let early = c .before .before in
     let x = early .before .before .before .args in
-    late-told (x .n) (x .f .now) (x .g .now) (early .refusal-two .result) (c .before .top-refusal .result) (early .refusal-two .ensures)
+    late-told (x .n) (x .f .now) (x .g .now) (early .refusal-of-pair .result) (c .before .top-refusal .result)
+    (early .refusal-of-pair .ensures)
     (c .if1 .left) (c .before .top-refusal .ensures)
 
 pub job-refusal-spec : {M : Type 1} → statement M

@@ -1,4 +1,4 @@
-use Rattle.frame_runs.proofs.Entering.{turned-value, turned-below, turned-fits}
+use Rattle.frame_runs.proofs.Entering.{swapped-value, swapped-below, swapped-fits}
 use borrow.Author.Needs.{needs}
 use Rattle.frame_runs.proofs.either.Statement.{statement}
 use Rattle.frame_runs.proofs.either.Tie as tie
@@ -8,5 +8,5 @@ either-spec =
     tie.close
     (tie.spec
     (λ c κs. search needs) (λ c. search needs) (λ c. search needs) (λ c κs. search needs) (λ c. search needs) (λ c. search needs)
-    (λ c. search needs) (λ c. search (needs, turned-fits)) (λ c κs. search (needs, turned-below)) (λ c. search needs)
-    (λ c. search needs) (λ c. search (needs, turned-value)) (λ c. search needs) (λ c. search needs))
+    (λ c. search needs) (λ c. search (needs, swapped-fits)) (λ c κs. search (needs, swapped-below)) (λ c. search needs)
+    (λ c. search needs) (λ c. search (needs, swapped-value)) (λ c. search needs) (λ c. search needs))

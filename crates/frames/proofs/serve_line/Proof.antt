@@ -7,5 +7,4 @@ pub serve-line-spec : {M : Type 1} → statement M
 serve-line-spec =
     tie.close
     (tie.spec
-    (λ c κs. search needs) (λ c κs. search needs) (λ c. search needs) (λ c. search needs)
-    (λ c. (search needs, search (needs, wiped))))
+    (λ c κs. search needs) (λ c κs. search needs) (λ c. search needs) (λ c. search needs) (λ c. (search needs, search (needs, wiped))))

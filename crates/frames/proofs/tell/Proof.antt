@@ -9,5 +9,4 @@ tell-spec =
     (tie.spec
     (λ c κs. search needs) (λ c. search needs) (λ c. search needs) (λ c. search telling) (λ c κs. search needs)
     (λ c. search needs) (λ c. search needs) (λ c. search needs)
-    (λ c κs. record { head = search head-fields; room = search needs; working = search needs }) (λ c. search needs)
-    (λ c. search needs))
+    (λ c κs. record { head = search head-fields; room = search needs; working = search needs }) (λ c. search needs) (λ c. search needs))

@@ -8,6 +8,5 @@ pub code-spec : {M : Type 1} → statement M
 code-spec =
     tie.close
     (tie.spec
-    (λ c. search eights)
-    (λ c. omega (arith, c .shared-slice-known .given (c .before .args .at)))
+    (λ c. search eights) (λ c. omega (arith, c .shared-slice-known .given (c .before .args .at)))
     (λ c. code-told _ _ (omega (arith, c .shared-slice-known .given (c .before .args .at)))))

@@ -7,8 +7,7 @@ pub number-spec : {M : Type 1} → statement M
 number-spec =
     tie.close
     (tie.spec
-    (λ s at count values x₀ i₀ x i. Spelled s at count i x)
-    (λ s at count values x₀ i₀ x i. count - i)
+    (λ s at count values x₀ i₀ x i. Spelled s at count i x) (λ s at count values x₀ i₀ x i. count - i)
     (λ c. search spells) (λ c. search spells) (λ c. search spells) (λ c. search spells) (λ c. search spells) (λ c. search spells)
     (λ c. search spells) (λ c. search spells) (λ c. search spells) (λ c. search spells) (λ c. search spells) (λ c. search spells)
     (λ c. search spells) (λ c. search spells) (λ c. search spells) (λ c. search spells))

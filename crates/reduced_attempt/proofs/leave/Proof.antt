@@ -7,5 +7,4 @@ pub leave-spec : {M : Type 1} → statement M
 leave-spec =
     tie.close
     (tie.spec
-    (λ c. search attempts) (λ c κs. search attempts) (λ c κs. search needs)
-    (λ c κs. (search attempts, ((search attempts, search attempts), search attempts))) (λ c. search needs) (λ c. search attempts))
+    (λ c. search attempts) (λ c κs. search needs) (λ c κs. search needs) (λ c. search needs) (λ c. search attempts))

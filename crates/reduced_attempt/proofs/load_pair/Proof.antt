@@ -7,5 +7,4 @@ pub load-pair-spec : {M : Type 1} → statement M
 load-pair-spec =
     tie.close
     (tie.spec
-    (λ c κs. search needs) (λ c κs. search attempts) (λ c κs. search needs) (λ c κs. search needs) (λ c κs. search needs)
-    (λ c. search needs) (λ c. search attempts) (λ c κs. search needs) (λ c κs. search needs) (λ c. search needs) (λ c. search attempts))
+    (λ c κs. search needs) (λ c κs. search needs) (λ c κs. search needs) (λ c κs. search needs) (λ c. search needs) (λ c. search attempts))

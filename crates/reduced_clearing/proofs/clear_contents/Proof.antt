@@ -9,4 +9,4 @@ clear-contents-spec =
     (tie.spec
     (λ c. search needs) (λ c. search needs) (λ c. search needs) (λ c. search needs) (λ c. search needs) (λ c κs. search needs)
     (λ c. search needs) (λ c κs. search needs) (λ c. search needs) (λ c. (search contents, search contents)) (λ c κs. search contents)
-    (λ c. search contents) (λ c κs. search contents) (λ c. search needs) (λ c. (search contents, search contents)))
+    (λ c κs. search contents) (λ c. search needs) (λ c. (search contents, search contents)))

@@ -8,8 +8,7 @@ pub sub-product-spec : {M : Type 1} → statement M
 sub-product-spec =
     tie.close
     (tie.spec
-    (λ w₀ n p lp q lq dst j₀ w j. Taking n p lp q lq dst w₀ w j)
-    (λ w₀ n p lp q lq dst j₀ w j. lp - j)
+    (λ w₀ m p lp q lq dst n j₀ w j. Taking (m .n) p lp q lq dst w₀ w j) (λ w₀ m p lp q lq dst n j₀ w j. lp - j)
     (λ c. search subtractions) (λ c. search needs) (λ c. search needs) (λ c. search needs) (λ c. search needs) (λ c. search needs)
     (λ c. search needs) (λ c. search needs) (λ c. search needs) (λ c. search subtractions) (λ c. search subtractions)
     (λ c. search needs) (λ c κs. search subtractions) (λ c. search needs) (λ c. search needs) (λ c. search needs) (λ c. search needs)

@@ -1,5 +1,5 @@
 use borrow.Author.Needs.{needs}
-use Rattle.reduced_service.proofs.Returning.{refusals}
+use Rattle.reduced_service.proofs.ReducedReturns.{refusals}
 use Rattle.reduced_service.proofs.reduced_resultant.Statement.{statement}
 use Rattle.reduced_service.proofs.reduced_resultant.Tie as tie
 

@@ -1,8 +1,8 @@
 use native.Mathlib.Omega.{arith}
 use borrow.Author.Needs.{needs}
-use Rattle.numbers.specs.Logarithm.{K-below}
+use Rattle.law_numbers.specs.Logarithm.{K-below}
 use Rattle.refusals.specs.Refusals.{narrow}
-use Rattle.reduced_service.proofs.Returning.{Serves, runs}
+use Rattle.reduced_service.proofs.ReducedReturns.{Serves, runs}
 use Rattle.reduced_service.proofs.served.Statement.{statement}
 use Rattle.reduced_service.proofs.served.Tie as tie
 

@@ -1,5 +1,5 @@
 use borrow.Author.Needs.{needs}
-use Rattle.reduced_units.proofs.Overs.{overs}
+use Rattle.reduced_units.proofs.OverUnits.{overs}
 use Rattle.reduced_units.proofs.over_unit.Statement.{statement}
 use Rattle.reduced_units.proofs.over_unit.Tie as tie
 

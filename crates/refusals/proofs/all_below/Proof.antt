@@ -9,7 +9,6 @@ pub all-below-spec : {M : Type 1} → statement M
 all-below-spec =
     tie.close
     (tie.spec
-    (λ n f i₀ i. Testing n f i)
-    (λ n f i₀ i. length f - i)
+    (λ n f i₀ i. Testing n f i) (λ n f i₀ i. length f - i)
     (λ c. search testing) (λ c. search needs) (λ c. search needs) (λ c. search testing) (λ c. search needs) (λ c. search needs)
     (λ c. search testing) (λ c. search testing))

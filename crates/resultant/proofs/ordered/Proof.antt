@@ -1,25 +1,11 @@
-use mathlib.Core.Path.{subst}
-use Rattle.definitions.specs.Resultants.{resultant}
-use Rattle.resultant_pseudo.specs.declared.Tried.{Tried}
-use Rattle.resultant_pseudo.specs.Standing.{TriedAnswer}
 use borrow.Author.Needs.{needs}
+use Rattle.resultant.proofs.Loading.{loading}
 use Rattle.resultant.proofs.ordered.Statement.{statement}
 use Rattle.resultant.proofs.ordered.Tie as tie
-
-returns : tie.Need-returns
-returns c = let s = c .before .before .before .before .before .before .before .before .before .before .args in
-    subst (λ (y : Tried). TriedAnswer (s .m .n) (resultant (s .m .n) (s .f .now) (s .g .now)) y) (c .before .v .given .1)
-    (c .before .before .before .before .before .tried .ensures)
 
 pub ordered-spec : {M : Type 1} → statement M
 ordered-spec =
     tie.close
     (tie.spec
-    (λ c κs. search needs)
-    (λ c. search needs)
-    (λ c. search needs)
-    (λ c κs. search needs)
-    (λ c. search needs)
-    returns
-    (λ c. search needs)
-    (λ c. search needs))
+    (λ c κs. search needs) (λ c. search needs) (λ c. search needs) (λ c κs. search needs) (λ c. search needs) (λ c. search loading)
+    (λ c. search needs) (λ c. search needs))

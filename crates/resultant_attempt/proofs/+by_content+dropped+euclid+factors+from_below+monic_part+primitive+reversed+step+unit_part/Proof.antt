@@ -3,6 +3,7 @@ use Prim.Native.Nat.{_+_, _*_}
 use Rattle.resultant_attempt.proofs.Cases.{attempts, products}
 use Rattle.arithmetic.proofs as arithmetic
 use Rattle.bezout.proofs as bezout
+use Rattle.modulus.proofs as modulus
 use Rattle.window_division.proofs as division
 use Rattle.window_factor.proofs as factor
 use Rattle.resultant_steps.proofs as steps
@@ -20,6 +21,8 @@ pub +by-content+dropped+euclid+factors+from-below+monic-part+primitive+reversed+
       _,
       steps.clear_content.Reads.Learnt,
       _,
+      modulus.modulus_of.Reads.Learnt,
+      _,
       own.primitive.Reads.Post,
       _,
       steps.lifted.Reads.Learnt,
@@ -29,7 +32,8 @@ pub +by-content+dropped+euclid+factors+from-below+monic-part+primitive+reversed+
       steps.times.Reads.Learnt,
     )
     _ own.by_content.Reads.Post (λ c κs. search attempts) (λ c. search needs) (λ c. search attempts) (λ c. search attempts)
-    (λ c κs. (search attempts, search attempts)) (λ c κs. (search attempts, search attempts)) (λ c κs. search needs)
+    (λ c κs. search attempts) (λ c κs. (search attempts, search attempts)) (λ c κs. (search attempts, search attempts))
+    (λ c κs. search needs)
     (λ c κs. search needs) (λ c. search needs) (λ c. search attempts))
     (λ t. cycle.Lts-dropped.spec (_, own.euclid.Reads.Post, _, steps.times.Reads.Learnt, _, steps.times_sign.Reads.Learnt)
     _ own.dropped.Reads.Post (λ c. search needs) (λ c. search needs) (λ c. search needs) (λ c. search needs) (λ c κs. search attempts)
@@ -63,7 +67,8 @@ pub +by-content+dropped+euclid+factors+from-below+monic-part+primitive+reversed+
     _ own.factors.Reads.Post (λ c. search needs) (λ c. search needs) (λ c. search needs) (λ c. search needs) (λ c. search needs)
     (λ c. search needs) (λ c. search needs) (λ c. search needs) (λ c. search needs) (λ c. search needs) (λ c. search needs)
     (λ c κs. (search attempts, search attempts)) (λ c κs. (search attempts, search attempts)) (λ c. search needs) (λ c. search needs)
-    (λ c κs. (search attempts, (search attempts, (search attempts, search attempts)))) (λ c κs. search needs) (λ c. search needs)
+    (λ c κs. (search attempts, (search needs, (search attempts, (search attempts, search attempts))))) (λ c κs. search needs)
+    (λ c. search needs)
     (λ c. search needs)
     (λ c. search products)
     (λ c. search needs) (λ c. search attempts))
@@ -87,7 +92,8 @@ pub +by-content+dropped+euclid+factors+from-below+monic-part+primitive+reversed+
     (λ t. cycle.Lts-primitive.spec (_, factor.highest_of.Reads.Learnt, _, own.step.Reads.Post, _, own.factors.Reads.Post)
     _ own.primitive.Reads.Post (λ c. search needs) (λ c. search needs) (λ c. search needs) (λ c. search needs) (λ c. search needs)
     (λ c. search needs) (λ c. search needs) (λ c κs. search needs) (λ c. search needs) (λ c κs. (search attempts, search attempts))
-    (λ c. search needs) (λ c. search attempts) (λ c κs. (search attempts, ((search attempts, search attempts), search attempts)))
+    (λ c. search needs) (λ c. search attempts) (λ c κs.
+    (search attempts, (search needs, ((search attempts, search attempts), search attempts))))
     (λ c. search needs) (λ c. search needs) (λ c. search needs) (λ c. search attempts) (λ c. search needs) (λ c. search attempts)
     (λ c. search needs) (λ c. search attempts))
     (λ t. cycle.Lts-reversed.spec (_, steps.copy_pair_reversed.Reads.Learnt, _, own.step.Reads.Post, _, steps.times_sign.Reads.Learnt)
@@ -96,7 +102,7 @@ pub +by-content+dropped+euclid+factors+from-below+monic-part+primitive+reversed+
     (λ c. search attempts))
     (λ t. cycle.Lts-step.spec (
       _,
-      division.divide.Reads.Learnt,
+      division.divide_by.Reads.Learnt,
       _,
       own.euclid.Reads.Post,
       _,

@@ -6,11 +6,5 @@ pub attempt-spec : {M : Type 1} → statement M
 attempt-spec =
     tie.close
     (tie.spec
-    (λ c κs. search runs)
-    (λ c κs. search runs)
-    (λ c κs. search runs)
-    (λ c. search runs)
-    (λ c. search runs)
-    (λ c κs. search runs)
-    (λ c. search runs)
-    (λ c. search runs))
+    (λ c κs. search runs) (λ c κs. search runs) (λ c κs. search runs) (λ c. search runs) (λ c. search runs) (λ c κs. search runs)
+    (λ c. search runs) (λ c. search runs))

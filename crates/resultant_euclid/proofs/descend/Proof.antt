@@ -6,7 +6,4 @@ pub descend-spec : {M : Type 1} → statement M
 descend-spec =
     tie.close
     (tie.spec
-    (λ c κs. search runs)
-    (λ c κs. search runs)
-    (λ c. search runs)
-    (λ c. search runs))
+    (λ c κs. search runs) (λ c κs. search runs) (λ c. search runs) (λ c. search runs))

@@ -7,10 +7,5 @@ pub two-steps-spec : {M : Type 1} → statement M
 two-steps-spec =
     tie.close
     (tie.spec
-    (λ c. search runs)
-    (λ c κs. search runs)
-    (λ c. search runs)
-    (λ c. search runs)
-    (λ c κs. (search runs, (search runs, omega arith)))
-    (λ c. search runs)
-    (λ c. search runs))
+    (λ c. search runs) (λ c κs. search runs) (λ c. search runs) (λ c. search runs) (λ c κs. (search runs, (search runs, omega arith)))
+    (λ c. search runs) (λ c. search runs))

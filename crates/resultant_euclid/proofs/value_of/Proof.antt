@@ -6,14 +6,5 @@ pub value-of-spec : {M : Type 1} → statement M
 value-of-spec =
     tie.close
     (tie.spec
-    (λ c κs. search runs)
-    (λ c κs. search runs)
-    (λ c. search runs)
-    (λ c. search runs)
-    (λ c. search runs)
-    (λ c κs. search runs)
-    (λ c κs. search runs)
-    (λ c κs. search runs)
-    (λ c κs. search runs)
-    (λ c κs. search runs)
-    (λ c. search runs))
+    (λ c κs. search runs) (λ c κs. search runs) (λ c. search runs) (λ c. search runs) (λ c. search runs) (λ c κs. search runs)
+    (λ c κs. search runs) (λ c κs. search runs) (λ c κs. search runs) (λ c κs. search runs) (λ c. search runs))

@@ -6,6 +6,4 @@ pub with-sign-spec : {M : Type 1} → statement M
 with-sign-spec =
     tie.close
     (tie.spec
-    (λ c. search signs)
-    (λ c κs. search signs)
-    (λ c. search signs))
+    (λ c. search signs) (λ c κs. search signs) (λ c. search signs))

@@ -1,5 +1,5 @@
 use borrow.Author.Needs.{needs}
-use Rattle.resultant_steps.proofs.Turned.{splitting}
+use Rattle.resultant_steps.proofs.AnswerChanges.{splitting}
 use Rattle.resultant_steps.proofs.lift_split.Statement.{statement}
 use Rattle.resultant_steps.proofs.lift_split.Tie as tie
 

@@ -1,7 +1,7 @@
 use borrow.Author.Needs.{needs}
-use Rattle.resultant_steps.proofs.Turned.{turned}
+use Rattle.resultant_steps.proofs.AnswerChanges.{rotated}
 use Rattle.resultant_steps.proofs.times.Statement.{statement}
 use Rattle.resultant_steps.proofs.times.Tie as tie
 
 pub times-spec : {M : Type 1} → statement M
-times-spec = tie.close (tie.spec (λ c. search needs) (λ c κs. search needs) (λ c. search needs) (λ c. search turned) (λ c. search turned))
+times-spec = tie.close (tie.spec (λ c. search needs) (λ c κs. search needs) (λ c. search needs) (λ c. search rotated) (λ c. search rotated))

@@ -1,5 +1,5 @@
 use borrow.Author.Needs.{needs}
-use Rattle.resultant_steps.proofs.Turned.{turned}
+use Rattle.resultant_steps.proofs.AnswerChanges.{rotated}
 use Rattle.resultant_steps.proofs.times_sign.Statement.{statement}
 use Rattle.resultant_steps.proofs.times_sign.Tie as tie
 
@@ -7,4 +7,4 @@ pub times-sign-spec : {M : Type 1} → statement M
 times-sign-spec =
     tie.close
     (tie.spec
-    (λ c. search needs) (λ c κs. search turned) (λ c. search needs) (λ c. search turned) (λ c. search turned))
+    (λ c. search needs) (λ c κs. search rotated) (λ c. search needs) (λ c. search rotated) (λ c. search rotated))

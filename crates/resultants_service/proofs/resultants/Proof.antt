@@ -1,6 +1,6 @@
 use borrow.Author.Needs.{needs}
 use Rattle.refusals.specs.Refusals.{narrow}
-use Rattle.batch_pairs.proofs.Turns.{batch-asked, ends}
+use Rattle.batch_pairs.proofs.PairRounds.{batch-asked, ends}
 use Rattle.resultants_service.proofs.resultants.Statement.{statement}
 use Rattle.resultants_service.proofs.resultants.Tie as tie
 

@@ -8,7 +8,6 @@ pub gather-spec : {M : Type 1} → statement M
 gather-spec =
     tie.close
     (tie.spec
-    (λ s words₀ c₀ x₀ i₀ words c x i. Gathering s i c x words₀ words)
-    (λ s words₀ c₀ x₀ i₀ words c x i. length s - i)
+    (λ s words₀ c₀ x₀ i₀ words c x i. Gathering s i c x words₀ words) (λ s words₀ c₀ x₀ i₀ words c x i. length s - i)
     (λ c. search gathers) (λ c. search gathers) (λ c κs. search gathers) (λ c. search gathers) (λ c. search gathers) (λ c. search gathers)
     (λ c. search gathers) (λ c. search gathers) (λ c κs. search gathers) (λ c. search gathers) (λ c. search gathers))

@@ -8,7 +8,6 @@ pub same-text-spec : {M : Type 1} → statement M
 same-text-spec =
     tie.close
     (tie.spec
-    (λ s t i₀ i. Alike s t i)
-    (λ s t i₀ i. length s - i)
+    (λ s t i₀ i. Alike s t i) (λ s t i₀ i. length s - i)
     (λ c. search comparing) (λ c. search comparing) (λ c. search comparing) (λ c. search comparing) (λ c. search comparing)
     (λ c. search comparing) (λ c. search comparing) (λ c. search comparing) (λ c. search comparing))

@@ -1,5 +1,5 @@
 use borrow.Author.Needs.{needs}
-use Rattle.window_factor.proofs.SeriesTurns.{series}
+use Rattle.window_factor.proofs.SeriesRounds.{series}
 use Rattle.window_factor.proofs.series_word.Statement.{statement}
 use Rattle.window_factor.proofs.series_word.Tie as tie
 

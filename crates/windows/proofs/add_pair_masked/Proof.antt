@@ -1,5 +1,5 @@
 use Prim.Native.Nat.{_-_}
-use Rattle.windows.proofs.Turns.{Pairing, masked}
+use Rattle.windows.proofs.WindowRounds.{Pairing, masked}
 use Rattle.windows.proofs.add_pair_masked.Statement.{statement}
 use Rattle.windows.proofs.add_pair_masked.Tie as tie
 
@@ -7,8 +7,7 @@ pub add-pair-masked-spec : {M : Type 1} → statement M
 add-pair-masked-spec =
     tie.close
     (tie.spec
-    (λ w₀ n c m src dst len j₀ y₀ w j y. Pairing n c m src dst len w₀ w j y)
-    (λ w₀ n c m src dst len j₀ y₀ w j y. len - j)
+    (λ w₀ n c m src dst len j₀ y₀ w j y. Pairing n c m src dst len w₀ w j y) (λ w₀ n c m src dst len j₀ y₀ w j y. len - j)
     (λ c. search masked) (λ c. search masked) (λ c. search masked) (λ c. search masked) (λ c. search masked) (λ c. search masked)
     (λ c. search masked) (λ c κs. search masked) (λ c. search masked) (λ c. search masked) (λ c. search masked) (λ c. search masked)
     (λ c. search masked) (λ c. search masked) (λ c. search masked) (λ c. search masked))

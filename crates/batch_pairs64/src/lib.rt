@@ -1,0 +1,106 @@
+// Many pairs in one call, words of 64 bits: the refusals of a batch. The definitions are those of `batch_pairs`, at another width.
+//
+//   f, g, d, e, count    count polynomials of sent degree d one after the other, and as many of sent degree e
+//   l, m                 the lengths of the result buffer and of the working buffer
+//
+//   bad_pieces           whether words are not count polynomials of one sent degree
+//   pieces_below         whether the words of count polynomials are residues
+//   refusal_pieces, refusal_words, refusal_room     the refusals 2; 3; 6 and 7
+//   refusal_batch        the first refusal that applies
+ghost use mathlib.Core.Path.{_≡_};
+ghost use mathlib.Core.Bool.{not};
+ghost use mathlib.Core.List.{[], _∷_};
+ghost use lib.ListN.{length};
+ghost use Rattle.refusals64.specs.Wide.{wide};
+ghost use Rattle.refusals.specs.Refusals.{all-below, short, first-refusal};
+ghost use Rattle.batch_pairs.specs.Batches.{bad-pieces, ServedPieces, batch-status};
+
+// Whether d is above 48, or length is not count times d + 1. The quotient and the remainder of length are tested: no product is made that
+// could be too large for a word.
+fn bad_pieces(length: usize, d: usize, count: usize) -> bool
+    ensures { λ r. ⌜ r ≡ bad-pieces d count length ⌝ }
+{
+    if refusals::MAX_DEGREE < d {
+        return true;
+    }
+    if length / (d + 1) != count {
+        return true;
+    }
+    length % (d + 1) != 0
+}
+
+// Refusal 2 of a batch, f of a words and g of b; 0 where it does not apply.
+fn refusal_pieces(a: usize, d: usize, b: usize, e: usize, count: usize) -> u32
+    ensures { λ r. ⌜ r ≡ first-refusal ((2, bad-pieces d count a) ∷ (2, bad-pieces e count b) ∷ []) ⌝ }
+{
+    if bad_pieces(a, d, count) {
+        return 2;
+    }
+    if bad_pieces(b, e, count) {
+        return 2;
+    }
+    0
+}
+
+// Whether every word of count polynomials of sent degree d is a residue.
+fn pieces_below(n: u64, f: &[u64], d: usize, count: usize) -> bool
+    requires { ⌜ ServedPieces d count (length (now f)) ⌝ }
+    ensures { λ r. ⌜ r ≡ all-below n (now (f .entry)) ⌝ }
+{
+    let size = d + 1;
+    refusals64::all_below(n, &f[0..count * size])
+}
+
+// Refusal 3 of a batch; 0 where it does not apply. A word is read only where both lengths are served.
+fn refusal_words(n: u64, f: &[u64], d: usize, g: &[u64], e: usize, count: usize) -> u32
+    requires { ⌜ ServedPieces d count (length (now f)) × ServedPieces e count (length (now g)) ⌝ }
+    ensures { λ r. ⌜ r ≡ first-refusal ((3, not (all-below n (now (f .entry)))) ∷ (3, not (all-below n (now (g .entry)))) ∷ []) ⌝ }
+{
+    if !pieces_below(n, f, d, count) {
+        return 3;
+    }
+    if !pieces_below(n, g, e, count) {
+        return 3;
+    }
+    0
+}
+
+// Refusals 6 and 7 of a batch; 0 where neither applies.
+fn refusal_room(count: usize, l: usize, m: usize) -> u32
+    ensures { λ r. ⌜ r ≡ first-refusal ((6, short l count) ∷ (7, short m 16384) ∷ []) ⌝ }
+{
+    if l < count {
+        return 6;
+    }
+    if m < refusals64::WORKING_WORDS {
+        return 7;
+    }
+    0
+}
+
+// Refusals 1, 2, 3, 6 and 7 of a batch, in this order; 0 where none applies.
+pub fn refusal_batch(
+    n: u64,
+    f: &[u64],
+    d: usize,
+    g: &[u64],
+    e: usize,
+    count: usize,
+    l: usize,
+    m: usize,
+) -> u32
+    ensures { λ r. ⌜ r ≡ batch-status wide n (now (f .entry)) d (now (g .entry)) e count l m ⌝ }
+{
+    if refusals64::bad_modulus(n) {
+        return 1;
+    }
+    let two = refusal_pieces(f.len(), d, g.len(), e, count);
+    if two != 0 {
+        return two;
+    }
+    let three = refusal_words(n, f, d, g, e, count);
+    if three != 0 {
+        return three;
+    }
+    refusal_room(count, l, m)
+}

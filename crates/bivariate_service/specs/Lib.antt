@@ -1,0 +1,2 @@
+pub mod BivariateAnswers
+pub mod BivariateService

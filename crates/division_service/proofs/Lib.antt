@@ -1,0 +1,2 @@
+pub mod DivisionReturns
+pub mod Quotients

@@ -1,0 +1,2 @@
+pub mod DivisionService
+pub mod DivisionStages

@@ -1,0 +1,2 @@
+pub mod ShownByResultant
+pub mod Cases

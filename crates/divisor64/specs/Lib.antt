@@ -1,0 +1,2 @@
+pub mod CoprimeAttempted
+pub mod DivisorAttempts

@@ -1,0 +1,2 @@
+pub mod LeadingUnits
+pub mod DivisorStages

@@ -1,0 +1,20 @@
+use mathlib.Core.Path.{_≡_}
+use Prim.Native.Nat.{_+_, _-_, _≤_}
+use borrow.Author.Needs.{needs}
+use Rattle.windows.specs.Window.{Scratch}
+use Rattle.batch_pairs.specs.Batches.{Pairs}
+use Rattle.batch_pairs.proofs.PairRounds.{rounds}
+use Rattle.definitions.specs.Resultants.{Reduced}
+use Rattle.divisors_service64.proofs.each_pair.Statement.{statement}
+use Rattle.divisors_service64.proofs.each_pair.Tie as tie
+
+pub each-pair-spec : {M : Type 1} → statement M
+each-pair-spec =
+    tie.close
+    (tie.spec
+    (λ out₀ work₀ n f d g e count i₀ next₀ out work i next. (next ≡ i + 1) × ((i ≤ count) × (Pairs (Reduced n) f d g e i out₀ out
+    × Scratch work₀ work)))
+    (λ out₀ work₀ n f d g e count i₀ next₀ out work i next. count - i)
+    (λ c. search rounds) (λ c κs. search rounds) (λ c. search needs) (λ c. search needs) (λ c. search needs) (λ c. search needs)
+    (λ c. (search needs, (search needs, (search rounds, search rounds)))) (λ c. search needs) (λ c. search needs)
+    (λ c. (search rounds, search rounds)))

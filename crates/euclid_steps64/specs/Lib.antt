@@ -1,0 +1,2 @@
+pub mod EuclidStages
+pub mod Backs

@@ -1,0 +1,13 @@
+use Prim.Native.Nat.{_-_}
+use Rattle.evaluator_matrices.proofs.Columns.{DiagonalProduct, columns}
+use Rattle.evaluator_matrices64.proofs.diagonal.Statement.{statement}
+use Rattle.evaluator_matrices64.proofs.diagonal.Tie as tie
+
+pub diagonal-spec : {M : Type 1} → statement M
+diagonal-spec =
+    tie.close
+    (tie.spec
+    (λ n size m modulus x₀ k₀ x k. DiagonalProduct n size m x k) (λ n size m modulus x₀ k₀ x k. size - k)
+    (λ c κs. search columns) (λ c κs. search columns) (λ c. search columns) (λ c. search columns) (λ c. search columns)
+    (λ c. search columns) (λ c. search columns) (λ c κs. search columns) (λ c. search columns) (λ c. search columns) (λ c. search columns)
+    (λ c. search columns))

@@ -1,9 +1,0 @@
-use Rattle.factors.proofs.Services.{calling}
-use Rattle.factors.proofs.leave.Statement.{statement}
-use Rattle.factors.proofs.leave.Tie as tie
-
-pub leave-spec : {M : Type 1} → statement M
-leave-spec =
-    tie.close
-    (tie.spec
-    (λ c κs. search calling) (λ c. search calling) (λ c κs. search calling) (λ c κs. search calling) (λ c. search calling))

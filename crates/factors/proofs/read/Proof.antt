@@ -1,6 +1,0 @@
-use Rattle.factors.proofs.Services.{calling}
-use Rattle.factors.proofs.read.Statement.{statement}
-use Rattle.factors.proofs.read.Tie as tie
-
-pub read-spec : {M : Type 1} → statement M
-read-spec = tie.close (tie.spec (λ c κs. search calling) (λ c. search calling) (λ c κs. search calling) (λ c. search calling))

@@ -1,0 +1,2 @@
+pub mod InverseReturns
+pub mod Inverses

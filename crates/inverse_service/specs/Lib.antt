@@ -1,0 +1,2 @@
+pub mod InverseService
+pub mod InverseStages

@@ -1,2 +1,0 @@
-pub mod Seven
-pub mod TwoNumbers

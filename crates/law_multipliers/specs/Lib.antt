@@ -1,0 +1,4 @@
+pub mod Leading
+pub mod Multipliers
+pub mod Reductions
+pub mod Joining

@@ -1,0 +1,15 @@
+pub mod Certificates
+pub mod Computed
+pub mod Examples
+pub mod ExpansionLaws
+pub mod PointThree
+pub mod PolynomialLaws
+pub mod Powers
+pub mod PowersChecks
+pub mod ReachedLaws
+pub mod ReachedSteps
+pub mod ReducedLaws
+pub mod ResultantLaws
+pub mod StarredRows
+pub mod BivariateLaws
+pub mod Words

@@ -1,2 +1,0 @@
-pub mod DivisionService
-pub mod Stages

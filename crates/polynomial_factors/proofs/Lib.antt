@@ -1,5 +1,0 @@
-pub mod Answers
-pub mod Leads
-pub mod Parts
-pub mod Turns
-pub mod Ends

@@ -1,2 +1,0 @@
-pub mod FactorsService
-pub mod Stages

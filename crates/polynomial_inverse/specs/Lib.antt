@@ -1,2 +1,0 @@
-pub mod InverseService
-pub mod Stages

@@ -1,0 +1,2 @@
+pub mod SevenCalls
+pub mod HowFarReturns

@@ -1,0 +1,3 @@
+pub mod LawOfTheAnswers
+pub mod HowFar
+pub mod LawService

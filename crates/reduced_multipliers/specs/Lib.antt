@@ -1,4 +1,0 @@
-pub mod Leading
-pub mod Leads
-pub mod Reductions
-pub mod Joining

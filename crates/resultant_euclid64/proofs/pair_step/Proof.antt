@@ -1,0 +1,25 @@
+use borrow.Author.Needs.{needs}
+use Rattle.resultant_euclid.proofs.Steps.{places, leading, telling}
+use Rattle.resultant_euclid64.proofs.pair_step.Statement.{statement}
+use Rattle.resultant_euclid64.proofs.pair_step.Tie as tie
+
+pub pair-step-spec : {M : Type 1} → statement M
+pair-step-spec =
+    tie.close
+    (tie.spec
+    (λ c. search needs) (λ c. search needs) (λ c. search needs) (λ c. search needs) (λ c. search needs) (λ c. search needs)
+    (λ c. search needs) (λ c κs. (search places, search places)) (λ c κs. (search places, search places)) (λ c. search needs)
+    (λ c. search needs) (λ c. search needs) (λ c. search needs) (λ c. search needs) (λ c. search needs) (λ c. search needs)
+    (λ c κs. (search places, (search places, (search places, (search places, search places)))))
+    (λ c κs. (
+      search places,
+      (
+        (search places, (search places, (search places, (search places, search places)))),
+        (search places, (search places, search places)),
+      ),
+    ))
+    (λ c κs. search needs)
+    (λ c κs. search needs)
+    (λ c. search needs)
+    (λ c. search needs)
+    (λ c. (search leading, search telling)))

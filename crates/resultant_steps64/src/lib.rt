@@ -1,0 +1,122 @@
+// The steps of an attempt at a resultant that are no divisions, words of 64 bits. The 32-bit twin `resultant_steps` has the laws.
+//
+//   w, n   the buffer and the modulus; m the record of n
+//   d, e   the degrees of f and g
+//   a, b   the places of two polynomials of l and k words, and s the place that takes their copies
+//   r      the answer of an attempt: a value, or two coprime factors of the modulus
+//
+//   exchanged                      a residue with the sign of an exchange or of a reversal
+//   copy_pair, copy_pair_reversed  two polynomials laid side by side
+//   clear_content                  the content of f taken out
+//   lift_split                     a split of the modulus from one of a divisor of it
+//   times, times_sign, lifted      an answer turned into another
+ghost use mathlib.Core.Path.{_≡_};
+ghost use Prim.Native.Nat.{_+_, _-_, _*_, _/_, _%_, _<_, _≤_, _∣_};
+ghost use lib.ListN.{length};
+ghost use Rattle.law_polynomials.specs.ResultantLaws.{signed};
+ghost use Rattle.windows.specs.Window.{Below};
+ghost use Rattle.reduction64.specs.Moduli.{Ready};
+ghost use Rattle.window_factor64.specs.Factors.{SplitOf};
+ghost use Rattle.resultant_steps64.specs.AttemptAnswers.{IsAnswer, Partial, Follows, Lifted};
+ghost use Rattle.resultant_steps.specs.Layouts.{ContentCleared, Beside, words-at, words-back};
+use reduction64::Reciprocal;
+use residue64::Attempt;
+
+// Two coprime factors.
+struct Split {
+    p: u64,
+    q: u64,
+}
+
+// x with the sign (-1)^(d e).
+fn exchanged(n: u64, d: usize, e: usize, x: u64) -> u64
+    requires { ⌜ x < n ⌝ }
+    ensures { λ r. ⌜ r ≡ signed n (d * e) x ⌝ }
+{
+    if d % 2 == 0 {
+        return x;
+    }
+    resultant_signs64::with_sign(n, e, x)
+}
+
+// The l words at a and the k words at b, copied side by side to s.
+pub fn copy_pair(w: &mut [u64], a: usize, l: usize, b: usize, k: usize, s: usize)
+    requires { ⌜ (a + l ≤ s) × ((b + k ≤ s) × (s + (l + k) ≤ length (now w))) ⌝ }
+    ensures { λ _. ⌜ Beside (words-at (now (w .entry)) a) (words-at (now (w .entry)) b) l k s (now (w .entry)) (now (w .exit)) ⌝ }
+{
+    windows64::copy(w, a, s, l);
+    windows64::copy(w, b, s + l, k);
+}
+
+// The same, each with its last word first.
+pub fn copy_pair_reversed(w: &mut [u64], a: usize, l: usize, b: usize, k: usize, s: usize)
+    requires { ⌜ (a + l ≤ s) × ((b + k ≤ s) × (s + (l + k) ≤ length (now w))) ⌝ }
+    ensures { λ _. ⌜ Beside (words-back (now (w .entry)) a l) (words-back (now (w .entry)) b k) l k s
+        (now (w .entry)) (now (w .exit)) ⌝ }
+{
+    windows64::copy_reversed(w, a, s, l);
+    windows64::copy_reversed(w, b, s + l, k);
+}
+
+// The content c of f and n. f of degree d at e + 1 is divided by it, g of degree e at 0 is reduced modulo n / c.
+pub fn clear_content(w: &mut [u64], n: u64, d: usize, e: usize) -> u64
+    requires { ⌜ (1 ≤ n) × ((e + 1 + (d + 1) ≤ length (now w)) × (Below n 0 (e + 1) (now w))) ⌝ }
+    ensures { λ r. ⌜ ContentCleared n d e r (now (w .entry)) (now (w .exit)) ⌝ }
+{
+    let c = windows64::content(&w[e + 1..e + 1 + (d + 1)], n);
+    if c == 1 {
+        return 1;
+    }
+    windows64::divide_words(w, c, e + 1, d + 1);
+    windows64::reduce_words(w, n / c, 0, e + 1);
+    c
+}
+
+// A factor p of a split of a divisor of n splits n as well. The last two cases are never met: p is above 1 and divides n, so it is no
+// unit; q is above 1, divides n and is coprime to p, so no power of p is 0 modulo n.
+fn lift_split(n: u64, p: u64, q: u64) -> Split
+    requires { ⌜ (2 ≤ n) × (SplitOf (p * q) p q × (p * q ∣ n)) ⌝ }
+    ensures { λ r. ⌜ SplitOf n (r .p) (r .q) ⌝ }
+{
+    match residue64::kind_of(n, p) {
+        residue64::Kind::Splits(x, y) => Split { p: x, q: y },
+        residue64::Kind::Unit(_) => Split { p, q },
+        residue64::Kind::Nilpotent => Split { p, q },
+    }
+}
+
+// The answer times c.
+pub fn times(m: Reciprocal, c: u64, r: Attempt) -> Attempt
+    requires { ⌜ Ready m ⌝ }
+    ensures { λ s. ⌜ Follows (m .n) (λ x. (c * x) % m .n) r s ⌝ }
+{
+    match r {
+        Attempt::Value(v) => Attempt::Value(modulus64::multiply(m, c, v)),
+        Attempt::Splits(p, q) => Attempt::Splits(p, q),
+    }
+}
+
+// The answer with the sign (-1)^(d e).
+pub fn times_sign(n: u64, d: usize, e: usize, r: Attempt) -> Attempt
+    requires { ⌜ IsAnswer n r ⌝ }
+    ensures { λ s. ⌜ Follows n (signed n (d * e)) r s ⌝ }
+{
+    match r {
+        Attempt::Value(v) => Attempt::Value(exchanged(n, d, e, v)),
+        Attempt::Splits(p, q) => Attempt::Splits(p, q),
+    }
+}
+
+// The answer modulo a divisor of n, as one modulo n.
+pub fn lifted(n: u64, r: Attempt) -> Attempt
+    requires { ⌜ (2 ≤ n) × Partial n r ⌝ }
+    ensures { λ s. ⌜ Lifted n r s ⌝ }
+{
+    match r {
+        Attempt::Value(v) => Attempt::Value(v),
+        Attempt::Splits(p, q) => {
+            let s = lift_split(n, p, q);
+            Attempt::Splits(s.p, s.q)
+        }
+    }
+}

@@ -1,5 +1,0 @@
-pub mod AnyRing
-pub mod Degrees
-pub mod RunLaws
-pub mod Signs
-pub mod TurnLaws

@@ -1,2 +1,0 @@
-pub mod Primes
-pub mod Returning

@@ -1,2 +1,0 @@
-pub mod TwoAnswers
-pub mod TwoService

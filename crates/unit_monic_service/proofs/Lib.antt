@@ -1,0 +1,5 @@
+pub mod UnitMonicReturns
+pub mod LeadingPlace
+pub mod Parts
+pub mod HandingRounds
+pub mod Ends

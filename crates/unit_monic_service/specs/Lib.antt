@@ -1,0 +1,2 @@
+pub mod FactorsService
+pub mod UnitMonicStages

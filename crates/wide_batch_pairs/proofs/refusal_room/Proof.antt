@@ -1,9 +1,0 @@
-use Rattle.refusals.proofs.Cascade.{cascade}
-use Rattle.wide_batch_pairs.proofs.refusal_room.Statement.{statement}
-use Rattle.wide_batch_pairs.proofs.refusal_room.Tie as tie
-
-pub refusal-room-spec : {M : Type 1} → statement M
-refusal-room-spec =
-    tie.close
-    (tie.spec
-    (λ c. search cascade depth 8) (λ c. search cascade depth 8) (λ c. search cascade depth 8))

@@ -1,9 +1,0 @@
-use Rattle.wide_montgomery.proofs.Rules.{rules}
-use Rattle.wide_montgomery.proofs.enter.Statement.{statement}
-use Rattle.wide_montgomery.proofs.enter.Tie as tie
-
-pub enter-spec : {M : Type 1} → statement M
-enter-spec =
-    tie.close
-    (tie.spec
-    (λ c κs. search rules) (λ c κs. search rules) (λ c. search rules))

@@ -1,9 +1,0 @@
-use Rattle.wide_montgomery.proofs.Rules.{rules}
-use Rattle.wide_montgomery.proofs.minus.Statement.{statement}
-use Rattle.wide_montgomery.proofs.minus.Tie as tie
-
-pub minus-spec : {M : Type 1} → statement M
-minus-spec =
-    tie.close
-    (tie.spec
-    (λ c κs. search rules) (λ c. search rules) (λ c κs. search rules) (λ c. search rules))

@@ -1,9 +1,0 @@
-use Rattle.multiplier_words.proofs.Putting.{puts}
-use Rattle.wide_multiplier_words.proofs.hand_out.Statement.{statement}
-use Rattle.wide_multiplier_words.proofs.hand_out.Tie as tie
-
-pub hand-out-spec : {M : Type 1} → statement M
-hand-out-spec =
-    tie.close
-    (tie.spec
-    (λ c κs. search puts) (λ c κs. search puts) (λ c κs. search puts) (λ c. search puts) (λ c. search puts) (λ c. search puts))

@@ -1,9 +1,0 @@
-use Rattle.wide_multipliers.proofs.Rules.{rules}
-use Rattle.wide_multipliers.proofs.product.Statement.{statement}
-use Rattle.wide_multipliers.proofs.product.Tie as tie
-
-pub product-spec : {M : Type 1} → statement M
-product-spec =
-    tie.close
-    (tie.spec
-    (λ c κs. search rules) (λ c. search rules))

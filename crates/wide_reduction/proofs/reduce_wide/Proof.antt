@@ -1,9 +1,0 @@
-use Rattle.wide_reduction.proofs.Rules.{rules}
-use Rattle.wide_reduction.proofs.reduce_wide.Statement.{statement}
-use Rattle.wide_reduction.proofs.reduce_wide.Tie as tie
-
-pub reduce-wide-spec : {M : Type 1} → statement M
-reduce-wide-spec =
-    tie.close
-    (tie.spec
-    (λ c κs. search rules) (λ c κs. search rules) (λ c. search rules) (λ c κs. search rules) (λ c. search rules))

@@ -1,9 +1,0 @@
-use Rattle.wide_reduction.proofs.Rules.{rules}
-use Rattle.wide_reduction.proofs.residue.Statement.{statement}
-use Rattle.wide_reduction.proofs.residue.Tie as tie
-
-pub residue-spec : {M : Type 1} → statement M
-residue-spec =
-    tie.close
-    (tie.spec
-    (λ c. search rules) (λ c. search rules) (λ c. search rules))

@@ -1,6 +1,0 @@
-use Rattle.refusals.proofs.Words.{testing}
-use Rattle.wide_refusals.proofs.bad_length.Statement.{statement}
-use Rattle.wide_refusals.proofs.bad_length.Tie as tie
-
-pub bad-length-spec : {M : Type 1} → statement M
-bad-length-spec = tie.close (tie.spec (λ c. search testing) (λ c. search testing))

@@ -1,6 +1,0 @@
-use Rattle.refusals.proofs.Words.{testing}
-use Rattle.wide_refusals.proofs.bad_modulus.Statement.{statement}
-use Rattle.wide_refusals.proofs.bad_modulus.Tie as tie
-
-pub bad-modulus-spec : {M : Type 1} → statement M
-bad-modulus-spec = tie.close (tie.spec (λ c. search testing) (λ c. search testing))

@@ -1,9 +1,0 @@
-use Rattle.residue.proofs.Rules.{joins}
-use Rattle.wide_residue.proofs.idempotent.Statement.{statement}
-use Rattle.wide_residue.proofs.idempotent.Tie as tie
-
-pub idempotent-spec : {M : Type 1} → statement M
-idempotent-spec =
-    tie.close
-    (tie.spec
-    (λ c κs. search joins) (λ c. search joins) (λ c. search joins) (λ c. search joins) (λ c. search joins))

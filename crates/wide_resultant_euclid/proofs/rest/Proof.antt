@@ -1,6 +1,0 @@
-use Rattle.resultant_euclid.proofs.Steps.{runs}
-use Rattle.wide_resultant_euclid.proofs.rest.Statement.{statement}
-use Rattle.wide_resultant_euclid.proofs.rest.Tie as tie
-
-pub rest-spec : {M : Type 1} → statement M
-rest-spec = tie.close (tie.spec (λ c κs. search runs) (λ c κs. search runs) (λ c. search runs) (λ c. search runs))

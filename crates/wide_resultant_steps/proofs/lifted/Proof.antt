@@ -1,7 +1,0 @@
-use borrow.Author.Needs.{needs}
-use Rattle.wide_resultant_steps.proofs.Turned.{turned}
-use Rattle.wide_resultant_steps.proofs.lifted.Statement.{statement}
-use Rattle.wide_resultant_steps.proofs.lifted.Tie as tie
-
-pub lifted-spec : {M : Type 1} → statement M
-lifted-spec = tie.close (tie.spec (λ c. search needs) (λ c. search needs) (λ c κs. search turned) (λ c. search turned) (λ c. search needs))

@@ -1,4 +1,0 @@
-pub mod Halves
-pub mod Reciprocals
-pub mod Doubling
-pub mod Montgomery
