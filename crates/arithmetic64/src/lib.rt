@@ -6,17 +6,6 @@
 //   power           x to the power k
 ghost use mathlib.Core.Path.{_≡_};
 ghost use Prim.Native.Nat.{ℕ, _+_, _-_, _*_, _%_, _^_, _<_, _≤_};
-ghost use Rattle.arithmetic.specs.Powers.{TimesDigit};
-ghost use Rattle.reduction64.specs.Moduli.{Ready};
-use reduction64::Reciprocal;
-
-// x modulo n.
-pub fn reduce(n: u64, x: u64) -> u64
-    requires { ⌜ 1 ≤ n ⌝ }
-    ensures { λ r. ⌜ r ≡ x % n ⌝ }
-{
-    x % n
-}
 
 pub fn mul_mod(n: u64, a: u64, b: u64) -> u64
     requires { ⌜ 1 ≤ n ⌝ }
@@ -63,33 +52,11 @@ pub fn mul_add_mod(n: u64, a: u64, c: u64, b: u64) -> u64
     reduction64::add_product(m, a, c, b)
 }
 
-// r y where the last binary digit of j is 1, else r.
-fn times_digit(m: Reciprocal, r: u64, y: u64, j: usize) -> u64
-    requires { ⌜ Ready m ⌝ }
-    ensures { λ t. ⌜ TimesDigit (m .n) r y j t ⌝ }
-{
-    if j % 2 == 1 {
-        return reduction64::product(m, r, y);
-    }
-    r
-}
-
-// x to the power k, by squaring; a square, which the engine asks for most, at once.
+// x to the power k.
 pub fn power(n: u64, x: u64, k: usize) -> u64
     requires { ⌜ 1 ≤ n ⌝ }
     ensures { λ r. ⌜ r ≡ (x ^ k) % n ⌝ }
 {
     let m = reduction64::modulus_of(n);
-    if k == 2 {
-        return reduction64::product(m, x, x);
-    }
-    let mut r = reduce(n, 1);
-    let mut y = x;
-    let mut j = k;
-    while 0 < j {
-        r = times_digit(m, r, y, j);
-        y = reduction64::product(m, y, y);
-        j = j / 2;
-    }
-    r
+    reduction64::power(m, x, k)
 }

@@ -4,11 +4,13 @@
 //   row r    ROW words from ROW r on: b words, at FIRST the multiplier of f, of e words, at SECOND that of g, of d words
 //
 //   Sizes                                    the sizes of a row
+//   add_words                                a multiple of words added to words
 //   add_row, reduce_row, subtract_multiple   a multiple of a row added to a row
 //   euclid, clear_row, clear_column          the first column cleared but for one row
 //   pivot                                    the row to begin with
-ghost use Prim.Native.Nat.{_*_, _<_, _≤_};
+ghost use Prim.Native.Nat.{_+_, _*_, _<_, _≤_};
 ghost use lib.ListN.{length, getD};
+ghost use Rattle.windows.specs.Window.{Moved, Clear, addMul};
 ghost use Rattle.band_clearing.specs.Bands.{row-size, row-count, band-room, PairAsked, HeadsBelow, RowAdded, RowReduced};
 ghost use Rattle.band_clearing.specs.Bands.{KeepsTwo, RowCleared, RowAsked, ColumnAsked, ColumnCleared};
 
@@ -26,6 +28,20 @@ pub struct Sizes {
     pub e: usize,
 }
 
+// w[dst + j] += c * w[src + j], for j < len. The rows are plain words, and their steps short: the plain loop is the quicker one.
+fn add_words(w: &mut [u32], n: u32, c: u32, src: usize, dst: usize, len: usize)
+    requires { ⌜ (1 ≤ n) × ((src + len ≤ length (now w)) × (dst + len ≤ length (now w))) ⌝ }
+    requires { ⌜ Clear src dst len ⌝ }
+    ensures { λ _. ⌜ Moved (addMul n c) src dst len (now (w .entry)) (now (w .exit)) ⌝ }
+{
+    if reduction::power_of_two(n) {
+        windows::add_scaled_masked(w, n, c, src, dst, len);
+        return;
+    }
+    let m = reduction::modulus_of(n);
+    windows::add_scaled(w, n, m, c, src, dst, len);
+}
+
 // Row k gains c times row i.
 fn add_row(w: &mut [u32], n: u32, c: u32, i: usize, k: usize, s: Sizes)
     requires { ⌜ PairAsked n (s .b) (s .d) (s .e) i k (now w) ⌝ }
@@ -33,9 +49,9 @@ fn add_row(w: &mut [u32], n: u32, c: u32, i: usize, k: usize, s: Sizes)
 {
     let from = ROW * i;
     let to = ROW * k;
-    windows::add_scaled(w, n, c, from, to, s.b);
-    windows::add_scaled(w, n, c, from + FIRST, to + FIRST, s.e);
-    windows::add_scaled(w, n, c, from + SECOND, to + SECOND, s.d);
+    add_words(w, n, c, from, to, s.b);
+    add_words(w, n, c, from + FIRST, to + FIRST, s.e);
+    add_words(w, n, c, from + SECOND, to + SECOND, s.d);
 }
 
 // Row i loses so many times row k that the remainder of their first words is left.

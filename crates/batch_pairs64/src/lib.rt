@@ -1,8 +1,9 @@
 // Many pairs in one call, words of 64 bits: the refusals of a batch. The definitions are those of `batch_pairs`, at another width.
 //
-//   f, g, d, e, count    count polynomials of sent degree d one after the other, and as many of sent degree e
+//   f, g, b              the polynomials of a batch, whose degrees and number b holds
 //   l, m                 the lengths of the result buffer and of the working buffer
 //
+//   Batch                that of `batch_pairs`: the sent degrees, and the number of pairs
 //   bad_pieces           whether words are not count polynomials of one sent degree
 //   pieces_below         whether the words of count polynomials are residues
 //   refusal_pieces, refusal_words, refusal_room     the refusals 2; 3; 6 and 7
@@ -14,6 +15,7 @@ ghost use lib.ListN.{length};
 ghost use Rattle.refusals64.specs.Wide.{wide};
 ghost use Rattle.refusals.specs.Refusals.{all-below, short, first-refusal};
 ghost use Rattle.batch_pairs.specs.Batches.{bad-pieces, ServedPieces, batch-status};
+use batch_pairs::Batch;
 
 // Whether d is above 48, or length is not count times d + 1. The quotient and the remainder of length are tested: no product is made that
 // could be too large for a word.
@@ -29,14 +31,14 @@ fn bad_pieces(length: usize, d: usize, count: usize) -> bool
     length % (d + 1) != 0
 }
 
-// Refusal 2 of a batch, f of a words and g of b; 0 where it does not apply.
-fn refusal_pieces(a: usize, d: usize, b: usize, e: usize, count: usize) -> u32
-    ensures { λ r. ⌜ r ≡ first-refusal ((2, bad-pieces d count a) ∷ (2, bad-pieces e count b) ∷ []) ⌝ }
+// Refusal 2 of a batch, f of lf words and g of lg; 0 where it does not apply.
+fn refusal_pieces(lf: usize, lg: usize, b: Batch) -> u32
+    ensures { λ r. ⌜ r ≡ first-refusal ((2, bad-pieces (b .d) (b .count) lf) ∷ (2, bad-pieces (b .e) (b .count) lg) ∷ []) ⌝ }
 {
-    if bad_pieces(a, d, count) {
+    if bad_pieces(lf, b.d, b.count) {
         return 2;
     }
-    if bad_pieces(b, e, count) {
+    if bad_pieces(lg, b.e, b.count) {
         return 2;
     }
     0
@@ -52,14 +54,14 @@ fn pieces_below(n: u64, f: &[u64], d: usize, count: usize) -> bool
 }
 
 // Refusal 3 of a batch; 0 where it does not apply. A word is read only where both lengths are served.
-fn refusal_words(n: u64, f: &[u64], d: usize, g: &[u64], e: usize, count: usize) -> u32
-    requires { ⌜ ServedPieces d count (length (now f)) × ServedPieces e count (length (now g)) ⌝ }
+fn refusal_words(n: u64, f: &[u64], g: &[u64], b: Batch) -> u32
+    requires { ⌜ ServedPieces (b .d) (b .count) (length (now f)) × ServedPieces (b .e) (b .count) (length (now g)) ⌝ }
     ensures { λ r. ⌜ r ≡ first-refusal ((3, not (all-below n (now (f .entry)))) ∷ (3, not (all-below n (now (g .entry)))) ∷ []) ⌝ }
 {
-    if !pieces_below(n, f, d, count) {
+    if !pieces_below(n, f, b.d, b.count) {
         return 3;
     }
-    if !pieces_below(n, g, e, count) {
+    if !pieces_below(n, g, b.e, b.count) {
         return 3;
     }
     0
@@ -67,7 +69,7 @@ fn refusal_words(n: u64, f: &[u64], d: usize, g: &[u64], e: usize, count: usize)
 
 // Refusals 6 and 7 of a batch; 0 where neither applies.
 fn refusal_room(count: usize, l: usize, m: usize) -> u32
-    ensures { λ r. ⌜ r ≡ first-refusal ((6, short l count) ∷ (7, short m 16384) ∷ []) ⌝ }
+    ensures { λ r. ⌜ r ≡ first-refusal ((6, short l count) ∷ (7, short m (wide .working)) ∷ []) ⌝ }
 {
     if l < count {
         return 6;
@@ -79,28 +81,19 @@ fn refusal_room(count: usize, l: usize, m: usize) -> u32
 }
 
 // Refusals 1, 2, 3, 6 and 7 of a batch, in this order; 0 where none applies.
-pub fn refusal_batch(
-    n: u64,
-    f: &[u64],
-    d: usize,
-    g: &[u64],
-    e: usize,
-    count: usize,
-    l: usize,
-    m: usize,
-) -> u32
-    ensures { λ r. ⌜ r ≡ batch-status wide n (now (f .entry)) d (now (g .entry)) e count l m ⌝ }
+pub fn refusal_batch(n: u64, f: &[u64], g: &[u64], b: Batch, l: usize, m: usize) -> u32
+    ensures { λ r. ⌜ r ≡ batch-status wide n (now (f .entry)) (b .d) (now (g .entry)) (b .e) (b .count) l m ⌝ }
 {
     if refusals64::bad_modulus(n) {
         return 1;
     }
-    let two = refusal_pieces(f.len(), d, g.len(), e, count);
+    let two = refusal_pieces(f.len(), g.len(), b);
     if two != 0 {
         return two;
     }
-    let three = refusal_words(n, f, d, g, e, count);
+    let three = refusal_words(n, f, g, b);
     if three != 0 {
         return three;
     }
-    refusal_room(count, l, m)
+    refusal_room(b.count, l, m)
 }

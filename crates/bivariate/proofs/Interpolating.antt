@@ -4,6 +4,7 @@
 --   last-fits, sizes-kept, point-fits, value-inside    what a round asks
 --   valued          what the interpolation asks of them
 --   in-y            the polynomial with these values is the resultant in y
+--   prepared-found, valued-found, in-y-found    the same of the record of n
 --   points, interpolations    the rules
 --
 -- Letters: n is the modulus, m is n less 1; f of degrees d in y and a in z, g of e and b; last is B, z a point.
@@ -24,6 +25,8 @@ use Rattle.law_numbers.specs.Divisors.{bezout-exists}
 use Rattle.law_numbers.specs.PrimeTable.{differences-above}
 use Rattle.law_numbers.specs.Units.{cofactor-inverse, gcd-of-coprime, coprime-of-unit}
 use Rattle.law_polynomials.specs.BivariateLaws.{evaluated, bivariate-fixed}
+use Rattle.modulus.specs.Values.{ModulusOf}
+use Rattle.modulus.specs.declared.Modulus.{Modulus}
 use Rattle.windows.specs.Window.{Written, Scratch}
 use Rattle.windows.proofs.Leaf.{written-none, written-step}
 use Rattle.resultant_signs.specs.Degrees.{resultant-lt}
@@ -89,7 +92,7 @@ module _ {n last d a e b : ℕ} {f g out w : List ℕ} (p : Prepared n last f d 
         plus : (k : ℕ) → 0 + k ≡ k
         plus k = omega arith
 
-    pub valued : Valued n last out₁
+    valued : Valued n last out₁
     valued = record {
       two = p .two;
       inside = omega (arith, v .same, p .inside);
@@ -124,7 +127,7 @@ module _ {n last d a e b : ℕ} {f g out w : List ℕ} (p : Prepared n last f d 
           ∙ bivariate-fixed m d a e b f g (λ k. bezout-exists (suc m) k (zero-lt-suc m) .s) (unit m h) (λ k. getD out₂ k 0) (value m h) k
           (omega (arith, p .degree))
 
-      pub in-y : Written (bivariate-resultant n d a e b f g) 0 (last + 1) out out₂
+      in-y : Written (bivariate-resultant n d a e b f g) 0 (last + 1) out out₂
       in-y = record {
         same = i .same ∙ v .same;
         low = λ k l. absurd (omega arith);
@@ -137,4 +140,18 @@ module _ {n last d a e b : ℕ} {f g out w : List ℕ} (p : Prepared n last f d 
 
 pub ruleset points = (needs, values-none, last-fits, sizes-kept, point-fits, value-inside, values-next, values-end, values-scratch)
 
-pub ruleset interpolations = (valued, in-y)
+-- the same, where the code works with the record m of n
+module _ {n last d a e b : ℕ} {f g out w : List ℕ} {m : Modulus} (h : ModulusOf n m) (p : Prepared n last f d a g e b out w) where
+  pub prepared-found : Prepared (m .n) last f d a g e b out w
+  prepared-found = subst (λ (x : ℕ). Prepared x last f d a g e b out w) (sym (h .is)) p
+
+  module _ {out₁ : List ℕ} (v : Written (value-at (m .n) f d a g e b) 0 (last + 1) out out₁) where
+    pub valued-found : Valued (m .n) last out₁
+    valued-found = valued prepared-found v
+
+    pub in-y-found : {out₂ : List ℕ} → Interpolated (m .n) last out₁ out₂
+        → Written (bivariate-resultant n d a e b f g) 0 (last + 1) out out₂
+    in-y-found {out₂} i =
+        subst (λ (x : ℕ). Written (bivariate-resultant x d a e b f g) 0 (last + 1) out out₂) (h .is) (in-y prepared-found v i)
+
+pub ruleset interpolations = (needs, prepared-found, valued-found, in-y-found)

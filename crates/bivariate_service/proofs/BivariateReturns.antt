@@ -3,10 +3,11 @@
 --   accepted, room-accepted    what is known once none of the refusals 1, 2 and 3, or 12, 11, 6 and 7, applies
 --   either-hit, either-miss, shape-length, shape-fits    the test of degrees and length
 --   product-fits, sum-fits     the products of degrees that B is made of
+--   few-d, few-a, few-e, few-b    the degrees that were served
 --   prepared                   what the run asks, once none applies
 --   wiped                      the working buffer after an answer
 --   refused-sent, refused-room, done
---   shapes, answers            the rules
+--   shapes, degrees, answers   the rules
 use mathlib.Core.Path.{_≡_, refl, sym, ap, subst, _∙_}
 use mathlib.Core.Bool.{Bool, true, false, not, cond}
 use mathlib.Core.List.{List, [], _∷_, _++_}
@@ -24,7 +25,7 @@ use Rattle.definitions.specs.Polynomials.{coef, tabulate, Residues}
 use Rattle.definitions.specs.Bivariate.{bivariate-resultant, bivariate-degree}
 use Rattle.law_numbers.specs.PrimeTable.{NoSmallPrime, none-differences}
 use Rattle.law_polynomials.specs.Words.{coef-tabulate, length-tabulate}
-use Rattle.refusals.specs.Refusals.{narrow, short, replaced}
+use Rattle.refusals.specs.Refusals.{narrow, short, replaced, first-refusal}
 use Rattle.refusals.specs.Conditions.{ServedModulus, status-zero, modulus-fails, words-fail, short-fails}
 use Rattle.refusals.specs.Fronts.{front-is}
 use Rattle.refusals.proofs.Cascade.{cascade}
@@ -113,25 +114,33 @@ pub has-room : (l b : ℕ) → b + 1 ≤ l → short l (suc b) ≡ false
 has-room l b h = le-ltb l (suc b) (omega arith)
 
 -- the products of a degree in y and one in z, and the sum of two
-pub one-of : (x y : ℕ) → x ≤ x + y
-one-of x y = omega arith
+small : (x y : ℕ) → x ≤ 48 → y ≤ 48 → x * y ≤ 2304
+small x y p q = mul-le-mul {n₁ = x} {m₁ = y} {n₂ = 48} {m₂ = 48} p q
 
-pub other-of : (x y : ℕ) → y ≤ x + y
-other-of x y = omega arith
+pub product-fits : (x y : ℕ) → x ≤ 48 → y ≤ 48 → Fits w64 (x * y)
+product-fits x y p q = record { fits = omega (arith, small x y p q) }
 
-module _ {n : ℕ} {f : List ℕ} {d a : ℕ} {g : List ℕ} {e b s : ℕ} (told : SentTold narrow n f d a g e b s) (z : s ≡ 0)
-    (x y : ℕ) (p : x ≤ d + e) (q : y ≤ a + b) where
-  small : x * y ≤ 9216
-  small =
-      let t = accepted told z in
-      mul-le-mul {n₁ = x} {m₁ = y} {n₂ = 96} {m₂ = 96} (omega (arith, t .first, t .second)) (omega (arith, t .first, t .second))
+pub sum-fits : (x y u v : ℕ) → x ≤ 48 → y ≤ 48 → u ≤ 48 → v ≤ 48 → Fits w64 (x * y + u * v)
+sum-fits x y u v p q r t = record { fits = omega (arith, small x y p q, small u v r t) }
 
-  pub product-fits : Fits w64 (x * y)
-  product-fits = record { fits = omega (arith, small) }
+pub ruleset degrees = (needs, product-fits, sum-fits)
 
-pub sum-fits : {n : ℕ} {f : List ℕ} {d a : ℕ} {g : List ℕ} {e b s : ℕ} → SentTold narrow n f d a g e b s → s ≡ 0
-    → (x y u v : ℕ) → x ≤ d + e → y ≤ a + b → u ≤ d + e → v ≤ a + b → Fits w64 (x * y + u * v)
-sum-fits told z x y u v p q r t = record { fits = omega (arith, small told z x y p q, small told z u v r t) }
+-- the degrees that were served
+module _ {n : ℕ} {f : List ℕ} {d a : ℕ} {g : List ℕ} {e b s : ℕ} (told : SentTold narrow n f d a g e b s) (z : s ≡ 0) where
+  pub few-d : d ≤ 48
+  few-d = accepted told z .first .most-y
+
+  pub few-a : a ≤ 48
+  few-a = accepted told z .first .most-z
+
+  pub few-e : e ≤ 48
+  few-e = accepted told z .second .most-y
+
+  pub few-b : b ≤ 48
+  few-b = accepted told z .second .most-z
+
+room-told : {n x y l m t : ℕ} → RoomTold narrow n x l m t → x ≡ y → t ≡ first-refusal (bivariate-room narrow n y l m)
+room-told {n} {x} {y} {l} {m} {t} h e = subst (λ (b : ℕ). t ≡ first-refusal (bivariate-room narrow n b l m)) e (h .is)
 
 -- the working buffer after an answer
 pub wiped : {w w₁ w₂ : List ℕ} → Scratch w w₁ → w₂ ≡ replicate (length w₁) 0 → w₂ ≡ replicate (length w) 0
@@ -149,19 +158,21 @@ module _ {n : ℕ} {f : List ℕ} {d a : ℕ} {g : List ℕ} {e b : ℕ} {out wo
     work-is = left-refused s work z;
   }
 
-  module _ (z : s ≡ 0) {t : ℕ} (room : RoomTold narrow n (bivariate-degree d a e b) (length out) (length work) t) where
+  -- last is B
+  module _ (z : s ≡ 0) {last t : ℕ} (room : RoomTold narrow n last (length out) (length work) t)
+      (is : last ≡ bivariate-degree d a e b) where
     pub refused-room : (t ≡ 0 → ⊥) → BivariateAnswer narrow n f d a g e b out out work work 0 t
     refused-room y = record {
       status-is = passed-on (bivariate-sent narrow n f d a g e b)
           (bivariate-room narrow n (bivariate-degree d a e b) (length out) (length work)) s t
-          (told .is) z (room .is);
+          (told .is) z (room-told room is);
       value-is = refl;
       out-is = replaced-refused t (tabulate (suc (bivariate-degree d a e b)) (bivariate-resultant n d a e b f g)) out y;
       work-is = left-refused t work y;
     }
 
     -- the values, the evaluated pair and the run's room fit: 7538 of 8192 words
-    pub prepared : t ≡ 0 → Prepared n (bivariate-degree d a e b) f d a g e b out work
+    pub prepared : t ≡ 0 → Prepared n last f d a g e b out work
     prepared y =
         let p = accepted told z in
         let r = room-accepted room y in
@@ -174,21 +185,22 @@ module _ {n : ℕ} {f : List ℕ} {d a : ℕ} {g : List ℕ} {e b : ℕ} {out wo
             words-g = p .second .words;
             working = omega (arith, r .working);
           };
-          degree = refl;
+          degree = is;
           inside = r .out;
           apart = none-differences (omega (arith, p .modulus)) (r .none);
         }
 
-    pub done : (y : t ≡ 0) {out' work' : List ℕ} → Written (bivariate-resultant n d a e b f g) 0 (bivariate-degree d a e b + 1) out out'
+    pub done : (y : t ≡ 0) {out' work' : List ℕ} → Written (bivariate-resultant n d a e b f g) 0 (last + 1) out out'
         → work' ≡ replicate (length work) 0 → BivariateAnswer narrow n f d a g e b out out' work work' 0 0
     done y {out'} h k = record {
       status-is = passed-on (bivariate-sent narrow n f d a g e b)
           (bivariate-room narrow n (bivariate-degree d a e b) (length out) (length work)) s 0
-          (told .is) z (sym y ∙ room .is);
+          (told .is) z (sym y ∙ room-told room is);
       value-is = refl;
-      out-is = written-front (bivariate-resultant n d a e b f g) (suc (bivariate-degree d a e b)) out out' (room-accepted room y .out)
-          (subst (λ (l : ℕ). Written (bivariate-resultant n d a e b f g) 0 l out out') (add-one (bivariate-degree d a e b)) h);
+      out-is = written-front (bivariate-resultant n d a e b f g) (suc (bivariate-degree d a e b)) out out'
+          (subst (λ (x : ℕ). suc x ≤ length out) is (room-accepted room y .out))
+          (subst (λ (l : ℕ). Written (bivariate-resultant n d a e b f g) 0 l out out') (add-one last ∙ ap suc is) h);
       work-is = k;
     }
 
-pub ruleset answers = (needs, one-of, other-of, product-fits, sum-fits, refused-sent, refused-room, prepared, done)
+pub ruleset answers = (needs, few-d, few-a, few-e, few-b, refused-sent, refused-room, prepared, done)

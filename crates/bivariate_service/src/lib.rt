@@ -5,11 +5,11 @@
 //
 //   bad_shape, sent_refusal         the refusals 1, 2 and 3
 //   prime, prime_divides, room_refusal     the refusals 12, 11, 6 and 7
-//   served, bivariate_resultant           the answer, and the service
+//   degree_in_z, served, bivariate_resultant     B, the answer, and the service
 ghost use mathlib.Core.Path.{_≡_};
 ghost use Prim.Native.Nat.{_+_, _<_, _≤_};
 ghost use lib.ListN.{length, getD, replicate};
-ghost use Rattle.definitions.specs.Bivariate.{bivariate-resultant};
+ghost use Rattle.definitions.specs.Bivariate.{bivariate-resultant, bivariate-degree};
 ghost use Rattle.law_numbers.specs.PrimeTable.{table};
 ghost use Rattle.refusals.specs.Refusals.{narrow};
 ghost use Rattle.windows.specs.Window.{Written};
@@ -130,6 +130,14 @@ fn room_refusal(n: u32, last: usize, l: usize, m: usize) -> u32
     0
 }
 
+// B, the degree in z of the resultant.
+fn degree_in_z(d: usize, a: usize, e: usize, b: usize) -> usize
+    requires { ⌜ (d ≤ 48) × ((a ≤ 48) × ((e ≤ 48) × (b ≤ 48))) ⌝ }
+    ensures { λ r. ⌜ r ≡ bivariate-degree d a e b ⌝ }
+{
+    e * a + d * b
+}
+
 // The answer in out, and zeros in the working buffer; last is B.
 fn served(out: &mut [u32], work: &mut [u32], n: u32, f: &[u32], g: &[u32], s: Degrees, last: usize)
     requires { ⌜ Prepared n last (now f) (s .d) (s .a) (now g) (s .e) (s .b) (now out) (now work) ⌝ }
@@ -163,7 +171,7 @@ pub fn bivariate_resultant(
             status: s,
         };
     }
-    let last = e * a + d * b;
+    let last = degree_in_z(d, a, e, b);
     let t = room_refusal(n, last, out.len(), work.len());
     if t != 0 {
         return Answer {

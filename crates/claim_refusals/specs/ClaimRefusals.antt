@@ -55,13 +55,7 @@ abbrev pub size-conditions : Width → ℕ → List ℕ → List ℕ → List �
 size-conditions W n f g u v = ServedModulus W n ∷ ServedLength f ∷ ServedLength g ∷ ServedMultiplier u ∷ ServedMultiplier v ∷ []
 
 pub size-listed : (W : Width) (n : ℕ) (f g u v : List ℕ) → Listed (size-refusals W n f g u v) (size-conditions W n f g u v)
-size-listed W n f g u v = (
-  (omega arith, modulus-fails W n),
-  (
-    (omega arith, length-fails f),
-    ((omega arith, length-fails g), ((omega arith, multiplier-fails u), ((omega arith, multiplier-fails v), tt))),
-  ),
-)
+size-listed W n f g u v = search (arith, tt, modulus-fails, length-fails, multiplier-fails) depth 20
 
 -- the conditions of an answer: so `status-zero` and `status-is` (refusals/Conditions) say when the status is 0, and when it is k
 abbrev pub claim-conditions : Width → ℕ → List ℕ → List ℕ → List ℕ → List ℕ → ℕ → List (Type 0)
@@ -71,25 +65,4 @@ claim-conditions W n f g u v l =
 
 pub claim-listed : (W : Width) (n : ℕ) (f g u v : List ℕ) (l : ℕ)
     → Listed (claim-refusals W n f g u v l) (claim-conditions W n f g u v l)
-claim-listed W n f g u v l = (
-  (omega arith, modulus-fails W n),
-  (
-    (omega arith, length-fails f),
-    (
-      (omega arith, length-fails g),
-      (
-        (omega arith, multiplier-fails u),
-        (
-          (omega arith, multiplier-fails v),
-          (
-            (omega arith, words-fail n f),
-            (
-              (omega arith, words-fail n g),
-              ((omega arith, words-fail n u), ((omega arith, words-fail n v), ((omega arith, short-fails l (W .working)), tt))),
-            ),
-          ),
-        ),
-      ),
-    ),
-  ),
-)
+claim-listed W n f g u v l = search (arith, tt, modulus-fails, length-fails, multiplier-fails, words-fail, short-fails) depth 30

@@ -8,14 +8,19 @@ ghost use mathlib.Core.List.{[], _∷_};
 ghost use Rattle.refusals.specs.Refusals.{narrow, short, first-refusal};
 ghost use Rattle.claim_refusals.specs.ClaimRefusals.{bad-multiplier, size-refusals, word-refusals, claim-status, ServedLengthsAsked};
 
-// Whether u has no word, or more than 4096.
+// The most words of a multiplier, and the refusal of one that has more, or none.
+const MAX_MULTIPLIER: usize = 4096;
+
+const BAD_MULTIPLIER: u32 = 16;
+
+// Whether u has no word, or too many.
 fn bad_multiplier(u: &[u32]) -> bool
     ensures { λ r. ⌜ r ≡ bad-multiplier (now (u .entry)) ⌝ }
 {
     if u.len() == 0 {
         return true;
     }
-    4096 < u.len()
+    MAX_MULTIPLIER < u.len()
 }
 
 // Refusals 1, 2 and 16; 0 where none applies.
@@ -32,10 +37,10 @@ fn refusal_sizes(n: u32, f: &[u32], g: &[u32], u: &[u32], v: &[u32]) -> u32
         return 2;
     }
     if bad_multiplier(u) {
-        return 16;
+        return BAD_MULTIPLIER;
     }
     if bad_multiplier(v) {
-        return 16;
+        return BAD_MULTIPLIER;
     }
     0
 }

@@ -14,7 +14,7 @@ ghost use Rattle.divisor.specs.Sizes.{DivisorLengthsAsked};
 ghost use Rattle.claims.specs.Claims.{Judged, Tells, ClaimLengthsAsked, ClaimAsked};
 
 // S47: "0 divides no n"
-fn divides(d: u32, n: u32) -> bool
+fn divides(n: u32, d: u32) -> bool
     requires { ⌜ 1 ≤ n ⌝ }
     ensures { λ r. ⌜ Tells r (d ∣ n) ⌝ }
 {
@@ -81,7 +81,7 @@ pub fn judge(work: &mut [u32], n: u32, f: &[u32], g: &[u32], d: u32, u: &[u32], 
     ensures { λ r. ⌜ Judged r n (now (f .entry)) (now (g .entry)) d (now (u .entry)) (now (v .entry)) ⌝ }
     ensures { λ _. ⌜ Scratch (now (work .entry)) (now (work .exit)) ⌝ }
 {
-    let divides_n = divides(d, n);
+    let divides_n = divides(n, d);
     let gives_d = combines(n, f, g, d, u, v);
     if !divides_n {
         return 1;

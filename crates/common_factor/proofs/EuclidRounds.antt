@@ -18,6 +18,8 @@ use Rattle.definitions.specs.Residues.{IsUnit}
 use Rattle.definitions.specs.Polynomials.{coef}
 use Rattle.law_numbers.specs.Congruence.{c-dvd, c-zero}
 use Rattle.law_numbers.specs.Units.{unit-dvd}
+use Rattle.modulus.specs.Values.{Known}
+use Rattle.modulus.specs.declared.Modulus.{Modulus}
 use Rattle.windows.specs.Window.{piece}
 use Rattle.windows.proofs.Leaf.{piece-at, piece-over, piece-length, lt-or-le}
 use Rattle.common_factor.specs.Common.{DividesModulo, OnlyZero}
@@ -46,15 +48,16 @@ shorter c w b l k j h e z i = ⊎-elim
 pub common-cong : {m m' d d' : ℕ} {f g f' g' w : List ℕ} {h : Found} → CommonIn m d f g w h → m ∣ m' → d ≤ d'
     → ((i : ℕ) → coef f i % m ≡ coef f' i % m) → ((i : ℕ) → coef g i % m ≡ coef g' i % m) → CommonIn m' d' f' g' w h
 common-cong {m} {h = h} x v n same-f same-g = record {
-  divides = dvd-trans (h .m) (x .divides) v;
+  known = x .known;
+  divides = dvd-trans (h .m .n) (x .divides) v;
   two = x .two;
   one = x .one;
   few = omega (arith, x .few);
   inside = x .inside;
   unit = x .unit;
-  first = divides-cong (h .m) (omega (arith, x .two)) _ _ _ _ (λ _. refl) (λ i. c-dvd (x .divides) (record { same = same-f i }) .same)
+  first = divides-cong (h .m .n) (omega (arith, x .two)) _ _ _ _ (λ _. refl) (λ i. c-dvd (x .divides) (record { same = same-f i }) .same)
       (x .first);
-  second = divides-cong (h .m) (omega (arith, x .two)) _ _ _ _ (λ _. refl) (λ i. c-dvd (x .divides) (record { same = same-g i }) .same)
+  second = divides-cong (h .m .n) (omega (arith, x .two)) _ _ _ _ (λ _. refl) (λ i. c-dvd (x .divides) (record { same = same-g i }) .same)
       (x .second);
 }
 
@@ -70,18 +73,6 @@ module _ {m a d b l : ℕ} {w : List ℕ} (q : EuclidAsked m a d b l w) {c k : �
 
   unit : IsUnit c (getD w (a + d) 0)
   unit = unit-dvd pos (s .divides) (q .unit)
-
-  pub last : k ≡ 0 → CommonIn m d (piece w a (d + 1)) (piece w b l) w (record { m = c; at = a; degree = d })
-  last e = record {
-    divides = s .divides;
-    two = s .two;
-    one = let n : (d ≡ 0 → ⊥) = no-constant c (s .two) w a d (piece w b l) unit only in omega arith;
-    few = omega arith;
-    inside = q .first;
-    unit = unit;
-    first = divides-constant c 1 _ _ (λ j. ap (λ (x : ℕ). x % c) (sym (one-mul (coef (piece w a (d + 1)) j))));
-    second = divides-zero c _ _ (λ j. c-zero (s .zero j (omega arith)) .same);
-  }
 
   module _ (some : k ≡ 0 → ⊥) where
     top : k - 1 + 1 ≡ k
@@ -133,22 +124,37 @@ module _ {m a d b l : ℕ} {w : List ℕ} (q : EuclidAsked m a d b l w) {c k : �
       pub next-found : {w'' : List ℕ} {h : Found} → CommonIn c (k - 1) (piece w' b (k - 1 + 1)) (piece w' a (k - 1)) w'' h
           → CommonIn m d (piece w a (d + 1)) (piece w b l) w'' h
       next-found {w''} {h} x = record {
-        divides = dvd-trans (h .m) (x .divides) (s .divides);
+        known = x .known;
+        divides = dvd-trans (h .m .n) (x .divides) (s .divides);
         two = x .two;
         one = x .one;
         few = omega (arith, near, x .few);
         inside = x .inside;
         unit = x .unit;
-        first = divides-rest (h .m) some-m _ _ _ (r .quotient) _ (divided-dvd (h .m) c _ _ (r .quotient) _ (x .divides) (r .divided))
+        first = divides-rest (h .m .n) some-m _ _ _ (r .quotient) _ (divided-dvd (h .m .n) c _ _ (r .quotient) _ (x .divides) (r .divided))
             divisor (x .second);
-        second = divides-cong (h .m) some-m _ _ _ _ (λ _. refl) (λ i. c-dvd (x .divides) (record { same = shown i }) .same) divisor;
+        second = divides-cong (h .m .n) some-m _ _ _ _ (λ _. refl) (λ i. c-dvd (x .divides) (record { same = shown i }) .same) divisor;
       }
         where
-          some-m : 1 ≤ h .m
+          some-m : 1 ≤ h .m .n
           some-m = omega (arith, x .two)
 
-          divisor : DividesModulo (h .m) (piece w'' (h .at) (h .degree + 1)) (piece w b (k - 1 + 1))
+          divisor : DividesModulo (h .m .n) (piece w'' (h .at) (h .degree + 1)) (piece w b (k - 1 + 1))
           divisor =
-              divides-cong (h .m) some-m _ _ _ _ (λ _. refl) (λ i. c-dvd (x .divides) (record { same = r .divisor i }) .same) (x .first)
+              divides-cong (h .m .n) some-m _ _ _ _ (λ _. refl) (λ i. c-dvd (x .divides) (record { same = r .divisor i }) .same) (x .first)
+
+pub last : {m a d b l k : ℕ} {w : List ℕ} {x : Modulus} → EuclidAsked m a d b l w → Known x → Stripped m (piece w b l) (x .n) k → k ≡ 0
+    → CommonIn m d (piece w a (d + 1)) (piece w b l) w (record { m = x; at = a; degree = d })
+last {m} {a} {d} {b} {l} {k} {w} {x} q y s e = record {
+  known = y;
+  divides = s .divides;
+  two = s .two;
+  one = let n : (d ≡ 0 → ⊥) = no-constant (x .n) (s .two) w a d (piece w b l) (unit q s) (only q s) in omega arith;
+  few = omega arith;
+  inside = q .first;
+  unit = unit q s;
+  first = divides-constant (x .n) 1 _ _ (λ j. ap (λ (z : ℕ). z % x .n) (sym (one-mul (coef (piece w a (d + 1)) j))));
+  second = divides-zero (x .n) _ _ (λ j. c-zero (s .zero j (omega arith)) .same);
+}
 
 pub ruleset rounds = (needs, last, less, step-asked, next-asked, next-found)

@@ -4,7 +4,7 @@
 --   start-asked      what the search asks of the words in the buffer
 --   ground-loaded    the ground for them is one for f and g
 --   loadings         the rules
-use mathlib.Core.Path.{_≡_, sym, ap, _∙_}
+use mathlib.Core.Path.{_≡_, sym, ap, subst, _∙_}
 use mathlib.Core.List.{List}
 use mathlib.Core.Logic.{⊎-elim}
 use Prim.Native.Nat.{ℕ, _+_, _%_, _<_, _≤_, _∣_}
@@ -15,8 +15,11 @@ use lib.ListN.{length, getD}
 use Rattle.definitions.specs.Polynomials.{coef}
 use Rattle.law_numbers.specs.Congruence.{c-trans, c-dvd, c-zero, dvd-c}
 use Rattle.law_polynomials.specs.ReachedSteps.{coef-beyond}
+use Rattle.modulus.specs.Values.{ModulusOf}
+use Rattle.modulus.specs.declared.Modulus.{Modulus}
 use Rattle.windows.specs.Window.{piece, Loaded, Scratch}
 use Rattle.windows.proofs.Leaf.{piece-at, piece-over, lt-or-le}
+use Rattle.common_factor.specs.Common.{OnlyZero}
 use Rattle.common_factor.specs.CommonLaws.{only-zero-cong}
 use Rattle.common_factor.specs.Searches.{StartAsked, SearchAsked, BothLoaded, GroundIn}
 use Rattle.common_factor.specs.declared.Ground.{Ground}
@@ -36,30 +39,36 @@ both-loaded {m} {f} {g} {w} {w₁} {w₂} h₁ h₂ = record {
   second = loaded m (length f) g w₂ (h₂ .mid);
 }
 
-module _ {m : ℕ} {f g w w₂ : List ℕ} (q : SearchAsked m f g w) (h : BothLoaded m f g w w₂) where
-  pub start-asked : {x y : ℕ} → x ≡ length f → y ≡ length g → StartAsked m x y w₂
+-- m is the record of n
+module _ {n : ℕ} {m : Modulus} {f g w w₂ : List ℕ} (o : ModulusOf n m) (q : SearchAsked n f g w) (h : BothLoaded n f g w w₂) where
+  pub start-asked : {x y : ℕ} → x ≡ length f → y ≡ length g → StartAsked (m .n) x y w₂
   start-asked ex ey = rw (ex, ey) (record {
-    two = q .two;
+    two = subst (λ (x : ℕ). 2 ≤ x) (sym (o .is)) (q .two);
     room = omega (arith, h .same, q .room);
     few-x = q .few-f;
     few-y = q .few-g;
-    only = only-zero-cong m (omega (arith, q .two)) _ _ _ _ (λ k. sym (h .first k)) (λ k. sym (h .second k)) (q .only);
+    only = subst (λ (x : ℕ). OnlyZero x (piece w₂ 0 (length f)) (piece w₂ (length f) (length g))) (sym (o .is))
+        (only-zero-cong n (omega (arith, q .two)) _ _ _ _ (λ k. sym (h .first k)) (λ k. sym (h .second k)) (q .only));
   })
 
   pub scratch : {w₃ : List ℕ} → Scratch w₂ w₃ → Scratch w w₃
   scratch s = record { same = s .same ∙ h .same }
 
-  pub ground-loaded : (w' : List ℕ) (r : Ground) → GroundIn m (piece w₂ 0 (length f)) (piece w₂ (length f) (length g)) w' r
-      → GroundIn m f g w' r
-  ground-loaded w' (Zero m') z = record {
+  ground-back : (w' : List ℕ) (r : Ground) → GroundIn n (piece w₂ 0 (length f)) (piece w₂ (length f) (length g)) w' r → GroundIn n f g w' r
+  ground-back w' (Zero m') z = record {
     divides = z .divides;
     two = z .two;
     first = record { at = λ k. down (coef f k) _ (h .first k) (z .first .at k) };
     second = record { at = λ k. down (coef g k) _ (h .second k) (z .second .at k) };
   }
     where
-      down : (x y : ℕ) → y % m ≡ x % m → m' ∣ y → m' ∣ x
+      down : (x y : ℕ) → y % n ≡ x % n → m' ∣ y → m' ∣ x
       down x y p h = dvd-c (c-trans (c-dvd (z .divides) (record { same = sym p })) (c-zero h))
-  ground-loaded w' (Common _) x = common-cong x (dvd-refl m) (omega arith) (h .first) (h .second)
+  ground-back w' (Common _) x = common-cong x (dvd-refl n) (omega arith) (h .first) (h .second)
+
+  pub ground-loaded : (w' : List ℕ) (r : Ground) → GroundIn (m .n) (piece w₂ 0 (length f)) (piece w₂ (length f) (length g)) w' r
+      → GroundIn n f g w' r
+  ground-loaded w' r x =
+      ground-back w' r (subst (λ (t : ℕ). GroundIn t (piece w₂ 0 (length f)) (piece w₂ (length f) (length g)) w' r) (o .is) x)
 
 pub ruleset loadings = (needs, both-loaded, start-asked, scratch, ground-loaded)

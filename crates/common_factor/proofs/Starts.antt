@@ -70,6 +70,7 @@ module _ {m c a p k b r l : ℕ} {w : List ℕ} (y : Ready m c a p k b r l w) wh
 
 flipped : {m d : ℕ} {f g w : List ℕ} {h : Found} → CommonIn m d f g w h → CommonIn m d g f w h
 flipped x = record {
+  known = x .known;
   divides = x .divides;
   two = x .two;
   one = x .one;

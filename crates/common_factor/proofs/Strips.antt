@@ -1,8 +1,9 @@
--- The loop that drops leading words: modulo c, a divisor of m, the words from place l on vanish.
+-- The loop that drops leading words: modulo c, a divisor of m, the words from place l on vanish. The record of c is made after it.
 --
 --   Left                      what holds at each round
 --   left-none, left-step      before the first round, and after one more
 --   left-unit, left-end       a leading word that is a unit, and no word left
+--   stripped-again            the same of the record of c
 --   strips                    the rules
 use mathlib.Core.Path.{_≡_, sym, ap, subst, _∙_}
 use mathlib.Core.List.{List}
@@ -75,4 +76,7 @@ left-end {m} {a} {len} {c} {l} {w} h n = record {
   unit = λ p. absurd (omega arith);
 }
 
-pub ruleset strips = (needs, left-none, left-step, left-unit, left-end)
+pub stripped-again : {m c c' l : ℕ} {f : List ℕ} → Stripped m f c l → c' ≡ c → Stripped m f c' l
+stripped-again {m} {c} {c'} {l} {f} s e = subst (λ (x : ℕ). Stripped m f x l) (sym e) s
+
+pub ruleset strips = (needs, left-none, left-step, left-unit, left-end, stripped-again)

@@ -14,6 +14,7 @@ use Prim.Native.Nat.{ℕ, _+_, _-_, _*_, _%_, _<_, _≤_, _∣_}
 use lib.ListN.{length, getD}
 use Rattle.definitions.specs.Residues.{IsUnit}
 use Rattle.definitions.specs.Polynomials.{coef, Divided}
+use Rattle.modulus.specs.Values.{Known}
 use Rattle.windows.specs.Window.{piece, Apart}
 use Rattle.common_factor.specs.Common.{DividesModulo, ZeroModulo, OnlyZero}
 use Rattle.common_factor.specs.declared.Found.{Found}
@@ -61,17 +62,18 @@ pub record EuclidAsked (m a d b l : ℕ) (w : List ℕ) : Type 0 where
   pub unit : IsUnit m (getD w (a + d) 0)
   pub only : OnlyZero m (piece w a (d + 1)) (piece w b l)
 
--- a polynomial of degree t, from 1 to d, at a place of w, its leading word a unit modulo m', a divisor of m above 1: it divides f and g
--- modulo m'
+-- a polynomial of degree t, from 1 to d, at a place of w, its leading word a unit modulo the n of a record, a divisor of m above 1:
+-- it divides f and g modulo n
 pub record CommonIn (m d : ℕ) (f g w : List ℕ) (h : Found) : Type 0 where
-  pub divides : h .m ∣ m
-  pub two : 2 ≤ h .m
+  pub known : Known (h .m)
+  pub divides : h .m .n ∣ m
+  pub two : 2 ≤ h .m .n
   pub one : 1 ≤ h .degree
   pub few : h .degree ≤ d
   pub inside : h .at + h .degree < length w
-  pub unit : IsUnit (h .m) (getD w (h .at + h .degree) 0)
-  pub first : DividesModulo (h .m) (piece w (h .at) (h .degree + 1)) f
-  pub second : DividesModulo (h .m) (piece w (h .at) (h .degree + 1)) g
+  pub unit : IsUnit (h .m .n) (getD w (h .at + h .degree) 0)
+  pub first : DividesModulo (h .m .n) (piece w (h .at) (h .degree + 1)) f
+  pub second : DividesModulo (h .m .n) (piece w (h .at) (h .degree + 1)) g
 
 -- f of x words at 0 and g of y words after it; only zero is reached
 pub record StartAsked (m x y : ℕ) (w : List ℕ) : Type 0 where

@@ -11,6 +11,9 @@ ghost use mathlib.Core.Path.{_≡_};
 ghost use Prim.Native.Nat.{_*_, _≤_};
 ghost use lib.ListN.{length};
 
+// Room for the answers to 65536 lines, as many as can end in the characters of one read: 13 for each.
+const ROOM: usize = 851968;
+
 // What a read came to: an unfinished line is kept, the input has ended, or a call has failed.
 enum Next {
     Pending(usize),
@@ -109,11 +112,10 @@ fn run(line: &mut [u8], piece: &mut [u8], out: &mut [u8])
     }
 }
 
-// Room for the answers to 65536 lines, as many as 65536 characters can end.
-fn answers_room() -> [u8; 851968]
+fn answers_room() -> [u8; ROOM]
     ensures { λ r. ⌜ 851968 ≡ length r ⌝ }
 {
-    [0; 851968]
+    [0; ROOM]
 }
 
 fn main() {

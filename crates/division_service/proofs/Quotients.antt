@@ -2,8 +2,8 @@
 --
 --   Quotienting                     what a round of `quotient_words` keeps, with its start, round and end
 --   remainders, remainder-next      the words of the remainder, and a round of `remainder_words`
---   divided                         both together are the division
---   quotients                       the rules
+--   asked-by, divided               what the stages are asked by the record; both together are the division
+--   quotients, divides              the rules
 use mathlib.Core.Path.{_≡_, refl, sym, ap, ap₂, subst, _∙_}
 use mathlib.Core.List.{List}
 use mathlib.Core.Logic.{⊎-elim}
@@ -200,10 +200,15 @@ module _ (n : ℕ) (f g q r : List ℕ) (pos : 0 < n) (one : 1 ≤ length g) (qw
 abbrev pub remainders : ℕ → List ℕ → List ℕ → List ℕ → ℕ → ℕ
 remainders n f g q k = difference n (coef f k) (convolve (coef q) (coef g) k)
 
-pub divided : {n i : ℕ} {f g p q r' : List ℕ} (r : List ℕ) → QuotientAsked n i f g p → length r ≡ deg g → QuotientWords n f g q
-    → r' ≡ tabulate (length r) (remainders n f g q) → Division n f g q r'
-divided {n} {i} {f} {g} {p} {q} {r'} r a l qw e =
-    division-of n f g q r' (a .modulus) (a .some-g) qw (e ∙ ap (λ (k : ℕ). tabulate k (remainders n f g q)) l)
+-- the record's modulus a is n
+pub asked-by : {a n i : ℕ} {f g q : List ℕ} → QuotientAsked n i f g q → a ≡ n → QuotientAsked a i f g q
+asked-by h e = rw e h
+
+pub divided : {n i : ℕ} {f g p q r' : List ℕ} (a : ℕ) (r : List ℕ) → QuotientAsked n i f g p → length r ≡ deg g → QuotientWords a f g q
+    → r' ≡ tabulate (length r) (remainders a f g q) → a ≡ n → Division n f g q r'
+divided {n} {i} {f} {g} {p} {q} {r'} a r asked l qw e ea =
+    division-of n f g q r' (asked .modulus) (asked .some-g) (subst (λ (k : ℕ). QuotientWords k f g q) ea qw)
+    (e ∙ ap₂ (λ (j k : ℕ). tabulate j (remainders k f g q)) l ea)
 
 -- a word of the remainder, as the code makes it
 pub remainder-next : {k k' : ℕ} {r₀ r r' : List ℕ} (n a x y v : ℕ) (f g q : List ℕ) → Filled (remainders n f g q) k r₀ r → k < length r
@@ -221,6 +226,8 @@ beyond-word f k l = sym (coef-beyond f k l)
 
 pub ruleset rounds = (quotienting-start, quotienting-next, quotienting-end, quotient-word-is, residue-within)
 
-pub ruleset remains = (beyond-word, filled-none, remainder-next, filled-end, divided)
+pub ruleset remains = (beyond-word, filled-none, remainder-next, filled-end)
 
 pub ruleset quotients = (needs, rounds, remains)
+
+pub ruleset divides = (needs, asked-by, divided)

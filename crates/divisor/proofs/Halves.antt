@@ -6,6 +6,7 @@
 --   half-…                  D of the two polynomials sent, from D modulo n / c
 --   turned-…, neither-reduced    the half with the polynomials in the other order, after one that found none but nilpotents
 --   whole-reduced           both polynomials are 0 modulo n
+--   content-…, half-asked, half-after    the content and the modulus over it are above 0, and a half is asked
 --   parted-attempted        two coprime factors of n are an answer
 --   split-…, product-…      D modulo n, from D modulo each of the two
 --   halves, rounds          the rules
@@ -26,7 +27,7 @@ use Rattle.definitions.specs.Polynomials.{coef}
 use Rattle.definitions.specs.Resultants.{Reduced}
 use Rattle.law_polynomials.specs.ReachedSteps.{Times, coef-beyond}
 use Rattle.law_polynomials.specs.ReducedLaws.{reduced-content, reduced-one, reduced-flip, reduced-coprime}
-use Rattle.windows.specs.Window.{piece, Moved, quotient-by, zeroed}
+use Rattle.windows.specs.Window.{piece, Moved, Scratch, quotient-by, zeroed}
 use Rattle.windows.proofs.Leaf.{lt-or-le, piece-at, piece-over, piece-same}
 use Rattle.window_factor.specs.Factors.{SplitOf, AllNilpotents}
 use Rattle.reduced_units.specs.States.{Splitter}
@@ -38,7 +39,7 @@ use Rattle.divisor_stages.specs.DivisorStages.{DivisionAsked}
 use Rattle.divisor_stages.proofs.Contents.{splitter-dvd, split-splitter}
 use Rattle.residue.specs.declared.Attempt.{Attempt}
 use Rattle.residue.specs.declared.Attempt.the-variants.{Value, Splits}
-use Rattle.divisor.specs.Sizes.{sizes-swapped}
+use Rattle.divisor.specs.Sizes.{DivisorLengthsAsked, sizes-swapped, sizes-after}
 use Rattle.reduced_attempt.specs.declared.HalfAttempt.{HalfAttempt}
 use Rattle.divisor.specs.DivisorAttempts.{ArrangeAsked, Padded, WindowsAsked, WindowsAnswer, HalfAsked, Attempted}
 
@@ -124,7 +125,7 @@ module _ {n m : ℕ} {w : List ℕ} (wa : WindowsAsked n m w) where
 
 -- ---- modulo n / c
 
-module _ {n c : ℕ} {f g w : List ℕ} (ha : HalfAsked n c f g w) where
+module _ {n v c : ℕ} {f g w : List ℕ} (ha : HalfAsked n v c f g w) where
   two : 2 ≤ n
   two = ha .modulus
 
@@ -134,11 +135,11 @@ module _ {n c : ℕ} {f g w : List ℕ} (ha : HalfAsked n c f g w) where
   pub half-positive : 0 < c
   half-positive = common-positive n c f g two cm
 
-  whole : n ≡ c * (n / c)
-  whole = common-whole n c f g two cm
+  whole : n ≡ c * v
+  whole = common-whole n c f g two cm ∙ ap (λ (x : ℕ). c * x) (sym (ha .rest))
 
-  above : 2 ≤ n / c
-  above = common-above n c f g two cm (ha .proper)
+  above : 2 ≤ v
+  above = omega (arith, common-above n c f g two cm (ha .proper), ha .rest)
 
   pub half-arrange : ArrangeAsked n c f g w
   half-arrange = record {
@@ -149,12 +150,18 @@ module _ {n c : ℕ} {f g w : List ℕ} (ha : HalfAsked n c f g w) where
     fits = omega (arith, ha .sizes .working);
   }
 
-  pub half-splitter : {p q : ℕ} → Splitter (n / c) p q → Splitter n p q
-  half-splitter = splitter-dvd n (n / c) _ _ (subst (λ (x : ℕ). n / c ∣ x) (sym whole) (dvd-mul-left (n / c) c))
+  pub half-splitter : {p q : ℕ} → Splitter v p q → Splitter n p q
+  half-splitter = splitter-dvd n v _ _ (subst (λ (x : ℕ). v ∣ x) (sym whole) (dvd-mul-left v c))
 
   -- the other half
-  pub swapped-asked : HalfAsked n c g f w
-  swapped-asked = record { modulus = two; sizes = sizes-swapped (ha .sizes); content = common-swap n c f g cm; proper = ha .proper }
+  pub swapped-asked : HalfAsked n v c g f w
+  swapped-asked = record {
+    modulus = two;
+    rest = ha .rest;
+    sizes = sizes-swapped (ha .sizes);
+    content = common-swap n c f g cm;
+    proper = ha .proper;
+  }
 
   pub swapped-reduced : {D : ℕ} → Reduced n g f D → Reduced n f g D
   swapped-reduced {D} x = reduced-flip n (omega (arith, two)) g f D x
@@ -207,20 +214,20 @@ module _ {n c : ℕ} {f g w : List ℕ} (ha : HalfAsked n c f g w) where
         (λ h. piece-over w₁ 0 m k h ∙ beyond g k (omega (arith, le-g)))
         (lt-or-le k m)
 
-    -- y / c is below n / c
-    small : (y : ℕ) → c ∣ y % n → (y % n) / c < n / c
-    small y d = less c ((y % n) / c) (n / c) half-positive
-        (subst (λ (x : ℕ). x < c * (n / c)) (sym (mul-div-cancel' c d))
+    -- y / c is below v
+    small : (y : ℕ) → c ∣ y % n → (y % n) / c < v
+    small y d = less c ((y % n) / c) v half-positive
+        (subst (λ (x : ℕ). x < c * v) (sym (mul-div-cancel' c d))
         (subst (λ (x : ℕ). y % n < x) whole (mod-lt y (omega (arith, two)))))
       where
         less : (c x y : ℕ) → 0 < c → c * x < c * y → x < y
         less c x y p q = ⊎-elim (λ h. h) (λ h. absurd (omega (arith, mul-le-mul-left c h))) (lt-or-le x y)
 
     -- word k, as the unit r times x over c
-    word-below : (x k : ℕ) → c ∣ x % n → getD w₁ k 0 ≡ ((r * x) % n) / c → getD w₁ k 0 < n / c
-    word-below x k d e = subst (λ (y : ℕ). y < n / c) (sym e) (small (r * x) (divides-scaled n c r x (cm .divides-n) d))
+    word-below : (x k : ℕ) → c ∣ x % n → getD w₁ k 0 ≡ ((r * x) % n) / c → getD w₁ k 0 < v
+    word-below x k d e = subst (λ (y : ℕ). y < v) (sym e) (small (r * x) (divides-scaled n c r x (cm .divides-n) d))
 
-    pub half-windows : WindowsAsked (n / c) m w₁
+    pub half-windows : WindowsAsked v m w₁
     half-windows = record {
       two = above;
       some = some;
@@ -231,29 +238,30 @@ module _ {n c : ℕ} {f g w : List ℕ} (ha : HalfAsked n c f g w) where
       };
     }
 
-    pub half-nilpotents : AllNilpotents (n / c) (piece w₁ m m) → NilpotentOver n c f
+    pub half-nilpotents : AllNilpotents v (piece w₁ m m) → NilpotentOver n c f
     half-nilpotents x = record {
-      at = λ k. nilpotent-unscaled n c (n / c) r (coef f k) whole half-positive (omega (arith, above)) (pd .unit) (cm .divides-n)
-          (cm .divides-f k) (small (coef f k) (cm .divides-f k)) (subst (IsNilpotent (n / c)) (first-at k) (x .at k));
+      at = λ k. subst (λ (z : ℕ). IsNilpotent z (coef f k % n / c)) (ha .rest)
+          (nilpotent-unscaled n c v r (coef f k) whole half-positive (omega (arith, above)) (pd .unit) (cm .divides-n)
+          (cm .divides-f k) (small (coef f k) (cm .divides-f k)) (subst (IsNilpotent v) (first-at k) (x .at k)));
     }
 
     -- the words, as r f and r g over c
     times : (f h : List ℕ) → ((k : ℕ) → coef h k ≡ ((r * coef f k) % n) / c) → ((k : ℕ) → c ∣ coef f k % n)
-        → Times (c * (n / c)) c (scaled r f) h
+        → Times (c * v) c (scaled r f) h
     times f h at d = record {
       at = λ k. subst (λ (x : ℕ). coef (scaled r f) k % x ≡ (c * coef h k) % x) whole
           (ap (λ (x : ℕ). x % n) (scaled-at r f k) ∙ sym (ap (λ (x : ℕ). (c * x) % n) (at k)
           ∙ ap (λ (x : ℕ). x % n) (mul-div-cancel' c (divides-scaled n c r (coef f k) (cm .divides-n) (d k))) ∙ mod-mod (r * coef f k) n));
     }
 
-    pub half-fits : {W : Width} {D : ℕ} (y : ℕ) → Reduced (n / c) (piece w₁ m m) (piece w₁ 0 m) D → Fits W n → y ≤ c → Fits W (y * D)
+    pub half-fits : {W : Width} {D : ℕ} (y : ℕ) → Reduced v (piece w₁ m m) (piece w₁ 0 m) D → Fits W n → y ≤ c → Fits W (y * D)
     half-fits {W} {D} y x h l = fits-le (subst (λ (z : ℕ). y * D ≤ z) (sym whole) (mul-le-mul l (x .most))) h
 
-    pub half-reduced : {D : ℕ} → Reduced (n / c) (piece w₁ m m) (piece w₁ 0 m) D → Reduced n f g (c * D)
+    pub half-reduced : {D : ℕ} → Reduced v (piece w₁ m m) (piece w₁ 0 m) D → Reduced n f g (c * D)
     half-reduced {D} x =
         reduced-unscaled n r (c * D) (omega (arith, two)) (pd .unit) f (scaled r f) g (scaled r g) (scaled-times n r f) (scaled-times n r g)
         (subst (λ (z : ℕ). Reduced z (scaled r f) (scaled r g) (c * D)) (sym whole)
-        (reduced-content c (n / c) D (scaled r f) (piece w₁ m m) (scaled r g) (piece w₁ 0 m) half-positive (omega (arith, above))
+        (reduced-content c v D (scaled r f) (piece w₁ m m) (scaled r g) (piece w₁ 0 m) half-positive (omega (arith, above))
         (times f (piece w₁ m m) first-at (cm .divides-f)) (times g (piece w₁ 0 m) second-at (cm .divides-g)) x))
 
 -- ---- both polynomials are 0 modulo n
@@ -269,8 +277,29 @@ none-reduced n f g two cm =
           (sym (mod-mod (coef f k) n) ∙ mod-eq-zero-of-dvd n (d k) ∙ sym (mul-mod-right n (coef [] k)));
     }
 
-pub whole-reduced : {n c : ℕ} {f g : List ℕ} → CommonContent n f g c → 2 ≤ n → c ≡ n → Reduced n f g n
-whole-reduced {n} {c} {f} {g} cm two e = none-reduced n f g two (subst (CommonContent n f g) e cm)
+pub whole-reduced : {n c : ℕ} {f g : List ℕ} → CommonContent n f g c → 2 ≤ n → c ≡ n → Reduced n f g c
+whole-reduced {n} {c} {f} {g} cm two e = rw e (none-reduced n f g two (subst (CommonContent n f g) e cm))
+
+-- a half is asked, after the content was found and the working words lost
+pub half-asked : {n v c : ℕ} {f g w w₁ : List ℕ} → CommonContent n f g c → (c ≡ n → ⊥) → v ≡ n / c → 2 ≤ n → DivisorLengthsAsked f g w
+    → Scratch w w₁ → HalfAsked n v c f g w₁
+half-asked cm proper is two s h = record {
+  modulus = two;
+  rest = is;
+  sizes = sizes-after s h;
+  content = cm;
+  proper = proper;
+}
+
+pub half-after : {n v c : ℕ} {f g w w₁ : List ℕ} → HalfAsked n v c f g w → Scratch w w₁ → HalfAsked n v c f g w₁
+half-after a h = half-asked (a .content) (a .proper) (a .rest) (a .modulus) (a .sizes) h
+
+-- what the modulus over the content asks
+pub content-positive : {n c : ℕ} {f g : List ℕ} → CommonContent n f g c → 2 ≤ n → 1 ≤ c
+content-positive {n} {c} {f} {g} cm two = common-positive n c f g two cm
+
+pub content-some : {n c : ℕ} {f g : List ℕ} → CommonContent n f g c → 2 ≤ n → (c ≡ n → ⊥) → 1 ≤ n / c
+content-some {n} {c} {f} {g} cm two proper = omega (arith, common-above n c f g two cm proper)
 
 pub parted-attempted : (n : ℕ) (f g : List ℕ) (r : Attempt) → Parted n r → Attempted n f g r
 parted-attempted n f g (Value D) x = absurd x
@@ -293,18 +322,6 @@ module _ {n p q : ℕ} (s : SplitOf n p q) where
     product-reduced r e = subst (Reduced n f g) (sym e) (subst (λ (z : ℕ). Reduced z f g (D₁ * D₂)) (s .product)
         (reduced-coprime (omega (arith, s .above₁)) (omega (arith, s .above₂)) (s .coprime) f g D₁ D₂ x y))
 
--- by the record of the modulus, whose n' is n
-pub record-some : {n m : ℕ} {w : List ℕ} → WindowsAsked n m w → 1 ≤ n
-record-some a = omega (arith, a .two)
-
-pub record-asked : {n n' m : ℕ} {w : List ℕ} → WindowsAsked n m w → n' ≡ n → WindowsAsked n' m w
-record-asked a is = rw is a
-
-pub record-answer : (n n' m : ℕ) (w : List ℕ) (r : HalfAttempt) → WindowsAnswer n' m w r → n' ≡ n → WindowsAnswer n m w r
-record-answer n n' m w r a is = subst (λ (x : ℕ). WindowsAnswer x m w r) is a
-
-pub ruleset records = (needs, record-some, record-asked, record-answer)
-
 pub ruleset halves = (needs, half-positive, half-arrange, half-windows)
 
-pub ruleset rounds = (needs, swapped-asked, whole-reduced, parted-attempted)
+pub ruleset rounds = (needs, swapped-asked, whole-reduced, content-positive, content-some, parted-attempted)

@@ -52,9 +52,10 @@ WindowsAnswer n m w (Found D) = Reduced n (piece w m m) (piece w 0 m) D
 WindowsAnswer n m w (Divisors p q) = Splitter n p q
 WindowsAnswer n m w Nilpotent = AllNilpotents n (piece w m m)
 
--- a half is tried where the common content c of f and g is not all of n
-pub record HalfAsked (n c : ℕ) (f g w : List ℕ) : Type 0 where
+-- a half is tried where the common content c of f and g is not all of n; v is n / c
+pub record HalfAsked (n v c : ℕ) (f g w : List ℕ) : Type 0 where
   pub modulus : 2 ≤ n
+  pub rest : v ≡ n / c
   pub sizes : DivisorLengthsAsked f g w
   pub content : CommonContent n f g c
   pub proper : c ≡ n → ⊥

@@ -7,6 +7,7 @@ use mathlib.Core.List.{List}
 use Prim.Native.Nat.{ℕ, _+_, _*_, _≤_}
 use native.Mathlib.Omega.{arith}
 use lib.ListN.{length}
+use Rattle.windows.specs.Window.{Scratch}
 
 -- both polynomials, and what it takes to write one of them as a unit polynomial times a monic one
 abbrev pub divisor-room : ℕ → ℕ
@@ -27,3 +28,12 @@ divisor-sizes f g w a b c d l = record { least-f = a; most-f = b; least-g = c; m
 -- f and g in the other order, and after a run that loses the working words
 pub sizes-swapped : {f g w : List ℕ} → DivisorLengthsAsked f g w → DivisorLengthsAsked g f w
 sizes-swapped s = record { least-f = s .least-g; most-f = s .most-g; least-g = s .least-f; most-g = s .most-f; working = s .working }
+
+pub sizes-after : {f g w w' : List ℕ} → DivisorLengthsAsked f g w → Scratch w w' → DivisorLengthsAsked f g w'
+sizes-after s h = record {
+  least-f = s .least-f;
+  most-f = s .most-f;
+  least-g = s .least-g;
+  most-g = s .most-g;
+  working = omega (arith, s .working, h .same);
+}

@@ -2,17 +2,19 @@
 // 2^32 f and 2^32 g is D of f and g.
 //
 //   f, g   the sent words; c is the content of both together
-//   n, m   the modulus, and the record of n / c
+//   n, m   the modulus and its record; v that of n / c
 //   w      the working window: g over c from 0 on, f over c from l on, both times a unit, l words each, zeros above; room from 2 l on
 //
 //   longer                the larger of two numbers of words
 //   over                  words over a content
 //   arrange               both polynomials over their common content
-//   divided, divided_by   D of the words in the window, where the polynomial at l gets a leading unit
+//   divided               D of the words in the window, where the polynomial at l gets a leading unit
 //   half                  the attempt where the first polynomial gets a leading unit
 //   swapped               the attempt where the second one does
-//   general               both halves in turn
+//   both_halves           both halves in turn
+//   general               the common content, and both halves over it
 //   attempt               D = 1 where that shows at once; else the general way
+//   attempt_by            the same by n, whose record it finds
 //   joined                D modulo a product of two coprime factors
 //   run                   D; a split of n is worked on each factor, and the answers are multiplied
 ghost use mathlib.Core.Path.{_≡_};
@@ -25,6 +27,7 @@ ghost use Rattle.reduced_attempt.specs.ReducedAttempts.{NilpotentOver};
 ghost use Rattle.divisor.specs.Sizes.{DivisorLengthsAsked};
 ghost use Rattle.divisor.specs.DivisorAttempts.{ArrangeAsked, Padded, WindowsAsked, WindowsAnswer, HalfAsked, HalfAttempted};
 ghost use Rattle.divisor.specs.DivisorAttempts.{Attempted};
+use divisor_stages::Windows;
 use modulus::Modulus;
 use reduced_attempt::HalfAttempt;
 use residue::Attempt;
@@ -52,13 +55,13 @@ fn over(w: &mut [u32], c: u32, len: usize)
 
 // The words of g over c, and then those of f, times a unit, each followed by zeros up to as many as the longer one has. Answers how
 // many.
-fn arrange(w: &mut [u32], n: u32, c: u32, f: &[u32], g: &[u32]) -> usize
-    requires { ⌜ ArrangeAsked n c (now f) (now g) (now w) ⌝ }
-    ensures { λ r. ⌜ Padded n c r (now (f .entry)) (now (g .entry)) (now (w .entry)) (now (w .exit)) ⌝ }
+fn arrange(w: &mut [u32], m: Modulus, c: u32, f: &[u32], g: &[u32]) -> usize
+    requires { ⌜ (Known m) × (ArrangeAsked (m .n) c (now f) (now g) (now w)) ⌝ }
+    ensures { λ r. ⌜ Padded (m .n) c r (now (f .entry)) (now (g .entry)) (now (w .entry)) (now (w .exit)) ⌝ }
 {
     let l = longer(f.len(), g.len());
     windows::clear(w, 0, 2 * l);
-    reduced_attempt::load_pair(w, n, g, l, f);
+    reduced_attempt::load_pair(w, m, g, l, f);
     over(w, c, 2 * l);
     l
 }
@@ -70,42 +73,31 @@ fn divided(w: &mut [u32], m: Modulus, l: usize) -> HalfAttempt
     ensures { λ _. ⌜ Scratch (now (w .entry)) (now (w .exit)) ⌝ }
 {
     match divisor_stages::unit_lead(w, m, l, l, 2 * l) {
-        window_factor::Highest::UnitAt(t, i) => match divisor_stages::division_stage(
-            w,
-            m,
-            0,
-            l - 1,
-            l,
-            t,
-            i,
-            2 * l,
-        ) {
-            Attempt::Value(d) => HalfAttempt::Found(d),
-            Attempt::Splits(p, q) => HalfAttempt::Divisors(p, q),
-        },
+        window_factor::Highest::UnitAt(t, i) => {
+            let p = Windows {
+                a: 0,
+                d: l - 1,
+                b: l,
+                k: t,
+            };
+            match divisor_stages::division_stage(w, m, p, i, 2 * l) {
+                Attempt::Value(d) => HalfAttempt::Found(d),
+                Attempt::Splits(p, q) => HalfAttempt::Divisors(p, q),
+            }
+        }
         window_factor::Highest::Splits(p, q) => HalfAttempt::Divisors(p, q),
         window_factor::Highest::AllNilpotent => HalfAttempt::Nilpotent,
     }
 }
 
-// The same by n, whose record is found here.
-fn divided_by(w: &mut [u32], n: u32, l: usize) -> HalfAttempt
-    requires { ⌜ WindowsAsked n l (now w) ⌝ }
-    ensures { λ r. ⌜ WindowsAnswer n l (now (w .entry)) r ⌝ }
-    ensures { λ _. ⌜ Scratch (now (w .entry)) (now (w .exit)) ⌝ }
-{
-    let m = modulus::modulus_of(n);
-    divided(w, m, l)
-}
-
 // D of f and g, c their common content, if f over c has a coefficient that is not nilpotent.
-fn half(w: &mut [u32], n: u32, c: u32, f: &[u32], g: &[u32]) -> HalfAttempt
-    requires { ⌜ HalfAsked n c (now f) (now g) (now w) ⌝ }
-    ensures { λ r. ⌜ HalfAttempted n c (now (f .entry)) (now (g .entry)) r ⌝ }
+fn half(w: &mut [u32], m: Modulus, v: Modulus, c: u32, f: &[u32], g: &[u32]) -> HalfAttempt
+    requires { ⌜ (Known m) × ((Known v) × (HalfAsked (m .n) (v .n) c (now f) (now g) (now w))) ⌝ }
+    ensures { λ r. ⌜ HalfAttempted (m .n) c (now (f .entry)) (now (g .entry)) r ⌝ }
     ensures { λ _. ⌜ Scratch (now (w .entry)) (now (w .exit)) ⌝ }
 {
-    let l = arrange(w, n, c, f, g);
-    match divided_by(w, n / c, l) {
+    let l = arrange(w, m, c, f, g);
+    match divided(w, v, l) {
         HalfAttempt::Found(d) => HalfAttempt::Found(c * d),
         HalfAttempt::Divisors(p, q) => HalfAttempt::Divisors(p, q),
         HalfAttempt::Nilpotent => HalfAttempt::Nilpotent,
@@ -113,45 +105,65 @@ fn half(w: &mut [u32], n: u32, c: u32, f: &[u32], g: &[u32]) -> HalfAttempt
 }
 
 // D of f and g, or n as a product of two coprime factors, where f over c has no coefficient that is more than nilpotent.
-fn swapped(w: &mut [u32], n: u32, c: u32, f: &[u32], g: &[u32]) -> Attempt
-    requires { ⌜ (HalfAsked n c (now f) (now g) (now w)) × (NilpotentOver n c (now f)) ⌝ }
-    ensures { λ r. ⌜ Attempted n (now (f .entry)) (now (g .entry)) r ⌝ }
+fn swapped(w: &mut [u32], m: Modulus, v: Modulus, c: u32, f: &[u32], g: &[u32]) -> Attempt
+    requires { ⌜ (Known m) × ((Known v) × ((HalfAsked (m .n) (v .n) c (now f) (now g) (now w)) × (NilpotentOver (m .n) c (now f)))) ⌝ }
+    ensures { λ r. ⌜ Attempted (m .n) (now (f .entry)) (now (g .entry)) r ⌝ }
     ensures { λ _. ⌜ Scratch (now (w .entry)) (now (w .exit)) ⌝ }
 {
-    match half(w, n, c, g, f) {
+    match half(w, m, v, c, g, f) {
         HalfAttempt::Found(d) => Attempt::Value(d),
-        HalfAttempt::Divisors(p, q) => reduced_attempt::split(n, p, q),
-        HalfAttempt::Nilpotent => Attempt::Value(n),
+        HalfAttempt::Divisors(p, q) => reduced_attempt::split(m.n, p, q),
+        HalfAttempt::Nilpotent => Attempt::Value(m.n),
+    }
+}
+
+// The same whatever f over c has: both halves in turn.
+fn both_halves(w: &mut [u32], m: Modulus, v: Modulus, c: u32, f: &[u32], g: &[u32]) -> Attempt
+    requires { ⌜ (Known m) × ((Known v) × (HalfAsked (m .n) (v .n) c (now f) (now g) (now w))) ⌝ }
+    ensures { λ r. ⌜ Attempted (m .n) (now (f .entry)) (now (g .entry)) r ⌝ }
+    ensures { λ _. ⌜ Scratch (now (w .entry)) (now (w .exit)) ⌝ }
+{
+    match half(w, m, v, c, f, g) {
+        HalfAttempt::Found(d) => Attempt::Value(d),
+        HalfAttempt::Divisors(p, q) => reduced_attempt::split(m.n, p, q),
+        HalfAttempt::Nilpotent => swapped(w, m, v, c, f, g),
     }
 }
 
 // D of f and g, or n as a product of two coprime factors, by contents, leading units and divisions.
-fn general(w: &mut [u32], n: u32, f: &[u32], g: &[u32]) -> Attempt
-    requires { ⌜ (2 ≤ n) × DivisorLengthsAsked (now f) (now g) (now w) ⌝ }
-    ensures { λ r. ⌜ Attempted n (now (f .entry)) (now (g .entry)) r ⌝ }
+fn general(w: &mut [u32], m: Modulus, f: &[u32], g: &[u32]) -> Attempt
+    requires { ⌜ (Known m) × ((2 ≤ m .n) × DivisorLengthsAsked (now f) (now g) (now w)) ⌝ }
+    ensures { λ r. ⌜ Attempted (m .n) (now (f .entry)) (now (g .entry)) r ⌝ }
     ensures { λ _. ⌜ Scratch (now (w .entry)) (now (w .exit)) ⌝ }
 {
-    let c = reduced_attempt::common_content(w, n, f, g);
-    if c == n {
-        return Attempt::Value(n);
+    let c = reduced_attempt::common_content(w, m.n, f, g);
+    if c == m.n {
+        return Attempt::Value(c);
     }
-    match half(w, n, c, f, g) {
-        HalfAttempt::Found(d) => Attempt::Value(d),
-        HalfAttempt::Divisors(p, q) => reduced_attempt::split(n, p, q),
-        HalfAttempt::Nilpotent => swapped(w, n, c, f, g),
-    }
+    let v = divisor_stages::modulus_over(m, c);
+    both_halves(w, m, v, c, f, g)
 }
 
 // The same; where Euclid without inverses ends in a unit, D is 1 and nothing else is to know.
-fn attempt(w: &mut [u32], n: u32, f: &[u32], g: &[u32]) -> Attempt
+fn attempt(w: &mut [u32], m: Modulus, f: &[u32], g: &[u32]) -> Attempt
+    requires { ⌜ (Known m) × ((2 ≤ m .n) × DivisorLengthsAsked (now f) (now g) (now w)) ⌝ }
+    ensures { λ r. ⌜ Attempted (m .n) (now (f .entry)) (now (g .entry)) r ⌝ }
+    ensures { λ _. ⌜ Scratch (now (w .entry)) (now (w .exit)) ⌝ }
+{
+    if coprime_test::shows_coprime(w, m, f, g) {
+        return Attempt::Value(1);
+    }
+    general(w, m, f, g)
+}
+
+// The same by n, whose record is found here, once for the whole attempt.
+fn attempt_by(w: &mut [u32], n: u32, f: &[u32], g: &[u32]) -> Attempt
     requires { ⌜ (2 ≤ n) × DivisorLengthsAsked (now f) (now g) (now w) ⌝ }
     ensures { λ r. ⌜ Attempted n (now (f .entry)) (now (g .entry)) r ⌝ }
     ensures { λ _. ⌜ Scratch (now (w .entry)) (now (w .exit)) ⌝ }
 {
-    if coprime_test::shows_coprime(w, n, f, g) {
-        return Attempt::Value(1);
-    }
-    general(w, n, f, g)
+    let m = modulus::modulus_of(n);
+    attempt(w, m, f, g)
 }
 
 // D modulo a product of two coprime factors, from D modulo each of them.
@@ -169,7 +181,7 @@ pub fn run(w: &mut [u32], n: u32, f: &[u32], g: &[u32]) -> u32
     ensures { λ r. ⌜ Reduced n (now (f .entry)) (now (g .entry)) r ⌝ }
     ensures { λ _. ⌜ Scratch (now (w .entry)) (now (w .exit)) ⌝ }
 {
-    match attempt(w, n, f, g) {
+    match attempt_by(w, n, f, g) {
         Attempt::Value(d) => d,
         Attempt::Splits(p, q) => {
             let a = run(w, p, f, g);

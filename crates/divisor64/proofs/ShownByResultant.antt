@@ -3,11 +3,12 @@
 --   shown                         what the resultant shows
 --   loaded                        two polynomials in the window
 --   first-factor, second-factor   what the run asks, for a factor of the modulus
+--   asked-by, wide-half-asked     the same for the record of the modulus, and what a half asks
 --   ways                          the rules
 use mathlib.Core.Path.{_≡_, refl, subst, _∙_}
 use mathlib.Core.Bool.{Bool, true, false}
 use mathlib.Core.List.{List}
-use Prim.Native.Nat.{ℕ, zero, suc, pred, _+_, _≤_, _<_}
+use Prim.Native.Nat.{ℕ, zero, suc, pred, _+_, _/_, _≤_, _<_}
 use native.Mathlib.Omega.{arith}
 use native.Mathlib.Nat.{one-dvd}
 use lib.Dec.{eqb}
@@ -20,9 +21,11 @@ use Rattle.law_numbers.specs.Units.{unit-of-coprime, coprime-of-gcd, inverse-ti
 use Rattle.law_polynomials.specs.ReachedLaws.{resultant-reached, reached-same, reached-multiple, reduced-from}
 use Rattle.windows.specs.Window.{Scratch, Loaded}
 use Rattle.window_factor64.specs.Factors.{SplitOf}
-use Rattle.reduced_attempt.specs.ReducedAttempts.{PairLoaded}
+use Rattle.reduced_attempt.specs.ReducedAttempts.{PairLoaded, CommonContent}
 use Rattle.reduced_attempt.proofs.Scalings.{pair-plain}
-use Rattle.divisor.proofs.Halves.{split-first, split-second}
+use Rattle.divisor.specs.Sizes.{DivisorLengthsAsked}
+use Rattle.divisor.specs.DivisorAttempts.{HalfAsked}
+use Rattle.divisor.proofs.Halves.{split-first, split-second, half-asked}
 use Rattle.divisor64.specs.CoprimeAttempted.{DivisorAsked, CoprimeAttempted}
 
 module _ {n : ℕ} {f g w : List ℕ} (a : DivisorAsked n f g w) where
@@ -70,6 +73,23 @@ module _ {n : ℕ} {f g w : List ℕ} (a : DivisorAsked n f g w) where
 
     pub second-factor : {w₂ : List ℕ} → Scratch w₁ w₂ → DivisorAsked q f g w₂
     second-factor i = asked-of q (i .same ∙ h .same) (s .above₂) (split-second s n refl)
+
+-- of the record of n
+pub asked-by : {n k : ℕ} {f g w : List ℕ} → DivisorAsked n f g w → k ≡ n → DivisorAsked k f g w
+asked-by a is = rw is a
+
+pub wide-half-asked : {n v c : ℕ} {f g w w₁ : List ℕ} → CommonContent n f g c → (c ≡ n → ⊥) → v ≡ n / c → DivisorAsked n f g w
+    → Scratch w w₁ → HalfAsked n v c f g w₁
+wide-half-asked {f = f} {g = g} {w = w} cm proper is a h = half-asked cm proper is (a .two) lengths h
+  where
+    lengths : DivisorLengthsAsked f g w
+    lengths = record {
+      least-f = a .least-f;
+      most-f = a .most-f;
+      least-g = a .least-g;
+      most-g = a .most-g;
+      working = omega (arith, a .working);
+    }
 
 pub loaded : {n j : ℕ} {f g w w₁ w₂ : List ℕ} → 2 ≤ n → length f ≤ j → Loaded n 0 f w w₁ → Loaded n j g w₁ w₂ → PairLoaded n 1 j f g w w₂
 loaded {n} {j} {f} {g} two l = pair-plain n j f g (omega arith) l

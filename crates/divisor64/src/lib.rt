@@ -3,18 +3,21 @@
 // `divisor` has the laws.
 //
 //   f, g   the sent words; c is the content of both together
-//   w      the working window: g over c from 0 on, f over c from m on, m words each, zeros above; room from 2 m on
+//   m, v   the record of the modulus n, and that of n / c
+//   w      the working window: g over c from 0 on, f over c from l on, l words each, zeros above; room from 2 l on
 //
 //   shows_coprime         whether the resultant shows that D is 1
 //   longer                the larger of two numbers of words
 //   over                  words over a content
 //   load_pair             two polynomials in the window
 //   arrange               both polynomials over their common content
-//   divided, divided_by   D of the words in the window, where the polynomial at m gets a leading unit
+//   divided               D of the words in the window, where the polynomial at l gets a leading unit
 //   half                  the attempt where the first polynomial gets a leading unit
 //   swapped               the attempt where the second one does
-//   general               both halves in turn
+//   both_halves           both halves in turn
+//   general               the common content, and both halves over it
 //   attempt               D = 1 where the resultant shows it; else the general way
+//   attempt_by            the same by n, whose record it finds
 //   joined                D modulo a product of two coprime factors
 //   run                   D; a split of n is worked on each factor, and the answers are multiplied
 ghost use mathlib.Core.Path.{_≡_};
@@ -27,6 +30,7 @@ ghost use Rattle.reduction64.specs.Moduli.{Ready};
 ghost use Rattle.divisor64.specs.CoprimeAttempted.{DivisorAsked, CoprimeAttempted};
 ghost use Rattle.divisor64.specs.DivisorAttempts.{ArrangeAsked, Padded, WindowsAsked, WindowsAnswer, HalfAsked, HalfAttempted};
 ghost use Rattle.divisor64.specs.DivisorAttempts.{Attempted};
+use divisor_stages::Windows;
 use reduced_attempt64::HalfAttempt;
 use reduction64::Reciprocal;
 use residue64::Attempt;
@@ -79,56 +83,45 @@ fn arrange(w: &mut [u64], n: u64, c: u64, f: &[u64], g: &[u64]) -> usize
     requires { ⌜ ArrangeAsked n c (now f) (now g) (now w) ⌝ }
     ensures { λ r. ⌜ Padded n c r (now (f .entry)) (now (g .entry)) (now (w .entry)) (now (w .exit)) ⌝ }
 {
-    let m = longer(f.len(), g.len());
-    windows64::clear(w, 0, 2 * m);
-    load_pair(w, n, g, m, f);
-    over(w, c, 2 * m);
-    m
+    let l = longer(f.len(), g.len());
+    windows64::clear(w, 0, 2 * l);
+    load_pair(w, n, g, l, f);
+    over(w, c, 2 * l);
+    l
 }
 
-// D of the m words at m and the m words at 0, if the polynomial at m has a coefficient that is not nilpotent.
+// D of the l words at l and the l words at 0, if the polynomial at l has a coefficient that is not nilpotent.
 fn divided(w: &mut [u64], m: Reciprocal, l: usize) -> HalfAttempt
     requires { ⌜ (Ready m) × (WindowsAsked (m .n) l (now w)) ⌝ }
     ensures { λ r. ⌜ WindowsAnswer (m .n) l (now (w .entry)) r ⌝ }
     ensures { λ _. ⌜ Scratch (now (w .entry)) (now (w .exit)) ⌝ }
 {
     match divisor_stages64::unit_lead(w, m, l, l, 2 * l) {
-        window_factor64::Highest::UnitAt(t, i) => match divisor_stages64::division_stage(
-            w,
-            m,
-            0,
-            l - 1,
-            l,
-            t,
-            i,
-            2 * l,
-        ) {
-            Attempt::Value(d) => HalfAttempt::Found(d),
-            Attempt::Splits(p, q) => HalfAttempt::Divisors(p, q),
-        },
+        window_factor64::Highest::UnitAt(t, i) => {
+            let p = Windows {
+                a: 0,
+                d: l - 1,
+                b: l,
+                k: t,
+            };
+            match divisor_stages64::division_stage(w, m, p, i, 2 * l) {
+                Attempt::Value(d) => HalfAttempt::Found(d),
+                Attempt::Splits(p, q) => HalfAttempt::Divisors(p, q),
+            }
+        }
         window_factor64::Highest::Splits(p, q) => HalfAttempt::Divisors(p, q),
         window_factor64::Highest::AllNilpotent => HalfAttempt::Nilpotent,
     }
 }
 
-// The same by n, whose record is found here.
-fn divided_by(w: &mut [u64], n: u64, l: usize) -> HalfAttempt
-    requires { ⌜ WindowsAsked n l (now w) ⌝ }
-    ensures { λ r. ⌜ WindowsAnswer n l (now (w .entry)) r ⌝ }
-    ensures { λ _. ⌜ Scratch (now (w .entry)) (now (w .exit)) ⌝ }
-{
-    let m = reduction64::modulus_of(n);
-    divided(w, m, l)
-}
-
 // D of f and g, c their common content, if f over c has a coefficient that is not nilpotent.
-fn half(w: &mut [u64], n: u64, c: u64, f: &[u64], g: &[u64]) -> HalfAttempt
-    requires { ⌜ HalfAsked n c (now f) (now g) (now w) ⌝ }
-    ensures { λ r. ⌜ HalfAttempted n c (now (f .entry)) (now (g .entry)) r ⌝ }
+fn half(w: &mut [u64], m: Reciprocal, v: Reciprocal, c: u64, f: &[u64], g: &[u64]) -> HalfAttempt
+    requires { ⌜ (Ready m) × ((Ready v) × (HalfAsked (m .n) (v .n) c (now f) (now g) (now w))) ⌝ }
+    ensures { λ r. ⌜ HalfAttempted (m .n) c (now (f .entry)) (now (g .entry)) r ⌝ }
     ensures { λ _. ⌜ Scratch (now (w .entry)) (now (w .exit)) ⌝ }
 {
-    let l = arrange(w, n, c, f, g);
-    match divided_by(w, n / c, l) {
+    let l = arrange(w, m.n, c, f, g);
+    match divided(w, v, l) {
         HalfAttempt::Found(d) => HalfAttempt::Found(c * d),
         HalfAttempt::Divisors(p, q) => HalfAttempt::Divisors(p, q),
         HalfAttempt::Nilpotent => HalfAttempt::Nilpotent,
@@ -136,45 +129,65 @@ fn half(w: &mut [u64], n: u64, c: u64, f: &[u64], g: &[u64]) -> HalfAttempt
 }
 
 // D of f and g, or n as a product of two coprime factors, where f over c has no coefficient that is more than nilpotent.
-fn swapped(w: &mut [u64], n: u64, c: u64, f: &[u64], g: &[u64]) -> Attempt
-    requires { ⌜ (HalfAsked n c (now f) (now g) (now w)) × (NilpotentOver n c (now f)) ⌝ }
-    ensures { λ r. ⌜ Attempted n (now (f .entry)) (now (g .entry)) r ⌝ }
+fn swapped(w: &mut [u64], m: Reciprocal, v: Reciprocal, c: u64, f: &[u64], g: &[u64]) -> Attempt
+    requires { ⌜ (Ready m) × ((Ready v) × ((HalfAsked (m .n) (v .n) c (now f) (now g) (now w)) × (NilpotentOver (m .n) c (now f)))) ⌝ }
+    ensures { λ r. ⌜ Attempted (m .n) (now (f .entry)) (now (g .entry)) r ⌝ }
     ensures { λ _. ⌜ Scratch (now (w .entry)) (now (w .exit)) ⌝ }
 {
-    match half(w, n, c, g, f) {
+    match half(w, m, v, c, g, f) {
         HalfAttempt::Found(d) => Attempt::Value(d),
-        HalfAttempt::Divisors(p, q) => reduced_attempt64::split(n, p, q),
-        HalfAttempt::Nilpotent => Attempt::Value(n),
+        HalfAttempt::Divisors(p, q) => reduced_attempt64::split(m, p, q),
+        HalfAttempt::Nilpotent => Attempt::Value(m.n),
+    }
+}
+
+// The same whatever f over c has: both halves in turn.
+fn both_halves(w: &mut [u64], m: Reciprocal, v: Reciprocal, c: u64, f: &[u64], g: &[u64]) -> Attempt
+    requires { ⌜ (Ready m) × ((Ready v) × (HalfAsked (m .n) (v .n) c (now f) (now g) (now w))) ⌝ }
+    ensures { λ r. ⌜ Attempted (m .n) (now (f .entry)) (now (g .entry)) r ⌝ }
+    ensures { λ _. ⌜ Scratch (now (w .entry)) (now (w .exit)) ⌝ }
+{
+    match half(w, m, v, c, f, g) {
+        HalfAttempt::Found(d) => Attempt::Value(d),
+        HalfAttempt::Divisors(p, q) => reduced_attempt64::split(m, p, q),
+        HalfAttempt::Nilpotent => swapped(w, m, v, c, f, g),
     }
 }
 
 // D of f and g, or n as a product of two coprime factors, by contents, leading units and divisions.
-fn general(w: &mut [u64], n: u64, f: &[u64], g: &[u64]) -> Attempt
-    requires { ⌜ DivisorAsked n (now f) (now g) (now w) ⌝ }
-    ensures { λ r. ⌜ Attempted n (now (f .entry)) (now (g .entry)) r ⌝ }
+fn general(w: &mut [u64], m: Reciprocal, f: &[u64], g: &[u64]) -> Attempt
+    requires { ⌜ (Ready m) × (DivisorAsked (m .n) (now f) (now g) (now w)) ⌝ }
+    ensures { λ r. ⌜ Attempted (m .n) (now (f .entry)) (now (g .entry)) r ⌝ }
     ensures { λ _. ⌜ Scratch (now (w .entry)) (now (w .exit)) ⌝ }
 {
-    let c = reduced_attempt64::common_content(w, n, f, g);
-    if c == n {
-        return Attempt::Value(n);
+    let c = reduced_attempt64::common_content(w, m.n, f, g);
+    if c == m.n {
+        return Attempt::Value(c);
     }
-    match half(w, n, c, f, g) {
-        HalfAttempt::Found(d) => Attempt::Value(d),
-        HalfAttempt::Divisors(p, q) => reduced_attempt64::split(n, p, q),
-        HalfAttempt::Nilpotent => swapped(w, n, c, f, g),
-    }
+    let v = divisor_stages64::modulus_over(m, c);
+    both_halves(w, m, v, c, f, g)
 }
 
 // The same; where the resultant is a unit, D is 1 and nothing else is to know.
-fn attempt(w: &mut [u64], n: u64, f: &[u64], g: &[u64]) -> Attempt
+fn attempt(w: &mut [u64], m: Reciprocal, f: &[u64], g: &[u64]) -> Attempt
+    requires { ⌜ (Ready m) × (DivisorAsked (m .n) (now f) (now g) (now w)) ⌝ }
+    ensures { λ r. ⌜ Attempted (m .n) (now (f .entry)) (now (g .entry)) r ⌝ }
+    ensures { λ _. ⌜ Scratch (now (w .entry)) (now (w .exit)) ⌝ }
+{
+    if shows_coprime(w, m.n, f, g) {
+        return Attempt::Value(1);
+    }
+    general(w, m, f, g)
+}
+
+// The same by n, whose record is found here, once for the whole attempt.
+fn attempt_by(w: &mut [u64], n: u64, f: &[u64], g: &[u64]) -> Attempt
     requires { ⌜ DivisorAsked n (now f) (now g) (now w) ⌝ }
     ensures { λ r. ⌜ Attempted n (now (f .entry)) (now (g .entry)) r ⌝ }
     ensures { λ _. ⌜ Scratch (now (w .entry)) (now (w .exit)) ⌝ }
 {
-    if shows_coprime(w, n, f, g) {
-        return Attempt::Value(1);
-    }
-    general(w, n, f, g)
+    let m = reduction64::modulus_of(n);
+    attempt(w, m, f, g)
 }
 
 // D modulo a product of two coprime factors, from D modulo each of them.
@@ -192,7 +205,7 @@ pub fn run(w: &mut [u64], n: u64, f: &[u64], g: &[u64]) -> u64
     ensures { λ r. ⌜ Reduced n (now (f .entry)) (now (g .entry)) r ⌝ }
     ensures { λ _. ⌜ Scratch (now (w .entry)) (now (w .exit)) ⌝ }
 {
-    match attempt(w, n, f, g) {
+    match attempt_by(w, n, f, g) {
         Attempt::Value(d) => d,
         Attempt::Splits(p, q) => {
             let a = run(w, p, f, g);

@@ -4,17 +4,14 @@
 --   constant-reduced                            B is a constant, a unit
 --   divide-…, next-asked, next-answer           a division, and the stage after it
 --   unit-falls, unit-asked, unit-answer         the leading word of B is a unit
---   cleared-falls, cleared-fits, cleared-splitter    the stage after the clearing of a content, for the cases of each width
+--   cleared-falls, cleared-within, cleared-splitter    the stage after the clearing of a content, for the cases of each width
 --   divisions                                   the rules
 use mathlib.Core.Path.{_≡_, sym, ap, subst, _∙_, fun-ext}
 use mathlib.Core.List.{List}
-use Prim.Native.Nat.{ℕ, _+_, _-_, _*_, _/_, _%_, _≤_, _<_, _∣_}
+use Prim.Native.Nat.{ℕ, _+_, _-_, _*_, _%_, _≤_, _<_, _∣_}
 use native.Mathlib.Omega.{arith}
-use native.Mathlib.Nat.{mul-le-mul, dvd-mul-left, pos-of-ne-zero}
+use native.Mathlib.Nat.{mul-le-mul-left, dvd-mul-left, pos-of-ne-zero}
 use lib.ListN.{getD}
-use mir.Syntax.{Width}
-use mir.Val.{Fits}
-use mir.Facts.{fits-le}
 use Rattle.definitions.specs.Residues.{IsUnit}
 use Rattle.definitions.specs.Polynomials.{coef, convolve, tabulate, Divided}
 use Rattle.definitions.specs.Resultants.{Reduced}
@@ -122,16 +119,16 @@ module _ {n a d b s : ℕ} {w : List ℕ} (st : ContentAsked n a d b s w) where
   unit-answer r x = subst (λ (l : ℕ). DivisorOrSplit n (piece w a (d + 1)) (piece w b l) r) one-more x
 
 -- after the clearing
-module _ {n a d b c k i s : ℕ} {w w₁ : List ℕ} (cl : Cleared n a d b c k i s w w₁) where
+module _ {n a d b c v k i s : ℕ} {w w₁ : List ℕ} (cl : Cleared n a d b c v k i s w w₁) where
   pub cleared-falls : (t : ℕ) → 2 * d ≡ t → 2 * k + 1 < t
   cleared-falls t e = omega (arith, cl .shorter)
 
-  module _ {D : ℕ} (x : Reduced (n / c) (piece w₁ a (d + 1)) (piece w₁ b (k + 1)) D) where
-    pub cleared-fits : {W : Width} (y : ℕ) → Fits W n → y ≤ c → Fits W (y * D)
-    cleared-fits y h l = fits-le (subst (λ (z : ℕ). y * D ≤ z) (sym (cl .whole)) (mul-le-mul l (x .most))) h
+  module _ {D : ℕ} (x : Reduced v (piece w₁ a (d + 1)) (piece w₁ b (k + 1)) D) where
+    pub cleared-within : c * D ≤ n
+    cleared-within = subst (λ (z : ℕ). c * D ≤ z) (sym (cl .whole)) (mul-le-mul-left c (x .most))
 
-  pub cleared-splitter : {p q : ℕ} → Splitter (n / c) p q → Splitter n p q
-  cleared-splitter = splitter-dvd n (n / c) _ _ (subst (λ (x : ℕ). n / c ∣ x) (sym (cl .whole)) (dvd-mul-left (n / c) c))
+  pub cleared-splitter : {p q : ℕ} → Splitter v p q → Splitter n p q
+  cleared-splitter = splitter-dvd n v _ _ (subst (λ (x : ℕ). v ∣ x) (sym (cl .whole)) (dvd-mul-left v c))
 
 pub ruleset divisions = (
   constant-reduced,

@@ -1,7 +1,7 @@
 // Euclid's algorithm for the reduced resultant D alone, without multipliers, in words of 64 bits. The 32-bit twin `divisor_stages` has the
 // description and the laws.
 //
-//   w, n   the buffer and the modulus; m the record of n
+//   w, n   the buffer and the modulus; m the record of n, and v that of n / c, c a content
 //   a, d   the place and the degree of A
 //   b, k   the place and the degree of B, where its leading word is a unit, with the inverse i; l the words of B before
 //   t      the place of the highest coefficient of B that is no nilpotent
@@ -9,24 +9,28 @@
 //
 //   monic_factor       a polynomial that is a unit polynomial times a monic one: the monic one takes its place
 //   unit_lead          a polynomial with a leading unit in the place of one with the same constants
+//   modulus_over       the record of n / c
 //   take_content       the content of B is taken out of it and of the modulus
 //   clear_contents     the content of B, then the unit factor
+//   times              D over a content, times the content
 //   content_stage, division_stage    the stages that call each other
-ghost use Prim.Native.Nat.{_+_};
+ghost use mathlib.Core.Path.{_≡_};
+ghost use Prim.Native.Nat.{_+_, _*_, _/_, _≤_};
 ghost use Rattle.windows.specs.Window.{piece, Scratch};
 ghost use Rattle.reduction64.specs.Moduli.{Ready};
 ghost use Rattle.divisor_stages64.specs.LeadingUnits.{LeadAsked, FactorAsked, Leading, LeadAnswer};
 ghost use Rattle.divisor_stages64.specs.DivisorStages.{TakeAsked, ContentTaken, ContentAsked, DivisionAsked, DivisorOrSplit, Clears};
+use divisor_stages::Windows;
 use reduction64::Reciprocal;
 use residue64::Attempt;
 use window_factor64::Highest;
 
-// What the clearing of a content comes to: D; two coprime divisors of the modulus; or the content, the degree of B, whose leading word is a
-// unit now, and the inverse of that word.
+// What the clearing of a content comes to: D; two coprime divisors of the modulus; or the content c, the record of n / c, the degree of B,
+// whose leading word is a unit now, and the inverse of that word.
 pub enum Clearing {
     Done(u64),
     Parts(u64, u64),
-    Next(u64, usize, u64),
+    Next(u64, Reciprocal, usize, u64),
 }
 
 // B of l words, whose coefficient t, below the leading one, has the inverse i and those above it are nilpotent: its monic factor.
@@ -45,7 +49,7 @@ pub fn unit_lead(w: &mut [u64], m: Reciprocal, b: usize, l: usize, s: usize) -> 
     ensures { λ r. ⌜ LeadAnswer (m .n) b l s (now (w .entry)) (now (w .exit)) r ⌝ }
     ensures { λ _. ⌜ Scratch (now (w .entry)) (now (w .exit)) ⌝ }
 {
-    match window_factor64::highest_of(&w[b..b + l], m.n) {
+    match window_factor64::highest_of(&w[b..b + l], m) {
         Highest::UnitAt(t, i) => {
             if t + 1 == l {
                 return Highest::UnitAt(t, i);
@@ -58,16 +62,27 @@ pub fn unit_lead(w: &mut [u64], m: Reciprocal, b: usize, l: usize, s: usize) -> 
     }
 }
 
+// The record of n / c. That of n is at hand.
+pub fn modulus_over(m: Reciprocal, c: u64) -> Reciprocal
+    requires { ⌜ (Ready m) × ((1 ≤ c) × (1 ≤ (m .n) / c)) ⌝ }
+    ensures { λ v. ⌜ (Ready v) × (v .n ≡ (m .n) / c) ⌝ }
+{
+    if c == 1 {
+        return m;
+    }
+    reduction64::modulus_of(m.n / c)
+}
+
 // B over its content c, and A modulo n / c. For the content 1 there is nothing to do.
-fn take_content(w: &mut [u64], n: u64, c: u64, a: usize, d: usize, b: usize)
-    requires { ⌜ TakeAsked n c a d b (now w) ⌝ }
-    ensures { λ _. ⌜ ContentTaken n c a d b (now (w .entry)) (now (w .exit)) ⌝ }
+fn take_content(w: &mut [u64], v: Reciprocal, c: u64, a: usize, d: usize, b: usize)
+    requires { ⌜ (Ready v) × (TakeAsked (v .n) c a d b (now w)) ⌝ }
+    ensures { λ _. ⌜ ContentTaken (v .n) c a d b (now (w .entry)) (now (w .exit)) ⌝ }
 {
     if c == 1 {
         return;
     }
     windows64::divide_words(w, c, b, d);
-    windows64::reduce_words(w, n / c, a, d + 1);
+    windows64::reduce_words(w, v.n, v, a, d + 1);
 }
 
 // The content of B is taken out of it and of the modulus, then the unit factor of B.
@@ -81,13 +96,21 @@ fn clear_contents(w: &mut [u64], m: Reciprocal, a: usize, d: usize, b: usize, s:
     if c == n {
         return Clearing::Done(n);
     }
-    take_content(w, n, c, a, d, b);
-    let v = reduction64::modulus_of(n / c);
+    let v = modulus_over(m, c);
+    take_content(w, v, c, a, d, b);
     match unit_lead(w, v, b, d, s) {
-        Highest::UnitAt(k, i) => Clearing::Next(c, k, i),
+        Highest::UnitAt(k, i) => Clearing::Next(c, v, k, i),
         Highest::Splits(p, q) => Clearing::Parts(p, q),
         Highest::AllNilpotent => Clearing::Done(n),
     }
+}
+
+// c y, which is at most n and so a word.
+fn times(n: u64, c: u64, y: u64) -> u64
+    requires { ⌜ c * y ≤ n ⌝ }
+    ensures { λ r. ⌜ r ≡ c * y ⌝ }
+{
+    c * y
 }
 
 // D of A, of degree d with a leading unit, and B, of d words.
@@ -98,39 +121,28 @@ fn content_stage(w: &mut [u64], m: Reciprocal, a: usize, d: usize, b: usize, s: 
 {
     let x = bezout64::cofactor(m.n, w[b + (d - 1)]);
     if x.g == 1 {
-        return division_stage(w, m, a, d, b, d - 1, x.s, s);
+        let p = Windows { a, d, b, k: d - 1 };
+        return division_stage(w, m, p, x.s, s);
     }
     match clear_contents(w, m, a, d, b, s) {
         Clearing::Done(y) => Attempt::Value(y),
         Clearing::Parts(p, q) => Attempt::Splits(p, q),
-        Clearing::Next(c, k, i) => {
-            let v = reduction64::modulus_of(m.n / c);
-            match division_stage(w, v, a, d, b, k, i, s) {
-                Attempt::Value(y) => Attempt::Value(c * y),
-                Attempt::Splits(p, q) => Attempt::Splits(p, q),
-            }
-        }
+        Clearing::Next(c, v, k, i) => match division_stage(w, v, Windows { a, d, b, k }, i, s) {
+            Attempt::Value(y) => Attempt::Value(times(m.n, c, y)),
+            Attempt::Splits(p, q) => Attempt::Splits(p, q),
+        },
     }
 }
 
 // D of A, of degree d, and B, of degree k at most d, whose leading word has the inverse i.
-pub fn division_stage(
-    w: &mut [u64],
-    m: Reciprocal,
-    a: usize,
-    d: usize,
-    b: usize,
-    k: usize,
-    i: u64,
-    s: usize,
-) -> Attempt
-    requires { ⌜ (Ready m) × (DivisionAsked (m .n) a d b k i s (now w)) ⌝ }
-    ensures { λ r. ⌜ DivisorOrSplit (m .n) (piece (now (w .entry)) a (d + 1)) (piece (now (w .entry)) b (k + 1)) r ⌝ }
+pub fn division_stage(w: &mut [u64], m: Reciprocal, p: Windows, i: u64, s: usize) -> Attempt
+    requires { ⌜ (Ready m) × (DivisionAsked (m .n) (p .a) (p .d) (p .b) (p .k) i s (now w)) ⌝ }
+    ensures { λ r. ⌜ DivisorOrSplit (m .n) (piece (now (w .entry)) (p .a) ((p .d) + 1)) (piece (now (w .entry)) (p .b) ((p .k) + 1)) r ⌝ }
     ensures { λ _. ⌜ Scratch (now (w .entry)) (now (w .exit)) ⌝ }
 {
-    if k == 0 {
+    if p.k == 0 {
         return Attempt::Value(1);
     }
-    window_division64::divide_by(w, m.n, m, b, k, a, d, i);
-    content_stage(w, m, b, k, a, s)
+    window_division64::divide(w, m, p.b, p.k, p.a, p.d, i);
+    content_stage(w, m, p.b, p.k, p.a, s)
 }

@@ -40,44 +40,44 @@ pub struct Descent {
     steps: usize,
 }
 
-fn flag_of(x: Logged) -> u64
-    ensures { λ r. ⌜ r ≡ flag (x .swap) ⌝ }
+fn flag_of(step: Logged) -> u64
+    ensures { λ r. ⌜ r ≡ flag (step .swap) ⌝ }
 {
-    if x.swap {
+    if step.swap {
         return 1;
     }
     0
 }
 
-fn bit_of(x: Logged, e: usize) -> u64
-    requires { ⌜ bit (x .d) (x .e) e (x .swap) ≤ 1 ⌝ }
-    ensures { λ r. ⌜ r ≡ bit (x .d) (x .e) e (x .swap) ⌝ }
+fn bit_of(step: Logged, e: usize) -> u64
+    requires { ⌜ bit (step .d) (step .e) e (step .swap) ≤ 1 ⌝ }
+    ensures { λ r. ⌜ r ≡ bit (step .d) (step .e) e (step .swap) ⌝ }
 {
-    if x.swap {
-        if x.e <= x.d {
+    if step.swap {
+        if step.e <= step.d {
             return 0;
         }
         return 1;
     }
-    if x.e <= e {
+    if step.e <= e {
         return 0;
     }
     1
 }
 
-// The step x in the log; e is the degree of g after it.
-fn write(w: &mut [u64], at: usize, x: Logged, e: usize)
-    requires { ⌜ (at + 5 ≤ length (now w)) × (bit (x .d) (x .e) e (x .swap) ≤ 1) ⌝ }
+// A step in the log; e is the degree of g after it.
+fn write(w: &mut [u64], at: usize, step: Logged, e: usize)
+    requires { ⌜ (at + 5 ≤ length (now w)) × (bit (step .d) (step .e) e (step .swap) ≤ 1) ⌝ }
     ensures { λ _. ⌜ Around at 5 (now (w .entry)) (now (w .exit)) ⌝ }
-    ensures { λ _. ⌜ LoggedAt at e x (now (w .exit)) ⌝ }
+    ensures { λ _. ⌜ LoggedAt at e step (now (w .exit)) ⌝ }
 {
-    let a = flag_of(x);
-    let b = bit_of(x, e);
+    let a = flag_of(step);
+    let b = bit_of(step, e);
     w[at] = a;
     w[at + 1] = b;
-    w[at + 2] = x.y;
-    w[at + 3] = x.c;
-    w[at + 4] = x.k;
+    w[at + 2] = step.y;
+    w[at + 3] = step.c;
+    w[at + 4] = step.k;
 }
 
 // The step in the log that led to the degrees d and e.

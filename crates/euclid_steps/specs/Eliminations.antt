@@ -3,16 +3,14 @@
 --   pair-mixed             two eliminations at once
 --   elimination-mixed      one elimination
 --   last-mixed             one elimination, as a quotient of two words
---   drop-mixed             nothing
-use mathlib.Core.Path.{_≡_, refl, sym, _∙_, ap, ap₂, subst}
+use mathlib.Core.Path.{_≡_, refl, sym, _∙_, ap, ap₂}
 use mathlib.Core.List.{List}
 use mathlib.Core.Logic.{⊎-elim}
-use Prim.Native.Nat.{ℕ, zero, suc, _+_, _-_, _*_, _%_, _≤_, _<_}
-use native.Mathlib.Nat.{mul-mod-right, zero-mod, add-zero, eq-or-lt-of-le, mul-zero}
+use Prim.Native.Nat.{ℕ, suc, _+_, _-_, _*_, _%_, _≤_, _<_}
+use native.Mathlib.Nat.{mul-mod-right, zero-mod, add-zero, eq-or-lt-of-le}
 use native.Mathlib.Omega.{arith}
-use lib.ListN.{length}
-use Rattle.definitions.specs.Polynomials.{coef, convolve}
-use Rattle.law_numbers.specs.Congruence.{Cong, c-refl, c-sym, c-trans, c-eq, c-add, c-mul, c-mod, ring}
+use Rattle.definitions.specs.Polynomials.{coef}
+use Rattle.law_numbers.specs.Congruence.{Cong, c-refl, c-sym, c-trans, c-eq, c-add, c-mul}
 use Rattle.law_polynomials.specs.ReachedSteps.{coef-beyond}
 use Rattle.windows.specs.Window.{behind}
 use Rattle.windows.proofs.Leaf.{lt-or-le}
@@ -160,12 +158,4 @@ last-mixed {n} {l} m {F} {G} {H} h = record {
 }
   where
     nothing : (x y : ℕ) → 0 * x + y ≡ y
-    nothing x y = omega arith
-
-pub drop-mixed : (n i : ℕ) (F G : ℕ → ℕ) → Mixture n 1 (spot i 0) F G G
-drop-mixed n i F G = record {
-  at = λ k. ap (λ (x : ℕ). x % n) (sym (ap (λ (x : ℕ). 1 * G k + x) (convolve-spot i 0 F k) ∙ nothing (G k) (risen i F k)));
-}
-  where
-    nothing : (x y : ℕ) → 1 * x + 0 * y ≡ x
     nothing x y = omega arith

@@ -2,8 +2,9 @@
 --
 --   ColumnClearing, clearing-start, clearing-asked, clearing-next, clearing-end     the loop over the rows, while column j is cleared
 --   Triangulating, triangulating-none, column-asked, triangulating-next, triangulating-end     the loop over the columns
---   DiagonalProduct, diagonal-none, diagonal-none-by, diagonal-next, diagonal-end   the loop over the diagonal
---   columns                                            the rules
+--   DiagonalProduct, diagonal-none, diagonal-next, diagonal-end   the loop over the diagonal
+--   residues-by, minor-by                              what is known of the record's modulus, and of the determinant
+--   columns, determinants                              the rules
 use mathlib.Core.Path.{_≡_, refl, sym, _∙_, ap, subst}
 use mathlib.Core.List.{List}
 use Prim.Native.Nat.{ℕ, zero, _+_, _*_, _%_, _<_, _≤_}
@@ -11,7 +12,6 @@ use native.Mathlib.Decide.{ℕ-discrete}
 use native.Mathlib.Numerals.{add-one}
 use native.Mathlib.Omega.{arith}
 use borrow.Author.Needs.{needs}
-use Rattle.reduction.proofs.Reciprocals.{modulo}
 use Rattle.evaluator_matrices.specs.LeadingMinors.{leading-minor, minor-zero, minor-upper}
 use Rattle.evaluator_matrices.specs.Elimination.{cell, ResidueCells, EntryCleared, Triangular, MinorKept, BelowDiagonal, ColumnNext}
 
@@ -115,15 +115,12 @@ pub record DiagonalProduct (n size : ℕ) (m : List (List ℕ)) (x k : ℕ) : Ty
 pub diagonal-none : (n size x : ℕ) (m : List (List ℕ)) → x ≡ 1 % n → DiagonalProduct n size m x 0
 diagonal-none n size x m e = record { most = omega arith; minor = e ∙ sym (minor-zero _ _) }
 
-pub diagonal-none-by : (n size x a : ℕ) (m : List (List ℕ)) → x ≡ 1 % a → a ≡ n → DiagonalProduct n size m x 0
-diagonal-none-by n size x a m e ea = diagonal-none n size x m (modulo _ ea e)
-
 module _ {n size x k : ℕ} {m : List (List ℕ)} (h : DiagonalProduct n size m x k) where
-  pub diagonal-next : {y k' : ℕ} (a : ℕ) → y ≡ (x * cell m k k) % a → a ≡ n → Triangular size size m → 2 ≤ n → k < size → k' ≡ k + 1
+  pub diagonal-next : {y k' : ℕ} → y ≡ (x * cell m k k) % n → Triangular size size m → 2 ≤ n → k < size → k' ≡ k + 1
       → DiagonalProduct n size m y k'
-  diagonal-next {y} {k'} a hy ea t two p e = rw e (record {
+  diagonal-next {y} {k'} hy t two p e = rw e (record {
     most = omega arith;
-    minor = modulo _ ea hy ∙ ap (λ (u : ℕ). (u * cell m k k) % n) (h .minor)
+    minor = hy ∙ ap (λ (u : ℕ). (u * cell m k k) % n) (h .minor)
         ∙ sym (minor-upper n k (omega arith) (cell m) (λ r c u v. t .at r c (omega arith) (omega arith) v))
         ∙ ap (λ (u : ℕ). leading-minor n u (cell m)) (sym (add-one k));
   })
@@ -131,10 +128,21 @@ module _ {n size x k : ℕ} {m : List (List ℕ)} (h : DiagonalProduct n size m 
   pub diagonal-end : size ≤ k → x ≡ leading-minor n size (cell m)
   diagonal-end l = let e : k ≡ size = omega (arith, h .most) in rw e at (h .minor)
 
+-- ---- the determinant: the record's modulus a is n
+
+pub residues-by : {a n : ℕ} {m : List (List ℕ)} → ResidueCells n m → a ≡ n → ResidueCells a m
+residues-by h e = rw e h
+
+pub minor-by : {n k x : ℕ} {m : List (List ℕ)} (a : ℕ) (r : List (List ℕ)) → x ≡ leading-minor a k (cell r) → MinorKept a k m r → a ≡ n
+    → x ≡ leading-minor n k (cell m)
+minor-by {n} {k} {x} {m} a r ex h e = ex ∙ h .minor ∙ ap (λ (i : ℕ). leading-minor i k (cell m)) e
+
 pub ruleset clearing = (clearing-start, clearing-asked, clearing-next, clearing-end)
 
 pub ruleset triangulating = (triangulating-none, column-asked, triangulating-next, triangulating-end)
 
-pub ruleset diagonals = (diagonal-none, diagonal-none-by, diagonal-next, diagonal-end)
+pub ruleset diagonals = (diagonal-none, diagonal-next, diagonal-end)
 
 pub ruleset columns = (needs, clearing, triangulating, diagonals)
+
+pub ruleset determinants = (needs, residues-by, minor-by)

@@ -19,7 +19,6 @@ use lib.Seq.{getD-set-same, getD-set-other}
 use borrow.Author.Needs.{needs}
 use Rattle.law_numbers.specs.Congruence.{Cong, c-eq, c-mod, c-trans, c-add, c-refl}
 use Rattle.evaluator_matrices.specs.LeadingMinors.{minor-add-row, minor-exchange}
-use Rattle.reduction.proofs.Reciprocals.{modulo}
 use Rattle.evaluator_matrices.specs.Elimination.{cell, ResidueCells, LessMultiple, Combined, RowReduced, Exchanged, EntryCleared}
 use Rattle.evaluator_matrices.specs.Elimination.{Reducible, Exchangeable, BelowDiagonal}
 use Rattle.evaluator_matrices.proofs.Arrays.{ArrayWritten, array-none, array-next}
@@ -28,9 +27,9 @@ use Rattle.evaluator_matrices.proofs.Arrays.{ArrayWritten, array-none, 
 abbrev pub less : ℕ → ℕ → List ℕ → List ℕ → ℕ → ℕ → Type 0
 less n q x y i w = w ≡ (getD x i 0 + (n - q) * getD y i 0) % n
 
-pub less-next : {k k' : ℕ} {z z' : List ℕ} (n q a v : ℕ) (x y : List ℕ) → ArrayWritten 0 (less n q x y) 8 k z
-    → v ≡ (getD x k 0 + (n - q) * getD y k 0) % a → a ≡ n → k < 8 → z' ≡ set z k v → k' ≡ k + 1 → ArrayWritten 0 (less n q x y) 8 k' z'
-less-next n q a v x y w ev ea l ez ek = array-next v w (modulo _ ea ev) l ez ek
+pub less-next : {k k' : ℕ} {z z' : List ℕ} (n q v : ℕ) (x y : List ℕ) → ArrayWritten 0 (less n q x y) 8 k z
+    → v ≡ (getD x k 0 + (n - q) * getD y k 0) % n → k < 8 → z' ≡ set z k v → k' ≡ k + 1 → ArrayWritten 0 (less n q x y) 8 k' z'
+less-next n q v x y w ev l ez ek = array-next v w ev l ez ek
 
 pub less-end : {n q k : ℕ} {x y z : List ℕ} → ArrayWritten 0 (less n q x y) 8 k z → 8 ≤ k → LessMultiple n q x y z
 less-end w l = record { at = λ i h. w .at i (omega arith) }

@@ -6,120 +6,121 @@
 //   reduce_row, exchange    the two operations on rows; both keep the determinant
 //   clear_entry, clear_column, triangulate
 //   diagonal                the product of the diagonal
-//   determinant             all of it
+//   determinant             all of it, with the reciprocal of n found once
 ghost use mathlib.Core.Path.{_≡_};
 ghost use Prim.Native.Nat.{_+_, _≤_};
+ghost use Rattle.reduction.specs.Moduli.{Ready};
 ghost use Rattle.evaluator_matrices.specs.LeadingMinors.{leading-minor};
 ghost use Rattle.evaluator_matrices.specs.Elimination.{Reducible, Exchangeable, BelowDiagonal, ColumnNext};
 ghost use Rattle.evaluator_matrices.specs.Elimination.{cell, ResidueCells, LessMultiple, RowReduced, Exchanged};
 ghost use Rattle.evaluator_matrices.specs.Elimination.{EntryCleared, Triangular, MinorKept};
+use reduction::Reciprocal;
 
 // x less q times y.
-fn subtract_multiple(n: u32, x: [u32; 8], q: u32, y: [u32; 8]) -> [u32; 8]
-    requires { ⌜ (2 ≤ n) × (q ≤ n) ⌝ }
-    ensures { λ z. ⌜ LessMultiple n q x y z ⌝ }
+fn subtract_multiple(x: [u32; 8], y: [u32; 8], m: Reciprocal, q: u32) -> [u32; 8]
+    requires { ⌜ (Ready m) × (q ≤ m .n) ⌝ }
+    ensures { λ z. ⌜ LessMultiple (m .n) q x y z ⌝ }
 {
-    let m = reduction::modulus_of(n);
     let mut z = x;
     let mut c: usize = 0;
     while c < 8 {
-        z[c] = reduction::add_product(m, x[c], n - q, y[c]);
+        z[c] = reduction::add_product(m, x[c], m.n - q, y[c]);
         c += 1;
     }
     z
 }
 
 // Row i loses so many times row h that the remainder of their words is left at column j.
-fn reduce_row(m: [[u32; 8]; 8], n: u32, i: usize, h: usize, j: usize) -> [[u32; 8]; 8]
-    requires { ⌜ Reducible n i h j m ⌝ }
-    ensures { λ r. ⌜ RowReduced n i h j m r ⌝ }
+fn reduce_row(a: [[u32; 8]; 8], m: Reciprocal, i: usize, h: usize, j: usize) -> [[u32; 8]; 8]
+    requires { ⌜ (Ready m) × Reducible (m .n) i h j a ⌝ }
+    ensures { λ r. ⌜ RowReduced (m .n) i h j a r ⌝ }
 {
-    let q = m[i][j] / m[h][j];
-    let mut r = m;
-    r[i] = subtract_multiple(n, m[i], q, m[h]);
+    let q = a[i][j] / a[h][j];
+    let mut r = a;
+    r[i] = subtract_multiple(a[i], a[h], m, q);
     r
 }
 
 // Rows i and j change places. What comes to i has its sign changed, being less twice itself, so the determinant stays.
-fn exchange(m: [[u32; 8]; 8], n: u32, i: usize, j: usize) -> [[u32; 8]; 8]
-    requires { ⌜ Exchangeable n i j m ⌝ }
-    ensures { λ r. ⌜ Exchanged n i j m r ⌝ }
+fn exchange(a: [[u32; 8]; 8], m: Reciprocal, i: usize, j: usize) -> [[u32; 8]; 8]
+    requires { ⌜ (Ready m) × Exchangeable (m .n) i j a ⌝ }
+    ensures { λ r. ⌜ Exchanged (m .n) i j a r ⌝ }
 {
-    let x = m[j];
-    let mut r = m;
-    r[i] = subtract_multiple(n, x, 2, x);
-    r[j] = m[i];
+    let x = a[j];
+    let mut r = a;
+    r[i] = subtract_multiple(x, x, m, 2);
+    r[j] = a[i];
     r
 }
 
 // Euclid's algorithm on the words of rows i and j at column j, until row i has 0 there.
-fn clear_entry(m: [[u32; 8]; 8], n: u32, i: usize, j: usize) -> [[u32; 8]; 8]
-    requires { ⌜ BelowDiagonal n i j m ⌝ }
-    ensures { λ r. ⌜ EntryCleared n i j m r ⌝ }
+fn clear_entry(a: [[u32; 8]; 8], m: Reciprocal, i: usize, j: usize) -> [[u32; 8]; 8]
+    requires { ⌜ (Ready m) × BelowDiagonal (m .n) i j a ⌝ }
+    ensures { λ r. ⌜ EntryCleared (m .n) i j a r ⌝ }
 {
-    let mut r = m;
+    let mut r = a;
     while r[i][j] != 0 {
-        let s = reduce_row(r, n, j, i, j);
+        let s = reduce_row(r, m, j, i, j);
         if s[j][j] == 0 {
-            return exchange(s, n, i, j);
+            return exchange(s, m, i, j);
         }
-        let t = reduce_row(s, n, i, j, j);
+        let t = reduce_row(s, m, i, j, j);
         r = t;
     }
     r
 }
 
 // Column j below the diagonal.
-fn clear_column(m: [[u32; 8]; 8], n: u32, size: usize, j: usize) -> [[u32; 8]; 8]
-    requires { ⌜ ColumnNext n size j m ⌝ }
-    ensures { λ r. ⌜ MinorKept n size m r × Triangular size (j + 1) r ⌝ }
+fn clear_column(a: [[u32; 8]; 8], m: Reciprocal, size: usize, j: usize) -> [[u32; 8]; 8]
+    requires { ⌜ (Ready m) × ColumnNext (m .n) size j a ⌝ }
+    ensures { λ r. ⌜ MinorKept (m .n) size a r × Triangular size (j + 1) r ⌝ }
 {
-    let mut r = m;
+    let mut r = a;
     let mut i = j + 1;
     while i < size {
-        let s = clear_entry(r, n, i, j);
+        let s = clear_entry(r, m, i, j);
         r = s;
         i += 1;
     }
     r
 }
 
-fn triangulate(m: [[u32; 8]; 8], n: u32, size: usize) -> [[u32; 8]; 8]
-    requires { ⌜ (2 ≤ n) × (size ≤ 8) ⌝ }
-    requires { ⌜ ResidueCells n m ⌝ }
-    ensures { λ r. ⌜ MinorKept n size m r × Triangular size size r ⌝ }
+fn triangulate(a: [[u32; 8]; 8], m: Reciprocal, size: usize) -> [[u32; 8]; 8]
+    requires { ⌜ (Ready m) × ((2 ≤ m .n) × (size ≤ 8)) ⌝ }
+    requires { ⌜ ResidueCells (m .n) a ⌝ }
+    ensures { λ r. ⌜ MinorKept (m .n) size a r × Triangular size size r ⌝ }
 {
-    let mut r = m;
+    let mut r = a;
     let mut j: usize = 0;
     while j < size {
-        let s = clear_column(r, n, size, j);
+        let s = clear_column(r, m, size, j);
         r = s;
         j += 1;
     }
     r
 }
 
-fn diagonal(m: [[u32; 8]; 8], n: u32, size: usize) -> u32
-    requires { ⌜ (2 ≤ n) × (size ≤ 8) ⌝ }
-    requires { ⌜ Triangular size size m ⌝ }
-    ensures { λ x. ⌜ x ≡ leading-minor n size (cell m) ⌝ }
+fn diagonal(a: [[u32; 8]; 8], m: Reciprocal, size: usize) -> u32
+    requires { ⌜ (Ready m) × ((2 ≤ m .n) × (size ≤ 8)) ⌝ }
+    requires { ⌜ Triangular size size a ⌝ }
+    ensures { λ x. ⌜ x ≡ leading-minor (m .n) size (cell a) ⌝ }
 {
-    let modulus = reduction::modulus_of(n);
-    let mut x = reduction::reduce(modulus, 1);
+    let mut x = reduction::reduce(m, 1);
     let mut k: usize = 0;
     while k < size {
-        x = reduction::product(modulus, x, m[k][k]);
+        x = reduction::product(m, x, a[k][k]);
         k += 1;
     }
     x
 }
 
 // The determinant of the first `size` rows and columns.
-pub fn determinant(m: [[u32; 8]; 8], n: u32, size: usize) -> u32
+pub fn determinant(a: [[u32; 8]; 8], n: u32, size: usize) -> u32
     requires { ⌜ (2 ≤ n) × (size ≤ 8) ⌝ }
-    requires { ⌜ ResidueCells n m ⌝ }
-    ensures { λ x. ⌜ x ≡ leading-minor n size (cell m) ⌝ }
+    requires { ⌜ ResidueCells n a ⌝ }
+    ensures { λ x. ⌜ x ≡ leading-minor n size (cell a) ⌝ }
 {
-    let r = triangulate(m, n, size);
-    diagonal(r, n, size)
+    let m = reduction::modulus_of(n);
+    let r = triangulate(a, m, size);
+    diagonal(r, m, size)
 }

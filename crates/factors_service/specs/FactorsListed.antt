@@ -63,7 +63,7 @@ arrive-listed W s k f l =
 
 pub leave-listed : (W : Width) (s : Factors) (k : ℕ)
     → Listed (leave-refusals W s k) (ServedModulus W (s .n) ∷ ListedNumber k (s .number) ∷ [])
-leave-listed W s k = ((omega arith, modulus-fails W (s .n)), ((omega arith, absent-fails k (s .number)), tt))
+leave-listed W s k = search (arith, tt, modulus-fails, absent-fails) depth 20
 
 pub read-listed : (W : Width) (s : Factors) → Listed (reading-refusals W s) (ServedModulus W (s .n) ∷ [])
-read-listed W s = ((omega arith, modulus-fails W (s .n)), tt)
+read-listed W s = search (arith, tt, modulus-fails) depth 20

@@ -15,17 +15,19 @@ ghost use lib.ListN.{length, replicate};
 ghost use Rattle.refusals.specs.Refusals.{narrow};
 ghost use Rattle.factors_service.specs.FactorsService.{served-length, state-h, replaced-at};
 ghost use Rattle.factors_service.specs.FactorsService.{StartAnswer, ArriveAsked, ArriveAnswer, LeaveAnswer, ReadingAnswer};
+use factor_places::PLACES;
 use refusals::Answer;
+use refusals::MAX_LENGTH;
 
 // A place is free where its number is 0; degree 0 and resultant 1 stand there. h has len words, zeros above.
 #[repr(C)]
 pub struct Factors {
     pub n: u32,
     pub len: u32,
-    pub h: [u32; 49],
-    pub number: [u16; 16],
-    pub degree: [u32; 16],
-    pub resultant: [u32; 16],
+    pub h: [u32; MAX_LENGTH],
+    pub number: [u16; PLACES],
+    pub degree: [u32; PLACES],
+    pub resultant: [u32; PLACES],
 }
 
 #[repr(C)]
@@ -34,11 +36,11 @@ pub struct FactorsAnswer {
     pub status: u32,
 }
 
-fn padded(h: &[u32]) -> [u32; 49]
+fn padded(h: &[u32]) -> [u32; MAX_LENGTH]
     requires { ⌜ length (now h) ≤ 49 ⌝ }
     ensures { λ r. ⌜ r ≡ now (h .entry) ++ replicate (49 - length (now (h .entry))) 0 ⌝ }
 {
-    let mut words = [0u32; 49];
+    let mut words = [0u32; MAX_LENGTH];
     let mut i: usize = 0;
     while i < h.len() {
         words[i] = h[i];
@@ -51,10 +53,11 @@ fn padded(h: &[u32]) -> [u32; 49]
 fn served_length(len: u32) -> usize
     ensures { λ r. ⌜ (r ≡ served-length len) × (r ≤ 49) ⌝ }
 {
-    if 49 < len {
+    let count = len as usize;
+    if MAX_LENGTH < count {
         return 0;
     }
-    len as usize
+    count
 }
 
 // No factor is present.
@@ -66,10 +69,10 @@ pub fn start(n: u32, h: &[u32]) -> FactorsAnswer
         let factors = Factors {
             n: 0,
             len: 0,
-            h: [0; 49],
-            number: [0; 16],
-            degree: [0; 16],
-            resultant: [0; 16],
+            h: [0; MAX_LENGTH],
+            number: [0; PLACES],
+            degree: [0; PLACES],
+            resultant: [0; PLACES],
         };
         return FactorsAnswer { factors, status };
     }
@@ -78,9 +81,9 @@ pub fn start(n: u32, h: &[u32]) -> FactorsAnswer
         n,
         len: h.len() as u32,
         h: words,
-        number: [0; 16],
-        degree: [0; 16],
-        resultant: [1; 16],
+        number: [0; PLACES],
+        degree: [0; PLACES],
+        resultant: [1; PLACES],
     };
     FactorsAnswer { factors, status: 0 }
 }

@@ -1,7 +1,7 @@
 -- Writing texts one after the other into a buffer.
 --
 --   put-front, put-rest, put-after, put-next    what stands where, once a text is written
---   line-put                                    an answer line
+--   short-put, line-put                         the kind and the status; an answer line
 --   puts                                        the rules
 use mathlib.Core.Path.{_≡_, sym, ap, ap₂, _∙_}
 use mathlib.Core.List.{List, [], _∷_, _++_, append-assoc}
@@ -38,27 +38,31 @@ module _ (o w a : List ℕ) (at k : ℕ) (fits : at + k ≤ length o) (la : leng
       ∙ append-assoc (take at o) a (b ++ drop (at + (k + m)) o)
       ∙ ap (λ (x : List ℕ). take at o ++ x) (sym (append-assoc a b (drop (at + (k + m)) o)))
 
--- an answer line: its three numbers and the newline
-pub line-put : (o w₁ w₂ w₃ w' : List ℕ) (at k r v : ℕ) → w₁ ≡ take at o ++ (digits-of 2 k ++ drop (at + 2) o)
-    → w₂ ≡ take (at + 2) w₁ ++ (digits-of 2 r ++ drop (at + 2 + 2) w₁)
+-- the kind and the status
+pub short-put : (o w₁ w' : List ℕ) (at k r : ℕ) {k' r' : ℕ} → w₁ ≡ take at o ++ (digits-of 2 k ++ drop (at + 2) o)
+    → w' ≡ take (at + 2) w₁ ++ (digits-of 2 r ++ drop (at + 2 + 2) w₁) → at + 4 ≤ length o → k ≡ k' → r ≡ r'
+    → w' ≡ take at o ++ ((digits-of 2 k' ++ digits-of 2 r') ++ drop (at + 4) o)
+short-put o w₁ w' at k r h₁ h fits ek er =
+    rw (← ek, ← er) (h ∙ put-next o w₁ (digits-of 2 k) at 2 (omega arith) (digits-length 2 k) h₁ (digits-of 2 r) 2)
+
+-- an answer line: these, the value and the newline
+pub line-put : (o w₂ w₃ w' : List ℕ) (at k r v : ℕ) {v' : ℕ} → w₂ ≡ take at o ++ ((digits-of 2 k ++ digits-of 2 r) ++ drop (at + 4) o)
     → w₃ ≡ take (at + 4) w₂ ++ (digits-of 8 v ++ drop (at + 4 + 8) w₂)
-    → w' ≡ set w₃ (at + 12) 10 → at + 13 ≤ length o → length w₁ ≡ length o → length w₂ ≡ length w₁ → length w₃ ≡ length w₂
-    → w' ≡ take at o ++ (answer-line k r v ++ drop (at + 13) o)
+    → w' ≡ set w₃ (at + 12) 10 → at + 13 ≤ length o → length w₂ ≡ length o → length w₃ ≡ length w₂
+    → v ≡ v' → w' ≡ take at o ++ (answer-line k r v' ++ drop (at + 13) o)
 unfolding answer-line
-line-put o w₁ w₂ w₃ w' at k r v h₁ h₂ h₃ is fits s₁ s₂ s₃ =
+line-put o w₂ w₃ w' at k r v h₂ h₃ is fits s₂ s₃ ev =
     let a = digits-of 2 k in
     let b = digits-of 2 r in
     let c = digits-of 8 v in
-    let la : length a ≡ 2 = digits-length 2 k in
-    let lb : length (a ++ b) ≡ 4 = length-append a b ∙ ap₂ _+_ la (digits-length 2 r) in
+    let lb : length (a ++ b) ≡ 4 = length-append a b ∙ ap₂ _+_ (digits-length 2 k) (digits-length 2 r) in
     let lc : length ((a ++ b) ++ c) ≡ 12 = length-append (a ++ b) c ∙ ap₂ _+_ lb (digits-length 8 v) in
-    let p₂ : w₂ ≡ take at o ++ ((a ++ b) ++ drop (at + 4) o) = h₂ ∙ put-next o w₁ a at 2 (omega arith) la h₁ b 2 in
-    let p₃ : w₃ ≡ take at o ++ (((a ++ b) ++ c) ++ drop (at + 12) o) = h₃ ∙ put-next o w₂ (a ++ b) at 4 (omega arith) lb p₂ c 8 in
+    let p₃ : w₃ ≡ take at o ++ (((a ++ b) ++ c) ++ drop (at + 12) o) = h₃ ∙ put-next o w₂ (a ++ b) at 4 (omega arith) lb h₂ c 8 in
     let e : suc (at + 12) ≡ at + 12 + 1 = omega arith in
-    is
+    rw (← ev) (is
     ∙ set-split w₃ (at + 12) 10 (omega arith)
     ∙ ap (λ (x : ℕ). take (at + 12) w₃ ++ 10 ∷ drop x w₃) e
     ∙ put-next o w₃ ((a ++ b) ++ c) at 12 (omega arith) lc p₃ (10 ∷ []) 1
-    ∙ ap (λ (x : List ℕ). take at o ++ (x ++ drop (at + 13) o)) (append-assoc (a ++ b) c (10 ∷ []) ∙ append-assoc a b (c ++ 10 ∷ []))
+    ∙ ap (λ (x : List ℕ). take at o ++ (x ++ drop (at + 13) o)) (append-assoc (a ++ b) c (10 ∷ []) ∙ append-assoc a b (c ++ 10 ∷ [])))
 
-pub ruleset puts = (needs, line-put)
+pub ruleset puts = (needs, short-put, line-put)

@@ -10,6 +10,12 @@ ghost use lib.ListN.{length};
 ghost use Rattle.frame_pieces.specs.Inputs.{input-of};
 ghost use Rattle.frame_pieces.specs.Newlines.{Clear, NewlineAt, KeepsPending, LineAfter};
 
+// What the count of a line stands for that is too long for a frame.
+pub const TOO_LONG: usize = 799;
+
+// The bit 32 of eight characters.
+const DIGIT_BIT: u64 = 0x2020202020202020;
+
 // What the count of a read means: that many characters came, or the input has ended.
 pub enum Input {
     Ended,
@@ -33,7 +39,7 @@ fn skip(piece: &[u8], from: usize) -> usize
 {
     let mut j = from;
     while 8 <= piece.len() - j {
-        if hexadecimal::eight(piece, j) & 0x2020202020202020 != 0x2020202020202020 {
+        if hexadecimal::eight(piece, j) & DIGIT_BIT != DIGIT_BIT {
             return j;
         }
         j += 8;
@@ -48,7 +54,7 @@ pub fn find_newline(piece: &[u8], from: usize) -> usize
 {
     let mut j = skip(piece, from);
     while j < piece.len() {
-        if piece[j] == 10 {
+        if piece[j] == frame_lines::LINE_END {
             return j;
         }
         j += 1;
@@ -62,11 +68,11 @@ pub fn keep(pending: usize, line: &mut [u8], part: &[u8]) -> usize
     ensures { λ r. ⌜ KeepsPending pending (now (line .entry)) (now (part .entry)) r (now (line .exit)) ⌝ }
     ensures { λ r. ⌜ LineAfter r (now (line .entry)) (now (line .exit)) ⌝ }
 {
-    if pending > 798 {
-        return 799;
+    if pending > frame_lines::LONGEST {
+        return TOO_LONG;
     }
-    if part.len() > 798 - pending {
-        return 799;
+    if part.len() > frame_lines::LONGEST - pending {
+        return TOO_LONG;
     }
     let mut i: usize = 0;
     while i < part.len() {

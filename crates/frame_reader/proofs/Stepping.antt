@@ -3,7 +3,7 @@
 --   Going s p i h w b o₀ o                      of the piece p the first i characters are worked, s being the pending line before it
 --   Underway pending p b₀ o₀ i h w b o m        the same whatever line is kept, with the lengths that a round relies on
 --   ended-none, ended-line                      the end of the input
---   steps                                       the rules
+--   steps, endings                              the rules of `step` and of `finish`
 use mathlib.Core.Path.{_≡_, refl, sym, ap, ap₂, _∙_, subst}
 use mathlib.Core.Bool.{false}
 use mathlib.Core.List.{List, [], _∷_, _++_, append-assoc, append-nil}
@@ -205,7 +205,16 @@ ended-line {h} {x} {b} {o} {o'} wrote eh n l s k =
       rest = wrote-rest l r;
     }
 
-pub ruleset rounds =
-    (underway-none, underway-keep, underway-end, underway-line, underway-written, underway-room, underway-lent, underway-next)
+pub ruleset steps = (
+  needs,
+  underway-none,
+  underway-keep,
+  underway-end,
+  underway-line,
+  underway-written,
+  underway-room,
+  underway-lent,
+  underway-next,
+)
 
-pub ruleset steps = (needs, rounds, working-lent, ended-none, ended-line)
+pub ruleset endings = (needs, working-lent, ended-none, ended-line)

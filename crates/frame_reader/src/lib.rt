@@ -6,6 +6,7 @@ ghost use lib.ListN.{length};
 ghost use Rattle.frame_runs.specs.Working.{Working};
 ghost use Rattle.frame_pieces.specs.Newlines.{LineAfter};
 ghost use Rattle.frame_reader.specs.Pieces.{PendingAnswered, PartAnswered, Steps, Ends};
+use refusals::WORKING_WORDS;
 
 // What a step leaves: the count of the pending line, and of the characters written.
 pub struct Progress {
@@ -14,19 +15,19 @@ pub struct Progress {
 }
 
 // Working words for the runs. Only that is told of them which is asked for: whoever has them need not look at 8192 zeros.
-fn working_words() -> [u32; 8192]
+fn fresh_words() -> [u32; WORKING_WORDS]
     ensures { λ r. ⌜ 8192 ≡ length r ⌝ }
     ensures { λ r. ⌜ Working r ⌝ }
 {
-    [0; 8192]
+    [0; WORKING_WORDS]
 }
 
 // A line of 799 characters or more is kept as one of 799: it is no frame, whatever comes.
 fn counted(pending: usize) -> usize
     ensures { λ r. ⌜ r ≡ min pending 799 ⌝ }
 {
-    if pending > 799 {
-        return 799;
+    if pending > frame_pieces::TOO_LONG {
+        return frame_pieces::TOO_LONG;
     }
     pending
 }
@@ -38,8 +39,8 @@ fn answer_pending(pending: usize, line: &[u8], work: &mut [u32], out: &mut [u8],
         (now (work .entry)) (now (work .exit)) ⌝ }
     ensures { λ _. ⌜ Working (now (work .exit)) ⌝ }
 {
-    if pending > 798 {
-        frame_lines::write_line(out, at, 255, 8, 0);
+    if pending > frame_lines::LONGEST {
+        frame_lines::write_line(out, at, frame_lines::NO_KIND, frame_lines::NO_FRAME, 0);
         return;
     }
     frames::answer(&line[0..pending], work, out, at);
@@ -70,7 +71,7 @@ pub fn step(pending: usize, line: &mut [u8], piece: &[u8], out: &mut [u8]) -> Pr
         (now (out .entry)) (now (out .exit)) ⌝ }
     ensures { λ r. ⌜ LineAfter (r .pending) (now (line .entry)) (now (line .exit)) ⌝ }
 {
-    let mut work = working_words();
+    let mut work = fresh_words();
     let mut h = counted(pending);
     let mut i: usize = 0;
     let mut w: usize = 0;
@@ -83,9 +84,9 @@ pub fn step(pending: usize, line: &mut [u8], piece: &[u8], out: &mut [u8]) -> Pr
                 written: w,
             };
         }
-        close(h, line, &piece[i..j], &mut work[0..8192], out, w);
+        close(h, line, &piece[i..j], &mut work[0..WORKING_WORDS], out, w);
         h = 0;
-        w += 13;
+        w += frame_lines::ANSWER_LENGTH;
         i = j + 1;
     }
     Progress {
@@ -104,7 +105,7 @@ pub fn finish(pending: usize, line: &[u8], out: &mut [u8]) -> usize
     if h == 0 {
         return 0;
     }
-    let mut work = working_words();
-    answer_pending(h, line, &mut work[0..8192], out, 0);
-    13
+    let mut work = fresh_words();
+    answer_pending(h, line, &mut work[0..WORKING_WORDS], out, 0);
+    frame_lines::ANSWER_LENGTH
 }

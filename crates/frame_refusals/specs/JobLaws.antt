@@ -23,13 +23,4 @@ abbrev pub job-conditions : ℕ → List ℕ → List ℕ → List (Type 0)
 job-conditions n f g = conditions-of-pair narrow n f g ++ ((coef f (deg f) ≡ 0 → ⊥) ∷ (coef g (deg g) ≡ 0 → ⊥) ∷ [])
 
 pub job-listed : (n : ℕ) (f g : List ℕ) → Listed (job-refusals n f g) (job-conditions n f g)
-job-listed n f g = (
-  (omega arith, modulus-fails narrow n),
-  (
-    (omega arith, length-fails f),
-    (
-      (omega arith, length-fails g),
-      ((omega arith, words-fail n f), ((omega arith, words-fail n g), ((omega arith, top-fails f), ((omega arith, top-fails g), tt)))),
-    ),
-  ),
-)
+job-listed n f g = search (arith, tt, modulus-fails, length-fails, words-fail, top-fails) depth 20

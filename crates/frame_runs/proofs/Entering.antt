@@ -74,7 +74,7 @@ entered-answer {n} {m} {f} {g} {w} {w₁} {w₂} r found two s lf lg h =
 
 pub entered-placed : {n : ℕ} {m : Modulus} {f g w w₁ w₂ : List ℕ} → ModulusOf n m → 2 ≤ n → TestLengthsAsked f g w → length f ≤ length g
     → Entered m 0 f w w₁ → Entered m (length f) g w₁ w₂ → Placed (m .n) 0 (length f - 1) (length f) (length g - 1) w₂
-entered-placed found two s near lf lg = descent-placed lf lg found two s near refl refl refl refl refl
+entered-placed found two s near lf lg = descent-placed lf lg (found .known) (found-two found two) s near refl refl refl refl refl
 
 -- f and g in the other order
 swapped-sign : (n : ℕ) (f g : List ℕ) → 2 ≤ n → 1 ≤ length f → 1 ≤ length g

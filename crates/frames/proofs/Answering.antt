@@ -1,4 +1,6 @@
 -- From the parts of a line, its words and its job's outcome to what its answer says.
+--
+--   telling, writing     the rules of what is told of a line, and of the answer line
 use mathlib.Core.Path.{_≡_, refl, sym, ap, ap₂, _∙_, subst}
 use mathlib.Core.Bool.{Bool, true, false, cond, not}
 use mathlib.Core.List.{List, _++_}
@@ -6,6 +8,7 @@ use Prim.Native.Nat.{ℕ, zero, suc, _+_, _-_, _≤_}
 use native.Mathlib.Omega.{arith}
 use lib.ListN.{length, take, drop, replicate, length-drop}
 use lib.Seq.{take-all}
+use borrow.Author.Needs.{needs}
 use borrow.Author.Tests.{not-true, not-false}
 use Rattle.refusals.specs.Refusals.{left}
 use Rattle.frame_lines.specs.declared.Head.{Head}
@@ -97,4 +100,6 @@ still-working {s} {w = w} p h = subst Working (sym (p .work ∙ after-zeros (is-
 pub wiped : (w w₁ w' : List ℕ) → length w₁ ≡ length w → w' ≡ replicate (length w₁) 0 → w' ≡ replicate (length w) 0
 wiped w w₁ w' h e = e ∙ ap (λ (k : ℕ). replicate k 0) h
 
-pub ruleset telling = (told-other, told-words, told-served, wrote-told)
+pub ruleset telling = (told-other, told-words, told-served)
+
+pub ruleset writing = (needs, wrote-told)

@@ -1,11 +1,14 @@
 -- The outcome of a frame's job: refused, or answered by a run.
 --
 --   job-asked                          what a run asks of a job that is not refused
---   served-refused, served-resultant, served-reduced    the promise at each place where a job is served
+--   value-resultant, value-reduced     the value by the kind
+--   served-refused, served-answered    the promise at each place where a job is served
+--   running, serving                   the rules
 use mathlib.Core.Path.{_≡_, refl, sym, ap, _∙_, subst}
 use mathlib.Core.List.{List}
 use Prim.Native.Nat.{ℕ, zero, suc, _+_, _-_, _≤_}
 use native.Mathlib.Omega.{arith}
+use borrow.Author.Needs.{needs}
 use lib.ListN.{length, take, drop, replicate}
 use Rattle.definitions.specs.Resultants.{resultant, Reduced}
 use Rattle.refusals.specs.Refusals.{narrow, first-refusal, refusals-of-pair, left}
@@ -31,10 +34,10 @@ job-asked {n} {r} {f} {g} {w} h e z =
 
 -- ---- the value
 
-value-resultant : (k n : ℕ) (f g : List ℕ) (v : ℕ) → k ≡ 1 → v ≡ resultant n f g → Value k n f g v
+pub value-resultant : (k n : ℕ) (f g : List ℕ) (v : ℕ) → k ≡ 1 → v ≡ resultant n f g → Value k n f g v
 value-resultant k n f g v one e = subst (λ (x : ℕ). Value x n f g v) (sym one) e
 
-value-reduced : (k n : ℕ) (f g : List ℕ) (v : ℕ) → (k ≡ 1 → ⊥) → 1 ≤ k → Reduced n f g v → Value k n f g v
+pub value-reduced : (k n : ℕ) (f g : List ℕ) (v : ℕ) → (k ≡ 1 → ⊥) → 1 ≤ k → Reduced n f g v → Value k n f g v
 value-reduced zero n f g v h l r = absurd (omega arith)
 value-reduced (suc zero) n f g v h l r = absurd (h refl)
 value-reduced (suc (suc k)) n f g v h l r = r
@@ -53,25 +56,21 @@ module _ {k : ℕ} (d : ℕ) (m : List ℕ) {n v r : ℕ} {w w' : List ℕ}
   handed-on p =
       subst (λ (x : List ℕ × List ℕ). Served k n (x .0) (x .1) r v w w') (λ i. (first-handed (d + 1) m i, second-handed (d + 1) m i)) p
 
-  answered : r ≡ 0 → Value k n (first-sent d m) (second-sent d m) v → w' ≡ replicate (length w) 0
+  pub served-answered : r ≡ 0 → Value k n (first-sent d m) (second-sent d m) v → w' ≡ replicate (length w) 0
       → Served k n (take (d + 1) m) (drop (d + 1) m) r v w w'
-  answered z h z' = handed-on (record {
+  served-answered z h z' = handed-on (record {
     outcome = record { status = e; value = λ _. h; refused = λ x. absurd (x z) };
     work = z' ∙ ap (λ (t : ℕ). left t w) (sym z);
   })
 
-  pub served-resultant : r ≡ 0 → k ≡ 1 → v ≡ resultant n (first-sent d m) (second-sent d m) → w' ≡ replicate (length w) 0
-      → Served k n (take (d + 1) m) (drop (d + 1) m) r v w w'
-  served-resultant z one h z' = answered z (value-resultant k n (first-sent d m) (second-sent d m) v one h) z'
-
-  pub served-reduced : r ≡ 0 → (k ≡ 1 → ⊥) → 1 ≤ k → Reduced n (first-sent d m) (second-sent d m) v → w' ≡ replicate (length w) 0
-      → Served k n (take (d + 1) m) (drop (d + 1) m) r v w w'
-  served-reduced z one some h z' = answered z (value-reduced k n (first-sent d m) (second-sent d m) v one some h) z'
-
-pub served-refused : {k : ℕ} (d : ℕ) (m : List ℕ) {n r : ℕ} {w : List ℕ}
-    → r ≡ first-refusal (job-refusals n (first-sent d m) (second-sent d m)) → (r ≡ 0 → ⊥)
-    → Served k n (take (d + 1) m) (drop (d + 1) m) r 0 w w
-served-refused d m {r = r} {w = w} e h = handed-on d m e (record {
+pub served-refused : {k : ℕ} (d : ℕ) (m : List ℕ) {n r s v : ℕ} {w : List ℕ}
+    → r ≡ first-refusal (job-refusals n (first-sent d m) (second-sent d m)) → (r ≡ 0 → ⊥) → v ≡ 0 → s ≡ r
+    → Served k n (take (d + 1) m) (drop (d + 1) m) s v w w
+served-refused d m {r = r} {w = w} e h ev es = rw (ev, es) (handed-on d m e (record {
   outcome = record { status = e; value = λ z. absurd (h z); refused = λ _. refl };
   work = left-refused r w h;
-})
+}))
+
+pub ruleset running = (needs, value-resultant, value-reduced)
+
+pub ruleset serving = (needs, job-asked, served-refused, served-answered)

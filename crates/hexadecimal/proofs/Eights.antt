@@ -7,7 +7,7 @@
 --   letter, value, ten        what is done to one character: see `word` in src
 --   tested, wanted            the two sides of the test
 --   digits-all, digits-not    the test tells digits from other characters, and then the values are theirs
---   packed-eight              eight values as one number
+--   byte-at, packed-eight     a byte of a number; eight values as one number
 --   eights                    the rules
 use mir.Syntax.{w64}
 use mir.Val.{Fits}
@@ -18,6 +18,7 @@ use Prim.Native.Nat.{ℕ, zero, suc, _+_, _-_, _*_, _/_, _%_, _^_, _<_, _≤_}
 use native.Mathlib.Omega.{arith}
 use native.Mathlib.Nat.{mul-le-mul}
 use native.Mathlib.Decide.{ℕ-discrete}
+use lib.Arith.{digits-div, digits-mod}
 use lib.ListN.{length, getD, take, drop, length-drop}
 use lib.Seq.{drop-cons, drop-drop, take-add, length-take-le}
 use lib.Dec.{ltb, eqb}
@@ -35,37 +36,33 @@ use Rattle.hexadecimal.specs.DigitLaws.{and-both}
 pub code-told : (s : List ℕ) (i : ℕ) → getD s i 0 < 256 → Code s i (getD s i 0)
 code-told s i h = record { is = refl; below = h }
 
-four-of : (s : List ℕ) (at : ℕ) → at + 4 ≤ length s
-    → take 4 (drop at s) ≡ getD s at 0 ∷ getD s (at + 1) 0 ∷ getD s (at + 2) 0 ∷ getD s (at + 3) 0 ∷ []
-four-of s at h = go at (at + 1) (at + 2) (at + 3) (omega arith) (omega arith) (omega arith) (omega arith)
-  where
-    go : (i j k l : ℕ) → suc i ≡ j → suc j ≡ k → suc k ≡ l → l < length s
-        → take 4 (drop i s) ≡ getD s i 0 ∷ getD s j 0 ∷ getD s k 0 ∷ getD s l 0 ∷ []
-    go i j k l ej ek el h =
-        ap (take 4) (drop-cons s i 0 (omega arith))
-        ∙ ap (λ (t : List ℕ). getD s i 0 ∷ take 3 t) (ap (λ (x : ℕ). drop x s) ej ∙ drop-cons s j 0 (omega arith))
-        ∙ ap (λ (t : List ℕ). getD s i 0 ∷ getD s j 0 ∷ take 2 t) (ap (λ (x : ℕ). drop x s) ek ∙ drop-cons s k 0 (omega arith))
-        ∙ ap (λ (t : List ℕ). getD s i 0 ∷ getD s j 0 ∷ getD s k 0 ∷ take 1 t) (ap (λ (x : ℕ). drop x s) el ∙ drop-cons s l 0 h)
+-- the character at place i, and those from place j on after it
+joined-cons : {s : List ℕ} {c y : ℕ} (i j k : ℕ) → i < length s → i + 1 ≡ j → Code s i c → Joined (take k (drop j s)) y
+    → Joined (take (suc k) (drop i s)) (y * 256 + c)
+joined-cons {s} {c} {y} i j k h e p q =
+    let z : suc i ≡ j = omega arith in
+    subst (λ (t : List ℕ). Joined (take (suc k) t) (y * 256 + c))
+    (sym (drop-cons s i 0 h ∙ ap (λ (x : ℕ). getD s i 0 ∷ drop x s) z))
+    (record { is = omega (arith, p .is, q .is); bytes = (omega (arith, p .is, p .below), q .bytes) })
 
 pub four-joined : {s : List ℕ} {at : ℕ} (a b c d r : ℕ) → at + 4 ≤ length s → Code s at a → Code s (at + 1) b → Code s (at + 2) c
     → Code s (at + 3) d → r ≡ a + b * 256 + c * 65536 + d * 16777216 → Joined (take 4 (drop at s)) r
 four-joined {s} {at} a b c d r h ka kb kc kd e =
-    subst (λ (t : List ℕ). Joined t r) (sym (four-of s at h))
-    (record {
-      is = omega (arith, ka .is, kb .is, kc .is, kd .is);
-      bytes = (below ka, (below kb, (below kc, (below kd, tt))));
-    })
-  where
-    below : {i x : ℕ} → Code s i x → getD s i 0 < 256
-    below k = omega (arith, k .is, k .below)
+    let none : Joined (take 0 (drop (at + 4) s)) 0 = record { is = refl; bytes = tt } in
+    subst (Joined (take 4 (drop at s))) (omega arith)
+    (joined-cons at (at + 1) 3 (omega arith) refl ka
+    (joined-cons (at + 1) (at + 2) 2 (omega arith) (omega arith) kb
+    (joined-cons (at + 2) (at + 3) 1 (omega arith) (omega arith) kc
+    (joined-cons (at + 3) (at + 4) 0 (omega arith) (omega arith) kd none))))
 
-joined-append : (t u : List ℕ) → length t ≡ 4 → joined (t ++ u) ≡ joined u * 4294967296 + joined t
-joined-append (a ∷ b ∷ c ∷ d ∷ []) u e = omega arith
-joined-append [] u e = absurd (omega arith)
-joined-append (a ∷ []) u e = absurd (omega arith)
-joined-append (a ∷ b ∷ []) u e = absurd (omega arith)
-joined-append (a ∷ b ∷ c ∷ []) u e = absurd (omega arith)
-joined-append (a ∷ b ∷ c ∷ d ∷ x ∷ t) u e = absurd (omega arith)
+-- x, that many bytes higher
+abbrev higher : ℕ → ℕ → ℕ
+higher x zero = x
+higher x (suc k) = higher x k * 256
+
+joined-append : (t u : List ℕ) → joined (t ++ u) ≡ higher (joined u) (length t) + joined t
+joined-append [] u = omega arith
+joined-append (c ∷ t) u = omega (arith, joined-append t u)
 
 bytes-append : (t u : List ℕ) → Bytes t → Bytes u → Bytes (t ++ u)
 bytes-append [] u p q = q
@@ -80,7 +77,7 @@ eight-joined s at x y r h kx ky e =
     let l : length t ≡ 4 = length-take-le 4 (drop at s) (omega (arith, length-drop at s)) in
     subst (λ (v : List ℕ). Joined v r) (sym cut)
     (record {
-      is = e ∙ ap₂ (λ (p q : ℕ). p + q * 4294967296) (kx .is) (ky .is) ∙ (omega arith) ∙ sym (joined-append t u l);
+      is = omega (arith, kx .is, ky .is, joined-append t u ∙ ap (λ (k : ℕ). higher (joined u) k + joined t) l);
       bytes = bytes-append t u (kx .bytes) (ky .bytes);
     })
 
@@ -116,19 +113,18 @@ unfolding each
 same-each f g [] h b = refl
 same-each f g (c ∷ t) h b = ap₂ (λ (x y : ℕ). x * 256 + y) (same-each f g t h (b .1)) (h c (b .0))
 
+abbrev ones : ℕ → ℕ
+ones zero = 0
+ones (suc k) = ones k * 256 + 1
+
+equal-bytes : (m : ℕ) (t : List ℕ) → each (λ (c : ℕ). m) t ≡ m * ones (length t)
+unfolding each
+equal-bytes m [] = omega arith
+equal-bytes m (c ∷ t) = omega (arith, equal-bytes m t)
+
 -- the same byte eight times
 pub mask : (m : ℕ) (t : List ℕ) → length t ≡ 8 → each (λ (c : ℕ). m) t ≡ m * 72340172838076673
-unfolding each
-mask m (a ∷ b ∷ c ∷ d ∷ e ∷ f ∷ g ∷ h ∷ []) l = omega arith
-mask m [] l = absurd (omega arith)
-mask m (a ∷ []) l = absurd (omega arith)
-mask m (a ∷ b ∷ []) l = absurd (omega arith)
-mask m (a ∷ b ∷ c ∷ []) l = absurd (omega arith)
-mask m (a ∷ b ∷ c ∷ d ∷ []) l = absurd (omega arith)
-mask m (a ∷ b ∷ c ∷ d ∷ e ∷ []) l = absurd (omega arith)
-mask m (a ∷ b ∷ c ∷ d ∷ e ∷ f ∷ []) l = absurd (omega arith)
-mask m (a ∷ b ∷ c ∷ d ∷ e ∷ f ∷ g ∷ []) l = absurd (omega arith)
-mask m (a ∷ b ∷ c ∷ d ∷ e ∷ f ∷ g ∷ h ∷ x ∷ t) l = absurd (omega arith)
+mask m t l = equal-bytes m t ∙ ap (λ (k : ℕ). m * ones k) l
 
 -- ---- what is done to one character, looked up for each
 
@@ -166,24 +162,20 @@ abbrev pub wanted : ℕ → ℕ
 wanted c = 48 + letter c * 49
 
 module _ (c : ℕ) (l : c < 256) where
-  looked-up : (p : ℕ → Bool) → upto 256 p ≡ true → p c ≡ true
-  looked-up p h = upto-at 256 p h c l
-
   unit-below : unit c < 256
-  unfolding upto
-  unit-below = ltb-true _ _ (looked-up (λ (c : ℕ). ltb (unit c) 256) refl)
+  unit-below = omega (arith, and-le-r c 15, and-le-r c 64)
 
   raised-below : raised c < 256
-  unfolding upto
-  raised-below = ltb-true _ _ (looked-up (λ (c : ℕ). ltb (raised c) 256) refl)
+  raised-below = omega (arith, and-le-r (unit c) 15)
 
   tested-below : tested c < 256
-  unfolding upto
-  tested-below = ltb-true _ _ (looked-up (λ (c : ℕ). ltb (tested c) 256) refl)
+  tested-below = omega (arith, and-le-r c 240, and-le-r (raised c) 16)
 
   wanted-below : wanted c < 256
-  unfolding upto
-  wanted-below = ltb-true _ _ (looked-up (λ (c : ℕ). ltb (wanted c) 256) refl)
+  wanted-below = omega (arith, and-le-r c 64)
+
+  looked-up : (p : ℕ → Bool) → upto 256 p ≡ true → p c ≡ true
+  looked-up p h = upto-at 256 p h c l
 
   letter-whole : bitAnd c 64 ≡ 0 + letter c * 64
   unfolding upto
@@ -231,48 +223,31 @@ digits-not (c ∷ t) b n =
 
 -- ---- the values of eight digits as one number
 
-two-below : {a b : ℕ} → a < 16 → b < 16 → a * 16 + b < 256
-two-below h k = omega arith
+-- byte v of a number
+byte-at : {p m v : ℕ} (q r : ℕ) → p ≡ (q * 256 + v) * m + r → v < 256 → r < m → p / m % 256 ≡ v
+byte-at q r e h l = rw e (ap (λ (x : ℕ). x % 256) (digits-div _ l) ∙ digits-mod q h)
 
--- two values in a byte
-pair-of : (x y z u v : ℕ) → x ≡ y * 256 + u → y ≡ z * 256 + v → x * 16 + y ≡ (y * 16 + z) * 256 + (u * 16 + v)
-pair-of x y z u v h k = omega arith
+packed-bytes : (w x y z p : ℕ) {q : ℕ} → p * 16 + p / 256 ≡ q → q % 256 ≡ w → q / 65536 % 256 ≡ x → q / 4294967296 % 256 ≡ y
+    → q / 281474976710656 % 256 ≡ z → packed-of p ≡ w * 16777216 + x * 65536 + y * 256 + z
+packed-bytes w x y z p e h i j k = rw (e, h, i, j, k)
 
-over : (q q₁ q₂ r s : ℕ) → r < 256 → s < 256 → q ≡ q₁ * 256 + r → q₁ ≡ q₂ * 256 + s → (q % 256 ≡ r) × (q / 65536 ≡ q₂)
-over q q₁ q₂ r s h k e f = (omega arith, omega arith)
-
-twice : (q q₂ q₄ : ℕ) → q / 65536 ≡ q₂ → q₂ / 65536 ≡ q₄ → q / 4294967296 ≡ q₄
-twice q q₂ q₄ h k = omega arith
-
-thrice : (q q₄ q₆ : ℕ) → q / 4294967296 ≡ q₄ → q₄ / 65536 ≡ q₆ → q / 281474976710656 ≡ q₆
-thrice q q₄ q₆ h k = omega arith
-
-pairs-known : (x y a : ℕ) → a < 16 → x ≡ y * 256 + a → x * 16 + x / 256 ≡ x * 16 + y
-pairs-known x y a h e = omega arith
-
-module _ {a b c d e f g h : ℕ} (ha : a < 16) (hb : b < 16) (hc : c < 16) (hd : d < 16) (he : e < 16) (hf : f < 16) (hg : g < 16) where
-  packed-eight : h < 16 → (x₀ x₁ x₂ x₃ x₄ x₅ x₆ : ℕ) → x₀ ≡ x₁ * 256 + a → x₁ ≡ x₂ * 256 + b → x₂ ≡ x₃ * 256 + c → x₃ ≡ x₄ * 256 + d
-      → x₄ ≡ x₅ * 256 + e → x₅ ≡ x₆ * 256 + f → x₆ ≡ h * 256 + g
-      → packed-of x₀ ≡ (a * 16 + b) * 16777216 + (c * 16 + d) * 65536 + (e * 16 + f) * 256 + (g * 16 + h)
-  packed-eight hh x₀ x₁ x₂ x₃ x₄ x₅ x₆ e₀ e₁ e₂ e₃ e₄ e₅ e₆ =
-      let q = x₀ * 16 + x₁ in
-      let o₀ = over q (x₁ * 16 + x₂) (x₂ * 16 + x₃) (a * 16 + b) (b * 16 + c) (two-below ha hb) (two-below hb hc)
-      (pair-of x₀ x₁ x₂ a b e₀ e₁) (pair-of x₁ x₂ x₃ b c e₁ e₂) in
-      let o₂ = over (x₂ * 16 + x₃) (x₃ * 16 + x₄) (x₄ * 16 + x₅) (c * 16 + d) (d * 16 + e) (two-below hc hd) (two-below hd he)
-      (pair-of x₂ x₃ x₄ c d e₂ e₃) (pair-of x₃ x₄ x₅ d e e₃ e₄) in
-      let o₄ = over (x₄ * 16 + x₅) (x₅ * 16 + x₆) (x₆ * 16 + h) (e * 16 + f) (f * 16 + g) (two-below he hf) (two-below hf hg)
-      (pair-of x₄ x₅ x₆ e f e₄ e₅) (pair-of x₅ x₆ h f g e₅ e₆) in
-      let d₄ = twice q (x₂ * 16 + x₃) (x₄ * 16 + x₅) (o₀ .1) (o₂ .1) in
-      let d₆ = thrice q (x₄ * 16 + x₅) (x₆ * 16 + h) d₄ (o₄ .1) in
-      ap (λ (z : ℕ). z % 256 * 16777216 + z / 65536 % 256 * 65536 + z / 4294967296 % 256 * 256 + z / 281474976710656 % 256)
-      (pairs-known x₀ x₁ a ha e₀)
-      ∙ ap₂ (λ (y z : ℕ). y * 16777216 + z % 256 * 65536 + q / 4294967296 % 256 * 256 + q / 281474976710656 % 256) (o₀ .0) (o₀ .1)
-      ∙ ap₂ (λ (y z : ℕ). (a * 16 + b) * 16777216 + y * 65536 + z % 256 * 256 + q / 281474976710656 % 256) (o₂ .0) d₄
-      ∙ ap₂ (λ (y z : ℕ). (a * 16 + b) * 16777216 + (c * 16 + d) * 65536 + y * 256 + z % 256) (o₄ .0) d₆
-      ∙ ap (λ (y : ℕ). (a * 16 + b) * 16777216 + (c * 16 + d) * 65536 + (e * 16 + f) * 256 + y) (last x₆ g h hg hh e₆)
-    where
-      last : (x g h : ℕ) → g < 16 → h < 16 → x ≡ h * 256 + g → (x * 16 + h) % 256 ≡ g * 16 + h
-      last x g h hg hh e = omega arith
+-- two values in each byte, of which each second is taken
+packed-eight : {a b c d e f g h : ℕ} → a < 16 → b < 16 → c < 16 → d < 16 → e < 16 → f < 16 → g < 16 → h < 16
+    → packed-of ((((((((0 * 256 + h) * 256 + g) * 256 + f) * 256 + e) * 256 + d) * 256 + c) * 256 + b) * 256 + a)
+    ≡ (((((((0 * 16 + a) * 16 + b) * 16 + c) * 16 + d) * 16 + e) * 16 + f) * 16 + g) * 16 + h
+packed-eight {a} {b} {c} {d} {e} {f} {g} {h} ha hb hc hd he hf hg hh =
+    let s : ℕ = h * 16 * 256 + (g * 16 + h) in
+    let t : ℕ = (s * 256 + (f * 16 + g)) * 256 + (e * 16 + f) in
+    let u : ℕ = (t * 256 + (d * 16 + e)) * 256 + (c * 16 + d) in
+    let p : ℕ = (u * 256 + (b * 16 + c)) * 256 + (a * 16 + b) in
+    let x : ℕ = (b * 16 + c) * 256 + (a * 16 + b) in
+    let y : ℕ = ((d * 16 + e) * 256 + (c * 16 + d)) * 65536 + x in
+    let z : ℕ = ((f * 16 + g) * 256 + (e * 16 + f)) * 4294967296 + y in
+    packed-bytes (a * 16 + b) (c * 16 + d) (e * 16 + f) (g * 16 + h) _ {q = p} (omega arith)
+    (digits-mod (u * 256 + (b * 16 + c)) (omega arith)) (byte-at (t * 256 + (d * 16 + e)) x (omega arith) (omega arith) (omega arith))
+    (byte-at (s * 256 + (f * 16 + g)) y (omega arith) (omega arith) (omega arith))
+    (byte-at (h * 16) z (omega arith) (omega arith) (omega arith))
+    ∙ omega arith
 
 abbrev Below : List ℕ → Type 0
 Below [] = Unit
@@ -283,19 +258,11 @@ unfolding all-digits
 digits-below [] h = tt
 digits-below (c ∷ t) h = let b = and-both (ltb (digit-of c) 16) (all-digits t) h in (ltb-true _ _ (b .0), digits-below t (b .1))
 
-spelled-eight : (a b c d e f g h : ℕ) → (a * 16 + b) * 16777216 + (c * 16 + d) * 65536 + (e * 16 + f) * 256 + (g * 16 + h)
-    ≡ (((((((0 * 16 + a) * 16 + b) * 16 + c) * 16 + d) * 16 + e) * 16 + f) * 16 + g) * 16 + h
-spelled-eight a b c d e f g h = omega arith
-
-joined-eight : (h g : ℕ) → (0 * 256 + h) * 256 + g ≡ h * 256 + g
-joined-eight h g = omega arith
-
 pub packed-digits : (t : List ℕ) → length t ≡ 8 → Below t → packed-of (each digit-of t) ≡ number-of t
 unfolding each spelled
 packed-digits (a ∷ b ∷ c ∷ d ∷ e ∷ f ∷ g ∷ h ∷ []) l k =
     packed-eight (k .0) (k .1 .0) (k .1 .1 .0) (k .1 .1 .1 .0) (k .1 .1 .1 .1 .0) (k .1 .1 .1 .1 .1 .0) (k .1 .1 .1 .1 .1 .1 .0)
-    (k .1 .1 .1 .1 .1 .1 .1 .0) _ _ _ _ _ _ _ refl refl refl refl refl refl (joined-eight (digit-of h) (digit-of g))
-    ∙ spelled-eight (digit-of a) (digit-of b) (digit-of c) (digit-of d) (digit-of e) (digit-of f) (digit-of g) (digit-of h)
+    (k .1 .1 .1 .1 .1 .1 .1 .0)
 packed-digits [] l k = absurd (omega arith)
 packed-digits (a ∷ []) l k = absurd (omega arith)
 packed-digits (a ∷ b ∷ []) l k = absurd (omega arith)
@@ -317,6 +284,9 @@ values-of x = bitAnd (bitAnd x 0x0f0f0f0f0f0f0f0f + letters-of x * 9) 0x0f0f0f0f
 abbrev tens-of : ℕ → ℕ
 tens-of x = bitAnd (values-of x + 0x0606060606060606) 0x1010101010101010 / 16
 
+divided : (m : ℕ) {k y z : ℕ} → y ≡ k + z * suc m → k ≡ 0 → y / suc m ≡ z
+divided m {z = z} e h = ap (λ (x : ℕ). x / suc m) (e ∙ omega (arith, h)) ∙ digits-div z {r = 0} (omega arith)
+
 module _ {t : List ℕ} {x : ℕ} (l : length t ≡ 8) (j : Joined t x) where
   pub masked : (m : ℕ) → m < 256 → bitAnd x (m * 72340172838076673) ≡ each (λ (c : ℕ). bitAnd c m) t
   masked m h = ap₂ bitAnd (j .is ∙ each-own t) (sym (mask m t l)) ∙ and-each own m t (λ c k. k) h (j .bytes)
@@ -324,10 +294,7 @@ module _ {t : List ℕ} {x : ℕ} (l : length t ≡ 8) (j : Joined t x) where
   letters-are : letters-of x ≡ each letter t
   letters-are =
       let whole = same-each _ _ t letter-whole (j .bytes) in
-      over-64 _ _ (masked 64 (omega arith) ∙ whole ∙ sym (add-each (λ (c : ℕ). 0) letter 64 t)) (mask 0 t l)
-    where
-      over-64 : (y z : ℕ) → {k : ℕ} → y ≡ k + z * 64 → k ≡ 0 → y / 64 ≡ z
-      over-64 y z e h = omega arith
+      divided 63 (masked 64 (omega arith) ∙ whole ∙ sym (add-each (λ (c : ℕ). 0) letter 64 t)) (mask 0 t l)
 
   units-are : bitAnd x 0x0f0f0f0f0f0f0f0f + letters-of x * 9 ≡ each unit t
   units-are = ap₂ (λ (y z : ℕ). y + z * 9) (masked 15 (omega arith)) letters-are ∙ add-each (λ (c : ℕ). bitAnd c 15) letter 9 t
@@ -340,11 +307,8 @@ module _ {t : List ℕ} {x : ℕ} (l : length t ≡ 8) (j : Joined t x) where
       let up : values-of x + 0x0606060606060606 ≡ each raised t =
       ap₂ (λ (y z : ℕ). y + z * 6) values-are (sym (mask 1 t l)) ∙ add-each value (λ (c : ℕ). 1) 6 t in
       let whole = same-each _ _ t ten-whole (j .bytes) in
-      over-16 _ _ (ap₂ bitAnd up (sym (mask 16 t l)) ∙ and-each raised 16 t raised-below (omega arith) (j .bytes) ∙ whole
+      divided 15 (ap₂ bitAnd up (sym (mask 16 t l)) ∙ and-each raised 16 t raised-below (omega arith) (j .bytes) ∙ whole
       ∙ sym (add-each (λ (c : ℕ). 0) ten 16 t)) (mask 0 t l)
-    where
-      over-16 : (y z : ℕ) → {k : ℕ} → y ≡ k + z * 16 → k ≡ 0 → y / 16 ≡ z
-      over-16 y z e h = omega arith
 
   tested-are : bitAnd x 0xf0f0f0f0f0f0f0f0 + tens-of x ≡ each tested t
   tested-are =

@@ -12,7 +12,7 @@ use mathlib.Core.Path.{_≡_, refl, sym, _∙_, ap, ap₂, subst}
 use mathlib.Core.List.{List}
 use Prim.Native.Nat.{ℕ, zero, suc, _<_, _≤_, _%_, _^_, _+_, _*_, _-_}
 use native.Mathlib.Decide.{Fin·val-path, ℕ-discrete, decLt}
-use native.Mathlib.Nat.{mod-mod, mod-lt, mod-eq-of-lt, zero-lt-suc}
+use native.Mathlib.Nat.{mod-mod, mod-lt, mod-eq-of-lt, mul-one, zero-lt-suc}
 use native.Mathlib.Omega.{arith}
 use mir.Syntax.{w32}
 use mir.Val.{Fits}
@@ -33,6 +33,7 @@ use Rattle.law_numbers.specs.Divisors.{GcdCofactor, bezout-exists}
 use Rattle.law_numbers.specs.PrimeTable.{differences-above}
 use Rattle.law_numbers.specs.Units.{cofactor-inverse, inverse-unique, gcd-of-coprime, coprime-of-unit}
 use Rattle.law_polynomials.specs.BivariateLaws.{ev-total, num-is}
+use Rattle.modulus.proofs.Valuing.{ready-of}
 use Rattle.windows.specs.Window.{Moved, addMul}
 use Rattle.interpolation.specs.Interpolated.{Valued, Interpolated, Differenced}
 use Rattle.interpolation.specs.NewtonWords.{Row, Passes, Grown, cofactor-of}
@@ -83,11 +84,12 @@ sweep-next {n} {i} {k} {b} {s} {x} {v} {w} {w'} h z r e f = record {
 
 -- the same, as the loop counts
 pub sweep-down : {n i k b x v : ℕ} {w w' w'' : List ℕ} (s : ℕ) → Sweep n i k b s w w' → k < s → Row n b w
-    → x ≡ (getD w' s 0 + (n - getD w' (s - 1) 0)) % n → v ≡ (i * x) % n → w'' ≡ set w' s v → Sweep n i k b (s - 1) w w''
+    → x ≡ (getD w' s 0 + (n - getD w' (s - 1) 0) * 1) % n → v ≡ (i * x) % n → w'' ≡ set w' s v → Sweep n i k b (s - 1) w w''
 sweep-down zero h z r e f ew = absurd (omega arith)
 sweep-down {n} {i} {k} {b} {x} {v} {w} {w'} (suc s) h z r e f ew =
     subst (Sweep n i k b (suc s - 1) w) (sym ew) (subst (λ (t : ℕ). Sweep n i k b t w (set w' (suc s) v)) (sym back)
-    (sweep-next h z (r .inside) (subst (λ (t : ℕ). x ≡ (getD w' (suc s) 0 + (n - getD w' t 0)) % n) back e) f))
+    (sweep-next h z (r .inside) (e ∙ ap (λ (t : ℕ). (getD w' (suc s) 0 + t) % n)
+    (mul-one (n - getD w' (suc s - 1) 0) ∙ ap (λ (t : ℕ). n - getD w' t 0) back)) f))
   where
     back : suc s - 1 ≡ s
     back = omega arith
@@ -309,7 +311,7 @@ module _ {n b j : ℕ} {w w' : List ℕ} (h : Grown n b j w w') (l : j ≤ b) (z
   pub target-fits : j - 1 + (b - (j - 1)) ≤ length w'
   target-fits = omega (arith, h .row .inside)
 
-pub ruleset expansions = (needs, grown-first, grown-down, grown-last, source-fits, target-fits)
+pub ruleset expansions = (needs, grown-first, grown-down, grown-last, source-fits, target-fits, ready-of)
 
 -- ---- the end
 

@@ -3,9 +3,7 @@
 --
 --   remainder, wrapped         a rest below n is the residue; a difference of words that wraps where it must
 --   scaled-less, scaled-is     c y by the low halves of c y and of q n, q from the fraction of c
---   fold-none, fold-once       s below 2 n modulo n
 --   sum-less, sum-is           the sum of two residues
---   factor-residue, times-residue     a factor may be reduced first
 --   Digit, digits-…            a digit of a quotient in the base b, and two of them
 --   Less                       n taken off once, where something stays left
 --   digit-…                    a digit in the base 2^32 by the upper half of n, for n of 2^63 and more
@@ -14,14 +12,14 @@
 --   square-is                  what the second digit leaves is B² modulo n
 --   two-words                  two words are a sum of two words modulo n
 --   multiplier-…               the fraction of a factor, from the reciprocal
-use mathlib.Core.Path.{_≡_, refl, sym, ap, ap₂, _∙_}
+use mathlib.Core.Path.{_≡_, sym, ap, ap₂, _∙_}
 use Prim.Native.Nat.{ℕ, _+_, _-_, _*_, _/_, _%_, _^_, _<_, _≤_}
 use native.Mathlib.Nat.{mul-le-mul-left, mul-le-mul-right, le-of-mul-le-mul-right, lt-of-mul-lt-mul-right, mul-le-mul}
 use native.Mathlib.Nat.{add-mul-mod-self-right, mul-mod-left, add-mod, add-mod-mod, mod-lt, mod-eq-of-lt, div-mul-le-self}
 use native.Mathlib.Nat.{lt-div-mul-add, div-add-mod'}
 use native.Mathlib.Omega.{arith}
 use native.Mathlib.Decide.{decLt}
-use Rattle.law_numbers.specs.Congruence.{Cong, c-refl, c-sym, c-trans, c-eq, c-add, c-mul, c-mod, c-cancel}
+use Rattle.law_numbers.specs.Congruence.{Cong, c-refl, c-sym, c-trans, c-eq, c-add, c-mul, c-cancel}
 use Rattle.law_words64.specs.Montgomery.{IsSquare}
 use Rattle.law_words.specs.Fractions.{Fraction, scaled-least, scaled-most}
 
@@ -54,13 +52,6 @@ module _ {B n c w : ℕ} (pos : 0 < n) (half : n + n < B) (f : Fraction B n c w)
   pub scaled-is : (z : ℕ) → z ≡ r % n → z ≡ (c * y) % n
   scaled-is z e = e ∙ sym (add-mul-mod-self-right r q n) ∙ ap (λ (x : ℕ). x % n) sum
 
--- s below 2 n is s or s - n modulo n
-pub fold-none : (n s : ℕ) → s < n → s ≡ s % n
-fold-none n s l = sym (mod-eq-of-lt l)
-
-pub fold-once : (n s : ℕ) → n ≤ s → s < n + n → s - n ≡ s % n
-fold-once n s l h = remainder n s 1 (s - n) (omega arith) (omega arith)
-
 -- the sum of two residues
 module _ (n a b : ℕ) {x y : ℕ} (pos : 0 < n) (ex : x ≡ a % n) (ey : y ≡ b % n) where
   pub sum-less : x + y < n + n
@@ -68,13 +59,6 @@ module _ (n a b : ℕ) {x y : ℕ} (pos : 0 < n) (ex : x ≡ a % n) (ey : y ≡ 
 
   pub sum-is : {z : ℕ} → z ≡ (x + y) % n → z ≡ (a + b) % n
   sum-is e = e ∙ ap₂ (λ (u v : ℕ). (u + v) % n) ex ey ∙ sym (add-mod a b n)
-
--- a factor may be reduced first
-pub factor-residue : (n c k : ℕ) → k ≡ c % n → (x y : ℕ) → (x + k * y) % n ≡ (x + c * y) % n
-factor-residue n c k e x y = c-add (c-refl {a = x}) (c-mul (c-trans (c-eq e) (c-mod c)) (c-refl {a = y})) .same
-
-pub times-residue : (n c k : ℕ) → k ≡ c % n → (x y : ℕ) → (k * y) % n ≡ (c * y) % n
-times-residue n c k e x y = c-mul (c-trans (c-eq e) (c-mod c)) (c-refl {a = y}) .same
 
 -- one digit in the base b of a quotient by n: something stays left
 pub record Digit (b n x q x' : ℕ) : Type 0 where

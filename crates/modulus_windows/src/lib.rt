@@ -20,7 +20,7 @@
 //   form       the modulus with what Montgomery's reductions need of it
 ghost use Prim.Native.Nat.{ℕ, _+_, _-_, _<_, _≤_};
 ghost use lib.ListN.{length, getD};
-ghost use Rattle.windows.specs.Window.{Clear, Apart, Below, PairAsked, Paired, Moved, Written, addMul, mulBy};
+ghost use Rattle.windows.specs.Window.{Clear, Apart, Below, PairAsked, Paired, Moved, Written, addMul, mulBy, reduced-by};
 ghost use Rattle.window_combining.specs.Combined.{combination};
 ghost use Rattle.montgomery.specs.Held.{held, plain, Formed};
 ghost use Rattle.modulus.specs.Values.{Known, value, values};
@@ -82,7 +82,7 @@ fn scale_plain(w: &mut [u32], m: Modulus, c: u32, src: usize, dst: usize, len: u
         windows::scale_masked(w, n, c, src, dst, len);
         return;
     }
-    windows::scale_by(
+    windows::scale(
         w,
         n,
         Reciprocal {
@@ -288,7 +288,7 @@ pub fn add_pair(w: &mut [u32], m: Modulus, c: u32, e: u32, src: usize, dst: usiz
         windows::add_pair_masked(w, n, c, e, src, dst, len);
         return;
     }
-    windows::add_pair_by(
+    windows::add_pair(
         w,
         n,
         Reciprocal {
@@ -327,7 +327,7 @@ pub fn add_scaled(w: &mut [u32], m: Modulus, c: u32, src: usize, dst: usize, len
         windows::add_scaled_masked(w, n, c, src, dst, len);
         return;
     }
-    windows::add_scaled_by(
+    windows::add_scaled(
         w,
         n,
         Reciprocal {
@@ -362,4 +362,23 @@ pub fn set_scaled(w: &mut [u32], m: Modulus, c: u32, src: usize, dst: usize, len
         return;
     }
     scale_plain(w, m, c, src, dst, len);
+}
+
+// w[at + j] = w[at + j] % n, for j < len: numbers and not words, whatever the form.
+pub fn reduce_words(w: &mut [u32], m: Modulus, at: usize, len: usize)
+    requires { ⌜ (Known m) × (at + len ≤ length (now w)) ⌝ }
+    ensures { λ _. ⌜ Moved (reduced-by (m .n)) at at len (now (w .entry)) (now (w .exit)) ⌝ }
+{
+    let n = m.n;
+    windows::reduce_words(
+        w,
+        n,
+        Reciprocal {
+            n,
+            v: m.v,
+            c: m.c as u64,
+        },
+        at,
+        len,
+    );
 }

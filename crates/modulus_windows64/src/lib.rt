@@ -77,7 +77,7 @@ pub fn add_pair(w: &mut [u64], m: Reciprocal, c: u64, e: u64, src: usize, dst: u
     requires { ⌜ (PairAsked (m .n) e src dst len (now w)) × (Below (m .n) src len (now w)) ⌝ }
     ensures { λ _. ⌜ Paired (m .n) c e src dst len (now (w .entry)) (now (w .exit)) ⌝ }
 {
-    windows64::add_pair_by(w, m.n, m, c, e, src, dst, len);
+    windows64::add_pair(w, m.n, m, c, e, src, dst, len);
 }
 
 // w[dst + j] += c * w[src + j], for j < len.
@@ -86,7 +86,7 @@ pub fn add_scaled(w: &mut [u64], m: Reciprocal, c: u64, src: usize, dst: usize, 
     requires { ⌜ (PairAsked (m .n) c src dst len (now w)) × (Below (m .n) src len (now w)) ⌝ }
     ensures { λ _. ⌜ Moved (addMul (m .n) c) src dst len (now (w .entry)) (now (w .exit)) ⌝ }
 {
-    windows64::add_scaled_by(w, m.n, m, c, src, dst, len);
+    windows64::add_scaled(w, m.n, m, c, src, dst, len);
 }
 
 // w[dst + j] = c * w[src + j], for j < len.

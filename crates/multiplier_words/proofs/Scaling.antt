@@ -1,18 +1,17 @@
 -- A constant that two polynomials combine to, times a number.
 --
 --   bound-scaled         the multipliers times z
---   combination-bound    a combination without a factor of the second multiplier
 --   handed-combination   the multipliers as handed out
-use mathlib.Core.Path.{_≡_, refl, sym, ap, subst, _∙_}
+use mathlib.Core.Path.{_≡_, refl, sym, ap, _∙_}
 use mathlib.Core.List.{List}
 use mathlib.Core.Logic.{_⊎_, inl, inr}
 use Prim.Native.Nat.{ℕ, zero, suc, _+_, _*_, _%_, _≤_, _<_}
-use native.Mathlib.Nat.{mul-add, mod-mod, one-mul}
+use native.Mathlib.Nat.{mod-mod}
 use native.Mathlib.Omega.{arith}
 use lib.ListN.{length}
 use Rattle.definitions.specs.Polynomials.{coef, convolve, constant}
 use Rattle.definitions.specs.Resultants.{Combination}
-use Rattle.law_numbers.specs.Congruence.{Cong, c-refl, c-sym, c-trans, c-eq, c-add, c-mul}
+use Rattle.law_numbers.specs.Congruence.{Cong, c-refl, c-trans, c-eq, c-add, c-mul}
 use Rattle.law_polynomials.specs.ReachedSteps.{convolve-mod, convolve-scale-left, constant-scale}
 use Rattle.windows.specs.Window.{piece}
 use Rattle.windows.proofs.Leaf.{lt-or-le, piece-at, piece-over}
@@ -44,11 +43,6 @@ bound-scaled n z K C x f g u v β γ pos hu hv hx h = record {
     ends : (k : ℕ) → Cong n (constant (z * C) k) (constant x k)
     ends zero = record { same = sym hx }
     ends (suc k) = c-refl
-
-pub combination-bound : {n c : ℕ} {f g u v : List ℕ} → Combination n f g u v c → Bound n (coef f) (coef g) 1 (coef u) (coef v) c
-combination-bound {n} {c} {f} {g} {u} {v} h = record {
-  at = λ k. ap (λ (x : ℕ). (convolve (coef u) (coef f) k + x) % n) (one-mul (convolve (coef v) (coef g) k)) ∙ h .sum k;
-}
 
 -- the words of a window that are put are all that it has
 put-all : (n c at l h : ℕ) (w u u' : List ℕ) → l ≤ h → ((j : ℕ) → l ≤ j → coef (piece w at h) j ≡ 0) → Put n c at l w u u' → (k : ℕ)

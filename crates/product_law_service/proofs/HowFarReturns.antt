@@ -8,17 +8,29 @@ use mathlib.Core.List.{List}
 use Prim.Native.Nat.{ℕ, zero, suc, _≤_}
 use lib.ListN.{length, replicate, length-replicate}
 use Rattle.definitions.specs.Resultants.{resultant}
-use Rattle.refusals.specs.Refusals.{Width}
-use Rattle.refusals.specs.Conditions.{status-zero}
+use Rattle.definitions.specs.Polynomials.{Residues}
+use Rattle.refusals.specs.Refusals.{Width, left}
+use Rattle.refusals.specs.Conditions.{ServedModulus, ServedLength, status-zero}
 use Rattle.refusals.proofs.Statuses.{refused-value}
-use Rattle.resultant_service.specs.ResultantService.{ResultantAnswer}
+use Rattle.resultant_service.specs.ResultantService.{ResultantAnswer, resultant-refusals, resultant-conditions, resultant-listed}
 use Rattle.reduced_service.specs.ReducedService.{ReducedAnswer, ReducedLeft, reduced-refusals, reduced-conditions, reduced-listed}
 use Rattle.product_law_service.specs.HowFar.{HowFarAnswer, how-far}
-use Rattle.product_law_service.proofs.SevenCalls.{resultant-answers}
 
 refused-zero : (s n : ℕ) (f g u u' v v' : List ℕ) (x : ℕ) → (s ≡ 0 → ⊥) → ReducedLeft s n f g u u' v v' x → x ≡ 0
 refused-zero zero n f g u u' v v' x z r = absurd (z refl)
 refused-zero (suc s) n f g u u' v v' x z r = r .nothing
+
+resultant-answers : (W : Width) (n : ℕ) → ServedModulus W n → (f h work work' : List ℕ) (x s : ℕ) → ServedLength f → ServedLength h
+    → Residues n f → Residues n h
+    → W .working ≤ length work → ResultantAnswer W n f h work work' x s
+    → (ResultantAnswer W n f h work work' x 0) × ((work' ≡ replicate (length work) 0) × (length work' ≡ length work))
+resultant-answers W n mo f h work work' x s lf lh wf wh r a =
+    let z : s ≡ 0 =
+    a .status-is
+    ∙ status-zero (resultant-refusals W n f h (length work)) (resultant-conditions W n f h (length work))
+    (resultant-listed W n f h (length work)) .1 (mo, (lf, (lh, (wf, (wh, (r, tt)))))) in
+    let e : work' ≡ replicate (length work) 0 = a .work-is ∙ ap (λ (t : ℕ). left t work) z in
+    (subst (λ (t : ℕ). ResultantAnswer W n f h work work' x t) z a, (e, ap length e ∙ length-replicate (length work) 0))
 
 module _ (W : Width) (n : ℕ) (f g u u' v v' work work₁ : List ℕ) (D s : ℕ) (a : ReducedAnswer W n f g u u' v v' work work₁ D s) where
   pub far-refused : (s ≡ 0 → ⊥) → HowFarAnswer W n f g u u' v v' work work₁ 0 0 s

@@ -2,10 +2,12 @@
 --
 --   Asked                        what is known of n, f, g and h once none of the refusals 1, 2 and 3 applies
 --   Room                         what is known of the buffers
---   product-answers, resultant-answers, reduced-answers     a call answers, and what it answers
+--   product-answers, far-answers                            a call answers, and what it answers
 --   first-some, second-some, third-some, cofactor-fits      what the code asks after the refusals 1, 2 and 3
---   law-refused, law-room-refused, seven-asked, part-end, law-done     what is asked and promised at each place
---   sends, rooms, ends           the rules
+--   law-stops, law-passes        the first refusal of the seven calls
+--   factor-some, other-some, part-end    what the code asks once none applies
+--   law-refused, law-done        what is promised at each return
+--   sends                        the rules after the refusals 1, 2 and 3
 use mathlib.Core.Path.{_≡_, refl, sym, ap, ap₂, subst, _∙_}
 use mathlib.Core.List.{List, [], _∷_, _++_}
 use Prim.Native.Nat.{ℕ, zero, suc, pred, max, _+_, _-_, _*_, _%_, _≤_, _<_}
@@ -17,20 +19,22 @@ use lib.ListN.{length, take, drop, replicate, length-replicate}
 use lib.Seq.{drop-drop, take-at}
 use Rattle.definitions.specs.Residues.{K}
 use Rattle.definitions.specs.Polynomials.{coef, deg, convolve, product, Residues, L}
+use Rattle.definitions.specs.Resultants.{resultant}
+use Rattle.law_polynomials.specs.PointThree.{SevenAnswers, point-three}
 use Rattle.law_polynomials.specs.Words.{coef-tabulate}
 use Rattle.law_numbers.specs.Logarithm.{K-below}
-use Rattle.refusals.specs.Refusals.{Width, Tested, first-of, first-refusal, left, replaced}
+use Rattle.refusals.specs.Refusals.{Width, Tested, first-of, first-refusal, answered, left, replaced}
 use Rattle.refusals.specs.Conditions.{Listed, ServedModulus, ServedLength, status-zero}
 use Rattle.refusals.specs.Conditions.{modulus-fails, length-fails, words-fail, short-fails}
 use Rattle.refusals.proofs.Cascade.{below-bound}
 use Rattle.refusals.proofs.Statuses.{refused-early, passed-on, front-passes, first-append, left-refused, replaced-refused}
 use Rattle.product_service.specs.ProductService.{ProductAnswer, product-refusals, product-conditions, product-listed}
 use Rattle.product_service.proofs.ProductReturns.{product-length, product-words}
-use Rattle.resultant_service.specs.ResultantService.{ResultantAnswer, resultant-refusals, resultant-conditions, resultant-listed}
-use Rattle.reduced_service.specs.ReducedService.{ReducedAnswer, HoldsCofactor, reduced-refusals, reduced-conditions, reduced-listed}
+use Rattle.reduced_service.specs.ReducedService.{ReducedLeft, HoldsCofactor, HoldsReduced}
+use Rattle.reduced_service.specs.ReducedService.{reduced-refusals, reduced-conditions, reduced-listed}
 use Rattle.product_law_refusals.specs.LawRefusals.{law-sent, law-room}
-use Rattle.product_law_service.specs.LawService.{law-refusals, SixNumbers, SevenAsked, LawLeft, LawAnswer}
-use Rattle.product_law_service.specs.LawOfTheAnswers.{AnsweredProduct, law-of-the-answers}
+use Rattle.product_law_service.specs.HowFar.{HowFarAnswer}
+use Rattle.product_law_service.specs.LawService.{law-refusals, FactorNumbers, LawLeft, LawAnswer}
 
 -- ---- what is known
 
@@ -96,8 +100,15 @@ product-served n f g l = record { some = omega (arith, product-words n f g); few
 
 -- ---- a call answers
 
+-- what a call of `how_far` that answered has left
+record Answered (n : ℕ) (f h u u' v v' work work' : List ℕ) (r D : ℕ) : Type 0 where
+  pub resultant-is : r ≡ resultant n f h
+  pub held : HoldsReduced n f h u u' v v' D
+  pub wiped : work' ≡ replicate (length work) 0
+  pub same : length work' ≡ length work
+
 module _ (W : Width) (n : ℕ) (mo : ServedModulus W n) where
-  pub product-answers : (f g out out' : List ℕ) (x s : ℕ) → ServedLength f → ServedLength g → deg f + deg g ≤ 48 → Residues n f
+  product-answers : (f g out out' : List ℕ) (x s : ℕ) → ServedLength f → ServedLength g → deg f + deg g ≤ 48 → Residues n f
       → Residues n g → suc (deg f + deg g) ≤ length out → ProductAnswer W n f g out out' x s
       → (s ≡ 0) × (out' ≡ product n f g ++ drop (length (product n f g)) out)
   product-answers f g out out' x s lf lg d wf wg r a =
@@ -107,29 +118,23 @@ module _ (W : Width) (n : ℕ) (mo : ServedModulus W n) where
       (product-listed W n f g (length out)) .1 (mo, (lf, (lg, (d, (wf, (wg, (r, tt))))))) in
       (z, a .out-is ∙ ap (λ (t : ℕ). replaced t (product n f g) out) z)
 
-  pub resultant-answers : (f h work work' : List ℕ) (x s : ℕ) → ServedLength f → ServedLength h → Residues n f → Residues n h
-      → W .working ≤ length work → ResultantAnswer W n f h work work' x s
-      → (ResultantAnswer W n f h work work' x 0) × ((work' ≡ replicate (length work) 0) × (length work' ≡ length work))
-  resultant-answers f h work work' x s lf lh wf wh r a =
-      let z : s ≡ 0 =
-      a .status-is
-      ∙ status-zero (resultant-refusals W n f h (length work)) (resultant-conditions W n f h (length work))
-      (resultant-listed W n f h (length work)) .1 (mo, (lf, (lh, (wf, (wh, (r, tt)))))) in
-      let e : work' ≡ replicate (length work) 0 = a .work-is ∙ ap (λ (t : ℕ). left t work) z in
-      (subst (λ (t : ℕ). ResultantAnswer W n f h work work' x t) z a, (e, ap length e ∙ length-replicate (length work) 0))
-
-  pub reduced-answers : (f h u u' v v' work work' : List ℕ) (x s : ℕ) → ServedLength f → ServedLength h → Residues n f → Residues n h
+  -- both numbers of f and h
+  far-answers : (f h u u' v v' work work' : List ℕ) (r D s : ℕ) → ServedLength f → ServedLength h → Residues n f → Residues n h
       → L n (deg f) (deg h) ≤ length u → L n (deg f) (deg h) ≤ length v → W .working ≤ length work
-      → ReducedAnswer W n f h u u' v v' work work' x s
-      → (ReducedAnswer W n f h u u' v v' work work' x 0) × ((work' ≡ replicate (length work) 0) × (length work' ≡ length work))
-  reduced-answers f h u u' v v' work work' x s lf lh wf wh ru rv r a =
+      → HowFarAnswer W n f h u u' v v' work work' r D s → Answered n f h u u' v v' work work' r D
+  far-answers f h u u' v v' work work' r D s lf lh wf wh ru rv rw a =
       let z : s ≡ 0 =
-      a .status-is
+      a .reduced-is .status-is
       ∙ status-zero (reduced-refusals W n f h (length u) (length v) (length work))
       (reduced-conditions W n f h (length u) (length v) (length work))
-      (reduced-listed W n f h (length u) (length v) (length work)) .1 (mo, (lf, (lh, (wf, (wh, (ru, (rv, (r, tt)))))))) in
-      let e : work' ≡ replicate (length work) 0 = a .work-is ∙ ap (λ (t : ℕ). left t work) z in
-      (subst (λ (t : ℕ). ReducedAnswer W n f h u u' v v' work work' x t) z a, (e, ap length e ∙ length-replicate (length work) 0))
+      (reduced-listed W n f h (length u) (length v) (length work)) .1 (mo, (lf, (lh, (wf, (wh, (ru, (rv, (rw, tt)))))))) in
+      let e : work' ≡ replicate (length work) 0 = a .reduced-is .work-is ∙ ap (λ (t : ℕ). left t work) z in
+      record {
+        resultant-is = a .resultant-is ∙ ap (λ (t : ℕ). answered t (resultant n f h)) z;
+        held = subst (λ (t : ℕ). ReducedLeft t n f h u u' v v' D) z (a .reduced-is .result);
+        wiped = e;
+        same = ap length e ∙ length-replicate (length work) 0;
+      }
 
 -- ---- what the code asks after the refusals 1, 2 and 3
 
@@ -188,120 +193,62 @@ nothing-done (suc s) n f g h u v z = record {
   second = refl;
 }
 
-abbrev room : Width → ℕ → List ℕ → List ℕ → List ℕ → List ℕ → List ℕ → List ℕ → List ℕ → List Tested
-room W n f g h p u v work =
-    law-room W (length p) (suc (deg f + deg g)) (length u) (length v) (L n (deg f + deg g) (deg h)) (length work)
+abbrev room : Width → ℕ → List ℕ → List ℕ → List ℕ → ℕ → ℕ → ℕ → ℕ → List Tested
+room W n f g h lp lu lv lw = law-room W lp (suc (deg f + deg g)) lu lv (L n (deg f + deg g) (deg h)) lw
 
-pub law-refused : (W : Width) (n : ℕ) (f g h p u v work : List ℕ) (s : ℕ) → s ≡ first-refusal (law-sent W n f g h) → (s ≡ 0 → ⊥)
-    → LawAnswer W n f g h p p u u v v work work 0 0 0 0 0 0 s
-law-refused W n f g h p u v work s e z = record {
-  status-is = refused-early (law-sent W n f g h) (room W n f g h p u v work) s e z;
-  result = nothing-done s n f g h u v z;
-  product-is = replaced-refused s (product n f g) p z;
-  work-is = left-refused s work z;
-}
+-- a width of two numbers: where a goal shows no width, `search` takes them from the status
+abbrev sized : ℕ → ℕ → Width
+sized B w = record { bound = B; working = w }
 
--- m and l are the lengths of the product and of a cofactor, as the code has them
-module _ (W : Width) (n : ℕ) (f g h p u v work : List ℕ) (s m l t : ℕ) (e : s ≡ first-refusal (law-sent W n f g h)) (z : s ≡ 0)
-    (el : l ≡ L n (m - 1) (length h - 1)) (et : t ≡ first-refusal (law-room W (length p) m (length u) (length v) l (length work)))
-    (em : m ≡ length f - 1 + (length g - 1) + 1) where
-  m-is : m ≡ suc (deg f + deg g)
-  m-is = em ∙ product-length f g
+module _ (W : Width) (n : ℕ) (f g h : List ℕ) (lp lu lv lw s : ℕ) (e : s ≡ first-refusal (law-sent W n f g h)) where
+  pub law-stops : (s ≡ 0 → ⊥) → s ≡ first-refusal (law-refusals W n f g h lp lu lv lw)
+  law-stops z = refused-early (law-sent W n f g h) (room W n f g h lp lu lv lw) s e z
 
-  l-is : l ≡ L n (deg f + deg g) (deg h)
-  l-is = el ∙ ap₂ (L n) (let y : m - 1 ≡ deg f + deg g = omega (arith, m-is) in y) (sub-one (length h))
+  -- m and l are the lengths of the product and of a cofactor, as the code has them
+  pub law-passes : {t : ℕ} (m l : ℕ) → s ≡ 0 → l ≡ L n (m - 1) (length h - 1) → t ≡ first-refusal (law-room W lp m lu lv l lw)
+      → m ≡ length f - 1 + (length g - 1) + 1 → t ≡ first-refusal (law-refusals W n f g h lp lu lv lw)
+  law-passes {t} m l z el et em =
+      let m-is : m ≡ suc (deg f + deg g) = em ∙ product-length f g in
+      let l-is : l ≡ L n (deg f + deg g) (deg h) =
+      el ∙ ap₂ (L n) (let y : m - 1 ≡ deg f + deg g = omega (arith, m-is) in y) (sub-one (length h)) in
+      passed-on (law-sent W n f g h) (room W n f g h lp lu lv lw) s t e z
+      (et ∙ ap₂ (λ (i j : ℕ). first-refusal (law-room W lp i lu lv j lw)) m-is l-is)
 
-  found : t ≡ first-refusal (law-refusals W n f g h (length p) (length u) (length v) (length work))
-  found =
-      passed-on (law-sent W n f g h) (room W n f g h p u v work) s t e z
-      (et ∙ ap₂ (λ (i j : ℕ). first-refusal (law-room W (length p) i (length u) (length v) j (length work))) m-is l-is)
+-- ---- the refusals of the seven calls
 
-  pub law-room-refused : (t ≡ 0 → ⊥) → LawAnswer W n f g h p p u u v v work work 0 0 0 0 0 0 t
-  law-room-refused y = record {
-    status-is = found;
-    result = nothing-done t n f g h u v y;
-    product-is = replaced-refused t (product n f g) p y;
-    work-is = left-refused t work y;
+module _ (W : Width) (n : ℕ) (f g h p u v work : List ℕ) (s : ℕ)
+    (e : s ≡ first-refusal (law-refusals W n f g h (length p) (length u) (length v) (length work))) where
+  pub law-refused : (s ≡ 0 → ⊥) → LawAnswer W n f g h p p u u v v work work 0 0 0 0 0 0 s
+  law-refused z = record {
+    status-is = e;
+    result = nothing-done s n f g h u v z;
+    product-is = replaced-refused s (product n f g) p z;
+    work-is = left-refused s work z;
   }
 
-  pub seven-asked : t ≡ 0 → {n' m' : ℕ} {f' g' h' p' u' v' work' : List ℕ} → n' ≡ n → m' ≡ m → f' ≡ f → g' ≡ g → h' ≡ h → p' ≡ p
-      → u' ≡ u → v' ≡ v → work' ≡ work → SevenAsked W n' f' g' h' m' p' u' v' work'
-  seven-asked y en em' ef eg eh ep eu ev ew = rw (en, em', ef, eg, eh, ep, eu, ev, ew) (record { none = sym found ∙ y; words = m-is })
+  module _ (z : s ≡ 0) where
+    a : Asked W n f g h
+    a = asked W n f g h (first-refusal (law-sent W n f g h)) refl
+        (front-passes (law-sent W n f g h) (room W n f g h (length p) (length u) (length v) (length work)) (sym e ∙ z))
 
-module _ {W : Width} {n m : ℕ} {f g h p u v work : List ℕ} (seven : SevenAsked W n f g h m p u v work) where
-  a : Asked W n f g h
-  a = asked W n f g h (first-refusal (law-sent W n f g h)) refl
-      (front-passes (law-sent W n f g h) (room W n f g h p u v work) (seven .none))
+    rm : Room W (length p) (suc (deg f + deg g)) (length u) (length v) (L n (deg f + deg g) (deg h)) (length work)
+    rm =
+        let b : List Tested = room W n f g h (length p) (length u) (length v) (length work) in
+        let y = front-passes (law-sent W n f g h) b (sym e ∙ z) in
+        roomy W (length p) (suc (deg f + deg g)) (length u) (length v) (L n (deg f + deg g) (deg h)) (length work) (first-refusal b) refl
+        (sym (ap (λ (x : ℕ). first-of x (first-refusal b)) y) ∙ sym (first-append (law-sent W n f g h) b) ∙ sym e ∙ z)
 
-  rm : Room W (length p) (suc (deg f + deg g)) (length u) (length v) (L n (deg f + deg g) (deg h)) (length work)
-  rm =
-      let b : List Tested = room W n f g h p u v work in
-      let z = front-passes (law-sent W n f g h) b (seven .none) in
-      roomy W (length p) (suc (deg f + deg g)) (length u) (length v) (L n (deg f + deg g) (deg h)) (length work) (first-refusal b) refl
-      (sym (ap (λ (x : ℕ). first-of x (first-refusal b)) z) ∙ sym (first-append (law-sent W n f g h) b) ∙ seven .none)
+    -- the product's words are within p, whatever stands there
+    pub part-end : {i j : ℕ} (p₁ : List ℕ) → length p₁ ≡ length p → i ≡ length f - 1 + (length g - 1) + 1 → j ≡ length p₁ → i ≤ j
+    part-end p₁ q ei ej = omega (arith, rm .product, product-length f g)
 
-  pub part-end : {i j : ℕ} (p₁ : List ℕ) → length p₁ ≡ length p → i ≡ m → j ≡ length p₁ → i ≤ j
-  part-end p₁ q ei ej = omega (arith, rm .product, seven .words)
+    -- ---- the seven numbers
 
-  module _ {p₁ q u₃ v₃ w₆ : List ℕ} {r rf rg D Df Dg status : ℕ} (x₁ s₁ : ℕ) (c₁ : ProductAnswer W n f g p p₁ x₁ s₁)
-      (six : SixNumbers W n q f g h u u₃ v v₃ work w₆ r rf rg D Df Dg status) (eq : q ≡ take (m - 0) p₁) where
-    pa : (s₁ ≡ 0) × (p₁ ≡ product n f g ++ drop (length (product n f g)) p)
-    pa = product-answers W n (a .modulus) f g p p₁ x₁ s₁ (a .length-f) (a .length-g) (a .sum) (a .words-f) (a .words-g) (rm .product) c₁
-
-    -- the front of the buffer, and the words that are handed on
-    front : take (length (product n f g)) p₁ ≡ product n f g
-    front = ap (take (length (product n f g))) (pa .1)
-        ∙ take-at (product n f g) (drop (length (product n f g)) p) (length (product n f g)) refl
-
-    part-is : q ≡ product n f g
-    part-is =
-        let i : m - 0 ≡ length (product n f g) = omega (arith, seven .words, product-words n f g) in
-        eq ∙ ap (λ (j : ℕ). take j p₁) i ∙ front
-
-    abbrev w₁ : List ℕ
-    w₁ = six .resultants .w₁
-
-    abbrev w₂ : List ℕ
-    w₂ = six .resultants .w₂
-
-    abbrev w₃ : List ℕ
-    w₃ = six .between
-
-    abbrev w₄ : List ℕ
-    w₄ = six .reduced .factors .w₁
-
-    abbrev w₅ : List ℕ
-    w₅ = six .reduced .w₂
-
-    abbrev u₁ : List ℕ
-    u₁ = six .reduced .factors .u₁
-
-    abbrev u₂ : List ℕ
-    u₂ = six .reduced .u₂
-
-    abbrev v₁ : List ℕ
-    v₁ = six .reduced .factors .v₁
-
-    abbrev v₂ : List ℕ
-    v₂ = six .reduced .v₂
-
-    mo : ServedModulus W n
-    mo = a .modulus
-
-    pr : List ℕ
+    abbrev pr : List ℕ
     pr = product n f g
 
-    deg-p : deg pr ≡ deg f + deg g
-    unfolding pr
-    deg-p = ap pred (product-words n f g)
-
-    lp : ServedLength pr
-    unfolding pr
-    lp = product-served n f g (a .sum)
-
-    wp : Residues n pr
-    unfolding pr
-    wp = product-residues n f g (omega (arith, mo .least))
+    l-p : L n (deg pr) (deg h) ≡ L n (deg f + deg g) (deg h)
+    l-p = ap (λ (i : ℕ). L n (pred i) (deg h)) (product-words n f g)
 
     lf : L n (deg f) (deg h) ≤ L n (deg f + deg g) (deg h)
     lf = shorter n (deg f) (deg f + deg g) (deg h) (omega arith)
@@ -309,116 +256,79 @@ module _ {W : Width} {n m : ℕ} {f g h p u v work : List ℕ} (seven : SevenAsk
     lg : L n (deg g) (deg h) ≤ L n (deg f + deg g) (deg h)
     lg = shorter n (deg g) (deg f + deg g) (deg h) (omega arith)
 
-    l-p : L n (deg pr) (deg h) ≡ L n (deg f + deg g) (deg h)
-    l-p = ap (λ (i : ℕ). L n i (deg h)) deg-p
-
-    k₁ : (ResultantAnswer W n pr h work w₁ r 0) × ((w₁ ≡ replicate (length work) 0) × (length w₁ ≡ length work))
-    unfolding pr
-    k₁ = resultant-answers W n mo pr h work w₁ r (six .resultants .t₁) lp (a .length-h) wp (a .words-h) (rm .work)
-        (subst (λ (i : List ℕ). ResultantAnswer W n i h work w₁ r (six .resultants .t₁)) part-is (six .resultants .product))
-
-    k₂ : (ResultantAnswer W n f h w₁ w₂ rf 0) × ((w₂ ≡ replicate (length w₁) 0) × (length w₂ ≡ length w₁))
-    k₂ = resultant-answers W n mo f h w₁ w₂ rf (six .resultants .t₂) (a .length-f) (a .length-h) (a .words-f) (a .words-h)
-        (omega (arith, rm .work, k₁ .1 .1)) (six .resultants .first)
-
-    k₃ : (ResultantAnswer W n g h w₂ w₃ rg 0) × ((w₃ ≡ replicate (length w₂) 0) × (length w₃ ≡ length w₂))
-    k₃ = resultant-answers W n mo g h w₂ w₃ rg (six .resultants .t₃) (a .length-g) (a .length-h) (a .words-g) (a .words-h)
-        (omega (arith, rm .work, k₁ .1 .1, k₂ .1 .1)) (six .resultants .second)
-
-    k₄ : (ReducedAnswer W n f h u u₁ v v₁ w₃ w₄ Df 0) × ((w₄ ≡ replicate (length w₃) 0) × (length w₄ ≡ length w₃))
-    k₄ = reduced-answers W n mo f h u u₁ v v₁ w₃ w₄ Df (six .reduced .factors .t₁) (a .length-f) (a .length-h) (a .words-f) (a .words-h)
-        (le-trans lf (rm .first)) (le-trans lf (rm .second)) (omega (arith, rm .work, k₁ .1 .1, k₂ .1 .1, k₃ .1 .1))
-        (six .reduced .factors .first)
-
-    u-one : length u₁ ≡ length u
-    u-one = k₄ .0 .result .first .same
-
-    v-one : length v₁ ≡ length v
-    v-one = k₄ .0 .result .second .same
-
-    k₅ : (ReducedAnswer W n g h u₁ u₂ v₁ v₂ w₄ w₅ Dg 0) × ((w₅ ≡ replicate (length w₄) 0) × (length w₅ ≡ length w₄))
-    k₅ = reduced-answers W n mo g h u₁ u₂ v₁ v₂ w₄ w₅ Dg (six .reduced .factors .t₂) (a .length-g) (a .length-h) (a .words-g) (a .words-h)
-        (subst (λ (i : ℕ). L n (deg g) (deg h) ≤ i) (sym u-one) (le-trans lg (rm .first)))
-        (subst (λ (i : ℕ). L n (deg g) (deg h) ≤ i) (sym v-one) (le-trans lg (rm .second)))
-        (omega (arith, rm .work, k₁ .1 .1, k₂ .1 .1, k₃ .1 .1, k₄ .1 .1)) (six .reduced .factors .second)
-
-    u-two : length u₂ ≡ length u
-    u-two = k₅ .0 .result .first .same ∙ u-one
-
-    v-two : length v₂ ≡ length v
-    v-two = k₅ .0 .result .second .same ∙ v-one
-
-    k₆ : (ReducedAnswer W n pr h u₂ u₃ v₂ v₃ w₅ w₆ D 0) × ((w₆ ≡ replicate (length w₅) 0) × (length w₆ ≡ length w₅))
-    unfolding pr
-    k₆ = reduced-answers W n mo pr h u₂ u₃ v₂ v₃ w₅ w₆ D (six .reduced .t₃) lp (a .length-h) wp (a .words-h)
-        (subst (λ (i : ℕ). L n (deg pr) (deg h) ≤ i) (sym u-two) (subst (λ (i : ℕ). i ≤ length u) (sym l-p) (rm .first)))
-        (subst (λ (i : ℕ). L n (deg pr) (deg h) ≤ i) (sym v-two) (subst (λ (i : ℕ). i ≤ length v) (sym l-p) (rm .second)))
-        (omega (arith, rm .work, k₁ .1 .1, k₂ .1 .1, k₃ .1 .1, k₄ .1 .1, k₅ .1 .1))
-        (subst (λ (i : List ℕ). ReducedAnswer W n i h u₂ u₃ v₂ v₃ w₅ w₆ D (six .reduced .t₃)) part-is (six .reduced .product))
-
-    -- the words beyond the longest cofactor are as they were
     longest : (i : ℕ) → i ≤ L n (deg f + deg g) (deg h) → i ≤ L n (deg pr) (deg h)
     longest i q = subst (λ (j : ℕ). i ≤ j) (sym l-p) q
 
-    first-cofactor : HoldsCofactor n (L n (deg pr) (deg h)) u u₃
-    first-cofactor =
-        cofactor-then (L n (deg f) (deg h)) _ (longest _ lf) (k₄ .0 .result .first)
-        (cofactor-then (L n (deg g) (deg h)) _ (longest _ lg) (k₅ .0 .result .first) (k₆ .0 .result .first))
+    module _ {p₁ q u₂ v₂ w₂ u₃ v₃ w₃ : List ℕ} {r rf rg D Df Dg : ℕ} (m x₁ s₁ t : ℕ) (c₁ : ProductAnswer W n f g p p₁ x₁ s₁)
+        (two : FactorNumbers W n f g h u u₂ v v₂ work w₂ rf rg Df Dg) (last : HowFarAnswer W n q h u₂ u₃ v₂ v₃ w₂ w₃ r D t)
+        (eq : q ≡ take (m - 0) p₁) (em : m ≡ length f - 1 + (length g - 1) + 1) where
+      pa : p₁ ≡ pr ++ drop (length pr) p
+      pa =
+          product-answers W n (a .modulus) f g p p₁ x₁ s₁ (a .length-f) (a .length-g) (a .sum) (a .words-f) (a .words-g) (rm .product) c₁
+          .1
 
-    second-cofactor : HoldsCofactor n (L n (deg pr) (deg h)) v v₃
-    second-cofactor =
-        cofactor-then (L n (deg f) (deg h)) _ (longest _ lf) (k₄ .0 .result .second)
-        (cofactor-then (L n (deg g) (deg h)) _ (longest _ lg) (k₅ .0 .result .second) (k₆ .0 .result .second))
+      -- the front of the buffer
+      part-is : q ≡ pr
+      part-is =
+          let i : m - 0 ≡ length pr = omega (arith, em, product-length f g, product-words n f g) in
+          eq ∙ ap (λ (j : ℕ). take j p₁) i ∙ ap (take (length pr)) pa ∙ take-at pr (drop (length pr) p) (length pr) refl
 
-    product-call : AnsweredProduct W n f g pr
-    unfolding pr
-    product-call = record {
-      out = p;
-      out' = p₁;
-      value = x₁;
-      call = subst (λ (i : ℕ). ProductAnswer W n f g p p₁ x₁ i) (pa .0) c₁;
-      words = sym front;
-    }
+      k₁ : Answered n f h u (two .u₁) v (two .v₁) work (two .w₁) rf Df
+      k₁ = far-answers W n (a .modulus) f h u (two .u₁) v (two .v₁) work (two .w₁) rf Df (two .t₁) (a .length-f) (a .length-h)
+          (a .words-f) (a .words-h) (le-trans lf (rm .first)) (le-trans lf (rm .second)) (rm .work) (two .first)
 
-    answered : LawAnswer W n f g h p p₁ u u₃ v v₃ work w₆ r rf rg D Df Dg 0
-    unfolding pr
-    answered = record {
-      status-is = sym (seven .none);
-      result = record {
-        numbers = record {
-          product-of = refl;
-          resultant-of-product = k₁ .0 .value-is;
-          resultant-of-first = k₂ .0 .value-is;
-          resultant-of-second = k₃ .0 .value-is;
-          reduced-of-product = k₆ .0 .result .reduced;
-          reduced-of-first = k₄ .0 .result .reduced;
-          reduced-of-second = k₅ .0 .result .reduced;
+      k₂ : Answered n g h (two .u₁) u₂ (two .v₁) v₂ (two .w₁) w₂ rg Dg
+      k₂ = far-answers W n (a .modulus) g h (two .u₁) u₂ (two .v₁) v₂ (two .w₁) w₂ rg Dg (two .t₂) (a .length-g) (a .length-h)
+          (a .words-g) (a .words-h) (omega (arith, lg, rm .first, k₁ .held .first .same))
+          (omega (arith, lg, rm .second, k₁ .held .second .same)) (omega (arith, rm .work, k₁ .same)) (two .second)
+
+      k₃ : Answered n pr h u₂ u₃ v₂ v₃ w₂ w₃ r D
+      k₃ = far-answers W n (a .modulus) pr h u₂ u₃ v₂ v₃ w₂ w₃ r D t (product-served n f g (a .sum)) (a .length-h)
+          (product-residues n f g (omega (arith, a .modulus .least))) (a .words-h)
+          (omega (arith, l-p, rm .first, k₁ .held .first .same, k₂ .held .first .same))
+          (omega (arith, l-p, rm .second, k₁ .held .second .same, k₂ .held .second .same))
+          (omega (arith, rm .work, k₁ .same, k₂ .same))
+          (subst (λ (i : List ℕ). HowFarAnswer W n i h u₂ u₃ v₂ v₃ w₂ w₃ r D t) part-is last)
+
+      numbers : SevenAnswers n f g h pr r rf rg D Df Dg
+      numbers = record {
+        product-of = refl;
+        resultant-of-product = k₃ .resultant-is;
+        resultant-of-first = k₁ .resultant-is;
+        resultant-of-second = k₂ .resultant-is;
+        reduced-of-product = k₃ .held .reduced;
+        reduced-of-first = k₁ .held .reduced;
+        reduced-of-second = k₂ .held .reduced;
+      }
+
+      -- u and v beyond the longest cofactor are as they were
+      pub law-done : LawAnswer W n f g h p p₁ u u₃ v v₃ work w₃ r rf rg D Df Dg 0
+      law-done = record {
+        status-is = sym z ∙ e;
+        result = record {
+          numbers = numbers;
+          law = point-three n (omega (arith, a .modulus .least)) f g h pr r rf rg D Df Dg numbers;
+          cofactors = record {
+            reduced = k₃ .held .reduced;
+            first = cofactor-then (L n (deg f) (deg h)) _ (longest _ lf) (k₁ .held .first)
+                (cofactor-then (L n (deg g) (deg h)) _ (longest _ lg) (k₂ .held .first) (k₃ .held .first));
+            second = cofactor-then (L n (deg f) (deg h)) _ (longest _ lf) (k₁ .held .second)
+                (cofactor-then (L n (deg g) (deg h)) _ (longest _ lg) (k₂ .held .second) (k₃ .held .second));
+            combination = k₃ .held .combination;
+            least = k₃ .held .least;
+          };
         };
-        law = law-of-the-answers W n f g h pr r rf rg D Df Dg product-call
-            (record { work = work; work' = w₁; call = k₁ .0 })
-            (record { work = w₁; work' = w₂; call = k₂ .0 })
-            (record { work = w₂; work' = w₃; call = k₃ .0 })
-            (record { u = u₂; u' = u₃; v = v₂; v' = v₃; work = w₅; work' = w₆; call = k₆ .0 })
-            (record { u = u; u' = u₁; v = v; v' = v₁; work = w₃; work' = w₄; call = k₄ .0 })
-            (record { u = u₁; u' = u₂; v = v₁; v' = v₂; work = w₄; work' = w₅; call = k₅ .0 });
-        cofactors = record {
-          reduced = k₆ .0 .result .reduced;
-          first = first-cofactor;
-          second = second-cofactor;
-          combination = k₆ .0 .result .combination;
-          least = k₆ .0 .result .least;
-        };
-      };
-      product-is = pa .1;
-      work-is = k₆ .1 .0
-          ∙ ap (λ (i : ℕ). replicate i 0) (k₅ .1 .1 ∙ k₄ .1 .1 ∙ k₃ .1 .1 ∙ k₂ .1 .1 ∙ k₁ .1 .1);
-    }
+        product-is = pa;
+        work-is = k₃ .wiped ∙ ap (λ (i : ℕ). replicate i 0) (k₂ .same ∙ k₁ .same);
+      }
 
-    pub law-done : LawAnswer W n f g h p p₁ u u₃ v v₃ work w₆ r rf rg D Df Dg status
-    law-done = subst (LawAnswer W n f g h p p₁ u u₃ v v₃ work w₆ r rf rg D Df Dg) (sym (six .status-is)) answered
+-- what the code asks once no refusal applies
+module _ (B w n s : ℕ) (f g h p u v work : List ℕ)
+    (e : s ≡ first-refusal (law-refusals (sized B w) n f g h (length p) (length u) (length v) (length work))) (z : s ≡ 0) where
+  pub factor-some : {k : ℕ} → k ≡ length f → 1 ≤ k
+  factor-some i = omega (arith, a (sized B w) n f g h p u v work s e z .length-f .some)
 
-pub ruleset sends = (tt, law-refused, first-some, second-some, third-some, cofactor-fits)
+  pub other-some : {k : ℕ} → k ≡ length g → 1 ≤ k
+  other-some i = omega (arith, a (sized B w) n f g h p u v work s e z .length-g .some)
 
-pub ruleset rooms = (tt, law-room-refused, seven-asked)
-
-pub ruleset ends = (tt, part-end, law-done)
+pub ruleset sends = (tt, first-some, second-some, third-some, cofactor-fits)

@@ -1,8 +1,7 @@
 -- What the function that tries the law of products answers, over any width W: f, g and h are the polynomials sent.
 --
 --   law-refusals                        the refusals of the seven calls in their order
---   ThreeResultants, TwoReduced, ThreeReduced     what three calls of one service promise, or two
---   SixNumbers, SevenAsked              what both promise, and when they are made
+--   FactorNumbers                       what the calls for f and for g promise
 --   LawAnswer                           all that is promised: the seven numbers, and the law of products of them
 use mathlib.Core.Path.{_≡_}
 use mathlib.Core.List.{List, _++_}
@@ -12,54 +11,23 @@ use Rattle.definitions.specs.Polynomials.{deg, product, L}
 use Rattle.law_polynomials.specs.PointThree.{SevenAnswers, LawOfProducts}
 use Rattle.refusals.specs.Refusals.{Width, Tested, first-refusal, left, replaced}
 use Rattle.product_law_refusals.specs.LawRefusals.{law-sent, law-room}
-use Rattle.resultant_service.specs.ResultantService.{ResultantAnswer}
-use Rattle.reduced_service.specs.ReducedService.{HoldsReduced, ReducedAnswer}
+use Rattle.reduced_service.specs.ReducedService.{HoldsReduced}
+use Rattle.product_law_service.specs.HowFar.{HowFarAnswer}
 
 -- the cofactors of the product's D are the longest
 abbrev pub law-refusals : Width → ℕ → List ℕ → List ℕ → List ℕ → ℕ → ℕ → ℕ → ℕ → List Tested
 law-refusals W n f g h lp lu lv lw =
     law-sent W n f g h ++ law-room W lp (suc (deg f + deg g)) lu lv (L n (deg f + deg g) (deg h)) lw
 
--- three calls of the resultant, with p, f and g as first polynomial: what each promises, on the working words that the one before left
-pub record ThreeResultants (W : Width) (n : ℕ) (p f g h work work' : List ℕ) (r rf rg : ℕ) : Type 0 where
-  pub w₁ : List ℕ
-  pub w₂ : List ℕ
-  pub t₁ : ℕ
-  pub t₂ : ℕ
-  pub t₃ : ℕ
-  pub product : ResultantAnswer W n p h work w₁ r t₁
-  pub first : ResultantAnswer W n f h w₁ w₂ rf t₂
-  pub second : ResultantAnswer W n g h w₂ work' rg t₃
-
--- and of the reduced resultant: two, with f and g, then that of p
-pub record TwoReduced (W : Width) (n : ℕ) (f g h u u' v v' work work' : List ℕ) (Df Dg : ℕ) : Type 0 where
+-- both numbers of f with h, then both of g with h: what each of the two calls promises, on the buffers that the first left
+pub record FactorNumbers (W : Width) (n : ℕ) (f g h u u' v v' work work' : List ℕ) (rf rg Df Dg : ℕ) : Type 0 where
   pub u₁ : List ℕ
   pub v₁ : List ℕ
   pub w₁ : List ℕ
   pub t₁ : ℕ
   pub t₂ : ℕ
-  pub first : ReducedAnswer W n f h u u₁ v v₁ work w₁ Df t₁
-  pub second : ReducedAnswer W n g h u₁ u' v₁ v' w₁ work' Dg t₂
-
-pub record ThreeReduced (W : Width) (n : ℕ) (p f g h u u' v v' work work' : List ℕ) (D Df Dg : ℕ) : Type 0 where
-  pub u₂ : List ℕ
-  pub v₂ : List ℕ
-  pub w₂ : List ℕ
-  pub t₃ : ℕ
-  pub factors : TwoReduced W n f g h u u₂ v v₂ work w₂ Df Dg
-  pub product : ReducedAnswer W n p h u₂ u' v₂ v' w₂ work' D t₃
-
--- the one after the other
-pub record SixNumbers (W : Width) (n : ℕ) (p f g h u u' v v' work work' : List ℕ) (r rf rg D Df Dg status : ℕ) : Type 0 where
-  pub between : List ℕ
-  pub resultants : ThreeResultants W n p f g h work between r rf rg
-  pub reduced : ThreeReduced W n p f g h u u' v v' between work' D Df Dg
-  pub status-is : status ≡ 0
-
--- none of the refusals applies, and m is the length of the product
-pub record SevenAsked (W : Width) (n : ℕ) (f g h : List ℕ) (m : ℕ) (p u v work : List ℕ) : Type 0 where
-  pub none : first-refusal (law-refusals W n f g h (length p) (length u) (length v) (length work)) ≡ 0
-  pub words : m ≡ suc (deg f + deg g)
+  pub first : HowFarAnswer W n f h u u₁ v v₁ work w₁ rf Df t₁
+  pub second : HowFarAnswer W n g h u₁ u' v₁ v' w₁ work' rg Dg t₂
 
 -- the seven answers, and what then holds between them
 pub record LawHolds (n : ℕ) (f g h u u' v v' : List ℕ) (r rf rg D Df Dg : ℕ) : Type 0 where

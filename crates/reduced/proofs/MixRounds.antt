@@ -7,7 +7,7 @@
 use mathlib.Core.Path.{_≡_, refl, sym, ap, subst, _∙_}
 use mathlib.Core.List.{List}
 use Prim.Native.Nat.{ℕ, _+_, _-_, _*_, _%_, _≤_, _<_}
-use native.Mathlib.Nat.{sub-zero, mul-comm}
+use native.Mathlib.Nat.{sub-zero, mul-pos}
 use native.Mathlib.Omega.{arith}
 use borrow.Author.Needs.{needs}
 use borrow.Rule.Slice.PartMut.{midOf}
@@ -36,17 +36,17 @@ pub mixing-none : {op : ℕ → ℕ → ℕ} {z : ℕ} {u u₁ : List ℕ} (n a 
     → Mixing n a s u₁ u₁ 0
 mixing-none n a s m l = record { short = omega (arith, m .same); most = omega arith; done = adding-none _ _ _ _ }
 
-pub mixing-next : {n a j j' : ℕ} {s u₀ u u' : List ℕ} (k r : ℕ) → Mixing n a s u₀ u j → j < length s → k ≡ n
-    → r ≡ (getD u j 0 + a * getD s j 0) % k → u' ≡ set u j r → j' ≡ j + 1 → Mixing n a s u₀ u' j'
-mixing-next k r m l ek er eu ej =
-    rw (eu, ej) (record { short = m .short; most = omega arith; done = adding-step (m .done) (omega (arith, m .short)) (modulo _ ek er) })
+pub mixing-next : {n a j j' : ℕ} {s u₀ u u' : List ℕ} (r : ℕ) → Mixing n a s u₀ u j → j < length s
+    → r ≡ (getD u j 0 + a * getD s j 0) % n → u' ≡ set u j r → j' ≡ j + 1 → Mixing n a s u₀ u' j'
+mixing-next r m l er eu ej =
+    rw (eu, ej) (record { short = m .short; most = omega arith; done = adding-step (m .done) (omega (arith, m .short)) er })
 
 pub mixing-end : {n a b j : ℕ} {s u u₁ u₂ : List ℕ} → Moved (mulBy n b) 0 0 (length u) u u₁ → length s ≤ length u → Mixing n a s u₁ u₂ j
     → length s ≤ j → MixedWords n a b s u u₂
 mixing-end mv l m h = mixed-end _ _ _ _ _ _ _ _ _ refl l (omega (arith, m .most)) mv (m .done)
 
-pub mixing-never : {n a b : ℕ} {s u u' : List ℕ} (k v x : ℕ) → 1 ≤ n → k ≡ n → v ≡ x % k → n ≤ v → MixedWords n a b s u u'
-mixing-never k v x l e h t = absurd (never x l e h t)
+pub mixing-never : {n a b : ℕ} {s u u' : List ℕ} (v x : ℕ) → 1 ≤ n → v ≡ x % n → n ≤ v → MixedWords n a b s u u'
+mixing-never v x l h t = absurd (never x l refl h t)
 
 -- ---- the length of a cofactor
 
@@ -91,19 +91,25 @@ module _ {m p q l : ℕ} {u v w : List ℕ} (x : MergeAsked m p q l u v w) where
     coprime = coprime-sym (x .factors .coprime);
   }
 
-pub merged-told : {p q l d₁ d₂ a b : ℕ} {w u u' v v' : List ℕ} (r s : ℕ) → (r % p ≡ 1 % p) × (r % q ≡ 0) → (s % q ≡ 1 % q) × (s % p ≡ 0)
-    → a ≡ (r * d₂) % (p * q) → b ≡ (s * d₁) % (p * q) → MixedWords (p * q) a b (midOf 0 (l - 0) w) u u'
-    → MixedWords (p * q) a b (midOf l (l + l - l) w) v v' → Merged p q l d₁ d₂ w u u' v v'
-merged-told {p} {q} {l} {d₁} {d₂} {a} {b} {w} {u} {u'} {v} {v'} r s i j ea eb mu mv =
+-- k is the n of the record
+pub merged-told : {p q l d₁ d₂ a b k : ℕ} {w u u' v v' : List ℕ} (r s : ℕ) → (r % p ≡ 1 % p) × (r % q ≡ 0) → (s % q ≡ 1 % q) × (s % p ≡ 0)
+    → a ≡ (r * d₂) % k → b ≡ (s * d₁) % k → MixedWords k a b (midOf 0 (l - 0) w) u u' → MixedWords k a b (midOf l (l + l - l) w) v v'
+    → k ≡ p * q → Merged p q l d₁ d₂ w u u' v v'
+merged-told {p} {q} {l} {d₁} {d₂} {a} {b} {k} {w} {u} {u'} {v} {v'} r s i j ea eb mu mv e =
     let y : l + l - l ≡ l = omega arith in
-    merged-of p q l d₁ d₂ r s a b w u u' v v' (i .0) (i .1) (j .0) (j .1) ea eb
-    (subst (λ (f : List ℕ). MixedWords (p * q) a b f u u') (part-piece w 0 l _ (sub-zero l)) mu)
-    (subst (λ (f : List ℕ). MixedWords (p * q) a b f v v') (part-piece w l l _ y) mv)
+    merged-of p q l d₁ d₂ r s a b w u u' v v' (i .0) (i .1) (j .0) (j .1) (modulo _ e ea) (modulo _ e eb)
+    (subst (λ (f : List ℕ). MixedWords (p * q) a b f u u') (part-piece w 0 l _ (sub-zero l))
+    (subst (λ (n : ℕ). MixedWords n a b (midOf 0 (l - 0) w) u u') e mu))
+    (subst (λ (f : List ℕ). MixedWords (p * q) a b f v v') (part-piece w l l _ y)
+    (subst (λ (n : ℕ). MixedWords n a b (midOf l (l + l - l) w) v v') e mv))
+
+pub some-modulus : {m p q l : ℕ} {u v w : List ℕ} → MergeAsked m p q l u v w → 1 ≤ p * q
+some-modulus x = mul-pos (omega (arith, x .factors .above₁)) (omega (arith, x .factors .above₂))
 
 pub ruleset mixes = (mixing-none, mixing-next, mixing-end, mixing-never)
 
 pub ruleset sizes = (length-second, length-first, second-product, second-sum, first-product, first-sum)
 
-pub ruleset runs = (needs, mixes, sizes, saved-told, first-idempotent, second-idempotent, merged-told)
+pub ruleset runs = (needs, mixes, sizes, saved-told, some-modulus, first-idempotent, second-idempotent, merged-told)
 
 pub ruleset by-factors = (needs, falls, factors, answers)

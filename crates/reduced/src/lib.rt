@@ -4,28 +4,31 @@
 //   cofactor_length    L, the words of a cofactor
 //   save, merge, mix   the cofactors of the first factor are saved, and joined with those of the second
 //   run                D and the cofactors; by_factors and second_factor are the run on the two factors of n
+//
+//   m                  the record of the modulus: `run` finds that of n once, and `merge` that of p q
 ghost use mathlib.Core.Path.{_≡_};
 ghost use Prim.Native.Nat.{_+_, _-_, _*_, _<_, _≤_};
 ghost use lib.ListN.{length};
 ghost use Rattle.definitions.specs.Polynomials.{L};
 ghost use Rattle.windows.specs.Window.{Scratch};
+ghost use Rattle.modulus.specs.Values.{Known};
 ghost use Rattle.reduced_cofactors.specs.Cofactors.{Certified};
 ghost use Rattle.reduced.specs.Runs.{MixedWords, SaveAsked, Saved, MergeAsked, Merged, RunAsked, FactorsAsked, SecondAsked};
+use modulus::Modulus;
 use residue::Attempt;
 
 // u[j] = a * s[j] + b * u[j]; s ends before u does, or with it. The test of a residue against n fails always: it keeps the back end
 // from vector code, which has no upper half of a product.
-fn mix(u: &mut [u32], s: &[u32], n: u32, a: u32, b: u32)
-    requires { ⌜ (1 ≤ n) × (length (now s) ≤ length (now u)) ⌝ }
-    ensures { λ _. ⌜ MixedWords n a b (now (s .entry)) (now (u .entry)) (now (u .exit)) ⌝ }
+fn mix(u: &mut [u32], s: &[u32], m: Modulus, a: u32, b: u32)
+    requires { ⌜ (Known m) × (length (now s) ≤ length (now u)) ⌝ }
+    ensures { λ _. ⌜ MixedWords (m .n) a b (now (s .entry)) (now (u .entry)) (now (u .exit)) ⌝ }
 {
     let z = u.len();
-    windows::scale(u, n, b, 0, 0, z);
-    let m = reduction::modulus_of(n);
+    modulus_windows::set_scaled(u, m, b, 0, 0, z);
     let mut j: usize = 0;
     while j < s.len() {
-        let r = reduction::add_product(m, u[j], a, s[j]);
-        if r >= n {
+        let r = modulus::multiply_add(m, u[j], a, s[j]);
+        if r >= m.n {
             return;
         }
         u[j] = r;
@@ -62,11 +65,11 @@ fn merge(u: &mut [u32], v: &mut [u32], w: &[u32], p: u32, q: u32, l: usize, a: u
     requires { ⌜ MergeAsked 4294967296 p q l (now u) (now v) (now w) ⌝ }
     ensures { λ _. ⌜ Merged p q l a b (now (w .entry)) (now (u .entry)) (now (u .exit)) (now (v .entry)) (now (v .exit)) ⌝ }
 {
-    let n = p * q;
-    let x = arithmetic::mul_mod(n, residue::idempotent(p, q), b);
-    let y = arithmetic::mul_mod(n, residue::idempotent(q, p), a);
-    mix(u, &w[0..l], n, x, y);
-    mix(v, &w[l..l + l], n, x, y);
+    let m = modulus::modulus_of(p * q);
+    let x = modulus::multiply(m, residue::idempotent(p, q), b);
+    let y = modulus::multiply(m, residue::idempotent(q, p), a);
+    mix(u, &w[0..l], m, x, y);
+    mix(v, &w[l..l + l], m, x, y);
 }
 
 // "each of the two factors is worked as a modulus of its own, and the answers are joined by the Chinese remainder." D, with cofactors in u
@@ -77,7 +80,8 @@ pub fn run(u: &mut [u32], v: &mut [u32], w: &mut [u32], n: u32, f: &[u32], g: &[
         (now (u .exit)) (now (v .exit)) r ⌝ }
     ensures { λ _. ⌜ Scratch (now (w .entry)) (now (w .exit)) ⌝ }
 {
-    match reduced_quick::attempt(u, v, w, n, f, g) {
+    let m = modulus::modulus_of(n);
+    match reduced_quick::attempt(u, v, w, m, f, g) {
         Attempt::Value(d) => d,
         Attempt::Splits(p, q) => by_factors(u, v, w, p, q, f, g),
     }

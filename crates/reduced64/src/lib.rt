@@ -3,28 +3,31 @@
 //
 //   cofactor_length    L, the words of a cofactor
 //   run                D and the cofactors; by_factors and second_factor are the run on the two factors of n
+//
+//   m                  the record of the modulus: `run` finds that of n once, and `merge` that of p q
 ghost use mathlib.Core.Path.{_≡_};
 ghost use Prim.Native.Nat.{_+_, _-_, _*_, _<_, _≤_};
 ghost use lib.ListN.{length};
 ghost use Rattle.definitions.specs.Polynomials.{L};
 ghost use Rattle.windows.specs.Window.{Scratch};
+ghost use Rattle.reduction64.specs.Moduli.{Ready};
 ghost use Rattle.reduced_cofactors64.specs.Cofactors.{Certified};
 ghost use Rattle.reduced.specs.Runs.{MixedWords, SaveAsked, Saved, MergeAsked, Merged, RunAsked, FactorsAsked, SecondAsked};
+use reduction64::Reciprocal;
 use residue64::Attempt;
 
 // u[j] = a * s[j] + b * u[j]; s ends before u does, or with it. The test of a residue against n fails always: it keeps the back end
 // from vector code, which has no upper half of a product.
-fn mix(u: &mut [u64], s: &[u64], n: u64, a: u64, b: u64)
-    requires { ⌜ (1 ≤ n) × (length (now s) ≤ length (now u)) ⌝ }
-    ensures { λ _. ⌜ MixedWords n a b (now (s .entry)) (now (u .entry)) (now (u .exit)) ⌝ }
+fn mix(u: &mut [u64], s: &[u64], m: Reciprocal, a: u64, b: u64)
+    requires { ⌜ (Ready m) × (length (now s) ≤ length (now u)) ⌝ }
+    ensures { λ _. ⌜ MixedWords (m .n) a b (now (s .entry)) (now (u .entry)) (now (u .exit)) ⌝ }
 {
     let z = u.len();
-    windows64::scale(u, n, b, 0, 0, z);
-    let m = reduction64::modulus_of(n);
+    modulus_windows64::set_scaled(u, m, b, 0, 0, z);
     let mut j: usize = 0;
     while j < s.len() {
         let r = reduction64::add_product(m, u[j], a, s[j]);
-        if r >= n {
+        if r >= m.n {
             return;
         }
         u[j] = r;
@@ -61,11 +64,11 @@ fn merge(u: &mut [u64], v: &mut [u64], w: &[u64], p: u64, q: u64, l: usize, a: u
     requires { ⌜ MergeAsked 18446744073709551616 p q l (now u) (now v) (now w) ⌝ }
     ensures { λ _. ⌜ Merged p q l a b (now (w .entry)) (now (u .entry)) (now (u .exit)) (now (v .entry)) (now (v .exit)) ⌝ }
 {
-    let n = p * q;
-    let x = arithmetic64::mul_mod(n, residue64::idempotent(p, q), b);
-    let y = arithmetic64::mul_mod(n, residue64::idempotent(q, p), a);
-    mix(u, &w[0..l], n, x, y);
-    mix(v, &w[l..l + l], n, x, y);
+    let m = reduction64::modulus_of(p * q);
+    let x = modulus64::multiply(m, residue64::idempotent(p, q), b);
+    let y = modulus64::multiply(m, residue64::idempotent(q, p), a);
+    mix(u, &w[0..l], m, x, y);
+    mix(v, &w[l..l + l], m, x, y);
 }
 
 // "each of the two factors is worked as a modulus of its own, and the answers are joined by the Chinese remainder." D, with cofactors in u
@@ -76,7 +79,8 @@ pub fn run(u: &mut [u64], v: &mut [u64], w: &mut [u64], n: u64, f: &[u64], g: &[
         (now (u .exit)) (now (v .exit)) r ⌝ }
     ensures { λ _. ⌜ Scratch (now (w .entry)) (now (w .exit)) ⌝ }
 {
-    match reduced_quick64::attempt(u, v, w, n, f, g) {
+    let m = reduction64::modulus_of(n);
+    match reduced_quick64::attempt(u, v, w, m, f, g) {
         Attempt::Value(d) => d,
         Attempt::Splits(p, q) => by_factors(u, v, w, p, q, f, g),
     }

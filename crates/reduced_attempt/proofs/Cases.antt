@@ -1,14 +1,16 @@
 -- The answers of the enums of this width, taken apart by the arm that the code is in.
 --
 --   lead-at, factors-at, nilpotents-at       of the highest coefficient that is not nilpotent
---   over-word, leave-at, over-found, over-splits    of the core
+--   value-at, splits-at, over-told           of the core
+--   over-word, leave-at, over-found, over-splits, over-none    of a half over the content
 --   found-at, divisors-at, parted-at, parted-from, nilpotent-at, later-at, other-at    of a half
 --   unit-never, nilpotent-never, kind-splits    of the kind of a residue
 --   attempts                                 the rules
-use mathlib.Core.Path.{_≡_, subst}
+use mathlib.Core.Path.{_≡_, refl, subst}
 use mathlib.Core.List.{List}
-use Prim.Native.Nat.{ℕ, _-_, _*_, _/_, _<_}
+use Prim.Native.Nat.{ℕ, _+_, _-_, _*_, _/_, _<_}
 use lib.ListN.{length}
+use borrow.Rule.Slice.PartMut.{midOf}
 use Rattle.definitions.specs.Polynomials.{L}
 use Rattle.residue.specs.declared.Attempt.{Attempt}
 use Rattle.residue.specs.declared.Attempt.the-variants.{Value, Splits}
@@ -17,50 +19,66 @@ use Rattle.residue.specs.declared.Kind.the-variants.{Unit as UnitKind, Nilpoten
 use Rattle.residue.specs.Kinds.{KindOf}
 use Rattle.window_factor.specs.declared.Highest.{Highest}
 use Rattle.window_factor.specs.declared.Highest.the-variants.{UnitAt as UnitAt', Splits as SplitsAt, AllNilpotent}
-use Rattle.window_factor.specs.Factors.{HighestOf, SplitOf, LeadingUnit, AllNilpotents}
+use Rattle.window_factor.specs.Factors.{HighestOf, SplitOf}
 use Rattle.windows.specs.Window.{Scratch}
 use Rattle.reduced_units.specs.States.{Splitter}
-use Rattle.reduced_cofactors.specs.Cofactors.{Certified, CoreAnswer}
+use Rattle.reduced_cofactors.specs.Cofactors.{Certified, CoreAsked, CoreAnswer}
 use Rattle.reduced_attempt.specs.declared.HalfAttempt.{HalfAttempt}
 use Rattle.reduced_attempt.specs.declared.HalfAttempt.the-variants.{Found, Divisors, Nilpotent}
-use Rattle.reduced_attempt.specs.ReducedAttempts.{NilpotentOver, HalfAsked, OverAsked, OtherAsked, HalfAttempted, Parted, Attempted}
-use Rattle.reduced_attempt.specs.ReducedAttempts.{BothLeave, Left}
-use Rattle.reduced_attempt.proofs.Halves.{product-word, over-splitter, leaving, half-certified}
-use Rattle.reduced_attempt.proofs.Halves.{split-unit, split-nilpotent, split-factors}
+use Rattle.reduced_attempt.specs.ReducedAttempts.{BothLeave, Left, NilpotentOver, HalvesAsked, OtherAsked, ScaledAsked}
+use Rattle.reduced_attempt.specs.ReducedAttempts.{HalfAttempted, OverAsked, OverAttempted, Parted, Attempted}
+use Rattle.reduced_attempt.proofs.Halves.{core-asked, unit-splits, over-nilpotents, nilpotents-told, over-splitter, product-word}
+use Rattle.reduced_attempt.proofs.Halves.{leaving, half-certified, split-unit, split-nilpotent, split-factors}
 use Rattle.reduced_attempt.proofs.Whole.{later-asked, parted, other-told}
 use Rattle.reduced_attempt.proofs.Rules.{attempt}
 
-module _ (n : ℕ) (f : List ℕ) (h : Highest) where
-  pub lead-at : (t i : ℕ) → h ≡ UnitAt' t i → HighestOf n f h → LeadingUnit n t i f
-  lead-at t i e = subst (HighestOf n f) e
+-- over the content: the highest coefficient that is not nilpotent
+module _ (n d e : ℕ) (w : List ℕ) (h : Highest) where
+  abbrev told : Highest → Type 0
+  told h = HighestOf n (midOf (e + 1) (e + 1 + (d + 1) - (e + 1)) w) h
 
-  pub factors-at : (p q : ℕ) → h ≡ SplitsAt p q → HighestOf n f h → SplitOf n p q
-  factors-at p q e = subst (HighestOf n f) e
+  pub lead-at : (t i : ℕ) (x y : List ℕ) → h ≡ UnitAt' t i → told h → OverAsked n d e x y w → CoreAsked n d e t i w x y
+  lead-at t i x y q z o = core-asked o (subst told q z)
 
-  pub nilpotents-at : h ≡ AllNilpotent → HighestOf n f h → AllNilpotents n f
-  nilpotents-at e = subst (HighestOf n f) e
+  pub factors-at : (p q : ℕ) (x y : List ℕ) → h ≡ SplitsAt p q → told h → OverAttempted n d e w x y x y (Divisors p q)
+  factors-at p q x y r z = (unit-splits (subst told r z), (refl, refl))
+
+  pub nilpotents-at : (x y : List ℕ) → h ≡ AllNilpotent → told h → OverAttempted n d e w x y x y Nilpotent
+  nilpotents-at x y q z = (over-nilpotents d e w (subst told q z), (refl, refl))
+
+-- the core
+module _ (n d e : ℕ) (w x y x₁ y₁ : List ℕ) (s : Attempt) where
+  pub value-at : (D : ℕ) → s ≡ Value D → CoreAnswer n d e w x y x₁ y₁ s → OverAttempted n d e w x y x₁ y₁ (Found D)
+  value-at D q = subst (CoreAnswer n d e w x y x₁ y₁) q
+
+  pub splits-at : (p q : ℕ) → s ≡ Splits p q → CoreAnswer n d e w x y x₁ y₁ s → OverAttempted n d e w x y x₁ y₁ (Divisors p q)
+  splits-at p q r = subst (CoreAnswer n d e w x y x₁ y₁) r
 
 -- the modulus has a record of its own
-pub core-told : (n ν c d e : ℕ) (w x y x₁ y₁ : List ℕ) (s : Attempt) → CoreAnswer ν d e w x y x₁ y₁ s → ν ≡ n / c
-    → CoreAnswer (n / c) d e w x y x₁ y₁ s
-core-told n ν c d e w x y x₁ y₁ s z h = subst (λ (v : ℕ). CoreAnswer v d e w x y x₁ y₁ s) h z
+pub over-told : (n ν d e : ℕ) (w x y x₁ y₁ : List ℕ) (z : HalfAttempt) → OverAttempted ν d e w x y x₁ y₁ z → ν ≡ n
+    → OverAttempted n d e w x y x₁ y₁ z
+over-told n ν d e w x y x₁ y₁ z o h = subst (λ (v : ℕ). OverAttempted v d e w x y x₁ y₁ z) h o
 
-module _ (n c r t i : ℕ) (a b x y w x₁ y₁ : List ℕ) (s : Attempt) where
-  abbrev answer : Attempt → Type 0
-  answer s = CoreAnswer (n / c) (length a - 1) (length b - 1) w x y x₁ y₁ s
+-- what it comes to over the content
+module _ (n c r : ℕ) (a b x y w x₁ y₁ : List ℕ) (z : HalfAttempt) where
+  abbrev over : HalfAttempt → Type 0
+  over z = OverAttempted (n / c) (length a - 1) (length b - 1) w x y x₁ y₁ z
 
-  pub over-word : (D m : ℕ) → s ≡ Value D → OverAsked n c r t i a b x y w → answer s → n < m → c * D < m
-  over-word D m e o z l = product-word o (subst answer e z) l
+  pub over-word : (D m : ℕ) → z ≡ Found D → ScaledAsked n c r a b x y w → over z → n < m → c * D < m
+  over-word D m q s o l = product-word s (subst over q o) l
 
-  pub leave-at : (D : ℕ) → s ≡ Value D → OverAsked n c r t i a b x y w → answer s → BothLeave n x₁ y₁
-  leave-at D e o z = leaving o (subst answer e z)
+  pub leave-at : (D : ℕ) → z ≡ Found D → ScaledAsked n c r a b x y w → over z → BothLeave n x₁ y₁
+  leave-at D q s o = leaving s (subst over q o)
 
-  pub over-found : (x₂ y₂ : List ℕ) (D : ℕ) → s ≡ Value D → OverAsked n c r t i a b x y w → answer s → Left n r x₁ x₂ → Left n r y₁ y₂
+  pub over-found : (x₂ y₂ : List ℕ) (D : ℕ) → z ≡ Found D → ScaledAsked n c r a b x y w → over z → Left n r x₁ x₂ → Left n r y₁ y₂
       → Certified n (L n (length a - 1) (length b - 1)) a b x₂ y₂ (c * D)
-  over-found x₂ y₂ D e o z lx ly = half-certified o (subst answer e z) lx ly
+  over-found x₂ y₂ D q s o lx ly = half-certified s (subst over q o) lx ly
 
-  pub over-splits : (p q : ℕ) → s ≡ Splits p q → OverAsked n c r t i a b x y w → answer s → HalfAttempted n c a b x y x₁ y₁ (Divisors p q)
-  over-splits p q e o z = over-splitter o (subst answer e z)
+  pub over-splits : (p q : ℕ) → z ≡ Divisors p q → ScaledAsked n c r a b x y w → over z → HalfAttempted n c a b x y x₁ y₁ (Divisors p q)
+  over-splits p q e s o = over-splitter s (subst over e o)
+
+  pub over-none : z ≡ Nilpotent → ScaledAsked n c r a b x y w → over z → HalfAttempted n c a b x y x₁ y₁ Nilpotent
+  over-none e s o = let k = subst over e o in (nilpotents-told (s .half) (s .words) (k .0), k .1)
 
 module _ (n c : ℕ) (a b x y x' y' : List ℕ) (t : HalfAttempt) where
   pub found-at : (D : ℕ) → t ≡ Found D → HalfAttempted n c a b x y x' y' t → Certified n (L n (length a - 1) (length b - 1)) a b x' y' D
@@ -79,7 +97,7 @@ module _ (n c : ℕ) (a b x y x' y' : List ℕ) (t : HalfAttempt) where
   pub nilpotent-at : t ≡ Nilpotent → HalfAttempted n c a b x y x' y' t → NilpotentOver n c a
   nilpotent-at e z = subst (HalfAttempted n c a b x y x' y') e z .0
 
-  pub later-at : (w w' : List ℕ) → t ≡ Nilpotent → HalfAttempted n c a b x y x' y' t → HalfAsked n c b a y x w → Scratch w w'
+  pub later-at : (w w' : List ℕ) → t ≡ Nilpotent → HalfAttempted n c a b x y x' y' t → HalvesAsked n c a b x y w → Scratch w w'
       → OtherAsked n c a b x' y' w'
   later-at w w' e z h sw = let k = subst (HalfAttempted n c a b x y x' y') e z in later-asked h (k .1 .0) (k .1 .1) sw (k .0)
 
@@ -97,9 +115,9 @@ module _ (n p : ℕ) (k : Kind) where
   pub kind-splits : (a b : ℕ) → k ≡ SplitsKind a b → KindOf n p k → SplitOf n a b
   kind-splits a b e x = split-factors (subst (KindOf n p) e x)
 
-pub ruleset highest = (lead-at, factors-at, nilpotents-at)
+pub ruleset highest = (lead-at, factors-at, nilpotents-at, value-at, splits-at, over-told)
 
-pub ruleset cores = (over-word, leave-at, over-found, over-splits)
+pub ruleset cores = (over-word, leave-at, over-found, over-splits, over-none)
 
 pub ruleset half-attempts = (found-at, divisors-at, parted-at, parted-from, nilpotent-at, later-at, other-at)
 

@@ -2,11 +2,11 @@
 --
 --   common-of, arranged-of, arranged-plain                                   two polynomials in the buffer
 --   common-positive, common-whole, common-above, common-primitive, common-swap    the common content
---   positive, above, half-splits, nilpotents-told, over-asked, core-asked    what a half asks of its calls
---   over-splitter, product-word, leaving, half-certified, plain-certified    what the core says of the polynomials
+--   positive, above, scaled-asked, over-asked, over-known, core-asked        what a half asks of its calls
+--   unit-splits, over-nilpotents, nilpotents-told, over-splitter, product-word, leaving, half-certified, plain-certified    what it answers
 --   split-unit, split-nilpotent, split-factors                               two coprime divisors split n
 --   halves                                                                   the rules
-use mathlib.Core.Path.{_≡_, refl, sym, ap, ap₂, subst, _∙_}
+use mathlib.Core.Path.{_≡_, refl, sym, ap, subst, _∙_}
 use mathlib.Core.List.{List}
 use mathlib.Core.Logic.{⊎-elim}
 use Prim.Native.Nat.{ℕ, zero, suc, max, _+_, _-_, _*_, _/_, _%_, _^_, _≤_, _<_, _∣_}
@@ -14,7 +14,6 @@ use native.Mathlib.Omega.{arith}
 use native.Mathlib.Nat.{sub-zero, mod-lt, mod-mod, zero-mod, zero-add, zero-div, mul-zero, mul-one, mul-le-mul-left, mul-le-mul-right}
 use native.Mathlib.Nat.{mul-div-cancel', mul-dvd-mul-left, dvd-zero, dvd-trans, dvd-refl, dvd-mul-left, pos-of-dvd-of-pos, le-of-dvd}
 use native.Mathlib.Nat.{dvd-of-mod-eq-zero}
-use borrow.Author.Needs.{needs}
 use lib.ListN.{length, getD}
 use borrow.Rule.Slice.PartMut.{midOf}
 use Rattle.definitions.specs.Residues.{K, Inverse, IsNilpotent, Splitting}
@@ -36,7 +35,7 @@ use Rattle.reduced_units.proofs.Regions.{part-piece}
 use Rattle.reduced_clearing.proofs.UnitSteps.{split-splitter}
 use Rattle.reduced_cofactors.specs.Cofactors.{core-room, CoreAsked, Certified, CoreCertified}
 use Rattle.reduced_attempt.specs.ReducedAttempts.{CommonContent, PairLoaded, Arranged, BothLeave, Left}
-use Rattle.reduced_attempt.specs.ReducedAttempts.{NilpotentOver, HalfAsked, OverAsked, CoreOver}
+use Rattle.reduced_attempt.specs.ReducedAttempts.{NilpotentOver, HalfAsked, ScaledAsked, OverAsked}
 use Rattle.reduced_attempt.proofs.Scalings.{scaled, scaled-at, scaled-times, reduced-unscaled, combination-unscaled, divides-scaled}
 use Rattle.reduced_attempt.proofs.Scalings.{nilpotent-unscaled, pair-plain, left-one}
 
@@ -160,9 +159,6 @@ module _ {n c : ℕ} {a b x y w : List ℕ} (ha : HalfAsked n c a b x y w) where
   divides : n / c ∣ n
   divides = subst (λ (x : ℕ). n / c ∣ x) (sym whole) (dvd-mul-left (n / c) c)
 
-  pub half-splits : {p q : ℕ} → SplitOf (n / c) p q → Splitter n p q
-  half-splits s = split-splitter _ _ _ _ divides s
-
 module _ {n c r : ℕ} {a b x y w w₁ : List ℕ} (ha : HalfAsked n c a b x y w) (ar : Arranged n c r a b w w₁) where
   more-a : length a - 1 + 1 ≡ length a
   more-a = omega arith
@@ -214,24 +210,15 @@ module _ {n c r : ℕ} {a b x y w w₁ : List ℕ} (ha : HalfAsked n c a b x y w
         (divides-scaled n c r (coef a k) (ha .content .divides-n) (ha .content .divides-f k)));
   }
 
-  part-first : piece w₁ (length b) (length a) ≡ piece w₁ (length b - 1 + 1) (length a - 1 + 1)
-  part-first = ap₂ (λ (x y : ℕ). piece w₁ x y) (sym more-b) (sym more-a)
-
-  abbrev part : List ℕ
-  part = midOf (length b) (length b + length a - length b) w₁
-
-  part-is : part ≡ piece w₁ (length b) (length a)
-  part-is = part-piece w₁ (length b) (length a) _ (let z : length b + length a - length b ≡ length a = omega arith in z)
-
-  pub nilpotents-told : NilpotentWords (n / c) part → NilpotentOver n c a
-  nilpotents-told x = record {
+  pub nilpotents-told : NilpotentWords (n / c) (piece w₁ (length b - 1 + 1) (length a - 1 + 1)) → NilpotentOver n c a
+  nilpotents-told z = record {
     at = λ k. nilpotent-unscaled n c (n / c) r (coef a k) (whole ha) (positive ha) (omega (arith, above ha)) (ar .unit)
         (ha .content .divides-n) (ha .content .divides-f k) (small (coef a k) (ha .content .divides-f k))
-        (subst (IsNilpotent (n / c)) (ap (λ (f : List ℕ). coef f k) (part-is ∙ part-first) ∙ first-at k) (x .at k));
+        (subst (IsNilpotent (n / c)) (first-at k) (z .at k));
   }
 
-  pub over-asked : {t i : ℕ} → LeadingUnit (n / c) t i part → OverAsked n c r t i a b x y w₁
-  over-asked {t} {i} l = record {
+  pub scaled-asked : ScaledAsked n c r a b x y w₁
+  scaled-asked = record {
     half = record {
       modulus = ha .modulus;
       some-a = ha .some-a;
@@ -243,7 +230,6 @@ module _ {n c r : ℕ} {a b x y w w₁ : List ℕ} (ha : HalfAsked n c a b x y w
       proper = ha .proper;
     };
     words = record { unit = ar .unit; same = refl; first = ar .first; second = ar .second };
-    lead = subst (LeadingUnit (n / c) t i) part-is l;
   }
 
   -- the words, as r a and r b over c
@@ -264,15 +250,31 @@ module _ {n c r : ℕ} {a b x y w w₁ : List ℕ} (ha : HalfAsked n c a b x y w
 
 -- ---- words over the content
 
+pub core-asked : {n d e t i : ℕ} {x y w : List ℕ} → OverAsked n d e x y w → LeadingUnit n t i (midOf (e + 1) (e + 1 + (d + 1) - (e + 1)) w)
+    → CoreAsked n d e t i w x y
+core-asked {n} {d} {e} {t} {i} {w = w} o l = record {
+  space = o .space;
+  second = o .second;
+  first = o .first;
+  lead = subst (LeadingUnit n t i) (part-piece w (e + 1) (d + 1) _ (let z : e + 1 + (d + 1) - (e + 1) ≡ d + 1 = omega arith in z)) l;
+}
+
+pub over-nilpotents : {n : ℕ} (d e : ℕ) (w : List ℕ) → NilpotentWords n (midOf (e + 1) (e + 1 + (d + 1) - (e + 1)) w)
+    → NilpotentWords n (piece w (e + 1) (d + 1))
+over-nilpotents {n} d e w =
+    subst (NilpotentWords n) (part-piece w (e + 1) (d + 1) _ (let z : e + 1 + (d + 1) - (e + 1) ≡ d + 1 = omega arith in z))
+
+pub unit-splits : {n p q : ℕ} → SplitOf n p q → Splitter n p q
+unit-splits s = split-splitter _ _ _ _ (dvd-refl _) s
+
 -- the modulus has a record of its own
-module _ {n c t i : ℕ} {a b x y w : List ℕ} (o : CoreOver n c t i a b x y w) where
-  pub core-above : 1 ≤ n / c
-  core-above = omega (arith, o .asked .space .above)
+pub over-known : {n ν d e : ℕ} {x y w : List ℕ} → OverAsked n d e x y w → ν ≡ n → OverAsked ν d e x y w
+over-known o eq = rw eq o
 
-  pub core-known : {ν : ℕ} → ν ≡ n / c → CoreAsked ν (length a - 1) (length b - 1) t i w x y
-  core-known e = rw e (o .asked)
+pub over-some : {n d e : ℕ} {x y w : List ℕ} → OverAsked n d e x y w → 1 ≤ n
+over-some o = omega (arith, o .space .above)
 
-module _ {n c r t i : ℕ} {a b x y w : List ℕ} (o : OverAsked n c r t i a b x y w) where
+module _ {n c r : ℕ} {a b x y w : List ℕ} (o : ScaledAsked n c r a b x y w) where
   abbrev d : ℕ
   d = length a - 1
 
@@ -282,22 +284,22 @@ module _ {n c r t i : ℕ} {a b x y w : List ℕ} (o : OverAsked n c r t i a b x
   ha : HalfAsked n c a b x y w
   ha = o .half
 
-  pub core-asked : CoreOver n c t i a b x y w
-  core-asked = record {
-    positive = positive ha;
-    some-a = ha .some-a;
-    some-b = ha .some-b;
-    asked = record {
-      space = record {
-        above = above ha;
-        room = room-less n c a b (ha .modulus) (ha .content) (ha .proper) d e _ (ha .room);
-        long-x = length-less n c a b (ha .modulus) (ha .content) (ha .proper) d e _ (ha .first);
-        long-y = length-less n c a b (ha .modulus) (ha .content) (ha .proper) d e _ (ha .second);
-      };
-      second = below-second ha (o .words);
-      first = below-first ha (o .words);
-      lead = subst (LeadingUnit (n / c) t i) (part-first ha (o .words)) (o .lead);
+  ar : Arranged n c r a b w w
+  ar = o .words
+
+  pub scaled-positive : 0 < c
+  scaled-positive = positive ha
+
+  pub over-asked : OverAsked (n / c) (length a - 1) (length b - 1) x y w
+  over-asked = record {
+    space = record {
+      above = above ha;
+      room = room-less n c a b (ha .modulus) (ha .content) (ha .proper) d e _ (ha .room);
+      long-x = length-less n c a b (ha .modulus) (ha .content) (ha .proper) d e _ (ha .first);
+      long-y = length-less n c a b (ha .modulus) (ha .content) (ha .proper) d e _ (ha .second);
     };
+    second = below-second ha ar;
+    first = below-first ha ar;
   }
 
   pub over-splitter : {p q : ℕ} {x₁ y₁ : List ℕ} → Splitter (n / c) p q × ((x₁ ≡ x) × (y₁ ≡ y)) → Splitter n p q × ((x₁ ≡ x) × (y₁ ≡ y))
@@ -318,22 +320,22 @@ module _ {n c r t i : ℕ} {a b x y w : List ℕ} (o : OverAsked n c r t i a b x
 
     pub leaving : BothLeave n x₁ y₁
     leaving = record {
-      first = record { positive = omega (arith, ha .modulus); below = λ k. omega (arith, ce .below-u k, most ha) };
-      second = record { positive = omega (arith, ha .modulus); below = λ k. omega (arith, ce .below-v k, most ha) };
+      first = record { below = λ k. omega (arith, ce .below-u k, most ha) };
+      second = record { below = λ k. omega (arith, ce .below-v k, most ha) };
     }
 
     pub half-certified : {x₂ y₂ : List ℕ} → Left n r x₁ x₂ → Left n r y₁ y₂
         → Certified n (L n (length a - 1) (length b - 1)) a b x₂ y₂ (c * D)
     half-certified {x₂} {y₂} lx ly = record {
-      reduced = reduced-unscaled n r (c * D) pos (o .words .unit) a (scaled r a) b (scaled r b) (scaled-times n r a) (scaled-times n r b)
+      reduced = reduced-unscaled n r (c * D) pos (ar .unit) a (scaled r a) b (scaled r b) (scaled-times n r a) (scaled-times n r b)
           (subst (λ (z : ℕ). Reduced z (scaled r a) (scaled r b) (c * D)) (sym (whole ha))
-          (reduced-content c (n / c) D (scaled r a) _ (scaled r b) _ (positive ha) (omega (arith, above ha)) (times-first ha (o .words))
-          (times-second ha (o .words)) (ce .reduced)));
+          (reduced-content c (n / c) D (scaled r a) _ (scaled r b) _ (positive ha) (omega (arith, above ha)) (times-first ha ar)
+          (times-second ha ar) (ce .reduced)));
       combination = combination-unscaled n r (c * D) pos a (scaled r a) b (scaled r b) x₁ y₁ x₂ y₂ (scaled-times n r a) (scaled-times n r b)
           (lx .at) (ly .at)
           (subst (λ (z : ℕ). Combination z (scaled r a) (scaled r b) x₁ y₁ (c * D)) (sym (whole ha))
           (combination-content c (n / c) D (positive ha) (omega (arith, above ha)) (scaled r a) _ (scaled r b) _ x₁ y₁
-          (times-first ha (o .words)) (times-second ha (o .words)) (ce .combination)));
+          (times-first ha ar) (times-second ha ar) (ce .combination)));
       below-u = λ k. subst (λ (z : ℕ). z < n) (sym (lx .at k)) (mod-lt _ pos);
       below-v = λ k. subst (λ (z : ℕ). z < n) (sym (ly .at k)) (mod-lt _ pos);
       short-u = λ k h. lx .at k ∙ none (ce .short-u k (shorter k h));
@@ -343,14 +345,14 @@ module _ {n c r t i : ℕ} {a b x y w : List ℕ} (o : OverAsked n c r t i a b x
         pos : 1 ≤ n
         pos = omega (arith, ha .modulus)
 
-        shorter : (k : ℕ) → L n d e ≤ k → L (n / c) d e ≤ k
-        shorter = length-less n c a b (ha .modulus) (ha .content) (ha .proper) d e
+        shorter : (k : ℕ) → L n (length a - 1) (length b - 1) ≤ k → L (n / c) (length a - 1) (length b - 1) ≤ k
+        shorter = length-less n c a b (ha .modulus) (ha .content) (ha .proper) (length a - 1) (length b - 1)
 
         none : {z : ℕ} → z ≡ 0 → (r * z) % n ≡ 0
         none e = ap (λ (z : ℕ). (r * z) % n) e ∙ ap (λ (z : ℕ). z % n) (mul-zero r) ∙ zero-mod n
 
 -- the same where the words are those of a and b
-pub plain-certified : {n c t i D : ℕ} {a b x y w x₁ y₁ : List ℕ} → OverAsked n c 1 t i a b x y w
+pub plain-certified : {n c D : ℕ} {a b x y w x₁ y₁ : List ℕ} → ScaledAsked n c 1 a b x y w
     → CoreCertified (n / c) (length a - 1) (length b - 1) w x₁ y₁ D → Certified n (L n (length a - 1) (length b - 1)) a b x₁ y₁ (c * D)
 plain-certified o ce = half-certified o ce (left-one _ 1 _ (leaving o ce .first) refl) (left-one _ 1 _ (leaving o ce .second) refl)
 
@@ -397,6 +399,4 @@ module _ {n p q : ℕ} (s : Splitter n p q) where
 pub split-factors : {n p a b : ℕ} → Splitting n p a b → SplitOf n a b
 split-factors s = record { product = s .product; above₁ = s .above₁; above₂ = s .above₂; coprime = s .coprime }
 
-pub ruleset records = (needs, core-above, core-known)
-
-pub ruleset halves = (common-of, arranged-of, arranged-plain, positive, above, half-splits, nilpotents-told, over-asked, core-asked)
+pub ruleset halves = (common-of, arranged-of, arranged-plain, positive, scaled-asked, scaled-positive, over-asked, over-known, over-some)

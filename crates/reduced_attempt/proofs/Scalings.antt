@@ -28,7 +28,7 @@ use Rattle.windows.specs.Window.{Written, Moved, mulBy, Loaded}
 use Rattle.windows.proofs.Leaf.{lt-or-le}
 use Rattle.montgomery.specs.Held.{plain}
 use Rattle.modulus.specs.declared.Modulus.{Modulus}
-use Rattle.modulus.specs.Values.{value, value-by, values, Enters}
+use Rattle.modulus.specs.Values.{Known, value, value-by, values, Enters}
 use Rattle.modulus_windows.specs.LoopPromises.{Entered}
 use Rattle.law_multipliers.specs.Reductions.{reduced-scaled}
 use Rattle.reduced_attempt.specs.ReducedAttempts.{PairLoaded, LeaveAsked, Left}
@@ -139,12 +139,12 @@ unfolding values
 values-word m w i = ap (λ (z : ℕ). getD (values m w) i z) (sym (value-none m)) ∙ List·getD-map (value m) w i 0
 
 -- r is the word for 1: a unit, and the word for a is r a
-module _ (m : Modulus) (r : ℕ) (pos : 1 ≤ m .n) (e : Enters m 1 r) where
+module _ (m : Modulus) (r : ℕ) (known : Known m) (e : Enters m 1 r) where
   entered-one : Cong (m .n) (r * value m 1) 1
   entered-one = c-trans (c-sym (value-times m r)) (c-trans (c-eq (e .1)) (c-mod 1))
 
   entered-unit : IsUnit (m .n) r
-  entered-unit = unit-of (value m 1) pos (c-trans (c-eq (mul-comm (value m 1) r)) entered-one)
+  entered-unit = unit-of (value m 1) (known .pos) (c-trans (c-eq (mul-comm (value m 1) r)) entered-one)
 
   entered-word : (x a : ℕ) → x < m .n → value m x ≡ a % m .n → x ≡ (r * a) % m .n
   entered-word x a l h =
@@ -158,16 +158,16 @@ module _ (m : Modulus) (r : ℕ) (pos : 1 ≤ m .n) (e : Enters m 1 r) where
   entered-at : {a : ℕ} {f w w' : List ℕ} → Entered m a f w w' → (k : ℕ) → k < length f → getD w' (a + k) 0 ≡ (r * coef f k) % m .n
   entered-at {a} {f} {w} {w'} en k h = entered-word _ _ (en .below .at k h) (sym (values-word m w' (a + k)) ∙ en .stands .mid k h)
 
-  pub pair-entered : (n j : ℕ) (f g w w₁ w₂ : List ℕ) → m .n ≡ n → length f ≤ j → Entered m 0 f w w₁ → Entered m j g w₁ w₂
-      → PairLoaded n r j f g w w₂
-  pair-entered n j f g w w₁ w₂ is le ef eg = subst (λ (v : ℕ). PairLoaded v r j f g w w₂) is (record {
+  pub pair-entered : (j : ℕ) (f g w w₁ w₂ : List ℕ) → length f ≤ j → Entered m 0 f w w₁ → Entered m j g w₁ w₂
+      → PairLoaded (m .n) r j f g w w₂
+  pair-entered j f g w w₁ w₂ le ef eg = record {
     unit = entered-unit;
     same = eg .around .same ∙ ef .around .same;
     first = λ k h. eg .around .low k (omega arith) ∙ ap (λ (x : ℕ). getD w₁ x 0) (sym (zero-add k)) ∙ entered-at ef k h;
     second = λ k h. entered-at eg k h;
     between = λ k p q. eg .around .low k q ∙ ef .around .high k (omega arith);
     high = λ k p. eg .around .high k p ∙ ef .around .high k (omega arith);
-  })
+  }
 
 plain-word : (n x : ℕ) → x % n ≡ (1 * x) % n
 plain-word n x = ap (λ (v : ℕ). v % n) (sym (one-mul x))
@@ -199,14 +199,14 @@ pair-as-is {n} {j} {f} {g} two le lf lg = pair-plain n j f g (omega arith) le lf
 
 -- ---- words that leave
 
-pub left-scaled : (n N r : ℕ) (x x' : List ℕ) → N ≡ n → Moved (mulBy N r) 0 0 (length x) x x' → Left n r x x'
-left-scaled n N r x x' e mv = subst (λ (v : ℕ). Left v r x x') e (record {
+pub left-scaled : (n r : ℕ) (x x' : List ℕ) → Moved (mulBy n r) 0 0 (length x) x x' → Left n r x x'
+left-scaled n r x x' mv = record {
   same = mv .same;
-  at = λ k. ⊎-elim (λ h. ap (λ (v : ℕ). getD x' v 0) (sym (zero-add k)) ∙ mv .mid k h ∙ ap (λ (v : ℕ). (r * getD x v 0) % N) (zero-add k))
+  at = λ k. ⊎-elim (λ h. ap (λ (v : ℕ). getD x' v 0) (sym (zero-add k)) ∙ mv .mid k h ∙ ap (λ (v : ℕ). (r * getD x v 0) % n) (zero-add k))
       (λ h. coef-beyond x' k (omega (arith, mv .same))
-      ∙ sym (ap (λ (v : ℕ). (r * v) % N) (coef-beyond x k h) ∙ ap (λ (v : ℕ). v % N) (mul-zero r) ∙ zero-mod N))
+      ∙ sym (ap (λ (v : ℕ). (r * v) % n) (coef-beyond x k h) ∙ ap (λ (v : ℕ). v % n) (mul-zero r) ∙ zero-mod n))
       (lt-or-le k (length x));
-})
+}
 
 pub left-one : (n r : ℕ) (x : List ℕ) → LeaveAsked n x → r ≡ 1 → Left n r x x
 left-one n r x k e = record {

@@ -1,14 +1,14 @@
 -- An attempt whose polynomials are 0 modulo n, the exchange of the two polynomials, and the calls of an attempt.
 --
 --   none-certified, certified-flip                        D of polynomials that are 0 modulo n; f and g exchanged
---   first-asked, other-asked, later-asked                 what the two halves ask
+--   halves-asked, later-asked                             what the two halves ask
 --   none-told, parted, other-told, swapped-told, never-told    what an attempt answers
 --   wholes                                                the rules
 use mathlib.Core.Path.{_≡_, sym, ap, subst, _∙_}
 use mathlib.Core.List.{List, []}
 use Prim.Native.Nat.{ℕ, suc, max, _+_, _-_, _*_, _%_, _≤_, _<_, _∣_}
 use native.Mathlib.Omega.{arith}
-use native.Mathlib.Nat.{mod-mod, mod-one, mul-one, mul-le-mul-left, mod-eq-zero-of-dvd, mul-mod-right}
+use native.Mathlib.Nat.{mod-mod, mod-one, mul-one, mul-le-mul-left, mod-eq-zero-of-dvd, mul-mod-right, max-comm}
 use lib.ListN.{length, replicate}
 use Rattle.definitions.specs.Residues.{K}
 use Rattle.definitions.specs.Polynomials.{coef, L}
@@ -21,7 +21,7 @@ use Rattle.convolution.specs.Sums.{zeros-at}
 use Rattle.residue.specs.declared.Attempt.{Attempt}
 use Rattle.residue.specs.declared.Attempt.the-variants.{Value, Splits}
 use Rattle.windows.specs.Window.{Scratch}
-use Rattle.reduced_attempt.specs.ReducedAttempts.{CommonContent, NilpotentOver, HalfAsked, OtherAsked, Parted}
+use Rattle.reduced_attempt.specs.ReducedAttempts.{CommonContent, NilpotentOver, HalfAsked, HalvesAsked, OtherAsked, Parted}
 use Rattle.reduced_attempt.specs.ReducedAttempts.{attempt-room, AttemptAsked, Attempted}
 use Rattle.reduced_attempt.proofs.Halves.{common-swap, common-primitive}
 
@@ -65,17 +65,14 @@ le-left d e = omega arith
 le-right : (d e : ℕ) → e ≤ max d e
 le-right d e = omega arith
 
-max-swap : (d e : ℕ) → max d e ≡ max e d
-max-swap d e = omega arith
-
 half-room : (n d e x : ℕ) → attempt-room n (max d e) ≤ x → core-room n d e ≤ x
 half-room n d e x h = omega (arith, mul-le-mul-left (K n) (le-left d e), le-left d e, le-right d e)
 
 half-room-swap : (n d e x : ℕ) → attempt-room n (max d e) ≤ x → core-room n e d ≤ x
-half-room-swap n d e x h = half-room n e d x (subst (λ (m : ℕ). attempt-room n m ≤ x) (max-swap d e) h)
+half-room-swap n d e x h = half-room n e d x (subst (λ (m : ℕ). attempt-room n m ≤ x) (max-comm d e) h)
 
 length-swap : (n d e : ℕ) → L n d e ≡ L n e d
-length-swap n d e = ap (λ (m : ℕ). suc (K n * m)) (max-swap d e)
+length-swap n d e = ap (λ (m : ℕ). suc (K n * m)) (max-comm d e)
 
 -- ---- what an attempt asks of its halves
 
@@ -84,35 +81,35 @@ module _ {n c : ℕ} {f g u v w : List ℕ} (a : AttemptAsked n f g u v w) (cm :
       → Certified n (L n (length f - 1) (length g - 1)) f g u' v' n
   none-told x y e eu ev = rw (eu, ev) (none-certified n _ f g x y (a .modulus) (subst (CommonContent n f g) e cm))
 
-  pub first-asked : {w₁ : List ℕ} → (c ≡ n → ⊥) → Scratch w w₁ → HalfAsked n c f g u v w₁
-  first-asked {w₁} ne sw = record {
-    modulus = a .modulus;
-    some-a = a .some-f;
-    some-b = a .some-g;
-    room = omega (arith, half-room n (length f - 1) (length g - 1) _ (a .room), sw .same);
-    first = a .first;
-    second = a .second;
-    content = cm;
-    proper = ne;
-  }
-
-  pub other-asked : {w₁ : List ℕ} → (c ≡ n → ⊥) → Scratch w w₁ → HalfAsked n c g f v u w₁
-  other-asked {w₁} ne sw = record {
-    modulus = a .modulus;
-    some-a = a .some-g;
-    some-b = a .some-f;
-    room = omega (arith, half-room-swap n (length f - 1) (length g - 1) _ (a .room), sw .same);
-    first = omega (arith, length-swap n (length f - 1) (length g - 1), a .second);
-    second = omega (arith, length-swap n (length f - 1) (length g - 1), a .first);
-    content = common-swap n c f g cm;
-    proper = ne;
+  pub halves-asked : {w₁ : List ℕ} → (c ≡ n → ⊥) → Scratch w w₁ → HalvesAsked n c f g u v w₁
+  halves-asked {w₁} ne sw = record {
+    first = record {
+      modulus = a .modulus;
+      some-a = a .some-f;
+      some-b = a .some-g;
+      room = omega (arith, half-room n (length f - 1) (length g - 1) _ (a .room), sw .same);
+      first = a .first;
+      second = a .second;
+      content = cm;
+      proper = ne;
+    };
+    second = record {
+      modulus = a .modulus;
+      some-a = a .some-g;
+      some-b = a .some-f;
+      room = omega (arith, half-room-swap n (length f - 1) (length g - 1) _ (a .room), sw .same);
+      first = omega (arith, length-swap n (length f - 1) (length g - 1), a .second);
+      second = omega (arith, length-swap n (length f - 1) (length g - 1), a .first);
+      content = common-swap n c f g cm;
+      proper = ne;
+    };
   }
 
 -- the second, after the first
-pub later-asked : {n c : ℕ} {f g u v w u₁ v₁ w₁ : List ℕ} → HalfAsked n c g f v u w → u₁ ≡ u → v₁ ≡ v → Scratch w w₁ → NilpotentOver n c f
+pub later-asked : {n c : ℕ} {f g u v w u₁ v₁ w₁ : List ℕ} → HalvesAsked n c f g u v w → u₁ ≡ u → v₁ ≡ v → Scratch w w₁ → NilpotentOver n c f
     → OtherAsked n c f g u₁ v₁ w₁
-later-asked h eu ev sw x = record {
-  half = rw (eu, ev) (record {
+later-asked hs eu ev sw x = record {
+  half = let h = hs .second in rw (eu, ev) (record {
     modulus = h .modulus;
     some-a = h .some-a;
     some-b = h .some-b;
@@ -147,4 +144,4 @@ module _ {n c : ℕ} {f g u v w : List ℕ} (h : HalfAsked n c g f v u w) where
       → Certified n (L n (length f - 1) (length g - 1)) f g u' v' D
   never-told x y = absurd (common-primitive n c g f (h .modulus) (h .content) (h .proper) y x)
 
-pub ruleset wholes = (none-told, first-asked, other-asked, swapped-told, never-told)
+pub ruleset wholes = (none-told, halves-asked, swapped-told, never-told)

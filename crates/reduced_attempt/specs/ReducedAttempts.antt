@@ -5,9 +5,11 @@
 --   Arranged n c r a b     the words of b and then those of a, times r modulo n and over c
 --   LeaveAsked, BothLeave, Left    words times r
 --   HalfAsked              of the half of an attempt that factors the first polynomial: what it asks
---   OverAsked, CoreOver    the same, once the words stand over the content, and what the core asks of these
+--   HalvesAsked            of both halves, the second polynomial factored in the second
 --   OtherAsked             of the second half, after the first: what it asks
+--   ScaledAsked            of a half whose words stand over the content: what it asks
 --   HalfAttempted          what a half promises
+--   OverAsked, OverAttempted    what a half asks and promises modulo n / c, where the words over the content c stand in the window
 --   AttemptAsked           what an attempt asks
 --   Attempted              what it promises: D with cofactors, or n as a product of two coprime factors
 --   attempt-room n M       the words that an attempt needs, M the larger sent degree
@@ -17,12 +19,12 @@ use Prim.Native.Nat.{ℕ, max, _+_, _-_, _*_, _/_, _%_, _<_, _≤_, _∣_}
 use lib.ListN.{length, getD}
 use Rattle.definitions.specs.Residues.{K, IsUnit, IsNilpotent}
 use Rattle.definitions.specs.Polynomials.{coef, L}
-use Rattle.windows.specs.Window.{piece}
-use Rattle.window_factor.specs.Factors.{SplitOf, LeadingUnit}
+use Rattle.windows.specs.Window.{piece, Below}
+use Rattle.window_factor.specs.Factors.{SplitOf, AllNilpotents}
 use Rattle.reduced_units.specs.States.{Splitter}
 use Rattle.residue.specs.declared.Attempt.{Attempt}
 use Rattle.residue.specs.declared.Attempt.the-variants.{Value, Splits}
-use Rattle.reduced_cofactors.specs.Cofactors.{core-room, CoreAsked, Certified}
+use Rattle.reduced_cofactors.specs.Cofactors.{core-room, CoreLengthsAsked, Certified, CoreCertified}
 use Rattle.reduced_attempt.specs.declared.HalfAttempt.{HalfAttempt}
 use Rattle.reduced_attempt.specs.declared.HalfAttempt.the-variants.{Found, Divisors, Nilpotent}
 
@@ -51,7 +53,6 @@ pub record Arranged (n c r : ℕ) (a b w w' : List ℕ) : Type 0 where
 
 -- words that are residues
 pub record LeaveAsked (n : ℕ) (x : List ℕ) : Type 0 where
-  pub positive : 1 ≤ n
   pub below : (k : ℕ) → coef x k < n
 
 -- the same of both cofactors
@@ -79,23 +80,20 @@ pub record HalfAsked (n c : ℕ) (a b x y w : List ℕ) : Type 0 where
   pub content : CommonContent n a b c
   pub proper : c ≡ n → ⊥
 
--- r a and r b over c stand in w; the coefficient of the first at t has the inverse i modulo n / c, and those above it are nilpotent
-pub record OverAsked (n c r t i : ℕ) (a b x y w : List ℕ) : Type 0 where
-  pub half : HalfAsked n c a b x y w
-  pub words : Arranged n c r a b w w
-  pub lead : LeadingUnit (n / c) t i (piece w (length b) (length a))
+-- either polynomial can be the one that is factored
+pub record HalvesAsked (n c : ℕ) (f g u v w : List ℕ) : Type 0 where
+  pub first : HalfAsked n c f g u v w
+  pub second : HalfAsked n c g f v u w
 
 -- the second half, once the first found no coefficient of f over c that is more than nilpotent
 pub record OtherAsked (n c : ℕ) (f g u v w : List ℕ) : Type 0 where
   pub half : HalfAsked n c g f v u w
   pub nilpotent : NilpotentOver n c f
 
--- what the core asks of the words of a and b over c
-pub record CoreOver (n c t i : ℕ) (a b x y w : List ℕ) : Type 0 where
-  pub positive : 1 ≤ c
-  pub some-a : 1 ≤ length a
-  pub some-b : 1 ≤ length b
-  pub asked : CoreAsked (n / c) (length a - 1) (length b - 1) t i w x y
+-- r a and r b over c stand in w
+pub record ScaledAsked (n c r : ℕ) (a b x y w : List ℕ) : Type 0 where
+  pub half : HalfAsked n c a b x y w
+  pub words : Arranged n c r a b w w
 
 -- D with cofactors x' and y'; two coprime divisors of n; or no coefficient of a is more than nilpotent. In the last two, the buffers x
 -- and y are left as found.
@@ -103,6 +101,18 @@ abbrev pub HalfAttempted : ℕ → ℕ → List ℕ → List ℕ → List ℕ �
 HalfAttempted n c a b x y x' y' (Found D) = Certified n (L n (length a - 1) (length b - 1)) a b x' y' D
 HalfAttempted n c a b x y x' y' (Divisors p q) = Splitter n p q × ((x' ≡ x) × (y' ≡ y))
 HalfAttempted n c a b x y x' y' Nilpotent = NilpotentOver n c a × ((x' ≡ x) × (y' ≡ y))
+
+-- the words are residues, those of degree e at 0 and then those of degree d, the polynomial that is factored
+pub record OverAsked (n d e : ℕ) (x y w : List ℕ) : Type 0 where
+  pub space : CoreLengthsAsked n d e w x y
+  pub second : Below n 0 (e + 1) w
+  pub first : Below n (e + 1) (d + 1) w
+
+-- the same three answers of these words
+abbrev pub OverAttempted : ℕ → ℕ → ℕ → List ℕ → List ℕ → List ℕ → List ℕ → List ℕ → HalfAttempt → Type 0
+OverAttempted n d e w x y x' y' (Found D) = CoreCertified n d e w x' y' D
+OverAttempted n d e w x y x' y' (Divisors p q) = Splitter n p q × ((x' ≡ x) × (y' ≡ y))
+OverAttempted n d e w x y x' y' Nilpotent = AllNilpotents n (piece w (e + 1) (d + 1)) × ((x' ≡ x) × (y' ≡ y))
 
 -- n is a product of two coprime factors
 abbrev pub Parted : ℕ → Attempt → Type 0

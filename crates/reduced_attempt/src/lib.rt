@@ -9,17 +9,23 @@
 //   arrange          the same, over a content
 //   leave            a cofactor times what the polynomials were multiplied by; leave_both does both
 //   half             the attempt where the first polynomial is the one that is factored
-//   over_content     the same, where the words stand over the content; core_over is the core of the attempt there
+//   scaled_half      the same, where the words stand over the content c
+//   over_content     the words modulo n / c, whose record is found there; attempt_over has it, core_over is the core of the attempt
 //   split            two coprime divisors of n, made two coprime factors
 //   attempt          both_halves in turn, other_half the second
-ghost use Prim.Native.Nat.{_+_, _-_, _*_, _/_, _≤_};
+//
+//   m                the record of the modulus, found once; `over_content` finds that of n / c
+ghost use Prim.Native.Nat.{_+_, _≤_};
 ghost use lib.ListN.{length};
 ghost use Rattle.windows.specs.Window.{Scratch};
+ghost use Rattle.modulus.specs.Values.{Known};
 ghost use Rattle.reduced_units.specs.States.{Splitter};
-ghost use Rattle.reduced_cofactors.specs.Cofactors.{CoreAnswer};
+ghost use Rattle.reduced_cofactors.specs.Cofactors.{CoreAsked};
 ghost use Rattle.reduced_attempt.specs.ReducedAttempts.{CommonContent, PairLoaded, Arranged, LeaveAsked, BothLeave, Left, HalfAsked};
-ghost use Rattle.reduced_attempt.specs.ReducedAttempts.{OverAsked, CoreOver, OtherAsked, HalfAttempted, Parted, AttemptAsked};
-ghost use Rattle.reduced_attempt.specs.ReducedAttempts.{Attempted};
+ghost use Rattle.reduced_attempt.specs.ReducedAttempts.{HalvesAsked, OtherAsked, ScaledAsked, HalfAttempted, OverAsked};
+ghost use Rattle.reduced_attempt.specs.ReducedAttempts.{OverAttempted, Parted, AttemptAsked, Attempted};
+use modulus::Modulus;
+use reduced_cofactors::Factored;
 use residue::Attempt;
 
 // What the half of an attempt comes to that factors the first polynomial: D; two coprime divisors of n; or all coefficients of that
@@ -28,6 +34,12 @@ pub enum HalfAttempt {
     Found(u32),
     Divisors(u32, u32),
     Nilpotent,
+}
+
+// The content that was taken out of the words, and the unit that they were multiplied by.
+pub struct Scale {
+    pub c: u32,
+    pub r: u32,
 }
 
 // The content of f and g together.
@@ -44,48 +56,46 @@ pub fn common_content(w: &mut [u32], n: u32, f: &[u32], g: &[u32]) -> u32
 }
 
 // The words of f from 0 on and those of g from j on, entered: times the unit that is answered.
-pub fn load_pair(w: &mut [u32], n: u32, f: &[u32], j: usize, g: &[u32]) -> u32
-    requires { ⌜ (2 ≤ n) × ((length (now f) ≤ j) × (j + length (now g) ≤ length (now w))) ⌝ }
-    ensures { λ r. ⌜ PairLoaded n r j (now (f .entry)) (now (g .entry)) (now (w .entry)) (now (w .exit)) ⌝ }
+pub fn load_pair(w: &mut [u32], m: Modulus, f: &[u32], j: usize, g: &[u32]) -> u32
+    requires { ⌜ (Known m) × ((length (now f) ≤ j) × (j + length (now g) ≤ length (now w))) ⌝ }
+    ensures { λ r. ⌜ PairLoaded (m .n) r j (now (f .entry)) (now (g .entry)) (now (w .entry)) (now (w .exit)) ⌝ }
 {
-    let m = modulus::modulus_of(n);
     modulus_windows::load(w, 0, f, m);
     modulus_windows::load(w, j, g, m);
     modulus::enter(m, 1)
 }
 
 // The words of b over c, and then those of a, times the unit that is answered.
-fn arrange(w: &mut [u32], n: u32, c: u32, a: &[u32], b: &[u32]) -> u32
-    requires { ⌜ (2 ≤ n) × ((1 ≤ c) × (length (now b) + length (now a) ≤ length (now w))) ⌝ }
-    ensures { λ r. ⌜ Arranged n c r (now (a .entry)) (now (b .entry)) (now (w .entry)) (now (w .exit)) ⌝ }
+fn arrange(w: &mut [u32], m: Modulus, c: u32, a: &[u32], b: &[u32]) -> u32
+    requires { ⌜ (Known m) × ((1 ≤ c) × (length (now b) + length (now a) ≤ length (now w))) ⌝ }
+    ensures { λ r. ⌜ Arranged (m .n) c r (now (a .entry)) (now (b .entry)) (now (w .entry)) (now (w .exit)) ⌝ }
 {
     let l = b.len();
-    let m = l + a.len();
-    let r = load_pair(w, n, b, l, a);
-    windows::divide_words(w, c, 0, m);
+    let k = l + a.len();
+    let r = load_pair(w, m, b, l, a);
+    windows::divide_words(w, c, 0, k);
     r
 }
 
 // The words of x times r modulo n. Times 1 there is nothing to do.
-fn leave(x: &mut [u32], n: u32, r: u32)
-    requires { ⌜ LeaveAsked n (now x) ⌝ }
-    ensures { λ _. ⌜ Left n r (now (x .entry)) (now (x .exit)) ⌝ }
+fn leave(x: &mut [u32], m: Modulus, r: u32)
+    requires { ⌜ (Known m) × (LeaveAsked (m .n) (now x)) ⌝ }
+    ensures { λ _. ⌜ Left (m .n) r (now (x .entry)) (now (x .exit)) ⌝ }
 {
     if r == 1 {
         return;
     }
-    let m = modulus::modulus_of(n);
     let z = x.len();
     modulus_windows::set_scaled(x, m, r, 0, 0, z);
 }
 
 // Both cofactors so.
-fn leave_both(x: &mut [u32], y: &mut [u32], n: u32, r: u32)
-    requires { ⌜ BothLeave n (now x) (now y) ⌝ }
-    ensures { λ _. ⌜ (Left n r (now (x .entry)) (now (x .exit))) × (Left n r (now (y .entry)) (now (y .exit))) ⌝ }
+fn leave_both(x: &mut [u32], y: &mut [u32], m: Modulus, r: u32)
+    requires { ⌜ (Known m) × (BothLeave (m .n) (now x) (now y)) ⌝ }
+    ensures { λ _. ⌜ (Left (m .n) r (now (x .entry)) (now (x .exit))) × (Left (m .n) r (now (y .entry)) (now (y .exit))) ⌝ }
 {
-    leave(x, n, r);
-    leave(y, n, r);
+    leave(x, m, r);
+    leave(y, m, r);
 }
 
 // The reduced resultant of a and b, c their common content, with the cofactors x of a and y of b, if a can be factored.
@@ -93,73 +103,96 @@ fn half(
     x: &mut [u32],
     y: &mut [u32],
     w: &mut [u32],
-    n: u32,
+    m: Modulus,
     c: u32,
     a: &[u32],
     b: &[u32],
 ) -> HalfAttempt
-    requires { ⌜ HalfAsked n c (now a) (now b) (now x) (now y) (now w) ⌝ }
-    ensures { λ r. ⌜ HalfAttempted n c (now (a .entry)) (now (b .entry)) (now (x .entry)) (now (y .entry))
+    requires { ⌜ (Known m) × (HalfAsked (m .n) c (now a) (now b) (now x) (now y) (now w)) ⌝ }
+    ensures { λ r. ⌜ HalfAttempted (m .n) c (now (a .entry)) (now (b .entry)) (now (x .entry)) (now (y .entry))
         (now (x .exit)) (now (y .exit)) r ⌝ }
     ensures { λ _. ⌜ Scratch (now (w .entry)) (now (w .exit)) ⌝ }
 {
-    let r = arrange(w, n, c, a, b);
-    let l = b.len();
-    let m = l + a.len();
-    match window_factor::highest_of(&w[l..m], n / c) {
-        window_factor::Highest::UnitAt(t, i) => over_content(x, y, w, n, c, r, a, b, t, i),
-        window_factor::Highest::Splits(p, q) => HalfAttempt::Divisors(p, q),
-        window_factor::Highest::AllNilpotent => HalfAttempt::Nilpotent,
+    let r = arrange(w, m, c, a, b);
+    scaled_half(x, y, w, m, Scale { c, r }, a, b)
+}
+
+// The same, where the words of r b and r a over c stand in w.
+fn scaled_half(
+    x: &mut [u32],
+    y: &mut [u32],
+    w: &mut [u32],
+    m: Modulus,
+    s: Scale,
+    a: &[u32],
+    b: &[u32],
+) -> HalfAttempt
+    requires { ⌜ (Known m) × (ScaledAsked (m .n) (s .c) (s .r) (now a) (now b) (now x) (now y) (now w)) ⌝ }
+    ensures { λ z. ⌜ HalfAttempted (m .n) (s .c) (now (a .entry)) (now (b .entry)) (now (x .entry)) (now (y .entry))
+        (now (x .exit)) (now (y .exit)) z ⌝ }
+    ensures { λ _. ⌜ Scratch (now (w .entry)) (now (w .exit)) ⌝ }
+{
+    match over_content(x, y, w, m.n / s.c, a.len() - 1, b.len() - 1) {
+        HalfAttempt::Found(d) => {
+            let r = s.c * d;
+            leave_both(x, y, m, s.r);
+            HalfAttempt::Found(r)
+        }
+        HalfAttempt::Divisors(p, q) => HalfAttempt::Divisors(p, q),
+        HalfAttempt::Nilpotent => HalfAttempt::Nilpotent,
     }
 }
 
-// The same, where the words of r b and r a over c stand in w; coefficient t of the latter has the inverse i modulo n / c, and those above
-// are nilpotent.
+// What the words in w come to modulo n, whose record is found here: those of degree e at 0, and those of degree d after them, which are
+// the ones that are factored.
 fn over_content(
     x: &mut [u32],
     y: &mut [u32],
     w: &mut [u32],
     n: u32,
-    c: u32,
-    r: u32,
-    a: &[u32],
-    b: &[u32],
-    t: usize,
-    i: u32,
+    d: usize,
+    e: usize,
 ) -> HalfAttempt
-    requires { ⌜ OverAsked n c r t i (now a) (now b) (now x) (now y) (now w) ⌝ }
-    ensures { λ z. ⌜ HalfAttempted n c (now (a .entry)) (now (b .entry)) (now (x .entry)) (now (y .entry))
-        (now (x .exit)) (now (y .exit)) z ⌝ }
+    requires { ⌜ OverAsked n d e (now x) (now y) (now w) ⌝ }
+    ensures { λ z. ⌜ OverAttempted n d e (now (w .entry)) (now (x .entry)) (now (y .entry)) (now (x .exit)) (now (y .exit)) z ⌝ }
     ensures { λ _. ⌜ Scratch (now (w .entry)) (now (w .exit)) ⌝ }
 {
-    match core_over(x, y, w, n, c, a, b, t, i) {
-        Attempt::Value(d) => {
-            leave_both(x, y, n, r);
-            HalfAttempt::Found(c * d)
-        }
-        Attempt::Splits(p, q) => HalfAttempt::Divisors(p, q),
-    }
+    let m = modulus::modulus_of(n);
+    attempt_over(x, y, w, m, d, e)
 }
 
-// What the core comes to there, modulo n / c, whose record is found here.
-fn core_over(
+// The same with the record.
+fn attempt_over(
     x: &mut [u32],
     y: &mut [u32],
     w: &mut [u32],
-    n: u32,
-    c: u32,
-    a: &[u32],
-    b: &[u32],
-    t: usize,
-    i: u32,
-) -> Attempt
-    requires { ⌜ CoreOver n c t i (now a) (now b) (now x) (now y) (now w) ⌝ }
-    ensures { λ z. ⌜ CoreAnswer (n / c) (length (now (a .entry)) - 1) (length (now (b .entry)) - 1) (now (w .entry)) (now (x .entry))
-        (now (y .entry)) (now (x .exit)) (now (y .exit)) z ⌝ }
+    m: Modulus,
+    d: usize,
+    e: usize,
+) -> HalfAttempt
+    requires { ⌜ (Known m) × (OverAsked (m .n) d e (now x) (now y) (now w)) ⌝ }
+    ensures { λ z. ⌜ OverAttempted (m .n) d e (now (w .entry)) (now (x .entry)) (now (y .entry)) (now (x .exit)) (now (y .exit)) z ⌝ }
     ensures { λ _. ⌜ Scratch (now (w .entry)) (now (w .exit)) ⌝ }
 {
-    let m = modulus::modulus_of(n / c);
-    reduced_cofactors::core(x, y, w, m, a.len() - 1, b.len() - 1, t, i)
+    let b = e + 1;
+    match window_factor::highest_of(&w[b..b + (d + 1)], m.n) {
+        window_factor::Highest::UnitAt(t, i) => core_over(x, y, w, m, Factored { d, e, t, i }),
+        window_factor::Highest::Splits(p, q) => HalfAttempt::Divisors(p, q),
+        window_factor::Highest::AllNilpotent => HalfAttempt::Nilpotent,
+    }
+}
+
+// What the core comes to there; coefficient t of the words of degree d has the inverse i, and those above are nilpotent.
+fn core_over(x: &mut [u32], y: &mut [u32], w: &mut [u32], m: Modulus, s: Factored) -> HalfAttempt
+    requires { ⌜ (Known m) × (CoreAsked (m .n) (s .d) (s .e) (s .t) (s .i) (now w) (now x) (now y)) ⌝ }
+    ensures { λ z. ⌜ OverAttempted (m .n) (s .d) (s .e) (now (w .entry)) (now (x .entry)) (now (y .entry)) (now (x .exit))
+        (now (y .exit)) z ⌝ }
+    ensures { λ _. ⌜ Scratch (now (w .entry)) (now (w .exit)) ⌝ }
+{
+    match reduced_cofactors::core(x, y, w, m, s) {
+        Attempt::Value(c) => HalfAttempt::Found(c),
+        Attempt::Splits(p, q) => HalfAttempt::Divisors(p, q),
+    }
 }
 
 // n as a product of two coprime factors, from two coprime divisors: what n has in common with p, and the rest. The first two cases are
@@ -176,18 +209,26 @@ pub fn split(n: u32, p: u32, q: u32) -> Attempt
 }
 
 // The reduced resultant of f and g with its cofactors, or n as a product of two coprime factors.
-pub fn attempt(u: &mut [u32], v: &mut [u32], w: &mut [u32], n: u32, f: &[u32], g: &[u32]) -> Attempt
-    requires { ⌜ AttemptAsked n (now f) (now g) (now u) (now v) (now w) ⌝ }
-    ensures { λ r. ⌜ Attempted n (now (f .entry)) (now (g .entry)) (now (u .entry)) (now (v .entry)) (now (u .exit)) (now (v .exit)) r ⌝ }
+pub fn attempt(
+    u: &mut [u32],
+    v: &mut [u32],
+    w: &mut [u32],
+    m: Modulus,
+    f: &[u32],
+    g: &[u32],
+) -> Attempt
+    requires { ⌜ (Known m) × (AttemptAsked (m .n) (now f) (now g) (now u) (now v) (now w)) ⌝ }
+    ensures { λ r. ⌜ Attempted (m .n) (now (f .entry)) (now (g .entry)) (now (u .entry)) (now (v .entry))
+        (now (u .exit)) (now (v .exit)) r ⌝ }
     ensures { λ _. ⌜ Scratch (now (w .entry)) (now (w .exit)) ⌝ }
 {
-    let c = common_content(w, n, f, g);
-    if c == n {
+    let c = common_content(w, m.n, f, g);
+    if c == m.n {
         windows::wipe(u);
         windows::wipe(v);
-        return Attempt::Value(n);
+        return Attempt::Value(m.n);
     }
-    both_halves(u, v, w, n, c, f, g)
+    both_halves(u, v, w, m, c, f, g)
 }
 
 // The same, where the common content c is not all of n.
@@ -195,19 +236,20 @@ fn both_halves(
     u: &mut [u32],
     v: &mut [u32],
     w: &mut [u32],
-    n: u32,
+    m: Modulus,
     c: u32,
     f: &[u32],
     g: &[u32],
 ) -> Attempt
-    requires { ⌜ (HalfAsked n c (now f) (now g) (now u) (now v) (now w)) × (HalfAsked n c (now g) (now f) (now v) (now u) (now w)) ⌝ }
-    ensures { λ r. ⌜ Attempted n (now (f .entry)) (now (g .entry)) (now (u .entry)) (now (v .entry)) (now (u .exit)) (now (v .exit)) r ⌝ }
+    requires { ⌜ (Known m) × (HalvesAsked (m .n) c (now f) (now g) (now u) (now v) (now w)) ⌝ }
+    ensures { λ r. ⌜ Attempted (m .n) (now (f .entry)) (now (g .entry)) (now (u .entry)) (now (v .entry))
+        (now (u .exit)) (now (v .exit)) r ⌝ }
     ensures { λ _. ⌜ Scratch (now (w .entry)) (now (w .exit)) ⌝ }
 {
-    match half(u, v, w, n, c, f, g) {
+    match half(u, v, w, m, c, f, g) {
         HalfAttempt::Found(d) => Attempt::Value(d),
-        HalfAttempt::Divisors(p, q) => split(n, p, q),
-        HalfAttempt::Nilpotent => other_half(u, v, w, n, c, f, g),
+        HalfAttempt::Divisors(p, q) => split(m.n, p, q),
+        HalfAttempt::Nilpotent => other_half(u, v, w, m, c, f, g),
     }
 }
 
@@ -216,18 +258,19 @@ fn other_half(
     u: &mut [u32],
     v: &mut [u32],
     w: &mut [u32],
-    n: u32,
+    m: Modulus,
     c: u32,
     f: &[u32],
     g: &[u32],
 ) -> Attempt
-    requires { ⌜ OtherAsked n c (now f) (now g) (now u) (now v) (now w) ⌝ }
-    ensures { λ r. ⌜ Attempted n (now (f .entry)) (now (g .entry)) (now (u .entry)) (now (v .entry)) (now (u .exit)) (now (v .exit)) r ⌝ }
+    requires { ⌜ (Known m) × (OtherAsked (m .n) c (now f) (now g) (now u) (now v) (now w)) ⌝ }
+    ensures { λ r. ⌜ Attempted (m .n) (now (f .entry)) (now (g .entry)) (now (u .entry)) (now (v .entry))
+        (now (u .exit)) (now (v .exit)) r ⌝ }
     ensures { λ _. ⌜ Scratch (now (w .entry)) (now (w .exit)) ⌝ }
 {
-    match half(v, u, w, n, c, g, f) {
+    match half(v, u, w, m, c, g, f) {
         HalfAttempt::Found(d) => Attempt::Value(d),
-        HalfAttempt::Divisors(p, q) => split(n, p, q),
-        HalfAttempt::Nilpotent => Attempt::Value(n),
+        HalfAttempt::Divisors(p, q) => split(m.n, p, q),
+        HalfAttempt::Nilpotent => Attempt::Value(m.n),
     }
 }

@@ -4,13 +4,18 @@
 //   common_content    the content of both polynomials, which divides D
 //   split             two coprime divisors of n, made two coprime factors
 //   attempt           D, or a coefficient that splits n into two coprime factors
-ghost use Prim.Native.Nat.{_+_, _-_, _*_, _/_, _≤_};
+//
+//   m                 the record of the modulus, found once; `over_content` finds that of n / c
+ghost use Prim.Native.Nat.{_+_, _≤_};
 ghost use lib.ListN.{length};
 ghost use Rattle.windows.specs.Window.{Scratch};
+ghost use Rattle.reduction64.specs.Moduli.{Ready};
 ghost use Rattle.reduced_units.specs.States.{Splitter};
-ghost use Rattle.reduced_cofactors64.specs.Cofactors.{CoreAnswer};
-ghost use Rattle.reduced_attempt64.specs.ReducedAttempts.{CommonContent, Arranged, HalfAsked, OverAsked, CoreOver, OtherAsked};
-ghost use Rattle.reduced_attempt64.specs.ReducedAttempts.{HalfAttempted, Parted, AttemptAsked, Attempted};
+ghost use Rattle.reduced_cofactors64.specs.Cofactors.{CoreAsked};
+ghost use Rattle.reduced_attempt64.specs.ReducedAttempts.{CommonContent, Arranged, HalfAsked, HalvesAsked, OtherAsked, ScaledAsked};
+ghost use Rattle.reduced_attempt64.specs.ReducedAttempts.{HalfAttempted, OverAsked, OverAttempted, Parted, AttemptAsked, Attempted};
+use reduced_cofactors64::Factored;
+use reduction64::Reciprocal;
 use residue64::Attempt;
 
 // What the half of an attempt comes to that factors the first polynomial: D; two coprime divisors of n; or all coefficients of that
@@ -62,67 +67,90 @@ fn half(
     ensures { λ _. ⌜ Scratch (now (w .entry)) (now (w .exit)) ⌝ }
 {
     arrange(w, n, c, a, b);
-    let l = b.len();
-    let m = l + a.len();
-    match window_factor64::highest_of(&w[l..m], n / c) {
-        window_factor64::Highest::UnitAt(t, i) => over_content(x, y, w, n, c, a, b, t, i),
-        window_factor64::Highest::Splits(p, q) => HalfAttempt::Divisors(p, q),
-        window_factor64::Highest::AllNilpotent => HalfAttempt::Nilpotent,
+    scaled_half(x, y, w, n, c, a, b)
+}
+
+// The same, where the words of b and a over c stand in w.
+fn scaled_half(
+    x: &mut [u64],
+    y: &mut [u64],
+    w: &mut [u64],
+    n: u64,
+    c: u64,
+    a: &[u64],
+    b: &[u64],
+) -> HalfAttempt
+    requires { ⌜ ScaledAsked n c 1 (now a) (now b) (now x) (now y) (now w) ⌝ }
+    ensures { λ z. ⌜ HalfAttempted n c (now (a .entry)) (now (b .entry)) (now (x .entry)) (now (y .entry))
+        (now (x .exit)) (now (y .exit)) z ⌝ }
+    ensures { λ _. ⌜ Scratch (now (w .entry)) (now (w .exit)) ⌝ }
+{
+    match over_content(x, y, w, n / c, a.len() - 1, b.len() - 1) {
+        HalfAttempt::Found(d) => HalfAttempt::Found(c * d),
+        HalfAttempt::Divisors(p, q) => HalfAttempt::Divisors(p, q),
+        HalfAttempt::Nilpotent => HalfAttempt::Nilpotent,
     }
 }
 
-// The same, where the words of b and a over c stand in w; coefficient t of the latter has the inverse i modulo n / c, and those above are
-// nilpotent.
+// What the words in w come to modulo n, whose record is found here: those of degree e at 0, and those of degree d after them, which are
+// the ones that are factored.
 fn over_content(
     x: &mut [u64],
     y: &mut [u64],
     w: &mut [u64],
     n: u64,
-    c: u64,
-    a: &[u64],
-    b: &[u64],
-    t: usize,
-    i: u64,
+    d: usize,
+    e: usize,
 ) -> HalfAttempt
-    requires { ⌜ OverAsked n c 1 t i (now a) (now b) (now x) (now y) (now w) ⌝ }
-    ensures { λ r. ⌜ HalfAttempted n c (now (a .entry)) (now (b .entry)) (now (x .entry)) (now (y .entry))
-        (now (x .exit)) (now (y .exit)) r ⌝ }
+    requires { ⌜ OverAsked n d e (now x) (now y) (now w) ⌝ }
+    ensures { λ z. ⌜ OverAttempted n d e (now (w .entry)) (now (x .entry)) (now (y .entry)) (now (x .exit)) (now (y .exit)) z ⌝ }
     ensures { λ _. ⌜ Scratch (now (w .entry)) (now (w .exit)) ⌝ }
 {
-    match core_over(x, y, w, n, c, a, b, t, i) {
-        Attempt::Value(d) => HalfAttempt::Found(c * d),
+    let m = reduction64::modulus_of(n);
+    attempt_over(x, y, w, m, d, e)
+}
+
+// The same with the record.
+fn attempt_over(
+    x: &mut [u64],
+    y: &mut [u64],
+    w: &mut [u64],
+    m: Reciprocal,
+    d: usize,
+    e: usize,
+) -> HalfAttempt
+    requires { ⌜ (Ready m) × (OverAsked (m .n) d e (now x) (now y) (now w)) ⌝ }
+    ensures { λ z. ⌜ OverAttempted (m .n) d e (now (w .entry)) (now (x .entry)) (now (y .entry)) (now (x .exit)) (now (y .exit)) z ⌝ }
+    ensures { λ _. ⌜ Scratch (now (w .entry)) (now (w .exit)) ⌝ }
+{
+    let b = e + 1;
+    match window_factor64::highest_of(&w[b..b + (d + 1)], m) {
+        window_factor64::Highest::UnitAt(t, i) => core_over(x, y, w, m, Factored { d, e, t, i }),
+        window_factor64::Highest::Splits(p, q) => HalfAttempt::Divisors(p, q),
+        window_factor64::Highest::AllNilpotent => HalfAttempt::Nilpotent,
+    }
+}
+
+// What the core comes to there; coefficient t of the words of degree d has the inverse i, and those above are nilpotent.
+fn core_over(x: &mut [u64], y: &mut [u64], w: &mut [u64], m: Reciprocal, s: Factored) -> HalfAttempt
+    requires { ⌜ (Ready m) × (CoreAsked (m .n) (s .d) (s .e) (s .t) (s .i) (now w) (now x) (now y)) ⌝ }
+    ensures { λ z. ⌜ OverAttempted (m .n) (s .d) (s .e) (now (w .entry)) (now (x .entry)) (now (y .entry)) (now (x .exit))
+        (now (y .exit)) z ⌝ }
+    ensures { λ _. ⌜ Scratch (now (w .entry)) (now (w .exit)) ⌝ }
+{
+    match reduced_cofactors64::core(x, y, w, m, s) {
+        Attempt::Value(c) => HalfAttempt::Found(c),
         Attempt::Splits(p, q) => HalfAttempt::Divisors(p, q),
     }
 }
 
-// What the core comes to there, modulo n / c, whose record is found here.
-fn core_over(
-    x: &mut [u64],
-    y: &mut [u64],
-    w: &mut [u64],
-    n: u64,
-    c: u64,
-    a: &[u64],
-    b: &[u64],
-    t: usize,
-    i: u64,
-) -> Attempt
-    requires { ⌜ CoreOver n c t i (now a) (now b) (now x) (now y) (now w) ⌝ }
-    ensures { λ z. ⌜ CoreAnswer (n / c) (length (now (a .entry)) - 1) (length (now (b .entry)) - 1) (now (w .entry)) (now (x .entry))
-        (now (y .entry)) (now (x .exit)) (now (y .exit)) z ⌝ }
-    ensures { λ _. ⌜ Scratch (now (w .entry)) (now (w .exit)) ⌝ }
-{
-    let m = reduction64::modulus_of(n / c);
-    reduced_cofactors64::core(x, y, w, m, a.len() - 1, b.len() - 1, t, i)
-}
-
 // n as a product of two coprime factors, from two coprime divisors: what n has in common with p, and the rest. The first two cases are
 // never met: p is above 1 and divides n, so it is no unit; q is above 1, divides n and is coprime to p, so p is not nilpotent.
-pub fn split(n: u64, p: u64, q: u64) -> Attempt
-    requires { ⌜ (2 ≤ n) × (Splitter n p q) ⌝ }
-    ensures { λ r. ⌜ Parted n r ⌝ }
+pub fn split(m: Reciprocal, p: u64, q: u64) -> Attempt
+    requires { ⌜ (2 ≤ m .n) × ((Ready m) × (Splitter (m .n) p q)) ⌝ }
+    ensures { λ r. ⌜ Parted (m .n) r ⌝ }
 {
-    match residue64::kind_of(n, p) {
+    match residue64::kind_of(m, p) {
         residue64::Kind::Unit(i) => Attempt::Value(i),
         residue64::Kind::Nilpotent => Attempt::Value(q),
         residue64::Kind::Splits(a, b) => Attempt::Splits(a, b),
@@ -130,18 +158,26 @@ pub fn split(n: u64, p: u64, q: u64) -> Attempt
 }
 
 // The reduced resultant of f and g with its cofactors, or n as a product of two coprime factors.
-pub fn attempt(u: &mut [u64], v: &mut [u64], w: &mut [u64], n: u64, f: &[u64], g: &[u64]) -> Attempt
-    requires { ⌜ AttemptAsked n (now f) (now g) (now u) (now v) (now w) ⌝ }
-    ensures { λ r. ⌜ Attempted n (now (f .entry)) (now (g .entry)) (now (u .entry)) (now (v .entry)) (now (u .exit)) (now (v .exit)) r ⌝ }
+pub fn attempt(
+    u: &mut [u64],
+    v: &mut [u64],
+    w: &mut [u64],
+    m: Reciprocal,
+    f: &[u64],
+    g: &[u64],
+) -> Attempt
+    requires { ⌜ (Ready m) × (AttemptAsked (m .n) (now f) (now g) (now u) (now v) (now w)) ⌝ }
+    ensures { λ r. ⌜ Attempted (m .n) (now (f .entry)) (now (g .entry)) (now (u .entry)) (now (v .entry))
+        (now (u .exit)) (now (v .exit)) r ⌝ }
     ensures { λ _. ⌜ Scratch (now (w .entry)) (now (w .exit)) ⌝ }
 {
-    let c = common_content(w, n, f, g);
-    if c == n {
+    let c = common_content(w, m.n, f, g);
+    if c == m.n {
         windows64::wipe(u);
         windows64::wipe(v);
-        return Attempt::Value(n);
+        return Attempt::Value(m.n);
     }
-    both_halves(u, v, w, n, c, f, g)
+    both_halves(u, v, w, m, c, f, g)
 }
 
 // The same, where the common content c is not all of n.
@@ -149,19 +185,20 @@ fn both_halves(
     u: &mut [u64],
     v: &mut [u64],
     w: &mut [u64],
-    n: u64,
+    m: Reciprocal,
     c: u64,
     f: &[u64],
     g: &[u64],
 ) -> Attempt
-    requires { ⌜ (HalfAsked n c (now f) (now g) (now u) (now v) (now w)) × (HalfAsked n c (now g) (now f) (now v) (now u) (now w)) ⌝ }
-    ensures { λ r. ⌜ Attempted n (now (f .entry)) (now (g .entry)) (now (u .entry)) (now (v .entry)) (now (u .exit)) (now (v .exit)) r ⌝ }
+    requires { ⌜ (Ready m) × (HalvesAsked (m .n) c (now f) (now g) (now u) (now v) (now w)) ⌝ }
+    ensures { λ r. ⌜ Attempted (m .n) (now (f .entry)) (now (g .entry)) (now (u .entry)) (now (v .entry))
+        (now (u .exit)) (now (v .exit)) r ⌝ }
     ensures { λ _. ⌜ Scratch (now (w .entry)) (now (w .exit)) ⌝ }
 {
-    match half(u, v, w, n, c, f, g) {
+    match half(u, v, w, m.n, c, f, g) {
         HalfAttempt::Found(d) => Attempt::Value(d),
-        HalfAttempt::Divisors(p, q) => split(n, p, q),
-        HalfAttempt::Nilpotent => other_half(u, v, w, n, c, f, g),
+        HalfAttempt::Divisors(p, q) => split(m, p, q),
+        HalfAttempt::Nilpotent => other_half(u, v, w, m, c, f, g),
     }
 }
 
@@ -170,18 +207,19 @@ fn other_half(
     u: &mut [u64],
     v: &mut [u64],
     w: &mut [u64],
-    n: u64,
+    m: Reciprocal,
     c: u64,
     f: &[u64],
     g: &[u64],
 ) -> Attempt
-    requires { ⌜ OtherAsked n c (now f) (now g) (now u) (now v) (now w) ⌝ }
-    ensures { λ r. ⌜ Attempted n (now (f .entry)) (now (g .entry)) (now (u .entry)) (now (v .entry)) (now (u .exit)) (now (v .exit)) r ⌝ }
+    requires { ⌜ (Ready m) × (OtherAsked (m .n) c (now f) (now g) (now u) (now v) (now w)) ⌝ }
+    ensures { λ r. ⌜ Attempted (m .n) (now (f .entry)) (now (g .entry)) (now (u .entry)) (now (v .entry))
+        (now (u .exit)) (now (v .exit)) r ⌝ }
     ensures { λ _. ⌜ Scratch (now (w .entry)) (now (w .exit)) ⌝ }
 {
-    match half(v, u, w, n, c, g, f) {
+    match half(v, u, w, m.n, c, g, f) {
         HalfAttempt::Found(d) => Attempt::Value(d),
-        HalfAttempt::Divisors(p, q) => split(n, p, q),
-        HalfAttempt::Nilpotent => Attempt::Value(n),
+        HalfAttempt::Divisors(p, q) => split(m, p, q),
+        HalfAttempt::Nilpotent => Attempt::Value(m.n),
     }
 }

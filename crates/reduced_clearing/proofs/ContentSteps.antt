@@ -3,7 +3,7 @@
 --
 --   part                         the a words from p on, as the code lends them
 --   none-solved, none-kept       B is 0 modulo ν
---   content-positive, content-asked, content-stage, content-change, content-kept, content-primitive    it is not
+--   content-positive, content-quotient, content-asked, content-stage, content-change, content-kept, content-primitive    it is not
 use mathlib.Core.Path.{_≡_, refl, sym, ap, ap₂, subst, _∙_, fun-ext}
 use mathlib.Core.List.{List, []}
 use mathlib.Core.Logic.{⊎-elim}
@@ -100,7 +100,7 @@ module _ (n ν t pa a pb al be l c : ℕ) (w : List ℕ) (st : Stage n ν t pa a
 
   -- ---- the words
 
-  module _ (ne : c ≡ ν → ⊥) (w' : List ℕ) (tk : ContentTaken n ν c t pa a pb al w w') where
+  module _ (ne : c ≡ ν → ⊥) (w' : List ℕ) (tk : ContentTaken n (ν / c) c t pa a pb al w w') where
     two : 2 ≤ ν / c
     two = content-above ne
 
@@ -267,12 +267,16 @@ module _ (n ν t pa a pb al be l c : ℕ) (w : List ℕ) (st : Stage n ν t pa a
         big : (c p : ℕ) → 0 < c → 1 < p → c * p ≤ c → ⊥
         big c p h q l = let z : c * 2 ≤ c * p = mul-le-mul-left c q in omega arith
 
-pub content-asked : (n ν : ℕ) (p : Places) (a l c : ℕ) (w : List ℕ) → StageAt n ν p a a l w → Content ν (part w (p .pb) a) c → (c ≡ ν → ⊥)
-    → ContentAsked n ν c p a w
-content-asked n ν p a l c w st ct ne = record {
+pub content-quotient : (n ν t pa a pb al be l c : ℕ) (w : List ℕ) → Stage n ν t pa a pb a al be l w → Content ν (part w pb a) c
+    → (c ≡ ν → ⊥) → 1 ≤ ν / c
+content-quotient n ν t pa a pb al be l c w st ct ne = omega (arith, content-above _ _ _ _ _ _ _ _ _ _ _ st ct ne)
+
+pub content-asked : (n ν ρ : ℕ) (p : Places) (a l c : ℕ) (w : List ℕ) → StageAt n ν p a a l w → Content ν (part w (p .pb) a) c → (c ≡ ν → ⊥)
+    → ρ ≡ ν / c → ContentAsked n ρ c p a w
+content-asked n ν ρ p a l c w st ct ne e = record {
   positive = st .positive;
   content = content-positive _ _ _ _ _ _ _ _ _ _ _ st ct;
-  quotient = omega (arith, content-above _ _ _ _ _ _ _ _ _ _ _ st ct ne);
+  quotient = subst (λ (y : ℕ). 1 ≤ y) (sym e) (content-quotient _ _ _ _ _ _ _ _ _ _ _ st ct ne);
   multiplier = omega (arith, st .room, st .places .al-high);
   second = omega (arith, st .room, st .within, st .places .b-high);
   first = omega (arith, st .room, st .within, st .places .a-high);

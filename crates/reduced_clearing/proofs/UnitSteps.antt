@@ -4,8 +4,7 @@
 --   unit-…, monic-…, taken-…    the unit factor alone
 --   both-…, last-…              the content and then the unit factor
 --   cleared-…                   the same, as the clearing promises it
---   over-…                      the same modulo ν / c, where that has a record of its own
---   monics, units, moduli, contents    the rules of `take_monic`, `clear_unit`, `modulus_over` with `clear_over`, and `clear_contents`
+--   monics, units, moduli, contents    the rules of `take_monic`, `clear_unit`, `modulus_over` and `clear_contents`
 use mathlib.Core.Path.{_≡_, refl, sym, ap, ap₂, subst, _∙_, fun-ext}
 use mathlib.Core.List.{List, []}
 use mathlib.Core.Logic.{⊎-elim}
@@ -33,8 +32,9 @@ use Rattle.reduced_clearing.specs.declared.Clearing.{Clearing}
 use Rattle.reduced_clearing.specs.declared.Clearing.the-variants.{Done, Parts, Next}
 use Rattle.reduced_clearing.specs.Clearings.{ContentTaken, UnitAsked, MonicAsked, UnitLast, UnitNext, UnitClears, Clears}
 use Rattle.reduced_units.proofs.Regions.{multiplier-more, kept-around, kept-trans, kept-piece, multiplier-short}
-use Rattle.reduced_clearing.proofs.ContentSteps.{part, part-is, none-solved, none-kept, content-positive, content-asked}
-use Rattle.reduced_clearing.proofs.ContentSteps.{content-whole, content-stage, content-change, content-kept, content-primitive}
+use Rattle.reduced_clearing.proofs.ContentSteps.{part, part-is, none-solved, none-kept, content-positive}
+use Rattle.reduced_clearing.proofs.ContentSteps.{content-quotient, content-asked, content-whole, content-stage}
+use Rattle.reduced_clearing.proofs.ContentSteps.{content-change, content-kept, content-primitive}
 
 -- the place of a coefficient of B
 shorter-than : (ν s i p a : ℕ) (w : List ℕ) → p + a ≤ length w → LeadingUnit ν s i (piece w p a) → s < a
@@ -113,7 +113,7 @@ module _ (n ν t pa a pb al be l s r : ℕ) (w w' : List ℕ) (st : Stage n ν t
 
 module _ (n ν t pa a pb al be l c s r : ℕ) (w w₁ w₂ : List ℕ) (st : Stage n ν t pa a pb a al be l w) (ct : Content ν (part w pb a) c)
     (ne : c ≡ ν → ⊥)
-    (tk : ContentTaken n ν c t pa a pb al w w₁) (shorter : s < a) (ut : UnitTaken n (ν / c) t pb a be s l r w₁ w₂) where
+    (tk : ContentTaken n (ν / c) c t pa a pb al w w₁) (shorter : s < a) (ut : UnitTaken n (ν / c) t pb a be s l r w₁ w₂) where
   stage₁ : Stage n (ν / c) t pa a pb a al be l w₁
   stage₁ = content-stage n ν t pa a pb al be l c w st ct ne w₁ tk
 
@@ -240,39 +240,37 @@ kept-same x w = record { same = refl; low = λ k h. refl }
 pub over-one : {n c : ℕ} → c ≡ 1 → n ≡ n / c
 over-one {n} e = rw e (sym (div-one n))
 
--- nor does anything else where the record is that of ν
-module _ (n ν ν' a l : ℕ) (P : Places) (w : List ℕ) where
-  pub over-asked : UnitAsked n ν P a l w → ν' ≡ ν → UnitAsked n ν' P a l w
-  over-asked x e = rw e x
+-- ρ is the modulus of the record
+module _ (n ν ρ a l c : ℕ) (P : Places) (w w₁ : List ℕ) (st : StageAt n ν P a a l w) (ct : Content ν (part w (P .pb) a) c)
+    (ne : c ≡ ν → ⊥)
+    (tk : ContentTaken n ρ c (P .t) (P .pa) a (P .pb) (P .al) w w₁) (e : ρ ≡ ν / c) where
+  taken : ContentTaken n (ν / c) c (P .t) (P .pa) a (P .pb) (P .al) w w₁
+  taken = subst (λ (y : ℕ). ContentTaken n y c (P .t) (P .pa) a (P .pb) (P .al) w w₁) e tk
 
-  pub over-clears : (c : ℕ) (w' : List ℕ) (r : Clearing) → UnitClears n ν' c P a l w w' r → ν' ≡ ν → UnitClears n ν c P a l w w' r
-  over-clears c w' r x e = subst (λ (y : ℕ). UnitClears n y c P a l w w' r) e x
+  pub cleared-asked : UnitAsked n ρ P a l w₁
+  cleared-asked = subst (λ (y : ℕ). UnitAsked n y P a l w₁) (sym e) (record {
+    stage = content-stage _ _ _ _ _ _ _ _ _ _ _ st ct ne _ taken;
+    some = λ h. content-primitive _ _ _ _ _ _ _ _ _ _ _ st ct ne _ taken (h .at);
+  })
 
-module _ (n ν a l c : ℕ) (P : Places) (w w₁ : List ℕ) (st : StageAt n ν P a a l w) (ct : Content ν (part w (P .pb) a) c) (ne : c ≡ ν → ⊥)
-    (tk : ContentTaken n ν c (P .t) (P .pa) a (P .pb) (P .al) w w₁) where
-  pub cleared-asked : UnitAsked n (ν / c) P a l w₁
-  cleared-asked = record {
-    stage = content-stage _ _ _ _ _ _ _ _ _ _ _ st ct ne _ tk;
-    some = λ h. content-primitive _ _ _ _ _ _ _ _ _ _ _ st ct ne _ tk (h .at);
-  }
+  pub cleared-kept : (w₂ : List ℕ) → Kept (P .t + 1) w₁ w₂ → Kept (P .t + 1) w w₂
+  cleared-kept w₂ k = kept-trans (content-kept _ _ _ _ _ _ _ _ _ _ _ st ct ne _ taken) k
 
-  module _ (w₂ : List ℕ) where
-    pub cleared : (r : Clearing) → UnitClears n (ν / c) c P a l w₁ w₂ r → Clears n ν P a w w₂ r
-    cleared (Done D) x = subst (λ (y : ℕ). Solved n ν (P .t) (P .pa) a (P .pb) a (P .al) (P .be) y w w₂) (sym (x .answer))
-        (last-solved _ _ _ _ _ _ _ _ _ _ _ _ _ _ _ st ct ne tk (x .shorter) (x .taken) (x .none) _ (x .copied))
-    cleared (Parts p q) x = split-splitter ν (ν / c) p q
-        (subst (λ (y : ℕ). ν / c ∣ y) (sym (content-whole _ _ _ _ _ _ _ _ _ _ _ st ct)) (dvd-mul-left (ν / c) c)) x
-    cleared (Next D s m) x = subst (λ (y : ℕ). UnitCleared n ν (P .t) (P .pa) a (P .pb) (P .al) (P .be) y s m w w₂) (sym (x .answer))
-        (both-cleared _ _ _ _ _ _ _ _ _ _ _ _ _ _ _ st ct ne tk (x .shorter) (x .taken) (x .degree))
-
-pub cleared-kept : (n ν t pa a pb al be l c : ℕ) (w w₁ w₂ : List ℕ) → Stage n ν t pa a pb a al be l w → Content ν (part w pb a) c
-    → (c ≡ ν → ⊥) → ContentTaken n ν c t pa a pb al w w₁ → Kept (t + 1) w₁ w₂ → Kept (t + 1) w w₂
-cleared-kept n ν t pa a pb al be l c w w₁ w₂ st ct ne tk k = kept-trans (content-kept _ _ _ _ _ _ _ _ _ _ _ st ct ne _ tk) k
+  pub cleared : (w₂ : List ℕ) (r : Clearing) → UnitClears n ρ c P a l w₁ w₂ r → Clears n ν P a w w₂ r
+  cleared w₂ r x = answer r (subst (λ (y : ℕ). UnitClears n y c P a l w₁ w₂ r) e x)
+    where
+      answer : (r : Clearing) → UnitClears n (ν / c) c P a l w₁ w₂ r → Clears n ν P a w w₂ r
+      answer (Done D) x = subst (λ (y : ℕ). Solved n ν (P .t) (P .pa) a (P .pb) a (P .al) (P .be) y w w₂) (sym (x .answer))
+          (last-solved _ _ _ _ _ _ _ _ _ _ _ _ _ _ _ st ct ne taken (x .shorter) (x .taken) (x .none) _ (x .copied))
+      answer (Parts p q) x = split-splitter ν (ν / c) p q
+          (subst (λ (y : ℕ). ν / c ∣ y) (sym (content-whole _ _ _ _ _ _ _ _ _ _ _ st ct)) (dvd-mul-left (ν / c) c)) x
+      answer (Next D s m) x = subst (λ (y : ℕ). UnitCleared n ν (P .t) (P .pa) a (P .pb) (P .al) (P .be) y s m w w₂) (sym (x .answer))
+          (both-cleared _ _ _ _ _ _ _ _ _ _ _ _ _ _ _ st ct ne taken (x .shorter) (x .taken) (x .degree))
 
 pub ruleset monics = (tt, taken-kept, taken-next, taken-last, taken-last-kept)
 
 pub ruleset units = (tt, monic-asked, never-nilpotent, kept-same)
 
-pub ruleset moduli = (needs, over-one, over-asked, over-clears)
+pub ruleset moduli = (needs, over-one)
 
-pub ruleset contents = (tt, none-solved, none-kept, content-positive, content-asked, cleared-asked, cleared, cleared-kept)
+pub ruleset contents = (tt, none-solved, none-kept, content-positive, content-quotient, content-asked, cleared-asked, cleared, cleared-kept)

@@ -1,6 +1,6 @@
 -- What the clearing of contents and unit factors asks and promises of a stage's window (reduced_units/specs/States has the layout).
 --
---   ContentAsked, ContentTaken           B over c, the multiplier of A times c, A modulo ν / c
+--   ContentAsked, ContentTaken           B over c, the multiplier of A times c, A modulo ρ, which is ν / c
 --   UnitAsked, MonicAsked, UnitClears    a monic polynomial in the place of B, whose coefficients are not all nilpotent
 --   Clears                               what the clearing comes to
 use mathlib.Core.Path.{_≡_}
@@ -15,22 +15,22 @@ use Rattle.reduced_units.specs.Factorings.{UnitTaken}
 use Rattle.reduced_clearing.specs.declared.Clearing.{Clearing}
 use Rattle.reduced_clearing.specs.declared.Clearing.the-variants.{Done, Parts, Next}
 
--- a content c of ν, and the polynomials and the multiplier of A inside the window
-pub record ContentAsked (n ν c : ℕ) (p : Places) (a : ℕ) (w : List ℕ) : Type 0 where
+-- a content c of a modulus that is c ρ, and the polynomials and the multiplier of A inside the window
+pub record ContentAsked (n ρ c : ℕ) (p : Places) (a : ℕ) (w : List ℕ) : Type 0 where
   pub positive : 1 ≤ n
   pub content : 1 ≤ c
-  pub quotient : 1 ≤ ν / c
+  pub quotient : 1 ≤ ρ
   pub multiplier : p .al + 2 * (p .t + 1) ≤ length w
   pub second : p .pb + a ≤ length w
   pub first : p .pa + (a + 1) ≤ length w
 
 -- the window after each of the three changes
-pub record ContentTaken (n ν c t pa a pb al : ℕ) (w w' : List ℕ) : Type 0 where
+pub record ContentTaken (n ρ c t pa a pb al : ℕ) (w w' : List ℕ) : Type 0 where
   pub w₁ : List ℕ
   pub w₂ : List ℕ
   pub scaled : Moved (mulBy n c) al al (2 * (t + 1)) w w₁
   pub divided : Moved (quotient-by c) pb pb a w₁ w₂
-  pub reduced : Moved (reduced-by (ν / c)) pa pa (a + 1) w₂ w'
+  pub reduced : Moved (reduced-by ρ) pa pa (a + 1) w₂ w'
 
 -- a stage, and B with a coefficient that is not nilpotent
 pub record UnitAsked (n ν : ℕ) (p : Places) (a l : ℕ) (w : List ℕ) : Type 0 where

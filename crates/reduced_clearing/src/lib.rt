@@ -3,11 +3,13 @@
 //   take_content      the content of B is taken out of it and of the modulus
 //   take_monic        a monic polynomial in the place of B
 //   clear_unit        the same, where not all is nilpotent
-//   modulus_over      the modulus over a content; clear_over is clear_unit modulo that
+//   modulus_over      the modulus over a content
 //   clear_contents    the content, then the unit factor
 //
 //   m, v    the records of the modulus of the multipliers, and of that of the polynomials A, of degree a, and B, of a words
-//   p       the places of A, of B and of their multipliers, of l words each
+//   r       the record of v over a content c
+//   p       the places of A, of B and of their multipliers, of l words each; z holds a and l
+//   u       a unit among the coefficients of B
 ghost use mathlib.Core.Path.{_≡_};
 ghost use Prim.Native.Nat.{_+_, _/_, _≤_};
 ghost use Rattle.modulus.specs.Values.{Known};
@@ -16,6 +18,8 @@ ghost use Rattle.reduced_units.specs.States.{StageAt};
 ghost use Rattle.reduced_clearing.specs.Clearings.{ContentAsked, ContentTaken, MonicAsked, UnitAsked, UnitClears, Clears};
 use modulus::Modulus;
 use reduced_units::Places;
+use reduced_units::Sizes;
+use reduced_units::UnitAt;
 
 // What the clearing of contents and unit factors comes to: the reduced resultant; two coprime divisors of the modulus; or the content,
 // the degree of the second polynomial, monic now, and the words of the multipliers, for the division stage.
@@ -25,34 +29,33 @@ pub enum Clearing {
     Next(u32, usize, usize),
 }
 
-// B over its content c, the multiplier of A times c, and A modulo v / c.
-fn take_content(w: &mut [u32], m: Modulus, v: u32, c: u32, p: Places, a: usize)
-    requires { ⌜ (Known m) × (ContentAsked (m .n) v c p a (now w)) ⌝ }
-    ensures { λ _. ⌜ ContentTaken (m .n) v c (p .t) (p .pa) a (p .pb) (p .al) (now (w .entry)) (now (w .exit)) ⌝ }
+// B over its content c, the multiplier of A times c, and A modulo r, the modulus over c.
+fn take_content(w: &mut [u32], m: Modulus, r: Modulus, c: u32, p: Places, a: usize)
+    requires { ⌜ (Known m) × ((Known r) × (ContentAsked (m .n) (r .n) c p a (now w))) ⌝ }
+    ensures { λ _. ⌜ ContentTaken (m .n) (r .n) c (p .t) (p .pa) a (p .pb) (p .al) (now (w .entry)) (now (w .exit)) ⌝ }
 {
     modulus_windows::set_scaled(w, m, c, p.al, p.al, 2 * (p.t + 1));
     windows::divide_words(w, c, p.pb, a);
-    windows::reduce_words(w, v / c, p.pa, a + 1);
+    modulus_windows::reduce_words(w, r, p.pa, a + 1);
 }
 
-// The unit factor of B is taken out of it: its coefficient at s has the inverse i, and those above it are nilpotent. c is the content
-// that was taken out before.
+// The unit factor of B is taken out of it: u is a unit, and the coefficients above it are nilpotent. c is the content that was taken
+// out before.
 fn take_monic(
     w: &mut [u32],
     m: Modulus,
     v: Modulus,
     c: u32,
     p: Places,
-    a: usize,
-    l: usize,
-    s: usize,
-    i: u32,
+    z: Sizes,
+    u: UnitAt,
 ) -> Clearing
-    requires { ⌜ (Known m) × ((Known v) × (MonicAsked (m .n) (v .n) p a l s i (now w))) ⌝ }
-    ensures { λ r. ⌜ UnitClears (m .n) (v .n) c p a l (now (w .entry)) (now (w .exit)) r ⌝ }
+    requires { ⌜ (Known m) × ((Known v) × (MonicAsked (m .n) (v .n) p (z .a) (z .l) (u .s) (u .i) (now w))) ⌝ }
+    ensures { λ r. ⌜ UnitClears (m .n) (v .n) c p (z .a) (z .l) (now (w .entry)) (now (w .exit)) r ⌝ }
     ensures { λ _. ⌜ Kept (p .t + 1) (now (w .entry)) (now (w .exit)) ⌝ }
 {
-    let k = reduced_units::take_unit(w, m, v, p, a, l, s, i);
+    let s = u.s;
+    let k = reduced_units::take_unit(w, m, v, p, z, u);
     if s == 0 {
         windows::copy(w, p.be, p.t + 1, p.t);
         return Clearing::Done(c);
@@ -76,7 +79,9 @@ fn clear_unit(
 {
     let pb = p.pb;
     match window_factor::highest_of(&w[pb..pb + a], v.n) {
-        window_factor::Highest::UnitAt(s, i) => take_monic(w, m, v, c, p, a, l, s, i),
+        window_factor::Highest::UnitAt(s, i) => {
+            take_monic(w, m, v, c, p, Sizes { a, l }, UnitAt { s, i })
+        }
         window_factor::Highest::Splits(f, g) => Clearing::Parts(f, g),
         window_factor::Highest::AllNilpotent => Clearing::Done(v.n),
     }
@@ -91,25 +96,6 @@ pub fn modulus_over(v: Modulus, c: u32) -> Modulus
         return v;
     }
     modulus::modulus_of(v.n / c)
-}
-
-// The unit factor of B where its content c was taken out, and the modulus is v / c.
-fn clear_over(
-    w: &mut [u32],
-    m: Modulus,
-    v: Modulus,
-    c: u32,
-    p: Places,
-    a: usize,
-    l: usize,
-) -> Clearing
-    requires { ⌜ (Known m) × ((Known v) × (1 ≤ c)) ⌝ }
-    requires { ⌜ UnitAsked (m .n) (v .n / c) p a l (now w) ⌝ }
-    ensures { λ r. ⌜ UnitClears (m .n) (v .n / c) c p a l (now (w .entry)) (now (w .exit)) r ⌝ }
-    ensures { λ _. ⌜ Kept (p .t + 1) (now (w .entry)) (now (w .exit)) ⌝ }
-{
-    let r = modulus_over(v, c);
-    clear_unit(w, m, r, c, p, a, l)
 }
 
 // The content of B is taken out of it and of the modulus, then the unit factor of B.
@@ -131,6 +117,7 @@ pub fn clear_contents(
         windows::clear(w, p.t + 1, p.t);
         return Clearing::Done(v.n);
     }
-    take_content(w, m, v.n, c, p, a);
-    clear_over(w, m, v, c, p, a, l)
+    let r = modulus_over(v, c);
+    take_content(w, m, r, c, p, a);
+    clear_unit(w, m, r, c, p, a, l)
 }

@@ -11,6 +11,8 @@ ghost use Rattle.windows.specs.Window.{Kept};
 ghost use Rattle.reduced_units.specs.States.{StageAt};
 ghost use Rattle.reduced_clearing64.specs.Clearings.{ContentAsked, ContentTaken, MonicAsked, UnitAsked, UnitClears, Clears};
 use reduced_units::Places;
+use reduced_units::Sizes;
+use reduced_units64::UnitAt;
 use reduction64::Reciprocal;
 
 // What the clearing of contents and unit factors comes to: the reduced resultant; two coprime divisors of the modulus; or the content,
@@ -21,34 +23,33 @@ pub enum Clearing {
     Next(u64, usize, usize),
 }
 
-// B over its content c, the multiplier of A times c, and A modulo v / c.
-fn take_content(w: &mut [u64], m: Reciprocal, v: u64, c: u64, p: Places, a: usize)
-    requires { ⌜ (Ready m) × (ContentAsked (m .n) v c p a (now w)) ⌝ }
-    ensures { λ _. ⌜ ContentTaken (m .n) v c (p .t) (p .pa) a (p .pb) (p .al) (now (w .entry)) (now (w .exit)) ⌝ }
+// B over its content c, the multiplier of A times c, and A modulo r, the modulus over c.
+fn take_content(w: &mut [u64], m: Reciprocal, r: Reciprocal, c: u64, p: Places, a: usize)
+    requires { ⌜ (Ready m) × ((Ready r) × (ContentAsked (m .n) (r .n) c p a (now w))) ⌝ }
+    ensures { λ _. ⌜ ContentTaken (m .n) (r .n) c (p .t) (p .pa) a (p .pb) (p .al) (now (w .entry)) (now (w .exit)) ⌝ }
 {
     modulus_windows64::set_scaled(w, m, c, p.al, p.al, 2 * (p.t + 1));
     windows64::divide_words(w, c, p.pb, a);
-    windows64::reduce_words(w, v / c, p.pa, a + 1);
+    windows64::reduce_words(w, r.n, r, p.pa, a + 1);
 }
 
-// The unit factor of B is taken out of it: its coefficient at s has the inverse i, and those above it are nilpotent. c is the content
-// that was taken out before.
+// The unit factor of B is taken out of it: u is a unit, and the coefficients above it are nilpotent. c is the content that was taken
+// out before.
 fn take_monic(
     w: &mut [u64],
     m: Reciprocal,
     v: Reciprocal,
     c: u64,
     p: Places,
-    a: usize,
-    l: usize,
-    s: usize,
-    i: u64,
+    z: Sizes,
+    u: UnitAt,
 ) -> Clearing
-    requires { ⌜ (Ready m) × ((Ready v) × (MonicAsked (m .n) (v .n) p a l s i (now w))) ⌝ }
-    ensures { λ r. ⌜ UnitClears (m .n) (v .n) c p a l (now (w .entry)) (now (w .exit)) r ⌝ }
+    requires { ⌜ (Ready m) × ((Ready v) × (MonicAsked (m .n) (v .n) p (z .a) (z .l) (u .s) (u .i) (now w))) ⌝ }
+    ensures { λ r. ⌜ UnitClears (m .n) (v .n) c p (z .a) (z .l) (now (w .entry)) (now (w .exit)) r ⌝ }
     ensures { λ _. ⌜ Kept (p .t + 1) (now (w .entry)) (now (w .exit)) ⌝ }
 {
-    let k = reduced_units64::take_unit(w, m, v, p, a, l, s, i);
+    let s = u.s;
+    let k = reduced_units64::take_unit(w, m, v, p, z, u);
     if s == 0 {
         windows64::copy(w, p.be, p.t + 1, p.t);
         return Clearing::Done(c);
@@ -71,8 +72,10 @@ fn clear_unit(
     ensures { λ _. ⌜ Kept (p .t + 1) (now (w .entry)) (now (w .exit)) ⌝ }
 {
     let pb = p.pb;
-    match window_factor64::highest_of(&w[pb..pb + a], v.n) {
-        window_factor64::Highest::UnitAt(s, i) => take_monic(w, m, v, c, p, a, l, s, i),
+    match window_factor64::highest_of(&w[pb..pb + a], v) {
+        window_factor64::Highest::UnitAt(s, i) => {
+            take_monic(w, m, v, c, p, Sizes { a, l }, UnitAt { s, i })
+        }
         window_factor64::Highest::Splits(f, g) => Clearing::Parts(f, g),
         window_factor64::Highest::AllNilpotent => Clearing::Done(v.n),
     }
@@ -87,25 +90,6 @@ pub fn modulus_over(v: Reciprocal, c: u64) -> Reciprocal
         return v;
     }
     reduction64::modulus_of(v.n / c)
-}
-
-// The unit factor of B where its content c was taken out, and the modulus is v / c.
-fn clear_over(
-    w: &mut [u64],
-    m: Reciprocal,
-    v: Reciprocal,
-    c: u64,
-    p: Places,
-    a: usize,
-    l: usize,
-) -> Clearing
-    requires { ⌜ (Ready m) × ((Ready v) × (1 ≤ c)) ⌝ }
-    requires { ⌜ UnitAsked (m .n) (v .n / c) p a l (now w) ⌝ }
-    ensures { λ r. ⌜ UnitClears (m .n) (v .n / c) c p a l (now (w .entry)) (now (w .exit)) r ⌝ }
-    ensures { λ _. ⌜ Kept (p .t + 1) (now (w .entry)) (now (w .exit)) ⌝ }
-{
-    let r = modulus_over(v, c);
-    clear_unit(w, m, r, c, p, a, l)
 }
 
 // The content of B is taken out of it and of the modulus, then the unit factor of B.
@@ -127,6 +111,7 @@ pub fn clear_contents(
         windows64::clear(w, p.t + 1, p.t);
         return Clearing::Done(v.n);
     }
-    take_content(w, m, v.n, c, p, a);
-    clear_over(w, m, v, c, p, a, l)
+    let r = modulus_over(v, c);
+    take_content(w, m, r, c, p, a);
+    clear_unit(w, m, r, c, p, a, l)
 }

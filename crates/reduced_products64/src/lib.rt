@@ -7,6 +7,7 @@
 //   m        the modulus n with its reciprocal
 ghost use Rattle.reduction64.specs.Moduli.{Ready};
 ghost use Rattle.reduced_products.specs.Products.{ProductAsked, Factors, Subtracted, FactorsModulo, TakenFrom};
+use reduced_products::Span;
 use reduction64::Reciprocal;
 
 // The lp + lq - 1 words at dst lose the product of the lp words at p and the lq words at q. Two words of the first share one
@@ -43,27 +44,18 @@ pub fn sub_product(
 
 // As `sub_product`, modulo the monic polynomial of degree t at 0 where t words do not hold what is left. Answers the number of
 // words left.
-pub fn take_product(
-    w: &mut [u64],
-    m: Reciprocal,
-    t: usize,
-    p: usize,
-    lp: usize,
-    q: usize,
-    lq: usize,
-    dst: usize,
-) -> usize
-    requires { ⌜ (Ready m) × (ProductAsked (m .n) p lp q lq dst (now w)) ⌝ }
-    requires { ⌜ FactorsModulo (m .n) t p lp q lq dst (now w) ⌝ }
-    ensures { λ r. ⌜ TakenFrom (m .n) t p lp q lq dst r (now (w .entry)) (now (w .exit)) ⌝ }
+pub fn take_product(w: &mut [u64], m: Reciprocal, t: usize, f: Span, g: Span, dst: usize) -> usize
+    requires { ⌜ (Ready m) × (ProductAsked (m .n) (f .at) (f .len) (g .at) (g .len) dst (now w)) ⌝ }
+    requires { ⌜ FactorsModulo (m .n) t (f .at) (f .len) (g .at) (g .len) dst (now w) ⌝ }
+    ensures { λ r. ⌜ TakenFrom (m .n) t (f .at) (f .len) (g .at) (g .len) dst r (now (w .entry)) (now (w .exit)) ⌝ }
 {
     let n = m.n;
-    sub_product(w, m, p, lp, q, lq, dst);
-    let l = lp + lq - 1;
+    sub_product(w, m, f.at, f.len, g.at, g.len, dst);
+    let l = f.len + g.len - 1;
     if l <= t {
         return l;
     }
-    window_division64::divide_by(w, n, m, 0, t, dst, l - 1, 1);
+    window_division64::divide(w, m, 0, t, dst, l - 1, 1);
     windows64::clear(w, dst + t, l - t);
     t
 }

@@ -3,17 +3,16 @@
 --   certified-one       cofactors of D = 1
 --   run-asked, hand-asked       what the run and the cofactors ask
 --   unit-found, settled-attempt    what a constant that is a unit gives
---   asked-found, attempted-found    what is asked and promised modulo the n of a record
 --   attempted-flip          f and g exchanged
---   attempted-true, attempted-false, attempted-from    what each answer says
+--   attempted-true, attempted-later    what each answer says
 --   quick-asked, quick-swapped    what the quick attempt asks, from what an attempt asks; f and g exchanged
---   tries               the rules
+--   tries, both-tries   the rules
 use mathlib.Core.Path.{_≡_, refl, sym, ap, subst, _∙_}
 use mathlib.Core.List.{List}
 use mathlib.Core.Bool.{Bool, true, false}
 use Prim.Native.Nat.{ℕ, zero, suc, max, _+_, _-_, _*_, _%_, _≤_, _<_}
 use native.Mathlib.Omega.{arith}
-use native.Mathlib.Nat.{mod-lt, mul-zero, zero-mod, one-dvd, mul-le-mul}
+use native.Mathlib.Nat.{mod-lt, mul-zero, zero-mod, one-dvd, mul-le-mul, max-comm}
 use lib.ListN.{length}
 use borrow.Author.Needs.{needs}
 use Rattle.definitions.specs.Residues.{K}
@@ -121,43 +120,24 @@ unit-found {m} {s = s} e g is h = record {
   handed = h;
 }
 
--- ---- the modulus of the record is n
-
-pub asked-found : {n N : ℕ} {f g u v w : List ℕ} → QuickAsked n f g u v w → N ≡ n → QuickAsked N f g u v w
-asked-found {f = f} {g} {u} {v} {w} k e = subst (λ (x : ℕ). QuickAsked x f g u v w) (sym e) k
-
-pub attempted-found : (n N : ℕ) (f g u v u' v' : List ℕ) (r : Bool) → QuickAttempted N f g u v u' v' r → N ≡ n
-    → QuickAttempted n f g u v u' v' r
-attempted-found n N f g u v u' v' r t e = subst (λ (x : ℕ). QuickAttempted x f g u v u' v' r) e t
-
 -- ---- f and g exchanged
-
-max-swap : (d e : ℕ) → max d e ≡ max e d
-max-swap d e = omega arith
 
 pub quick-swapped : {n : ℕ} {f g u v w : List ℕ} → QuickAsked n f g u v w → QuickAsked n g f v u w
 quick-swapped {n} {f} {g} {u} {v} {w} k = record {
   modulus = k .modulus;
   some-f = k .some-g;
   some-g = k .some-f;
-  room = subst (λ (x : ℕ). 12 * x + 6 ≤ length w) (max-swap (length f - 1) (length g - 1)) (k .room);
-  first = subst (λ (x : ℕ). suc (K n * x) ≤ length v) (max-swap (length f - 1) (length g - 1)) (k .second);
-  second = subst (λ (x : ℕ). suc (K n * x) ≤ length u) (max-swap (length f - 1) (length g - 1)) (k .first);
+  room = subst (λ (x : ℕ). 12 * x + 6 ≤ length w) (max-comm (length f - 1) (length g - 1)) (k .room);
+  first = subst (λ (x : ℕ). suc (K n * x) ≤ length v) (max-comm (length f - 1) (length g - 1)) (k .second);
+  second = subst (λ (x : ℕ). suc (K n * x) ≤ length u) (max-comm (length f - 1) (length g - 1)) (k .first);
 }
 
 pub attempted-flip : (n : ℕ) (f g u v u' v' : List ℕ) (r : Bool) → 2 ≤ n → QuickAttempted n g f v u v' u' r
     → QuickAttempted n f g u v u' v' r
 attempted-flip n f g u v u' v' true two t =
-    subst (λ (x : ℕ). Certified n (suc (K n * x)) f g u' v' 1) (max-swap (length g - 1) (length f - 1))
+    subst (λ (x : ℕ). Certified n (suc (K n * x)) f g u' v' 1) (max-comm (length g - 1) (length f - 1))
     (certified-flip n (L n (length g - 1) (length f - 1)) g f v' u' 1 two t)
 attempted-flip n f g u v u' v' false two t = (t .1, t .0)
-
-pub swapped-found : {n N : ℕ} {f g u v w : List ℕ} → QuickAsked n f g u v w → N ≡ n → QuickAsked N g f v u w
-swapped-found k e = asked-found (quick-swapped k) e
-
-pub flip-found : (n N : ℕ) (f g u v u' v' : List ℕ) (r : Bool) → 2 ≤ n → QuickAttempted N g f v u v' u' r → N ≡ n
-    → QuickAttempted n f g u v u' v' r
-flip-found n N f g u v u' v' r two t e = attempted-flip n f g u v u' v' r two (attempted-found n N g f v u v' u' r t e)
 
 pub quick-asked : {n : ℕ} {f g u v w : List ℕ} → AttemptAsked n f g u v w → QuickAsked n f g u v w
 quick-asked {n} {f} {g} k = record {
@@ -175,12 +155,13 @@ pub attempted-true : (n : ℕ) (f g u v u' v' : List ℕ) (r : Bool) → r ≡ t
     → Certified n (L n (length f - 1) (length g - 1)) f g u' v' 1
 attempted-true n f g u v u' v' r e t = subst (λ (x : Bool). QuickAttempted n f g u v u' v' x) e t
 
-pub attempted-false : (n : ℕ) (f g u v u' v' : List ℕ) (r : Bool) → r ≡ false → QuickAttempted n f g u v u' v' r → (u' ≡ u) × (v' ≡ v)
-attempted-false n f g u v u' v' r e t = subst (λ (x : Bool). QuickAttempted n f g u v u' v' x) e t
+-- the buffers are as found, and the general attempt has to try
+pub attempted-later : (n : ℕ) (f g u v u₁ v₁ u' v' : List ℕ) (r : Bool) (x : Attempt) → r ≡ false → QuickAttempted n f g u v u₁ v₁ r
+    → Attempted n f g u₁ v₁ u' v' x → Attempted n f g u v u' v' x
+attempted-later n f g u v u₁ v₁ u' v' r x h t a =
+    let e = subst (λ (b : Bool). QuickAttempted n f g u v u₁ v₁ b) h t in
+    subst (λ (y : List ℕ). Attempted n f g y v u' v' x) (e .0) (subst (λ (y : List ℕ). Attempted n f g u₁ y u' v' x) (e .1) a)
 
-pub attempted-from : (n : ℕ) (f g u v u₁ v₁ u' v' : List ℕ) (r : Attempt) → (u₁ ≡ u) × (v₁ ≡ v) → Attempted n f g u₁ v₁ u' v' r
-    → Attempted n f g u v u' v' r
-attempted-from n f g u v u₁ v₁ u' v' r e a =
-    subst (λ (x : List ℕ). Attempted n f g x v u' v' r) (e .0) (subst (λ (x : List ℕ). Attempted n f g u₁ x u' v' r) (e .1) a)
+pub ruleset tries = (needs, run-asked, hand-asked, settled-attempt, unit-found, quick-swapped, attempted-flip)
 
-pub ruleset tries = (needs, run-asked, hand-asked, settled-attempt, unit-found, asked-found, swapped-found, attempted-found, flip-found)
+pub ruleset both-tries = (needs, quick-asked, attempted-true, attempted-later)

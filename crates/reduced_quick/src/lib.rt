@@ -2,7 +2,7 @@
 // its multipliers times one inverse as cofactors. No leading word is tested. Where the constant is no unit, the general attempt has to try,
 // from the sent words. The constant leaves before its inverse is found, and so do the multipliers as they are multiplied by it.
 //
-//   m          the modulus, found once
+//   m          the modulus, found once by the run
 //
 //   settle     the cofactors of 1, if the constant is a unit
 //   ordered    the quick attempt where f is not the longer of the two
@@ -37,7 +37,8 @@ fn settle(u: &mut [u32], v: &mut [u32], w: &[u32], m: Modulus, r: Ending, h: usi
 // D = 1 with its cofactors, or false, where f is not the longer.
 fn ordered(u: &mut [u32], v: &mut [u32], w: &mut [u32], m: Modulus, f: &[u32], g: &[u32]) -> bool
     requires { ⌜ (Known m) × ((QuickAsked (m .n) (now f) (now g) (now u) (now v) (now w)) × (length (now f) ≤ length (now g))) ⌝ }
-    ensures { λ r. ⌜ QuickAttempted (m .n) (now (f .entry)) (now (g .entry)) (now (u .entry)) (now (v .entry)) (now (u .exit)) (now (v .exit)) r ⌝ }
+    ensures { λ r. ⌜ QuickAttempted (m .n) (now (f .entry)) (now (g .entry)) (now (u .entry)) (now (v .entry))
+        (now (u .exit)) (now (v .exit)) r ⌝ }
     ensures { λ _. ⌜ Scratch (now (w .entry)) (now (w .exit)) ⌝ }
 {
     let r = euclid_multipliers::multipliers(w, m, f, g);
@@ -45,12 +46,12 @@ fn ordered(u: &mut [u32], v: &mut [u32], w: &mut [u32], m: Modulus, f: &[u32], g
 }
 
 // The same for polynomials in any order.
-fn quick(u: &mut [u32], v: &mut [u32], w: &mut [u32], n: u32, f: &[u32], g: &[u32]) -> bool
-    requires { ⌜ QuickAsked n (now f) (now g) (now u) (now v) (now w) ⌝ }
-    ensures { λ r. ⌜ QuickAttempted n (now (f .entry)) (now (g .entry)) (now (u .entry)) (now (v .entry)) (now (u .exit)) (now (v .exit)) r ⌝ }
+fn quick(u: &mut [u32], v: &mut [u32], w: &mut [u32], m: Modulus, f: &[u32], g: &[u32]) -> bool
+    requires { ⌜ (Known m) × (QuickAsked (m .n) (now f) (now g) (now u) (now v) (now w)) ⌝ }
+    ensures { λ r. ⌜ QuickAttempted (m .n) (now (f .entry)) (now (g .entry)) (now (u .entry)) (now (v .entry))
+        (now (u .exit)) (now (v .exit)) r ⌝ }
     ensures { λ _. ⌜ Scratch (now (w .entry)) (now (w .exit)) ⌝ }
 {
-    let m = modulus::modulus_of(n);
     if f.len() <= g.len() {
         return ordered(u, v, w, m, f, g);
     }
@@ -58,13 +59,21 @@ fn quick(u: &mut [u32], v: &mut [u32], w: &mut [u32], n: u32, f: &[u32], g: &[u3
 }
 
 // The reduced resultant of f and g with its cofactors, or n as a product of two coprime factors: quick, otherwise by the general attempt.
-pub fn attempt(u: &mut [u32], v: &mut [u32], w: &mut [u32], n: u32, f: &[u32], g: &[u32]) -> Attempt
-    requires { ⌜ AttemptAsked n (now f) (now g) (now u) (now v) (now w) ⌝ }
-    ensures { λ r. ⌜ Attempted n (now (f .entry)) (now (g .entry)) (now (u .entry)) (now (v .entry)) (now (u .exit)) (now (v .exit)) r ⌝ }
+pub fn attempt(
+    u: &mut [u32],
+    v: &mut [u32],
+    w: &mut [u32],
+    m: Modulus,
+    f: &[u32],
+    g: &[u32],
+) -> Attempt
+    requires { ⌜ (Known m) × (AttemptAsked (m .n) (now f) (now g) (now u) (now v) (now w)) ⌝ }
+    ensures { λ r. ⌜ Attempted (m .n) (now (f .entry)) (now (g .entry)) (now (u .entry)) (now (v .entry))
+        (now (u .exit)) (now (v .exit)) r ⌝ }
     ensures { λ _. ⌜ Scratch (now (w .entry)) (now (w .exit)) ⌝ }
 {
-    if quick(u, v, w, n, f, g) {
+    if quick(u, v, w, m, f, g) {
         return Attempt::Value(1);
     }
-    reduced_attempt::attempt(u, v, w, n, f, g)
+    reduced_attempt::attempt(u, v, w, m, f, g)
 }

@@ -1,7 +1,7 @@
 // The quick attempt at the reduced resultant in words of 64 bits. The 32-bit twin `reduced_quick` has the description, the laws and the
 // rules of the proofs; here every word stands for itself.
 //
-//   m          the modulus, found once
+//   m          the modulus, found once by the run
 //
 //   settle     the cofactors of 1, if the constant is a unit
 //   ordered    the quick attempt where f is not the longer of the two
@@ -39,7 +39,8 @@ fn settle(u: &mut [u64], v: &mut [u64], w: &[u64], m: Reciprocal, r: Ending, h: 
 // D = 1 with its cofactors, or false, where f is not the longer.
 fn ordered(u: &mut [u64], v: &mut [u64], w: &mut [u64], m: Reciprocal, f: &[u64], g: &[u64]) -> bool
     requires { ⌜ (Ready m) × ((QuickAsked (m .n) (now f) (now g) (now u) (now v) (now w)) × (length (now f) ≤ length (now g))) ⌝ }
-    ensures { λ r. ⌜ QuickAttempted (m .n) (now (f .entry)) (now (g .entry)) (now (u .entry)) (now (v .entry)) (now (u .exit)) (now (v .exit)) r ⌝ }
+    ensures { λ r. ⌜ QuickAttempted (m .n) (now (f .entry)) (now (g .entry)) (now (u .entry)) (now (v .entry))
+        (now (u .exit)) (now (v .exit)) r ⌝ }
     ensures { λ _. ⌜ Scratch (now (w .entry)) (now (w .exit)) ⌝ }
 {
     let r = euclid_multipliers64::multipliers(w, m, f, g);
@@ -47,12 +48,12 @@ fn ordered(u: &mut [u64], v: &mut [u64], w: &mut [u64], m: Reciprocal, f: &[u64]
 }
 
 // The same for polynomials in any order.
-fn quick(u: &mut [u64], v: &mut [u64], w: &mut [u64], n: u64, f: &[u64], g: &[u64]) -> bool
-    requires { ⌜ QuickAsked n (now f) (now g) (now u) (now v) (now w) ⌝ }
-    ensures { λ r. ⌜ QuickAttempted n (now (f .entry)) (now (g .entry)) (now (u .entry)) (now (v .entry)) (now (u .exit)) (now (v .exit)) r ⌝ }
+fn quick(u: &mut [u64], v: &mut [u64], w: &mut [u64], m: Reciprocal, f: &[u64], g: &[u64]) -> bool
+    requires { ⌜ (Ready m) × (QuickAsked (m .n) (now f) (now g) (now u) (now v) (now w)) ⌝ }
+    ensures { λ r. ⌜ QuickAttempted (m .n) (now (f .entry)) (now (g .entry)) (now (u .entry)) (now (v .entry))
+        (now (u .exit)) (now (v .exit)) r ⌝ }
     ensures { λ _. ⌜ Scratch (now (w .entry)) (now (w .exit)) ⌝ }
 {
-    let m = reduction64::modulus_of(n);
     if f.len() <= g.len() {
         return ordered(u, v, w, m, f, g);
     }
@@ -60,13 +61,21 @@ fn quick(u: &mut [u64], v: &mut [u64], w: &mut [u64], n: u64, f: &[u64], g: &[u6
 }
 
 // The reduced resultant of f and g with its cofactors, or n as a product of two coprime factors: quick, otherwise by the general attempt.
-pub fn attempt(u: &mut [u64], v: &mut [u64], w: &mut [u64], n: u64, f: &[u64], g: &[u64]) -> Attempt
-    requires { ⌜ AttemptAsked n (now f) (now g) (now u) (now v) (now w) ⌝ }
-    ensures { λ r. ⌜ Attempted n (now (f .entry)) (now (g .entry)) (now (u .entry)) (now (v .entry)) (now (u .exit)) (now (v .exit)) r ⌝ }
+pub fn attempt(
+    u: &mut [u64],
+    v: &mut [u64],
+    w: &mut [u64],
+    m: Reciprocal,
+    f: &[u64],
+    g: &[u64],
+) -> Attempt
+    requires { ⌜ (Ready m) × (AttemptAsked (m .n) (now f) (now g) (now u) (now v) (now w)) ⌝ }
+    ensures { λ r. ⌜ Attempted (m .n) (now (f .entry)) (now (g .entry)) (now (u .entry)) (now (v .entry))
+        (now (u .exit)) (now (v .exit)) r ⌝ }
     ensures { λ _. ⌜ Scratch (now (w .entry)) (now (w .exit)) ⌝ }
 {
-    if quick(u, v, w, n, f, g) {
+    if quick(u, v, w, m, f, g) {
         return Attempt::Value(1);
     }
-    reduced_attempt64::attempt(u, v, w, n, f, g)
+    reduced_attempt64::attempt(u, v, w, m, f, g)
 }

@@ -41,7 +41,7 @@ pub fn over_first(
     ensures { λ _. ⌜ OverFirst (m .n) up k zp lz (now (w .entry)) (now (x .exit)) ⌝ }
     ensures { λ _. ⌜ Scratch (now (w .entry)) (now (w .exit)) ⌝ }
 {
-    let len = reduced_units::negate_inverse(w, m.n, up, k);
+    let len = reduced_units::negate_inverse(w, m, up, k);
     let a = up + (k + 1);
     let b = a + len;
     let l = len + lz - 1;
@@ -62,7 +62,7 @@ fn remainder(w: &mut [u32], m: Modulus, e: usize, q: usize, t: usize)
     if e + 1 < t {
         return;
     }
-    window_division::divide_by(w, m, q, t, b, e, 1);
+    window_division::divide(w, m, q, t, b, e, 1);
 }
 
 // The window from q on is made ready for the content stage.
@@ -88,5 +88,5 @@ pub fn exact_quotient(w: &mut [u32], m: Modulus, e: usize, q: usize, t: usize, c
     windows::clear(w, z, t + e + 1);
     w[z] = windows::residue(c, m.n);
     reduced_products::sub_product(w, m, q + (t + 1), t, 0, e + 1, z);
-    window_division::divide_keeping_by(w, m, q, t, z, t + e, 1);
+    window_division::divide_keeping(w, m, q, t, z, t + e, 1);
 }

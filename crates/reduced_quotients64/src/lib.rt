@@ -38,7 +38,7 @@ pub fn over_first(
     ensures { λ _. ⌜ OverFirst (m .n) up k zp lz (now (w .entry)) (now (x .exit)) ⌝ }
     ensures { λ _. ⌜ Scratch (now (w .entry)) (now (w .exit)) ⌝ }
 {
-    let len = reduced_units64::negate_inverse(w, m.n, up, k);
+    let len = reduced_units64::negate_inverse(w, m, up, k);
     let a = up + (k + 1);
     let b = a + len;
     let l = len + lz - 1;
@@ -59,7 +59,7 @@ fn remainder(w: &mut [u64], m: Reciprocal, e: usize, q: usize, t: usize)
     if e + 1 < t {
         return;
     }
-    window_division64::divide_by(w, m.n, m, q, t, b, e, 1);
+    window_division64::divide(w, m, q, t, b, e, 1);
 }
 
 // The window from q on is made ready for the content stage.
@@ -85,5 +85,5 @@ pub fn exact_quotient(w: &mut [u64], m: Reciprocal, e: usize, q: usize, t: usize
     windows64::clear(w, z, t + e + 1);
     w[z] = windows64::residue(c, m.n);
     reduced_products64::sub_product(w, m, q + (t + 1), t, 0, e + 1, z);
-    window_division64::divide_keeping_by(w, m.n, m, q, t, z, t + e, 1);
+    window_division64::divide_keeping(w, m, q, t, z, t + e, 1);
 }

@@ -25,7 +25,7 @@ fn put_constant(u: &mut [u32], x: u32)
 }
 
 // D of the constants a and b, with the least cofactors: "first cofactor first."
-fn constants(u: &mut [u32], v: &mut [u32], n: u32, a: u32, b: u32) -> u32
+fn constants(n: u32, a: u32, b: u32, u: &mut [u32], v: &mut [u32]) -> u32
     requires { ⌜ ConstantsAsked n (now u) (now v) ⌝ }
     ensures { λ r. ⌜ ConstantCofactors n a b (now (u .exit)) (now (v .exit)) r ⌝ }
 {
@@ -36,7 +36,7 @@ fn constants(u: &mut [u32], v: &mut [u32], n: u32, a: u32, b: u32) -> u32
 }
 
 // D, with the cofactors that the run finds.
-fn by_run(u: &mut [u32], v: &mut [u32], w: &mut [u32], n: u32, f: &[u32], g: &[u32]) -> u32
+fn by_run(n: u32, f: &[u32], g: &[u32], u: &mut [u32], v: &mut [u32], w: &mut [u32]) -> u32
     requires { ⌜ RunAsked n (now f) (now g) (now u) (now v) (now w) ⌝ }
     ensures { λ r. ⌜ Certified n (L n (length (now (f .entry)) - 1) (length (now (g .entry)) - 1)) (now (f .entry)) (now (g .entry))
         (now (u .exit)) (now (v .exit)) r ⌝ }
@@ -47,7 +47,7 @@ fn by_run(u: &mut [u32], v: &mut [u32], w: &mut [u32], n: u32, f: &[u32], g: &[u
 
 // D, with cofactors in u and v: "For two polynomials of sent degree 0 the cofactors of D follow the same rule" (02, W7); those of every
 // other pair are the run's.
-fn worked(u: &mut [u32], v: &mut [u32], w: &mut [u32], n: u32, f: &[u32], g: &[u32]) -> u32
+fn worked(n: u32, f: &[u32], g: &[u32], u: &mut [u32], v: &mut [u32], w: &mut [u32]) -> u32
     requires { ⌜ RunAsked n (now f) (now g) (now u) (now v) (now w) ⌝ }
     ensures { λ r. ⌜ Certified n (L n (length (now (f .entry)) - 1) (length (now (g .entry)) - 1)) (now (f .entry)) (now (g .entry))
         (now (u .exit)) (now (v .exit)) r ⌝ }
@@ -56,11 +56,11 @@ fn worked(u: &mut [u32], v: &mut [u32], w: &mut [u32], n: u32, f: &[u32], g: &[u
 {
     if f.len() == 1 {
         if g.len() == 1 {
-            return constants(u, v, n, f[0], g[0]);
+            return constants(n, f[0], g[0], u, v);
         }
-        return by_run(u, v, w, n, f, g);
+        return by_run(n, f, g, u, v, w);
     }
-    by_run(u, v, w, n, f, g)
+    by_run(n, f, g, u, v, w)
 }
 
 // None of the refusals applies, and a cofactor has l words: D, with cofactors in the first l words of u and of v.
@@ -77,7 +77,7 @@ fn served(
     ensures { λ r. ⌜ ReducedAnswer narrow n (now (f .entry)) (now (g .entry)) (now (u .entry)) (now (u .exit)) (now (v .entry))
         (now (v .exit)) (now (work .entry)) (now (work .exit)) (r .value) (r .status) ⌝ }
 {
-    let found = worked(&mut u[0..l], &mut v[0..l], work, n, f, g);
+    let found = worked(n, f, g, &mut u[0..l], &mut v[0..l], work);
     answers::answered(found, work)
 }
 

@@ -24,7 +24,7 @@ fn put_constant(u: &mut [u64], x: u64)
 }
 
 // D of the constants a and b, with the least cofactors: "first cofactor first."
-fn constants(u: &mut [u64], v: &mut [u64], n: u64, a: u64, b: u64) -> u64
+fn constants(n: u64, a: u64, b: u64, u: &mut [u64], v: &mut [u64]) -> u64
     requires { ⌜ ConstantsAsked n (now u) (now v) ⌝ }
     ensures { λ r. ⌜ ConstantCofactors n a b (now (u .exit)) (now (v .exit)) r ⌝ }
 {
@@ -35,7 +35,7 @@ fn constants(u: &mut [u64], v: &mut [u64], n: u64, a: u64, b: u64) -> u64
 }
 
 // D, with the cofactors that the run finds.
-fn by_run(u: &mut [u64], v: &mut [u64], w: &mut [u64], n: u64, f: &[u64], g: &[u64]) -> u64
+fn by_run(n: u64, f: &[u64], g: &[u64], u: &mut [u64], v: &mut [u64], w: &mut [u64]) -> u64
     requires { ⌜ RunAsked n (now f) (now g) (now u) (now v) (now w) ⌝ }
     ensures { λ r. ⌜ Certified n (L n (length (now (f .entry)) - 1) (length (now (g .entry)) - 1)) (now (f .entry)) (now (g .entry))
         (now (u .exit)) (now (v .exit)) r ⌝ }
@@ -46,7 +46,7 @@ fn by_run(u: &mut [u64], v: &mut [u64], w: &mut [u64], n: u64, f: &[u64], g: &[u
 
 // D, with cofactors in u and v: "For two polynomials of sent degree 0 the cofactors of D follow the same rule" (02, W7); those of every
 // other pair are the run's.
-fn worked(u: &mut [u64], v: &mut [u64], w: &mut [u64], n: u64, f: &[u64], g: &[u64]) -> u64
+fn worked(n: u64, f: &[u64], g: &[u64], u: &mut [u64], v: &mut [u64], w: &mut [u64]) -> u64
     requires { ⌜ RunAsked n (now f) (now g) (now u) (now v) (now w) ⌝ }
     ensures { λ r. ⌜ Certified n (L n (length (now (f .entry)) - 1) (length (now (g .entry)) - 1)) (now (f .entry)) (now (g .entry))
         (now (u .exit)) (now (v .exit)) r ⌝ }
@@ -55,11 +55,11 @@ fn worked(u: &mut [u64], v: &mut [u64], w: &mut [u64], n: u64, f: &[u64], g: &[u
 {
     if f.len() == 1 {
         if g.len() == 1 {
-            return constants(u, v, n, f[0], g[0]);
+            return constants(n, f[0], g[0], u, v);
         }
-        return by_run(u, v, w, n, f, g);
+        return by_run(n, f, g, u, v, w);
     }
-    by_run(u, v, w, n, f, g)
+    by_run(n, f, g, u, v, w)
 }
 
 // None of the refusals applies, and a cofactor has l words: D, with cofactors in the first l words of u and of v.
@@ -76,7 +76,7 @@ fn served(
     ensures { λ r. ⌜ ReducedAnswer wide n (now (f .entry)) (now (g .entry)) (now (u .entry)) (now (u .exit)) (now (v .entry))
         (now (v .exit)) (now (work .entry)) (now (work .exit)) (r .value) (r .status) ⌝ }
 {
-    let found = worked(&mut u[0..l], &mut v[0..l], work, n, f, g);
+    let found = worked(n, f, g, &mut u[0..l], &mut v[0..l], work);
     answers64::answered(found, work)
 }
 

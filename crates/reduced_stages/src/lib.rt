@@ -8,11 +8,11 @@
 //   p.pb      B, of a words for the content stage and of degree b for the division stage
 //   p.al      the multiplier of A
 //   p.be      the multiplier of B
+//   u         the leading word of B where it is a unit: its place s, the degree, and its inverse i
 //
 // m and v are the records of two moduli: the multipliers have l words, modulo that of m; A and B are polynomials modulo that of v, a
 // divisor of the former. A stage keeps H and leaves the multiplier found; the other words of the window are room, of which nothing is
-// promised
-// afterwards.
+// promised afterwards.
 ghost use mathlib.Core.Path.{_≡_};
 ghost use Prim.Native.Nat.{_+_, _/_, _≤_};
 ghost use Rattle.modulus.specs.Values.{Known};
@@ -20,7 +20,9 @@ ghost use Rattle.windows.specs.Window.{Kept};
 ghost use Rattle.reduced_units.specs.States.{StageAt};
 ghost use Rattle.reduced_stages.specs.StageAnswers.{ContentFits, times-content, DivisionAsked, StageAnswer};
 use modulus::Modulus;
+use reduced_products::Span;
 use reduced_units::Places;
+use reduced_units::UnitAt;
 use residue::Attempt;
 
 // The answer r modulo n / c, with the content c that was taken out.
@@ -55,7 +57,8 @@ pub fn content_stage(
             modulus_windows::set_scaled(w, m, x.s, p.be, t + 1, t);
             return Attempt::Value(1);
         }
-        return division_stage(w, m, v, p, a, a - 1, x.s, l);
+        let u = UnitAt { s: a - 1, i: x.s };
+        return division_stage(w, m, v, p, a, u, l);
     }
     clearing_stage(w, m, v, p, a, l)
 }
@@ -70,33 +73,32 @@ fn clearing_stage(w: &mut [u32], m: Modulus, v: Modulus, p: Places, a: usize, l:
         reduced_clearing::Clearing::Done(d) => Attempt::Value(d),
         reduced_clearing::Clearing::Parts(f, g) => Attempt::Splits(f, g),
         reduced_clearing::Clearing::Next(c, s, k) => {
-            let r = cleared_stage(w, m, v, c, p, a, s, k);
+            let r = cleared_stage(w, m, v, p, Cleared { c, b: s, l: k }, a);
             with_content(v.n, c, r)
         }
     }
 }
 
-// The division stage modulo v / c, where B is monic of degree b once its content c was taken out.
-fn cleared_stage(
-    w: &mut [u32],
-    m: Modulus,
-    v: Modulus,
-    c: u32,
-    p: Places,
-    a: usize,
-    b: usize,
-    l: usize,
-) -> Attempt
-    requires { ⌜ (Known m) × ((Known v) × (1 ≤ c)) ⌝ }
-    requires { ⌜ DivisionAsked (m .n) (v .n / c) p a b 1 l (now w) ⌝ }
-    ensures { λ r. ⌜ StageAnswer (m .n) (v .n / c) p a (b + 1) (now (w .entry)) (now (w .exit)) r ⌝ }
-    ensures { λ _. ⌜ Kept (p .t + 1) (now (w .entry)) (now (w .exit)) ⌝ }
-{
-    let r = reduced_clearing::modulus_over(v, c);
-    division_stage(w, m, r, p, a, b, 1, l)
+// What the clearing left: B is monic of degree b once its content c was taken out, and the multipliers have l words.
+pub struct Cleared {
+    pub c: u32,
+    pub b: usize,
+    pub l: usize,
 }
 
-// A is divided by B, whose leading word has the inverse i modulo v; the content stage goes on with B and the remainder, which change
+// The division stage modulo v / c, after the clearing.
+fn cleared_stage(w: &mut [u32], m: Modulus, v: Modulus, p: Places, x: Cleared, a: usize) -> Attempt
+    requires { ⌜ (Known m) × ((Known v) × (1 ≤ x .c)) ⌝ }
+    requires { ⌜ DivisionAsked (m .n) (v .n / x .c) p a (x .b) 1 (x .l) (now w) ⌝ }
+    ensures { λ r. ⌜ StageAnswer (m .n) (v .n / x .c) p a (x .b + 1) (now (w .entry)) (now (w .exit)) r ⌝ }
+    ensures { λ _. ⌜ Kept (p .t + 1) (now (w .entry)) (now (w .exit)) ⌝ }
+{
+    let r = reduced_clearing::modulus_over(v, x.c);
+    let u = UnitAt { s: x.b, i: 1 };
+    division_stage(w, m, r, p, a, u, x.l)
+}
+
+// A is divided by B, whose leading word is the unit u modulo v; the content stage goes on with B and the remainder, which change
 // places with A and B.
 pub fn division_stage(
     w: &mut [u32],
@@ -104,16 +106,21 @@ pub fn division_stage(
     v: Modulus,
     p: Places,
     a: usize,
-    b: usize,
-    i: u32,
+    u: UnitAt,
     l: usize,
 ) -> Attempt
-    requires { ⌜ (Known m) × ((Known v) × (DivisionAsked (m .n) (v .n) p a b i l (now w))) ⌝ }
-    ensures { λ r. ⌜ StageAnswer (m .n) (v .n) p a (b + 1) (now (w .entry)) (now (w .exit)) r ⌝ }
+    requires { ⌜ (Known m) × ((Known v) × (DivisionAsked (m .n) (v .n) p a (u .s) (u .i) l (now w))) ⌝ }
+    ensures { λ r. ⌜ StageAnswer (m .n) (v .n) p a (u .s + 1) (now (w .entry)) (now (w .exit)) r ⌝ }
     ensures { λ _. ⌜ Kept (p .t + 1) (now (w .entry)) (now (w .exit)) ⌝ }
 {
-    window_division::divide_keeping_by(w, v, p.pb, b, p.pa, a, i);
-    let k = reduced_products::take_product(w, m, p.t, p.pa + b, a + 1 - b, p.be, l, p.al);
+    let b = u.s;
+    window_division::divide_keeping(w, v, p.pb, b, p.pa, a, u.i);
+    let quotient = Span {
+        at: p.pa + b,
+        len: a + 1 - b,
+    };
+    let multiplier = Span { at: p.be, len: l };
+    let k = reduced_products::take_product(w, m, p.t, quotient, multiplier, p.al);
     let exchanged = Places {
         t: p.t,
         pa: p.pb,

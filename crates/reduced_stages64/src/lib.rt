@@ -8,7 +8,9 @@ ghost use Rattle.reduction64.specs.Moduli.{Ready};
 ghost use Rattle.windows.specs.Window.{Kept};
 ghost use Rattle.reduced_units.specs.States.{StageAt};
 ghost use Rattle.reduced_stages64.specs.StageAnswers.{ContentFits, times-content, DivisionAsked, StageAnswer};
+use reduced_products::Span;
 use reduced_units::Places;
+use reduced_units64::UnitAt;
 use reduction64::Reciprocal;
 use residue64::Attempt;
 
@@ -44,7 +46,8 @@ pub fn content_stage(
             modulus_windows64::set_scaled(w, m, x.s, p.be, t + 1, t);
             return Attempt::Value(1);
         }
-        return division_stage(w, m, v, p, a, a - 1, x.s, l);
+        let u = UnitAt { s: a - 1, i: x.s };
+        return division_stage(w, m, v, p, a, u, l);
     }
     clearing_stage(w, m, v, p, a, l)
 }
@@ -66,33 +69,39 @@ fn clearing_stage(
         reduced_clearing64::Clearing::Done(d) => Attempt::Value(d),
         reduced_clearing64::Clearing::Parts(f, g) => Attempt::Splits(f, g),
         reduced_clearing64::Clearing::Next(c, s, k) => {
-            let r = cleared_stage(w, m, v, c, p, a, s, k);
+            let r = cleared_stage(w, m, v, p, Cleared { c, b: s, l: k }, a);
             with_content(v.n, c, r)
         }
     }
 }
 
-// The division stage modulo v / c, where B is monic of degree b once its content c was taken out.
+// What the clearing left: B is monic of degree b once its content c was taken out, and the multipliers have l words.
+pub struct Cleared {
+    pub c: u64,
+    pub b: usize,
+    pub l: usize,
+}
+
+// The division stage modulo v / c, after the clearing.
 fn cleared_stage(
     w: &mut [u64],
     m: Reciprocal,
     v: Reciprocal,
-    c: u64,
     p: Places,
+    x: Cleared,
     a: usize,
-    b: usize,
-    l: usize,
 ) -> Attempt
-    requires { ⌜ (Ready m) × ((Ready v) × (1 ≤ c)) ⌝ }
-    requires { ⌜ DivisionAsked (m .n) (v .n / c) p a b 1 l (now w) ⌝ }
-    ensures { λ r. ⌜ StageAnswer (m .n) (v .n / c) p a (b + 1) (now (w .entry)) (now (w .exit)) r ⌝ }
+    requires { ⌜ (Ready m) × ((Ready v) × (1 ≤ x .c)) ⌝ }
+    requires { ⌜ DivisionAsked (m .n) (v .n / x .c) p a (x .b) 1 (x .l) (now w) ⌝ }
+    ensures { λ r. ⌜ StageAnswer (m .n) (v .n / x .c) p a (x .b + 1) (now (w .entry)) (now (w .exit)) r ⌝ }
     ensures { λ _. ⌜ Kept (p .t + 1) (now (w .entry)) (now (w .exit)) ⌝ }
 {
-    let r = reduced_clearing64::modulus_over(v, c);
-    division_stage(w, m, r, p, a, b, 1, l)
+    let r = reduced_clearing64::modulus_over(v, x.c);
+    let u = UnitAt { s: x.b, i: 1 };
+    division_stage(w, m, r, p, a, u, x.l)
 }
 
-// A is divided by B, whose leading word has the inverse i modulo v; the content stage goes on with B and the remainder, which change
+// A is divided by B, whose leading word is the unit u modulo v; the content stage goes on with B and the remainder, which change
 // places with A and B.
 pub fn division_stage(
     w: &mut [u64],
@@ -100,16 +109,21 @@ pub fn division_stage(
     v: Reciprocal,
     p: Places,
     a: usize,
-    b: usize,
-    i: u64,
+    u: UnitAt,
     l: usize,
 ) -> Attempt
-    requires { ⌜ (Ready m) × ((Ready v) × (DivisionAsked (m .n) (v .n) p a b i l (now w))) ⌝ }
-    ensures { λ r. ⌜ StageAnswer (m .n) (v .n) p a (b + 1) (now (w .entry)) (now (w .exit)) r ⌝ }
+    requires { ⌜ (Ready m) × ((Ready v) × (DivisionAsked (m .n) (v .n) p a (u .s) (u .i) l (now w))) ⌝ }
+    ensures { λ r. ⌜ StageAnswer (m .n) (v .n) p a (u .s + 1) (now (w .entry)) (now (w .exit)) r ⌝ }
     ensures { λ _. ⌜ Kept (p .t + 1) (now (w .entry)) (now (w .exit)) ⌝ }
 {
-    window_division64::divide_keeping_by(w, v.n, v, p.pb, b, p.pa, a, i);
-    let k = reduced_products64::take_product(w, m, p.t, p.pa + b, a + 1 - b, p.be, l, p.al);
+    let b = u.s;
+    window_division64::divide_keeping(w, v, p.pb, b, p.pa, a, u.i);
+    let quotient = Span {
+        at: p.pa + b,
+        len: a + 1 - b,
+    };
+    let multiplier = Span { at: p.be, len: l };
+    let k = reduced_products64::take_product(w, m, p.t, quotient, multiplier, p.al);
     let exchanged = Places {
         t: p.t,
         pa: p.pb,

@@ -1,5 +1,5 @@
 // The unit factor of a polynomial in a stage's window of 64-bit words, taken out of it and of its multiplier. The 32-bit twin
-// `reduced_units` has the description, the laws and `Places`, which both share.
+// `reduced_units` has the description, the laws, `Places` and `Sizes`, which both share.
 //
 //   negate_inverse    -1 over a unit polynomial
 //   take_unit         the unit factor of B
@@ -12,8 +12,16 @@ ghost use Rattle.windows.specs.Window.{piece};
 ghost use Rattle.window_factor64.specs.Factors.{LeadingUnit};
 ghost use Rattle.reduced_units.specs.States.{StageAt};
 ghost use Rattle.reduced_units.specs.Factorings.{SplitAsked, UnitSplit, Negated, OverAsked, OverUnit, UnitTaken};
+use reduced_products::Span;
 use reduced_units::Places;
+use reduced_units::Sizes;
 use reduction64::Reciprocal;
+
+// A coefficient at s that is a unit, with its inverse i.
+pub struct UnitAt {
+    pub s: usize,
+    pub i: u64,
+}
 
 // B of a words at pb, whose highest coefficient that is not nilpotent is that at s, with the inverse i: the monic factor of degree s
 // takes its place.
@@ -28,59 +36,53 @@ fn split_unit(w: &mut [u64], v: Reciprocal, t: usize, pb: usize, a: usize, s: us
 }
 
 // -1 over the unit polynomial of k + 1 words at x, after it. Answers the number of its words.
-pub fn negate_inverse(w: &mut [u64], v: u64, x: usize, k: usize) -> usize
-    requires { ⌜ (2 ≤ v) × ((x + (k + 1) + (K v * k + 1) ≤ length (now w)) × (UnitPolynomial v (piece (now w) x (k + 1)))) ⌝ }
-    ensures { λ r. ⌜ Negated v x k r (now (w .entry)) (now (w .exit)) ⌝ }
+pub fn negate_inverse(w: &mut [u64], v: Reciprocal, x: usize, k: usize) -> usize
+    requires { ⌜ (Ready v) × (2 ≤ v .n) ⌝ }
+    requires { ⌜ (x + (k + 1) + (K (v .n) * k + 1) ≤ length (now w)) × (UnitPolynomial (v .n) (piece (now w) x (k + 1))) ⌝ }
+    ensures { λ r. ⌜ Negated (v .n) x k r (now (w .entry)) (now (w .exit)) ⌝ }
 {
-    let len = ((residue64::modulus_of(v).k - 1) as usize) * k + 1;
-    let e = bezout64::cofactor(v, w[x]);
-    window_factor64::series_inverse(&mut w[x..x + (k + 1) + len], v, k, e.s, v - e.s, len);
+    let n = v.n;
+    let len = ((residue64::modulus_of(n).k - 1) as usize) * k + 1;
+    let e = bezout64::cofactor(n, w[x]);
+    window_factor64::series_inverse_by(&mut w[x..x + (k + 1) + len], v, k, e.s, n - e.s, len);
     len
 }
 
-// The multiplier of l words at be over the unit polynomial whose negated inverse, of len words, stands at x; y is room. Answers the
-// number of its words.
-fn over_unit(
-    w: &mut [u64],
-    m: Reciprocal,
-    t: usize,
-    x: usize,
-    len: usize,
-    be: usize,
-    l: usize,
-    y: usize,
-) -> usize
-    requires { ⌜ (Ready m) × (OverAsked (m .n) t x len be l y (now w)) ⌝ }
-    ensures { λ r. ⌜ OverUnit (m .n) t x len be l y r (now (w .entry)) (now (w .exit)) ⌝ }
+// The multiplier at g over the unit polynomial whose negated inverse stands at f; y is room. Answers the number of its words.
+fn over_unit(w: &mut [u64], m: Reciprocal, t: usize, f: Span, g: Span, y: usize) -> usize
+    requires { ⌜ (Ready m) × (OverAsked (m .n) t (f .at) (f .len) (g .at) (g .len) y (now w)) ⌝ }
+    ensures { λ r. ⌜ OverUnit (m .n) t (f .at) (f .len) (g .at) (g .len) y r (now (w .entry)) (now (w .exit)) ⌝ }
 {
-    windows64::clear(w, y, len + t);
-    let r = reduced_products64::take_product(w, m, t, x, len, be, l, y);
-    windows64::copy(w, y, be, t);
+    windows64::clear(w, y, f.len + t);
+    let r = reduced_products64::take_product(w, m, t, f, g, y);
+    windows64::copy(w, y, g.at, t);
     r
 }
 
-// The unit factor of B is taken out of it and of its multiplier. The highest coefficient of B that is not nilpotent is that at s, with
-// the inverse i. Answers the number of words of the multiplier.
+// The unit factor of B is taken out of it and of its multiplier. The highest coefficient of B that is not nilpotent is u. Answers the
+// number of words of the multiplier.
 pub fn take_unit(
     w: &mut [u64],
     m: Reciprocal,
     v: Reciprocal,
     p: Places,
-    a: usize,
-    l: usize,
-    s: usize,
-    i: u64,
+    z: Sizes,
+    u: UnitAt,
 ) -> usize
     requires { ⌜ (Ready m) × (Ready v) ⌝ }
-    requires { ⌜ (StageAt (m .n) (v .n) p a a l (now w)) × ((s < a) × (LeadingUnit (v .n) s i (piece (now w) (p .pb) a))) ⌝ }
-    ensures { λ r. ⌜ UnitTaken (m .n) (v .n) (p .t) (p .pb) a (p .be) s l r (now (w .entry)) (now (w .exit)) ⌝ }
+    requires { ⌜ (StageAt (m .n) (v .n) p (z .a) (z .a) (z .l) (now w)) × (u .s < z .a) ⌝ }
+    requires { ⌜ LeadingUnit (v .n) (u .s) (u .i) (piece (now w) (p .pb) (z .a)) ⌝ }
+    ensures { λ r. ⌜ UnitTaken (m .n) (v .n) (p .t) (p .pb) (z .a) (p .be) (u .s) (z .l) r (now (w .entry)) (now (w .exit)) ⌝ }
 {
     let t = p.t;
-    let pb = p.pb;
-    let be = p.be;
-    split_unit(w, v, t, pb, a, s, i);
+    let a = z.a;
+    let s = u.s;
+    split_unit(w, v, t, p.pb, a, s, u.i);
     let x = 8 * (t + 1) + (a + (s + 1) + s);
     let k = a - 1 - s;
-    let len = negate_inverse(w, v.n, x, k);
-    over_unit(w, m, t, x + (k + 1), len, be, l, x + (k + 1) + len)
+    let len = negate_inverse(w, v, x, k);
+    let at = x + (k + 1);
+    let inverse = Span { at, len };
+    let multiplier = Span { at: p.be, len: z.l };
+    over_unit(w, m, t, inverse, multiplier, at + len)
 }

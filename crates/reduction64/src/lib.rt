@@ -11,11 +11,13 @@
 //   difference              a - b modulo n, b at most n
 //   sum_two                 x + c a + e b modulo n
 //   sum_three               l x + c y + e z modulo n
+//   power                   x to the power k modulo n
 //
 //   m       the modulus with its reciprocal
 ghost use mathlib.Core.Path.{_≡_};
 ghost use Prim.Native.Nat.{_+_, _-_, _*_, _/_, _%_, _^_, _<_, _≤_};
 ghost use Rattle.law_words.specs.Fractions.{Fraction};
+ghost use Rattle.arithmetic.specs.Powers.{TimesDigit};
 ghost use Rattle.law_words64.specs.Reciprocals.{Digit, Less};
 ghost use Rattle.reduction64.specs.Moduli.{Ready};
 
@@ -224,4 +226,34 @@ pub fn sum_three(m: Reciprocal, l: u64, x: u64, c: u64, y: u64, e: u64, z: u64) 
     ensures { λ r. ⌜ r ≡ (l * x + c * y + e * z) % m .n ⌝ }
 {
     add_product(m, add_product(m, product(m, l, x), c, y), e, z)
+}
+
+// r y where the last binary digit of j is 1, else r.
+fn times_digit(m: Reciprocal, r: u64, y: u64, j: usize) -> u64
+    requires { ⌜ Ready m ⌝ }
+    ensures { λ t. ⌜ TimesDigit (m .n) r y j t ⌝ }
+{
+    if j % 2 == 1 {
+        return product(m, r, y);
+    }
+    r
+}
+
+// x to the power k, by squaring; a square, which the engine asks for most, at once.
+pub fn power(m: Reciprocal, x: u64, k: usize) -> u64
+    requires { ⌜ Ready m ⌝ }
+    ensures { λ r. ⌜ r ≡ (x ^ k) % m .n ⌝ }
+{
+    if k == 2 {
+        return product(m, x, x);
+    }
+    let mut r = residue(m.n, 1);
+    let mut y = x;
+    let mut j = k;
+    while 0 < j {
+        r = times_digit(m, r, y, j);
+        y = product(m, y, y);
+        j = j / 2;
+    }
+    r
 }

@@ -86,6 +86,9 @@ module _ {B n₁ n₂ : ℕ} (m : CoprimeModuli B n₁ n₂) where
   pub second-below : {y : ℕ} → y < n₂ → y ≤ n₁ * n₂
   second-below {y} b = omega (arith, le-mul-of-pos-right n₂ (m .some₁), mul-comm n₁ n₂)
 
+  pub second-most : {n y : ℕ} → n ≡ n₁ * n₂ → y < n₂ → y ≤ n
+  second-most e b = omega (arith, second-below b)
+
   module _ {g s : ℕ} (b : GcdCofactor n₁ n₂ g s) where
     pub cofactor-fits : {W : Width} → B ≡ 2 ^ bits W → Fits W (s * n₂)
     cofactor-fits e = record { fits = omega (arith, mul-le-mul-right n₂ (b .at-most), m .word) }
@@ -105,10 +108,10 @@ module _ {B n₁ n₂ : ℕ} (m : CoprimeModuli B n₁ n₂) where
       pub idempotent-none : r % n₂ ≡ 0
       idempotent-none = is .none
 
-  module _ {e x y d r : ℕ} (er : r ≡ (y + e * d) % (n₁ * n₂)) (ed : d ≡ (x + (n₁ * n₂ - y)) % (n₁ * n₂)) (i : Idempotent n₁ n₂ e)
+  module _ {n e x y d r : ℕ} (er : r ≡ (y + e * d) % n) (ed : d ≡ (x + (n - y)) % n) (en : n ≡ n₁ * n₂) (i : Idempotent n₁ n₂ e)
       (bx : x < n₁) (by : y < n₂) where
     joined : Joined n₁ n₂ x y r
-    joined = rw (er, ed) (joined-of {e = e} x y (m .some₁) (m .some₂) (second-below by) i)
+    joined = rw (er, ed, en) (joined-of {e = e} x y (m .some₁) (m .some₂) (second-below by) i)
 
     pub join-below : r < n₁ * n₂
     join-below = joined .below
@@ -146,6 +149,7 @@ pub ruleset joins = (
   needs,
   product-positive,
   second-below,
+  second-most,
   cofactor-fits,
   idempotent-below,
   idempotent-one,

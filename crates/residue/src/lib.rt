@@ -80,7 +80,7 @@ pub struct Cofactors {
 }
 
 // (s a + (h - g)) / h, in 64 bits.
-fn multiple(s: u32, a: u32, h: u32, g: u32) -> u64
+fn multiple(h: u32, g: u32, s: u32, a: u32) -> u64
     requires { ⌜ (1 ≤ h) × (g ≤ h) ⌝ }
     ensures { λ r. ⌜ r ≡ (s * a + (h - g)) / h ⌝ }
 {
@@ -108,7 +108,7 @@ pub fn gcd_with_cofactors(n: u32, a: u32, b: u32) -> Cofactors
     let e = bezout::cofactor(n, b);
     let f = bezout::cofactor(e.g, a);
     let s = least(e.g, f.g, f.s);
-    let c = arithmetic::reduce(n, multiple(s, a, e.g, f.g));
+    let c = arithmetic::reduce(n, multiple(e.g, f.g, s, a));
     let t = arithmetic::mul_mod(n, e.s, arithmetic::sub_mod(n, 1, c));
     Cofactors {
         g: f.g,

@@ -1,16 +1,18 @@
 -- The least cofactors s and t of a and b modulo n, with no product above n: h is gcd(b, n), which is t₁ b modulo n, and g is gcd(a, h).
 -- g - s a is a multiple of h, and t is t₁ times the quotient.
 --
---   with-cofactors, least-cofactors    they are had so
+--   with-cofactors, least-cofactors    they are had so; the modulus of the products is n
+--   residue-below    a residue modulo what is n is at most that
 --   cofactors        the rules
 use mathlib.Core.Path.{_≡_, sym, ap, subst, _∙_}
 use Prim.Native.Nat.{ℕ, _+_, _-_, _*_, _/_, _%_, _<_, _≤_, _∣_}
+use native.Mathlib.Omega.{arith}
 use native.Mathlib.Nat.{dvd-trans, mod-lt, mul-div-cancel', le-of-dvd, add-comm, add-zero}
 use Rattle.definitions.specs.Residues.{GcdWithCofactors, LeastCofactors}
 use Rattle.law_numbers.specs.Congruence.{Cong, c-refl, c-sym, c-trans, c-eq, c-add, c-mul, c-mod, c-sub, c-dvd, c-cancel, dvd-c, ring}
 use Rattle.law_numbers.specs.Divisors.{GcdCofactor}
 use Rattle.law_numbers.specs.LeastCofactors.{cofactor-modulo, least-of, positive}
-use Rattle.residue.proofs.Rules.{divisors}
+use Rattle.residue.proofs.Rules.{divisors, residue-most}
 
 module _ {n a b h g t₁ s₁ : ℕ} (pos : 1 ≤ n) (e : GcdCofactor n b h t₁) (f : GcdCofactor h a g s₁) where
   -- what is left of g, r = g - s a, with s a is g
@@ -28,10 +30,13 @@ module _ {n a b h g t₁ s₁ : ℕ} (pos : 1 ≤ n) (e : GcdCofactor n b h t₁
       rule : 0 + s * a ≡ s * a
       rule = add-comm 0 (s * a) ∙ add-zero (s * a)
 
-  module _ {s p r v t : ℕ} (et : t ≡ v % (n / h)) (ev : v ≡ (t₁ * (r / h)) % n) (er : r ≡ (g + (n - p)) % n) (ep : p ≡ (s * a) % n)
-      (es : s ≡ s₁ % (h / g)) where
+  module _ {n' s p r v t : ℕ} (et : t ≡ v % (n / h)) (ev' : v ≡ (t₁ * (r / h)) % n') (er' : r ≡ (g + (n' - p)) % n')
+      (ep' : p ≡ (s * a) % n') (es : s ≡ s₁ % (h / g)) (en : n' ≡ n) where
     pub least-cofactors : LeastCofactors n a b g s t
     least-cofactors =
+        let ev : v ≡ (t₁ * (r / h)) % n = rw en at ev' in
+        let er : r ≡ (g + (n - p)) % n = rw en at er' in
+        let ep : p ≡ (s * a) % n = rw en at ep' in
         let k : GcdCofactor h a g s = subst (GcdCofactor h a g) (sym es) (cofactor-modulo (positive pos e f .h-least) f) in
         let below : s < h / g = subst (λ (x : ℕ). x < h / g) (sym es) (mod-lt s₁ (positive pos e f .first)) in
         let c : Cong n (r + s * a) g = left s ep er in
@@ -60,4 +65,8 @@ module _ {n a b h g t₁ s₁ : ℕ} (pos : 1 ≤ n) (e : GcdCofactor n b h t₁
           sum = y .sum;
         }
 
-pub ruleset cofactors = (divisors, with-cofactors, least-cofactors)
+-- a residue modulo what is n
+pub residue-below : {n n' r : ℕ} (x : ℕ) → r ≡ x % n' → n' ≡ n → 1 ≤ n → r ≤ n'
+residue-below x e en l = residue-most x e (omega arith)
+
+pub ruleset cofactors = (divisors, residue-below, with-cofactors, least-cofactors)

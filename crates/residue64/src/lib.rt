@@ -8,11 +8,15 @@
 //   join          the residue modulo n1 n2 that is x modulo n1 and y modulo n2
 //   gcd_with_cofactors    gcd(a, b, n) as s a + t b modulo n, with the least s and then the least t
 //   modulus_of    n with K n, in the record that the words of 32 bits have too
+//
+//   m       the modulus with its reciprocal
 ghost use mathlib.Core.Path.{_≡_};
 ghost use Prim.Native.Nat.{ℕ, _+_, _-_, _*_, _/_, _%_, _<_, _≤_};
 ghost use Rattle.definitions.specs.Residues.{K, GcdWithCofactors, LeastCofactors};
 ghost use Rattle.residue.specs.Moduli.{CoprimeModuli};
+ghost use Rattle.reduction64.specs.Moduli.{Ready};
 ghost use Rattle.residue64.specs.Kinds.{KindOf};
+use reduction64::Reciprocal;
 use residue::Modulus;
 
 // S13, S79: "unit with its inverse, nilpotent, or splitting with two factors"
@@ -29,28 +33,28 @@ pub enum Attempt {
 }
 
 // What a is modulo n. A nilpotent residue shows by a high power at once. Otherwise what n has in common with a is divided out of it
-// until nothing is left in common; the rest, m, is the factor modulo which a is a unit.
-pub fn kind_of(n: u64, a: u64) -> Kind
-    requires { ⌜ 2 ≤ n ⌝ }
-    ensures { λ r. ⌜ KindOf n a r ⌝ }
+// until nothing is left in common; the rest, q, is the factor modulo which a is a unit.
+pub fn kind_of(m: Reciprocal, a: u64) -> Kind
+    requires { ⌜ (2 ≤ m .n) × Ready m ⌝ }
+    ensures { λ r. ⌜ KindOf (m .n) a r ⌝ }
 {
-    let e = bezout64::cofactor(n, a);
+    let e = bezout64::cofactor(m.n, a);
     if e.g == 1 {
         return Kind::Unit(e.s);
     }
-    if arithmetic64::power(n, a, 64) == 0 {
+    if reduction64::power(m, a, 64) == 0 {
         return Kind::Nilpotent;
     }
-    let mut m = n / e.g;
-    let mut h = bezout64::gcd(m, a);
+    let mut q = m.n / e.g;
+    let mut h = bezout64::gcd(q, a);
     while h > 1 {
-        m = m / h;
-        h = bezout64::gcd(m, a);
+        q = q / h;
+        h = bezout64::gcd(q, a);
     }
-    if m == 1 {
+    if q == 1 {
         Kind::Nilpotent
     } else {
-        Kind::Splits(n / m, m)
+        Kind::Splits(m.n / q, q)
     }
 }
 
@@ -63,15 +67,15 @@ pub fn idempotent(n1: u64, n2: u64) -> u64
     (e.s * n2) % (n1 * n2)
 }
 
-// x modulo n1 and y modulo n2.
-pub fn join(n1: u64, n2: u64, x: u64, y: u64) -> u64
+// x modulo n1 and y modulo n2, modulo n = n1 n2.
+pub fn join(m: Reciprocal, n1: u64, n2: u64, x: u64, y: u64) -> u64
+    requires { ⌜ (Ready m) × (m .n ≡ n1 * n2) ⌝ }
     requires { ⌜ CoprimeModuli 18446744073709551616 n1 n2 ⌝ }
     requires { ⌜ (x < n1) × (y < n2) ⌝ }
     ensures { λ r. ⌜ (r < n1 * n2) × ((r % n1 ≡ x) × (r % n2 ≡ y)) ⌝ }
 {
     let e = idempotent(n1, n2);
-    let n = n1 * n2;
-    arithmetic64::mul_add_mod(n, y, e, arithmetic64::sub_mod(n, x, y))
+    reduction64::add_product(m, y, e, reduction64::difference(m, x, y))
 }
 
 // A greatest common divisor g with the cofactors s and t.
@@ -101,9 +105,10 @@ pub fn gcd_with_cofactors(n: u64, a: u64, b: u64) -> Cofactors
     let e = bezout64::cofactor(n, b);
     let f = bezout64::cofactor(e.g, a);
     let s = least(e.g, f.g, f.s);
-    let p = arithmetic64::mul_mod(n, s, a);
-    let r = arithmetic64::sub_mod(n, f.g, p);
-    let t = arithmetic64::mul_mod(n, e.s, r / e.g);
+    let m = reduction64::modulus_of(n);
+    let p = reduction64::product(m, s, a);
+    let r = reduction64::difference(m, f.g, p);
+    let t = reduction64::product(m, e.s, r / e.g);
     Cofactors {
         g: f.g,
         s,

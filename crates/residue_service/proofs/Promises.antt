@@ -7,7 +7,7 @@
 --   refused-gcd, gcd-answered              the gcd with cofactors
 --   refused-kind, kind-answered            the kind
 --   tests, promises                        the rules
-use mathlib.Core.Path.{_≡_, refl, sym, ap, _∙_}
+use mathlib.Core.Path.{_≡_, refl, sym, ap, subst, _∙_}
 use mathlib.Core.Bool.{Bool, true, false, not}
 use mathlib.Core.List.{List, [], _∷_}
 use Prim.Native.Nat.{ℕ, zero, suc, _≤_, _<_}
@@ -114,9 +114,11 @@ pub refused-kind : (W : Width) (n a r : ℕ) → r ≡ first-refusal (refusals-r
 refused-kind W n a zero e f = absurd (f refl)
 refused-kind W n a (suc r) e f = record { status-is = e; values-are = refl }
 
-pub kind-answered : (W : Width) (n a r : ℕ) (k : Kind) → r ≡ first-refusal (refusals-residue W n a) → r ≡ 0 → KindOf n a k
+-- n' is the modulus of a record of n
+pub kind-answered : (W : Width) (n n' a r : ℕ) (k : Kind) → r ≡ first-refusal (refusals-residue W n a) → r ≡ 0 → KindOf n' a k → n' ≡ n
     → KindAnswers W n a (Known k)
-kind-answered W n a r k e z h = record { status-is = sym z ∙ e; values-are = true-values n a k h }
+kind-answered W n n' a r k e z h is =
+    record { status-is = sym z ∙ e; values-are = true-values n a k (subst (λ (x : ℕ). KindOf x a k) is h) }
 
 pub ruleset answers = (refused-residue, residue-answered, refused-gcd, gcd-answered, refused-kind, kind-answered)
 

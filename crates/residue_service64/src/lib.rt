@@ -140,5 +140,6 @@ pub fn classify(n: u64, a: u64) -> KindAnswer
     if status != 0 {
         return KindAnswer::Refused(status);
     }
-    KindAnswer::Known(residue64::kind_of(n, a))
+    let m = reduction64::modulus_of(n);
+    KindAnswer::Known(residue64::kind_of(m, a))
 }

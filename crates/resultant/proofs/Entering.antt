@@ -138,9 +138,4 @@ pub attempted-found : {n : ℕ} {m : Modulus} {f g w w₁ w₂ : List ℕ} (r : 
 attempted-found {n} {m} {f} {g} {w} {w₁} {w₂} r lf lg is two s near t =
     subst (λ (z : ℕ). EuclidAttempted z (resultant z f g) r) is (entered-attempt m f g w w₁ w₂ (omega arith) s near lf lg r t)
 
--- the modulus of the record is the one that was asked for
-pub found-answer : {n n' : ℕ} (f g : List ℕ) (r : Attempt) → ValueOrSplit n' (resultant n' f g) r → n' ≡ n
-    → ValueOrSplit n (resultant n f g) r
-found-answer f g r h is = subst (λ (z : ℕ). ValueOrSplit z (resultant z f g) r) is h
-
-pub ruleset entering = (needs, room-placed, placed-found, attempted-found, entered-answer, found-answer)
+pub ruleset entering = (needs, room-placed, placed-found, attempted-found, entered-answer)

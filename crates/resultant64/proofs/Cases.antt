@@ -2,11 +2,11 @@
 --
 --   tried-read                            an attempt without inverses, read as one of words of 32 bits
 --   placed-loaded, answer-loaded          the general attempt at the sent polynomials
---   moduli-at                             what joining asks of the two factors
---   placing, loading, falling, factors, moduli, joining    the rules
+--   moduli-at, whole-at                   what joining asks of the two factors
+--   placing, loading, falling, factors, moduli, wholes, joining    the rules
 use mathlib.Core.Path.{_≡_, refl, ap}
 use mathlib.Core.List.{List}
-use Prim.Native.Nat.{ℕ, _+_, _-_, _<_, _≤_}
+use Prim.Native.Nat.{ℕ, _+_, _-_, _*_, _<_, _≤_}
 use lib.ListN.{length}
 use Rattle.definitions.specs.Resultants.{resultant}
 use Rattle.windows.specs.Window.{piece, Loaded}
@@ -48,9 +48,14 @@ pub ruleset falling = (join.falling, readings)
 
 pub ruleset factors = (join.factors, readings)
 
-pub moduli-at : (n x b : ℕ) {p q : ℕ} (r : Attempt) → ValueOrSplit n x r → r ≡ Splits p q → n < b → CoprimeModuli b p q
-moduli-at n x b r a e l = join.moduli-asked n x r a e b l refl refl
+pub moduli-at : (n n' x b : ℕ) {p q : ℕ} (r : Attempt) → ValueOrSplit n x r → r ≡ Splits p q → n ≡ n' → n' < b → CoprimeModuli b p q
+moduli-at n n' x b r a e is l = join.moduli-asked n x r a e b n' is l refl refl
+
+pub whole-at : (n x p q : ℕ) (r : Attempt) → ValueOrSplit n x r → r ≡ Splits p q → n ≡ p * q
+whole-at n x p q r a e = join.whole-asked n x r a e refl refl
 
 pub ruleset moduli = (moduli-at, split-read)
+
+pub ruleset wholes = (whole-at, split-read)
 
 pub ruleset joining = (join.joining, readings)

@@ -4,7 +4,7 @@
 //   m      the record of the modulus n
 //   w      the working window: f from 0 on, g after it, and the attempt's room from l + k on
 //
-//   run        the resultant; a split of n is worked on each factor and joined
+//   run        the resultant; the record of n is found, once; a split of n is worked on each factor and joined
 //   once       one attempt
 //   ordered    one attempt where f has no more words than g: without inverses first
 //   attempted  the attempt without inverses
@@ -53,7 +53,7 @@ fn settled(w: &mut [u64], m: Reciprocal, f: &[u64], g: &[u64], x: u64) -> Attemp
     requires { ⌜ ((Ready m) × (2 ≤ m .n)) × (RunLengthsAsked (now f) (now g) (now w) × (length (now f) ≤ length (now g))) ⌝ }
     ensures { λ r. ⌜ ValueOrSplit (m .n) (resultant (m .n) (now (f .entry)) (now (g .entry))) r ⌝ }
 {
-    match residue64::kind_of(m.n, x) {
+    match residue64::kind_of(m, x) {
         residue64::Kind::Splits(p, q) => Attempt::Splits(p, q),
         residue64::Kind::Unit(_) => general(w, m, f, g),
         residue64::Kind::Nilpotent => general(w, m, f, g),
@@ -82,12 +82,11 @@ fn swapped(w: &mut [u64], m: Reciprocal, f: &[u64], g: &[u64]) -> Attempt
     resultant_steps64::times_sign(m.n, l - 1, k - 1, r)
 }
 
-// The modulus is found, once. The polynomial with fewer words goes first.
-fn once(w: &mut [u64], n: u64, f: &[u64], g: &[u64]) -> Attempt
-    requires { ⌜ (2 ≤ n) × RunLengthsAsked (now f) (now g) (now w) ⌝ }
-    ensures { λ r. ⌜ ValueOrSplit n (resultant n (now (f .entry)) (now (g .entry))) r ⌝ }
+// The polynomial with fewer words goes first.
+fn once(w: &mut [u64], m: Reciprocal, f: &[u64], g: &[u64]) -> Attempt
+    requires { ⌜ ((Ready m) × (2 ≤ m .n)) × RunLengthsAsked (now f) (now g) (now w) ⌝ }
+    ensures { λ r. ⌜ ValueOrSplit (m .n) (resultant (m .n) (now (f .entry)) (now (g .entry))) r ⌝ }
 {
-    let m = reduction64::modulus_of(n);
     if f.len() <= g.len() {
         return ordered(w, m, f, g);
     }
@@ -101,12 +100,13 @@ pub fn run(w: &mut [u64], n: u64, f: &[u64], g: &[u64]) -> u64
     ensures { λ r. ⌜ r ≡ resultant n (now (f .entry)) (now (g .entry)) ⌝ }
     ensures { λ _. ⌜ Scratch (now (w .entry)) (now (w .exit)) ⌝ }
 {
-    match once(w, n, f, g) {
+    let m = reduction64::modulus_of(n);
+    match once(w, m, f, g) {
         Attempt::Value(v) => v,
         Attempt::Splits(p, q) => {
             let x = run(w, p, f, g);
             let y = run(w, q, f, g);
-            residue64::join(p, q, x, y)
+            residue64::join(m, p, q, x, y)
         }
     }
 }

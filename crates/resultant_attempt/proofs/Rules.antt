@@ -25,7 +25,7 @@ use Rattle.window_factor.specs.Factors.{LeadingUnit, AllNilpotents, Given, Fact
 use Rattle.resultant_steps.specs.AttemptAnswers.{ValueOrSplit, Follows, IsAnswer, Partial, Lifted}
 use Rattle.resultant_steps.specs.Layouts.{Primitive, ContentCleared, Beside, words-at, words-back}
 use Rattle.resultant_steps.proofs.SideBySide.{onward}
-use Rattle.resultant_steps.proofs.Contents.{first-of, lent, content-positive, content-whole, content-times}
+use Rattle.resultant_steps.proofs.Contents.{first-of, lent, content-whole, content-times}
 use Rattle.resultant_steps.proofs.AnswerChanges.{followed, answer-follows}
 use Rattle.resultant_attempt.specs.Rooms.{place}
 use Rattle.resultant_attempt.specs.AttemptStages.{Placed, DivisorPlaced, Stacked, Part}
@@ -64,18 +64,12 @@ not-zero l e = omega arith
 -- ---- the content
 
 module _ {n d e : ℕ} {w : List ℕ} (st : Stacked n d e w) where
-  pub clear-asked : (1 ≤ n) × ((e + 1 + (d + 1) ≤ length w) × Below n 0 (e + 1) w)
-  clear-asked = (omega (arith, st .two), (stacked-fits n d e w st, record { at = λ k l. st .below .at k (omega arith) }))
+  pub clear-asked : (e + 1 + (d + 1) ≤ length w) × Below n 0 (e + 1) w
+  clear-asked = (stacked-fits n d e w st, record { at = λ k l. st .below .at k (omega arith) })
 
   module _ {c : ℕ} {w' : List ℕ} (cl : ContentCleared n d e c w w') where
-    pub cleared-positive : 1 ≤ c
-    cleared-positive = content-positive (cl .content) (omega (arith, st .two))
-
     pub whole-answer : c ≡ n → ValueOrSplit n (resultant n (piece w (e + 1) (d + 1)) (piece w 0 (e + 1))) (Value 0)
     whole-answer = content-whole n c d e w w' (st .two) (st .one) (st .near) (stacked-fits n d e w st) (st .below) cl
-
-    pub cleared-some : (c ≡ n → ⊥) → 1 ≤ n / c
-    cleared-some ne = omega (arith, cleared-asked n c d e w w' st cl ne .0 .two)
 
     -- n' is the modulus that is left
     module _ {n' : ℕ} (ne : c ≡ n → ⊥) (is : n' ≡ n / c) where
@@ -224,7 +218,7 @@ module _ {n d e t : ℕ} {w ys : List ℕ} (st : Stacked n d e w) (lt : t < d) (
 
 pub ruleset degrees = (same-degree, lower-degree, factor-degree, unit-degree, positive, difference-positive)
 
-pub ruleset contents = (clear-asked, cleared-positive, cleared-some, whole-answer, cleared-stacked, cleared-primitive, lifted-asked)
+pub ruleset contents = (clear-asked, whole-answer, cleared-stacked, cleared-primitive, lifted-asked)
 
 pub ruleset answers = (content-answer)
 

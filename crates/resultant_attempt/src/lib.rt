@@ -1,7 +1,7 @@
 // One attempt at a resultant modulo n: it ends in the value, or in a split of n. The degree d of f, at most that of g, falls.
 //
 //   w, n   the buffer and the modulus; m the record of n
-//   a, d   the place and the degree of f; b, e those of g; i the inverse of a leading word
+//   a, d   the place and the degree of f; b, e those of g; p all four; i the inverse of a leading word
 //   s, x   from these places on the buffer is free
 //   h, v   the places of the monic factor of f, of degree t, and of the room after it; u the place of the unit factor
 //
@@ -25,6 +25,14 @@ ghost use Rattle.window_factor.specs.Factors.{LeadingUnit};
 ghost use Rattle.resultant_attempt.specs.AttemptStages.{Placed, DivisorPlaced, Stacked, Part};
 use modulus::Modulus;
 use residue::Attempt;
+
+// f of degree d at a, and g of degree e at b.
+struct Pair {
+    a: usize,
+    d: usize,
+    b: usize,
+    e: usize,
+}
 
 // The resultant of f of degree d at a and g of degree e at b. Both are lost, and so are the words from s on.
 pub fn euclid(
@@ -50,7 +58,7 @@ pub fn euclid(
     }
     let x = bezout::cofactor(m.n, lead);
     if x.g == 1 {
-        return step(w, m, a, d, b, e, s, x.s);
+        return step(w, m, Pair { a, d, b, e }, s, x.s);
     }
     from_below(w, m, a, d, b, e, s)
 }
@@ -82,69 +90,54 @@ fn from_below(
 {
     let y = bezout::cofactor(m.n, w[a]);
     if y.g == 1 {
-        return reversed(w, m, a, d, b, e, s, y.s);
+        return reversed(w, m, Pair { a, d, b, e }, s, y.s);
     }
     resultant_steps::copy_pair(w, b, e + 1, a, d + 1, s);
     by_content(&mut w[s..], m, d, e)
 }
 
 // The same, where the constant of f has the inverse i: both are reversed, which brings it to the lead.
-fn reversed(
-    w: &mut [u32],
-    m: Modulus,
-    a: usize,
-    d: usize,
-    b: usize,
-    e: usize,
-    s: usize,
-    i: u32,
-) -> Attempt
+fn reversed(w: &mut [u32], m: Modulus, p: Pair, s: usize, i: u32) -> Attempt
     requires { ⌜ Known m ⌝ }
-    requires { ⌜ (Part (m .n) a d b e s (now w)) × ((1 ≤ d) × ((i * getD (now w) a 0) % m .n ≡ 1 % m .n)) ⌝ }
-    ensures { λ r. ⌜ ValueOrSplit (m .n) (resultant (m .n) (piece (now (w .entry)) a (d + 1)) (piece (now (w .entry)) b (e + 1))) r ⌝ }
+    requires { ⌜ (Part (m .n) (p .a) (p .d) (p .b) (p .e) s (now w)) × ((1 ≤ p .d) × ((i * getD (now w) (p .a) 0) % m .n ≡ 1 % m .n)) ⌝ }
+    ensures { λ r. ⌜ ValueOrSplit (m .n)
+        (resultant (m .n) (piece (now (w .entry)) (p .a) (p .d + 1)) (piece (now (w .entry)) (p .b) (p .e + 1))) r ⌝ }
 {
+    let d = p.d;
+    let e = p.e;
     let l = d + 1;
     let k = e + 1;
-    resultant_steps::copy_pair_reversed(w, a, l, b, k, s);
-    let r = step(&mut w[s..], m, 0, d, l, e, l + k, i);
+    resultant_steps::copy_pair_reversed(w, p.a, l, p.b, k, s);
+    let r = step(&mut w[s..], m, Pair { a: 0, d, b: l, e }, l + k, i);
     resultant_steps::times_sign(m.n, d, e, r)
 }
 
 // The same, where the leading word of f has the inverse i: a division, and the remainder and f after it.
-fn step(
-    w: &mut [u32],
-    m: Modulus,
-    a: usize,
-    d: usize,
-    b: usize,
-    e: usize,
-    s: usize,
-    i: u32,
-) -> Attempt
+fn step(w: &mut [u32], m: Modulus, p: Pair, s: usize, i: u32) -> Attempt
     requires { ⌜ Known m ⌝ }
-    requires { ⌜ DivisorPlaced (m .n) a d b e s i (now w) ⌝ }
-    ensures { λ r. ⌜ ValueOrSplit (m .n) (resultant (m .n) (piece (now (w .entry)) a (d + 1)) (piece (now (w .entry)) b (e + 1))) r ⌝ }
+    requires { ⌜ DivisorPlaced (m .n) (p .a) (p .d) (p .b) (p .e) s i (now w) ⌝ }
+    ensures { λ r. ⌜ ValueOrSplit (m .n)
+        (resultant (m .n) (piece (now (w .entry)) (p .a) (p .d + 1)) (piece (now (w .entry)) (p .b) (p .e + 1))) r ⌝ }
 {
-    let lead = w[a + d];
-    window_division::divide_by(w, m, a, d, b, e, i);
-    let r = euclid(w, m, b, d - 1, a, d, s);
-    resultant_steps::times(m, arithmetic::power(m.n, lead, e + 1 - d), r)
+    let lead = w[p.a + p.d];
+    window_division::divide(w, m, p.a, p.d, p.b, p.e, i);
+    let r = euclid(w, m, p.b, p.d - 1, p.a, p.d, s);
+    resultant_steps::times(m, arithmetic::power(m.n, lead, p.e + 1 - p.d), r)
 }
 
 // The same for g at 0 and f above it, whose leading word is no unit: the content of f is taken out first.
 fn by_content(w: &mut [u32], m: Modulus, d: usize, e: usize) -> Attempt
     requires { ⌜ Known m ⌝ }
     requires { ⌜ Stacked (m .n) d e (now w) ⌝ }
-    ensures { λ r. ⌜ ValueOrSplit (m .n) (resultant (m .n) (piece (now (w .entry)) (e + 1) (d + 1)) (piece (now (w .entry)) 0 (e + 1))) r ⌝ }
+    ensures { λ r. ⌜ ValueOrSplit (m .n) (resultant (m .n) (piece (now (w .entry)) (e + 1) (d + 1))
+        (piece (now (w .entry)) 0 (e + 1))) r ⌝ }
 {
-    let n = m.n;
-    let c = resultant_steps::clear_content(w, n, d, e);
-    if c == n {
+    let x = resultant_steps::clear_content(w, m, d, e);
+    if x.c == m.n {
         return Attempt::Value(0);
     }
-    let v = modulus::modulus_of(n / c);
-    let r = resultant_steps::lifted(n, primitive(w, v, d, e));
-    resultant_steps::times(m, arithmetic::power(n, c, e), r)
+    let r = resultant_steps::lifted(m.n, primitive(w, x.v, d, e));
+    resultant_steps::times(m, arithmetic::power(m.n, x.c, e), r)
 }
 
 // The same where f is primitive: some coefficient is not nilpotent.
@@ -152,14 +145,15 @@ fn primitive(w: &mut [u32], m: Modulus, d: usize, e: usize) -> Attempt
     requires { ⌜ Known m ⌝ }
     requires { ⌜ Stacked (m .n) d e (now w) ⌝ }
     requires { ⌜ Primitive (m .n) (piece (now w) (e + 1) (d + 1)) ⌝ }
-    ensures { λ r. ⌜ ValueOrSplit (m .n) (resultant (m .n) (piece (now (w .entry)) (e + 1) (d + 1)) (piece (now (w .entry)) 0 (e + 1))) r ⌝ }
+    ensures { λ r. ⌜ ValueOrSplit (m .n) (resultant (m .n) (piece (now (w .entry)) (e + 1) (d + 1))
+        (piece (now (w .entry)) 0 (e + 1))) r ⌝ }
 {
     let a = e + 1;
     let s = a + (d + 1);
     match window_factor::highest_of(&w[a..s], m.n) {
         window_factor::Highest::UnitAt(t, i) => {
             if t == d {
-                return step(w, m, a, d, 0, e, s, i);
+                return step(w, m, Pair { a, d, b: 0, e }, s, i);
             }
             factors(w, m, d, e, t, i)
         }
@@ -174,7 +168,8 @@ fn factors(w: &mut [u32], m: Modulus, d: usize, e: usize, t: usize, i: u32) -> A
     requires { ⌜ Known m ⌝ }
     requires { ⌜ (Stacked (m .n) d e (now w)) × (t < d) ⌝ }
     requires { ⌜ LeadingUnit (m .n) t i (piece (now w) (e + 1) (d + 1)) ⌝ }
-    ensures { λ r. ⌜ ValueOrSplit (m .n) (resultant (m .n) (piece (now (w .entry)) (e + 1) (d + 1)) (piece (now (w .entry)) 0 (e + 1))) r ⌝ }
+    ensures { λ r. ⌜ ValueOrSplit (m .n) (resultant (m .n) (piece (now (w .entry)) (e + 1) (d + 1))
+        (piece (now (w .entry)) 0 (e + 1))) r ⌝ }
 {
     let a = e + 1;
     let l = d + 1;
@@ -202,7 +197,13 @@ fn monic_part(w: &mut [u32], m: Modulus, a: usize, t: usize, e: usize, x: usize)
     let l = t + 1;
     let k = e + 1;
     resultant_steps::copy_pair(w, a, l, 0, k, x);
-    step(&mut w[x..], m, 0, t, l, e, l + k, 1)
+    let p = Pair {
+        a: 0,
+        d: t,
+        b: l,
+        e,
+    };
+    step(&mut w[x..], m, p, l + k, 1)
 }
 
 // The same for a polynomial of degree k whose constant is a unit.
@@ -212,5 +213,6 @@ fn unit_part(w: &mut [u32], m: Modulus, a: usize, k: usize, e: usize, x: usize) 
     ensures { λ r. ⌜ ValueOrSplit (m .n) (resultant (m .n) (piece (now (w .entry)) a (k + 1)) (piece (now (w .entry)) 0 (e + 1))) r ⌝ }
 {
     let i = bezout::cofactor(m.n, w[a]);
-    reversed(w, m, a, k, 0, e, x, i.s)
+    let p = Pair { a, d: k, b: 0, e };
+    reversed(w, m, p, x, i.s)
 }

@@ -29,14 +29,14 @@ use modulus::Modulus;
 use resultant_pseudo::EuclidAttempt;
 
 // x with the sign (-1)^e.
-fn with_sign(m: Modulus, e: usize, x: u32) -> u32
-    requires { ⌜ (Known m) × (x < m .n) ⌝ }
-    ensures { λ r. ⌜ (r < m .n) × (value m r ≡ signed (m .n) e (value m x)) ⌝ }
+fn with_sign(m: Modulus, e: usize, y: u32) -> u32
+    requires { ⌜ (Known m) × (y < m .n) ⌝ }
+    ensures { λ r. ⌜ (r < m .n) × (value m r ≡ signed (m .n) e (value m y)) ⌝ }
 {
     if e % 2 == 0 {
-        return x;
+        return y;
     }
-    modulus::difference(m, 0, x)
+    modulus::difference(m, 0, y)
 }
 
 fn pair_step(w: &mut [u32], m: Modulus, x: Stage) -> Stage

@@ -30,14 +30,14 @@ use euclid_steps64::Stage;
 use reduction64::Reciprocal;
 
 // x with the sign (-1)^e.
-fn with_sign(m: Reciprocal, e: usize, x: u64) -> u64
-    requires { ⌜ (Ready m) × (x < m .n) ⌝ }
-    ensures { λ r. ⌜ (r < m .n) × (value (plain m) r ≡ signed (m .n) e (value (plain m) x)) ⌝ }
+fn with_sign(m: Reciprocal, e: usize, y: u64) -> u64
+    requires { ⌜ (Ready m) × (y < m .n) ⌝ }
+    ensures { λ r. ⌜ (r < m .n) × (value (plain m) r ≡ signed (m .n) e (value (plain m) y)) ⌝ }
 {
     if e % 2 == 0 {
-        return x;
+        return y;
     }
-    modulus64::difference(m, 0, x)
+    modulus64::difference(m, 0, y)
 }
 
 fn pair_step(w: &mut [u64], m: Reciprocal, x: Stage) -> Stage
@@ -211,7 +211,7 @@ fn value_of(w: &[u64], m: Reciprocal, y: Stage) -> EuclidAttempt
         return EuclidAttempt::NotUnit(s);
     }
     let k = y.a;
-    let c = arithmetic64::power(n, modulus64::leave(m, w[k]), y.e);
+    let c = reduction64::power(m, modulus64::leave(m, w[k]), y.e);
     let z = modulus64::product(m, y.p, y.t);
     let u = modulus64::times(m, z, c);
     EuclidAttempt::Value(modulus64::multiply(m, i.s, u))

@@ -34,10 +34,6 @@ pub record Placed (n a d b e : ℕ) (w : List ℕ) : Type 0 where
 abbrev pub standing : ℕ → ℕ → ℕ → ℕ → ℕ → List ℕ → ℕ
 standing n a d b e w = resultant n (piece w a (d + 1)) (piece w b (e + 1))
 
--- the pair of a state stands in the buffer
-abbrev pub PlacedState : ℕ → State → List ℕ → Type 0
-PlacedState n x w = Placed n (x .a) (x .d) (x .b) (x .e) w
-
 -- whatever is known of the resultant R₀ by the pair before is known by the pair after; what the pair after combine to, the pair before do
 pub record StateReached (n a d b e s p t : ℕ) (w : List ℕ) (a' d' b' e' s' p' t' : ℕ) (w' : List ℕ) : Type 0 where
   pub placed : Placed n a' d' b' e' w'

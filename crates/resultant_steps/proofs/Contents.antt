@@ -3,7 +3,7 @@
 --   factors            c m = n
 --   content-law        the law, over lists
 --   first-of, lent     the words of f as a call is lent them
---   cleared, cleared-none    what the division by c and the reduction modulo m leave; the content 1 needs neither
+--   cleared, cleared-none, left-none    what the division by c and the reduction modulo m leave; the content 1 needs neither
 --   content-two, content-below, content-primitive   m is above 1, the words are residues of it, f / c is primitive modulo m
 --   content-times      the value, from that modulo m
 --   content-whole      c = n: the resultant is 0
@@ -21,6 +21,7 @@ use Rattle.definitions.specs.Resultants.{resultant}
 use Rattle.law_numbers.specs.Congruence.{c-refl, c-mul, c-mod}
 use Rattle.law_polynomials.specs.ReachedSteps.{coef-beyond}
 use Rattle.law_polynomials.specs.ResultantLaws.{resultant-cong, resultant-content, resultant-scale-first}
+use borrow.Author.Needs.{needs}
 use borrow.Rule.Slice.PartMut.{midOf}
 use Rattle.windows.specs.Window.{piece, Moved, quotient-by, reduced-by, Below, Content}
 use Rattle.windows.proofs.Leaf.{lt-or-le, piece-at, piece-length}
@@ -122,32 +123,36 @@ module _ {n c : ℕ} {f : List ℕ} (h : Content n f c) (l : 1 ≤ n) where
   content-left = pos-of-dvd-of-pos (subst (λ (x : ℕ). n / c ∣ x) (factors n c (h .divides-n)) (dvd-mul-left (n / c) c)) l
 
 module _ {n c : ℕ} (d e : ℕ) {w : List ℕ} (ct : Content n (first-of d e w) c) where
-  pub cleared : {w₁ w₂ : List ℕ} → Moved (quotient-by c) (e + 1) (e + 1) (d + 1) w w₁ → Moved (reduced-by (n / c)) 0 0 (e + 1) w₁ w₂
-      → e + 1 + (d + 1) ≤ length w → {n' c' d' e' : ℕ} {w' w'' : List ℕ} → n' ≡ n → c' ≡ c → d' ≡ d → e' ≡ e → w' ≡ w → w'' ≡ w₂
+  pub cleared : {w₁ w₂ : List ℕ} {m : ℕ} → Moved (quotient-by c) (e + 1) (e + 1) (d + 1) w w₁ → Moved (reduced-by m) 0 0 (e + 1) w₁ w₂
+      → m ≡ n / c → e + 1 + (d + 1) ≤ length w → {n' c' d' e' : ℕ} {w' w'' : List ℕ} → n' ≡ n → c' ≡ c → d' ≡ d → e' ≡ e → w' ≡ w → w'' ≡ w₂
       → ContentCleared n' d' e' c' w' w''
-  cleared {w₁} {w₂} x y fits en ec ed ee ew ew₂ = rw (en, ec, ed, ee, ew, ew₂) (record {
-    content = lent (λ f. Content n f c) d e w ct;
-    around = record {
-      same = y .same ∙ x .same;
-      low = λ k l. absurd (omega arith);
-      high = λ k l. y .high k (omega arith) ∙ x .high k (omega arith);
-    };
-    first = λ k l. y .high (e + 1 + k) (omega arith) ∙ x .mid k l;
-    second = λ k l. ap (λ (i : ℕ). getD w₂ i 0) (sym (zero-add k)) ∙ y .mid k l
-        ∙ ap (λ (i : ℕ). i % (n / c)) (ap (λ (i : ℕ). getD w₁ i 0) (zero-add k) ∙ x .low k (omega arith));
-  })
+  cleared {w₁} {w₂} x y₀ em fits en ec ed ee ew ew₂ =
+      let y : Moved (reduced-by (n / c)) 0 0 (e + 1) w₁ w₂ = rw em at y₀ in rw (en, ec, ed, ee, ew, ew₂) (record {
+        content = lent (λ f. Content n f c) d e w ct;
+        around = record {
+          same = y .same ∙ x .same;
+          low = λ k l. absurd (omega arith);
+          high = λ k l. y .high k (omega arith) ∙ x .high k (omega arith);
+        };
+        first = λ k l. y .high (e + 1 + k) (omega arith) ∙ x .mid k l;
+        second = λ k l. ap (λ (i : ℕ). getD w₂ i 0) (sym (zero-add k)) ∙ y .mid k l
+            ∙ ap (λ (i : ℕ). i % (n / c)) (ap (λ (i : ℕ). getD w₁ i 0) (zero-add k) ∙ x .low k (omega arith));
+      })
 
   -- the content 1: nothing is to be done
-  pub cleared-none : c ≡ 1 → Below n 0 (e + 1) w → ContentCleared n d e 1 w w
-  cleared-none one below = record {
+  pub cleared-none : c ≡ 1 → Below n 0 (e + 1) w → ContentCleared n d e c w w
+  cleared-none one below = subst (λ (x : ℕ). ContentCleared n d e x w w) (sym one) (record {
     content = subst (Content n (piece w (e + 1) (d + 1))) one (lent (λ f. Content n f c) d e w ct);
     around = record { same = refl; low = λ k l. refl; high = λ k l. refl };
     first = λ k l. sym (div-one (getD w (e + 1 + k) 0));
     second = λ k l. sym (ap (λ (x : ℕ). getD w k 0 % x) (div-one n)
         ∙ mod-eq-of-lt (subst (λ (x : ℕ). getD w x 0 < n) (zero-add k) (below .at k l)));
-  }
+  })
 
-pub ruleset clearing = (content-positive, content-left, cleared, cleared-none)
+pub left-none : {n c : ℕ} → c ≡ 1 → n ≡ n / c
+left-none {n} e = sym (ap (λ (x : ℕ). n / x) e ∙ div-one n)
+
+pub ruleset clearing = (needs, content-positive, content-left, cleared, cleared-none, left-none)
 
 module _ (n c d e : ℕ) (w w' : List ℕ) (two : 2 ≤ n) (one : 1 ≤ d) (near : d ≤ e) (fits : e + 1 + (d + 1) ≤ length w)
     (below : Below n 0 (e + 1 + (d + 1)) w) (cl : ContentCleared n d e c w w') where

@@ -7,7 +7,7 @@
 //
 //   exchanged                      a residue with the sign of an exchange or of a reversal
 //   copy_pair, copy_pair_reversed  two polynomials laid side by side
-//   clear_content                  the content of f taken out
+//   clear_content                  the content c of f taken out; v is the record of n / c
 //   lift_split                     a split of the modulus from one of a divisor of it
 //   times, times_sign, lifted      an answer turned into another
 ghost use mathlib.Core.Path.{_≡_};
@@ -21,6 +21,12 @@ ghost use Rattle.resultant_steps.specs.AttemptAnswers.{IsAnswer, Partial
 ghost use Rattle.resultant_steps.specs.Layouts.{ContentCleared, Beside, words-at, words-back};
 use modulus::Modulus;
 use residue::Attempt;
+
+// A content, and the record of the modulus that is left.
+pub struct Cleared {
+    pub c: u32,
+    pub v: Modulus,
+}
 
 // Two coprime factors.
 struct Split {
@@ -58,18 +64,22 @@ pub fn copy_pair_reversed(w: &mut [u32], a: usize, l: usize, b: usize, k: usize,
     windows::copy_reversed(w, b, s + l, k);
 }
 
-// The content c of f and n. f of degree d at e + 1 is divided by it, g of degree e at 0 is reduced modulo n / c.
-pub fn clear_content(w: &mut [u32], n: u32, d: usize, e: usize) -> u32
-    requires { ⌜ (1 ≤ n) × ((e + 1 + (d + 1) ≤ length (now w)) × (Below n 0 (e + 1) (now w))) ⌝ }
-    ensures { λ r. ⌜ ContentCleared n d e r (now (w .entry)) (now (w .exit)) ⌝ }
+// The content c of f and n. f of degree d at e + 1 is divided by it, g of degree e at 0 is reduced modulo n / c, whose record is found
+// once; the content 1 leaves the words and the record.
+pub fn clear_content(w: &mut [u32], m: Modulus, d: usize, e: usize) -> Cleared
+    requires { ⌜ (Known m) × ((e + 1 + (d + 1) ≤ length (now w)) × (Below (m .n) 0 (e + 1) (now w))) ⌝ }
+    ensures { λ r. ⌜ ContentCleared (m .n) d e (r .c) (now (w .entry)) (now (w .exit)) ⌝ }
+    ensures { λ r. ⌜ (Known (r .v)) × (r .v .n ≡ m .n / r .c) ⌝ }
 {
+    let n = m.n;
     let c = windows::content(&w[e + 1..e + 1 + (d + 1)], n);
     if c == 1 {
-        return 1;
+        return Cleared { c, v: m };
     }
+    let v = modulus::modulus_of(n / c);
     windows::divide_words(w, c, e + 1, d + 1);
-    windows::reduce_words(w, n / c, 0, e + 1);
-    c
+    modulus_windows::reduce_words(w, v, 0, e + 1);
+    Cleared { c, v }
 }
 
 // A factor p of a split of a divisor of n splits n as well. The last two cases are never met: p is above 1 and divides n, so it is no

@@ -7,7 +7,7 @@
 //
 //   exchanged                      a residue with the sign of an exchange or of a reversal
 //   copy_pair, copy_pair_reversed  two polynomials laid side by side
-//   clear_content                  the content of f taken out
+//   clear_content                  the content c of f taken out; v is the record of n / c
 //   lift_split                     a split of the modulus from one of a divisor of it
 //   times, times_sign, lifted      an answer turned into another
 ghost use mathlib.Core.Path.{_≡_};
@@ -21,6 +21,12 @@ ghost use Rattle.resultant_steps64.specs.AttemptAnswers.{IsAnswer, Parti
 ghost use Rattle.resultant_steps.specs.Layouts.{ContentCleared, Beside, words-at, words-back};
 use reduction64::Reciprocal;
 use residue64::Attempt;
+
+// A content, and the record of the modulus that is left.
+pub struct Cleared {
+    pub c: u64,
+    pub v: Reciprocal,
+}
 
 // Two coprime factors.
 struct Split {
@@ -58,27 +64,31 @@ pub fn copy_pair_reversed(w: &mut [u64], a: usize, l: usize, b: usize, k: usize,
     windows64::copy_reversed(w, b, s + l, k);
 }
 
-// The content c of f and n. f of degree d at e + 1 is divided by it, g of degree e at 0 is reduced modulo n / c.
-pub fn clear_content(w: &mut [u64], n: u64, d: usize, e: usize) -> u64
-    requires { ⌜ (1 ≤ n) × ((e + 1 + (d + 1) ≤ length (now w)) × (Below n 0 (e + 1) (now w))) ⌝ }
-    ensures { λ r. ⌜ ContentCleared n d e r (now (w .entry)) (now (w .exit)) ⌝ }
+// The content c of f and n. f of degree d at e + 1 is divided by it, g of degree e at 0 is reduced modulo n / c, whose record is found
+// once; the content 1 leaves the words and the record.
+pub fn clear_content(w: &mut [u64], m: Reciprocal, d: usize, e: usize) -> Cleared
+    requires { ⌜ (Ready m) × ((e + 1 + (d + 1) ≤ length (now w)) × (Below (m .n) 0 (e + 1) (now w))) ⌝ }
+    ensures { λ r. ⌜ ContentCleared (m .n) d e (r .c) (now (w .entry)) (now (w .exit)) ⌝ }
+    ensures { λ r. ⌜ (Ready (r .v)) × (r .v .n ≡ m .n / r .c) ⌝ }
 {
+    let n = m.n;
     let c = windows64::content(&w[e + 1..e + 1 + (d + 1)], n);
     if c == 1 {
-        return 1;
+        return Cleared { c, v: m };
     }
+    let v = reduction64::modulus_of(n / c);
     windows64::divide_words(w, c, e + 1, d + 1);
-    windows64::reduce_words(w, n / c, 0, e + 1);
-    c
+    windows64::reduce_words(w, v.n, v, 0, e + 1);
+    Cleared { c, v }
 }
 
 // A factor p of a split of a divisor of n splits n as well. The last two cases are never met: p is above 1 and divides n, so it is no
 // unit; q is above 1, divides n and is coprime to p, so no power of p is 0 modulo n.
-fn lift_split(n: u64, p: u64, q: u64) -> Split
-    requires { ⌜ (2 ≤ n) × (SplitOf (p * q) p q × (p * q ∣ n)) ⌝ }
-    ensures { λ r. ⌜ SplitOf n (r .p) (r .q) ⌝ }
+fn lift_split(m: Reciprocal, p: u64, q: u64) -> Split
+    requires { ⌜ ((2 ≤ m .n) × Ready m) × (SplitOf (p * q) p q × (p * q ∣ m .n)) ⌝ }
+    ensures { λ r. ⌜ SplitOf (m .n) (r .p) (r .q) ⌝ }
 {
-    match residue64::kind_of(n, p) {
+    match residue64::kind_of(m, p) {
         residue64::Kind::Splits(x, y) => Split { p: x, q: y },
         residue64::Kind::Unit(_) => Split { p, q },
         residue64::Kind::Nilpotent => Split { p, q },
@@ -108,14 +118,14 @@ pub fn times_sign(n: u64, d: usize, e: usize, r: Attempt) -> Attempt
 }
 
 // The answer modulo a divisor of n, as one modulo n.
-pub fn lifted(n: u64, r: Attempt) -> Attempt
-    requires { ⌜ (2 ≤ n) × Partial n r ⌝ }
-    ensures { λ s. ⌜ Lifted n r s ⌝ }
+pub fn lifted(m: Reciprocal, r: Attempt) -> Attempt
+    requires { ⌜ ((2 ≤ m .n) × Ready m) × Partial (m .n) r ⌝ }
+    ensures { λ s. ⌜ Lifted (m .n) r s ⌝ }
 {
     match r {
         Attempt::Value(v) => Attempt::Value(v),
         Attempt::Splits(p, q) => {
-            let s = lift_split(n, p, q);
+            let s = lift_split(m, p, q);
             Attempt::Splits(s.p, s.q)
         }
     }

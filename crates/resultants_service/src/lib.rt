@@ -1,7 +1,7 @@
 // The resultants of many pairs as a service: from any words, degrees and lengths the resultant of every pair, or a numbered refusal. The
 // working words are wiped once.
 //
-//   f, g, d, e, count    count polynomials of sent degree d one after the other, and as many of sent degree e
+//   f, g, d, e, count    count polynomials of sent degree d one after the other, and as many of sent degree e; b holds the three numbers
 //   out                  word i is the resultant of the i-th pair
 //
 //   pair          the resultant of the i-th pair
@@ -14,38 +14,33 @@ ghost use Rattle.refusals.specs.Refusals.{narrow};
 ghost use Rattle.batch_pairs.specs.Batches.{piece, Pairs};
 ghost use Rattle.batch_pairs.specs.Asked.{BatchAsked, PairAsked};
 ghost use Rattle.resultants_service.specs.ResultantsService.{IsResultant, ResultantsAnswer};
+use batch_pairs::Batch;
 use refusals::Answer;
 
 // The resultant of the i-th pair.
-fn pair(work: &mut [u32], n: u32, f: &[u32], d: usize, g: &[u32], e: usize, i: usize) -> u32
-    requires { ⌜ PairAsked narrow n (now f) d (now g) e i (now work) ⌝ }
-    ensures { λ r. ⌜ r ≡ resultant n (piece d i (now (f .entry))) (piece e i (now (g .entry))) ⌝ }
+fn pair(n: u32, f: &[u32], g: &[u32], b: Batch, i: usize, work: &mut [u32]) -> u32
+    requires { ⌜ PairAsked narrow n (now f) (b .d) (now g) (b .e) i (now work) ⌝ }
+    ensures { λ r. ⌜ r ≡ resultant n (piece (b .d) i (now (f .entry))) (piece (b .e) i (now (g .entry))) ⌝ }
     ensures { λ _. ⌜ Scratch (now (work .entry)) (now (work .exit)) ⌝ }
 {
-    let a = i * (d + 1);
-    let b = i * (e + 1);
-    resultant::run(work, n, &f[a..a + (d + 1)], &g[b..b + (e + 1)])
+    let k = b.d + 1;
+    let l = b.e + 1;
+    let x = i * k;
+    let y = i * l;
+    resultant::run(work, n, &f[x..x + k], &g[y..y + l])
 }
 
 // The resultants of all pairs, in the first count words of out. The number after i is next.
-fn each_pair(
-    out: &mut [u32],
-    work: &mut [u32],
-    n: u32,
-    f: &[u32],
-    d: usize,
-    g: &[u32],
-    e: usize,
-    count: usize,
-)
-    requires { ⌜ BatchAsked narrow n (now f) d (now g) e count (now out) (now work) ⌝ }
-    ensures { λ _. ⌜ Pairs (IsResultant n) (now (f .entry)) d (now (g .entry)) e count (now (out .entry)) (now (out .exit)) ⌝ }
+fn each_pair(n: u32, f: &[u32], g: &[u32], b: Batch, out: &mut [u32], work: &mut [u32])
+    requires { ⌜ BatchAsked narrow n (now f) (b .d) (now g) (b .e) (b .count) (now out) (now work) ⌝ }
+    ensures { λ _. ⌜ Pairs (IsResultant n) (now (f .entry)) (b .d) (now (g .entry)) (b .e) (b .count)
+        (now (out .entry)) (now (out .exit)) ⌝ }
     ensures { λ _. ⌜ Scratch (now (work .entry)) (now (work .exit)) ⌝ }
 {
     let mut i: usize = 0;
     let mut next: usize = 1;
-    while next <= count {
-        out[i] = pair(work, n, f, d, g, e, i);
+    while next <= b.count {
+        out[i] = pair(n, f, g, b, i, work);
         i = next;
         next += 1;
     }
@@ -65,10 +60,11 @@ pub fn resultants(
     ensures { λ r. ⌜ ResultantsAnswer narrow n (now (f .entry)) d (now (g .entry)) e count (now (out .entry)) (now (out .exit))
         (now (work .entry)) (now (work .exit)) (r .value) (r .status) ⌝ }
 {
-    let status = batch_pairs::refusal_batch(n, f, d, g, e, count, out.len(), work.len());
+    let b = Batch { d, e, count };
+    let status = batch_pairs::refusal_batch(n, f, g, b, out.len(), work.len());
     if status != 0 {
         return Answer { value: 0, status };
     }
-    each_pair(out, work, n, f, d, g, e, count);
+    each_pair(n, f, g, b, out, work);
     answers::answered(0, work)
 }

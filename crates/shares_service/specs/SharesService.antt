@@ -40,4 +40,4 @@ frames-fail n =
     either-fails (short-fails n 1) (short-fails 1024 n) (λ a b. record { least = a; most = b }) (λ m. m .least) (λ m. m .most)
 
 pub shares-listed : (n : ℕ) → Listed (share-refusals n) (ServedFrames n ∷ [])
-shares-listed n = ((omega arith, frames-fail n), tt)
+shares-listed n = search (arith, tt, frames-fail) depth 20

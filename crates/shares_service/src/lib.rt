@@ -11,34 +11,42 @@ ghost use lib.ListN.{getD};
 ghost use Rattle.shares_service.specs.GivingOut.{first-waiting, give-frame, giving};
 ghost use Rattle.shares_service.specs.SharesService.{SharesAnswer};
 
+// The groups.
+pub const GROUPS: usize = 4;
+
+// The most frames of a run, and the refusal of a run of more, or of none.
+const MAX_FRAMES: u32 = 1024;
+
+const BAD_FRAMES: u32 = 15;
+
 #[repr(C)]
 pub struct Plan {
-    pub share: [u32; 4],
+    pub share: [u32; GROUPS],
     pub status: u32,
 }
 
 // Whose turn it is, what waits of each group, and what each was given.
 struct Giving {
     turn: usize,
-    waiting: [u32; 4],
-    given: [u32; 4],
+    waiting: [u32; GROUPS],
+    given: [u32; GROUPS],
 }
 
 // The first group from `turn` on, round the order, that has one waiting, or 4 where none has. The groups 1 to 4 have the places 0 to 3.
-fn first_waiting(waiting: [u32; 4], turn: usize) -> usize
+fn first_waiting(waiting: [u32; GROUPS], turn: usize) -> usize
     requires { ⌜ turn < 4 ⌝ }
     ensures { λ r. ⌜ r ≡ first-waiting waiting 4 turn ⌝ }
 {
     let mut i = turn;
-    let mut k: usize = 4;
+    let mut k: usize = GROUPS;
     while 0 < k {
         if 0 < waiting[i] {
             return i;
         }
-        i = (i + 1) % 4;
+        i = (i + 1) % GROUPS;
         k -= 1;
     }
-    4
+    GROUPS
 }
 
 // One frame goes to that group, and the turn is that of the next. Where nothing waits, nothing changes.
@@ -50,11 +58,11 @@ fn give_frame(s: Giving) -> Giving
     let mut waiting = s.waiting;
     let mut given = s.given;
     let i = first_waiting(waiting, s.turn);
-    if i < 4 {
+    if i < GROUPS {
         waiting[i] -= 1;
         given[i] += 1;
         return Giving {
-            turn: (i + 1) % 4,
+            turn: (i + 1) % GROUPS,
             waiting,
             given,
         };
@@ -66,16 +74,16 @@ fn give_frame(s: Giving) -> Giving
 pub fn shares(frames: u32, waiting1: u32, waiting2: u32, waiting3: u32, waiting4: u32) -> Plan
     ensures { λ r. ⌜ SharesAnswer frames (waiting1 ∷ waiting2 ∷ waiting3 ∷ waiting4 ∷ []) (r .share) (r .status) ⌝ }
 {
-    if frames < 1 || 1024 < frames {
+    if frames < 1 || MAX_FRAMES < frames {
         return Plan {
-            share: [0; 4],
-            status: 15,
+            share: [0; GROUPS],
+            status: BAD_FRAMES,
         };
     }
     let mut s = Giving {
         turn: 0,
         waiting: [waiting1, waiting2, waiting3, waiting4],
-        given: [0; 4],
+        given: [0; GROUPS],
     };
     for i in 0..frames {
         s = give_frame(s);

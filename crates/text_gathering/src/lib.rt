@@ -54,7 +54,7 @@ fn coefficient_after(b: u8, c: u32, x: u32) -> u32
 }
 
 // The coefficient c of power x, or the number x alone where there is none. Other powers than the words have are left out.
-fn store(words: &mut [u32], c: u32, x: u32)
+fn store(c: u32, x: u32, words: &mut [u32])
     requires { ⌜ 1 ≤ length (now words) ⌝ }
     ensures { λ _. ⌜ now (words .exit) ≡ stored c x (now (words .entry)) ⌝ }
 {
@@ -69,14 +69,14 @@ fn store(words: &mut [u32], c: u32, x: u32)
 }
 
 // A plus sign ends a term.
-fn end_term(words: &mut [u32], b: u8, c: u32, x: u32)
+fn end_term(b: u8, c: u32, x: u32, words: &mut [u32])
     requires { ⌜ 1 ≤ length (now words) ⌝ }
     ensures { λ _. ⌜ now (words .exit) ≡ cond (eqb b 43) (stored c x (now (words .entry))) (now (words .entry)) ⌝ }
 {
     if b != b'+' {
         return;
     }
-    store(words, c, x);
+    store(c, x, words);
 }
 
 // Every term of s to its place.
@@ -89,12 +89,12 @@ pub fn gather(s: &[u8], words: &mut [u32])
     let mut i: usize = 0;
     while i < s.len() {
         let b = s[i];
-        end_term(words, b, c, x);
+        end_term(b, c, x, words);
         c = coefficient_after(b, c, x);
         x = number_after(b, x);
         i += 1;
     }
-    store(words, c, x);
+    store(c, x, words);
 }
 
 fn same_text(s: &[u8], t: &[u8]) -> bool
@@ -118,7 +118,7 @@ pub fn is_text_of(s: &[u8], f: &[u32]) -> bool
     requires { ⌜ length (now f) ≤ 49 ⌝ }
     ensures { λ r. ⌜ r ≡ same-text (now (s .entry)) (text (now (f .entry))) ⌝ }
 {
-    let mut t = [0u8; 800];
-    let count = text_writer_service::put_text(f, &mut t);
+    let mut t = [0u8; text_writer_service::ROOM];
+    let count = text_writer_service::put_text(&mut t, f);
     same_text(s, &t[0..count])
 }

@@ -49,4 +49,4 @@ abbrev pub read-conditions : Width → ℕ → List ℕ → ℕ → List (Type 0
 read-conditions W n s l = ServedModulus W n ∷ ((f : List ℕ) × TextOf n s f) ∷ (49 ≤ l) ∷ []
 
 pub read-listed : (W : Width) (n : ℕ) (s : List ℕ) (l : ℕ) → Listed (read-refusals W n s l) (read-conditions W n s l)
-read-listed W n s l = ((omega arith, modulus-fails W n), ((omega arith, text-fails n s), ((omega arith, short-fails l 49), tt)))
+read-listed W n s l = search (arith, tt, modulus-fails, text-fails, short-fails) depth 20

@@ -25,7 +25,7 @@ const LONGEST: usize = 767;
 const NO_TEXT: u32 = 17;
 
 // The first count words of f, at the front of the words lent.
-fn put_words(words: &mut [u32], f: &[u32], count: usize)
+fn put_words(f: &[u32], count: usize, words: &mut [u32])
     requires { ⌜ (count ≤ length (now f)) × (count ≤ length (now words)) ⌝ }
     ensures { λ _. ⌜ now (words .exit) ≡ take count (now (f .entry)) ++ drop count (now (words .entry)) ⌝ }
 {
@@ -47,14 +47,14 @@ fn refused(k: u32) -> Answer
 }
 
 // The 49 words f are handed over, the first count of them the polynomial: "needs 49 words, zeros above".
-fn hand_over(words: &mut [u32], f: &[u32], count: u32) -> Answer
+fn hand_over(f: &[u32], count: u32, words: &mut [u32]) -> Answer
     requires { ⌜ length (now f) ≡ 49 ⌝ }
     ensures { λ r. ⌜ HandedOver (now (f .entry)) count (now (words .entry)) (now (words .exit)) (r .value) (r .status) ⌝ }
 {
     if words.len() < ROOM {
         return refused(6);
     }
-    put_words(words, f, ROOM);
+    put_words(f, ROOM, words);
     Answer {
         value: count,
         status: 0,
@@ -67,8 +67,8 @@ fn read_words(n: u32, f: &[u32], words: &mut [u32]) -> Answer
     ensures { λ r. ⌜ WordsAnswer n (now (f .entry)) (now (words .entry)) (now (words .exit)) (r .value) (r .status) ⌝ }
 {
     match degree_service::true_degree(n, f) {
-        Degree::None => hand_over(words, f, 1),
-        Degree::At(k) => hand_over(words, f, k + 1),
+        Degree::None => hand_over(f, 1, words),
+        Degree::At(k) => hand_over(f, k + 1, words),
         Degree::Refused(_) => refused(NO_TEXT),
     }
 }
@@ -84,7 +84,7 @@ pub fn read_text(n: u32, text: &[u8], words: &mut [u32]) -> Answer
     if LONGEST < text.len() {
         return refused(NO_TEXT);
     }
-    let mut f = [0u32; 49];
+    let mut f = [0u32; ROOM];
     text_gathering::gather(text, &mut f);
     if text_gathering::is_text_of(text, &f) {
         read_words(n, &f, words)

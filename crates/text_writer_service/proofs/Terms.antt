@@ -14,8 +14,8 @@ use borrow.Author.Needs.{needs}
 use lib.ListN.{length, drop, getD, set, length-append, length-set}
 use lib.Seq.{drop-length, drop-cons}
 use Rattle.text_notation.specs.Notation.{decimal, power-text, term, plus-joined, terms, or-zero, text}
-use Rattle.text_notation.specs.Decimals.{decimal-small, decimal-large, decimal-some}
-use Rattle.text_notation.specs.Lengths.{power-short, term-short}
+use Rattle.text_notation.specs.Decimals.{decimal-small, decimal-large, decimal-some, decimal-short}
+use Rattle.text_notation.specs.Lengths.{power-short}
 use Rattle.text_writer_service.specs.Parts.{Put, Room, plus, added}
 use Rattle.text_writer_service.proofs.Putting.{put-none, put-as, put-one, put-length, put-then, put-set}
 
@@ -121,27 +121,20 @@ plus-short : (at : ℕ) → length (plus at) ≤ 1
 plus-short zero = omega arith
 plus-short (suc at) = omega arith
 
-number-and-power : (c k : ℕ) → 1 ≤ c → c < 4294967296 → k ≤ 48 → length (decimal c) + length (power-text k) ≤ 15
-number-and-power zero k h l m = absurd (omega arith)
-number-and-power (suc c) k h l m =
-    omega (arith, term-short (suc c) k (omega arith), length-append (decimal (suc c)) (power-text k), power-short k (omega arith))
+number-and-power : (c k : ℕ) → c < 4294967296 → k ≤ 48 → length (decimal c) + length (power-text k) ≤ 15
+number-and-power c k l m = omega (arith, decimal-short 9 c (omega arith), power-short k (omega arith))
 
 added-short : (at c k : ℕ) → c < 4294967296 → k ≤ 48 → length (added at c k) ≤ 16
 added-short at zero k l m = omega arith
 added-short at (suc c) k l m =
-    omega (
-      arith,
-      number-and-power (suc c) k (omega arith) l m,
-      plus-short at,
-      length-append (plus at) (term (suc c) k),
-      length-append (decimal (suc c)) (power-text k),
-    )
+    let n = number-and-power (suc c) k l m in
+    omega (arith, plus-short at, length-append (plus at) (term (suc c) k), length-append (decimal (suc c)) (power-text k))
 
 -- the sign, the number and the power, one after the other
 module _ (at c k : ℕ) (o : List ℕ) (l : at + 16 ≤ length o) (m : k ≤ 48) (some : c ≡ 0 → ⊥) (b : Fits w32 c) {r : ℕ} {w : List ℕ}
     (p : Put (plus at) at r o w) where
   both : length (decimal c) + length (power-text k) ≤ 15
-  both = number-and-power c k (pos-of-ne-zero some) (b .fits) m
+  both = number-and-power c k (b .fits) m
 
   first : r ≤ length o
   first = omega (arith, p .end, plus-short at)

@@ -30,7 +30,4 @@ abbrev pub write-conditions : Width → ℕ → List ℕ → ℕ → List (Type 
 write-conditions W n f l = conditions-one W n f ++ ((800 ≤ l) ∷ [])
 
 pub write-listed : (W : Width) (n : ℕ) (f : List ℕ) (l : ℕ) → Listed (write-refusals W n f l) (write-conditions W n f l)
-write-listed W n f l = (
-  (omega arith, modulus-fails W n),
-  ((omega arith, length-fails f), ((omega arith, words-fail n f), ((omega arith, short-fails l 800), tt))),
-)
+write-listed W n f l = search (arith, tt, modulus-fails, length-fails, words-fail, short-fails) depth 20

@@ -17,7 +17,7 @@ use refusals::Answer;
 const ZERO: u32 = 48;
 
 // The bytes that the writer needs.
-const ROOM: usize = 800;
+pub const ROOM: usize = 800;
 
 // The digits of x, the last of them after those of the rest.
 fn put_number(out: &mut [u8], at: usize, x: u32) -> usize
@@ -76,7 +76,7 @@ fn put_term(out: &mut [u8], at: usize, c: u32, k: usize) -> usize
 }
 
 // S55: "Terms run from high power to low": the text of f, and its length.
-pub fn put_text(f: &[u32], out: &mut [u8]) -> usize
+pub fn put_text(out: &mut [u8], f: &[u32]) -> usize
     requires { ⌜ Room (now f) (now out) ⌝ }
     ensures { λ r. ⌜ Put (text (now (f .entry))) 0 r (now (out .entry)) (now (out .exit)) ⌝ }
 {
@@ -119,7 +119,7 @@ pub fn write_text(n: u32, f: &[u32], text: &mut [u8]) -> Answer
             status: 6,
         };
     }
-    let count = put_text(f, text);
+    let count = put_text(text, f);
     put_zeros(text, count, ROOM);
     Answer {
         value: count as u32,

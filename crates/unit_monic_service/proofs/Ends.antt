@@ -54,8 +54,8 @@ module _ (W : Width) (n s : ℕ) (f : List ℕ) (is : s ≡ first-refusal (refus
         pub room-second : length f ≤ length h
         room-second = late-known .room-h
 
-        pub words-asked : T (leb 147 (W .working)) → FactorsAsked n t v f (midOf 0 (length f - 0) u) (midOf 0 (length f - 0) h) work
-        words-asked big =
+        words : T (leb 147 (W .working)) → FactorsAsked n t v f (midOf 0 (length f - 0) u) (midOf 0 (length f - 0) h) work
+        words big =
             let enough : 147 ≤ W .working = leb→le 147 (W .working) big in
             record {
               modulus = accepted .modulus;
@@ -65,3 +65,7 @@ module _ (W : Width) (n s : ℕ) (f : List ℕ) (is : s ≡ first-refusal (refus
               length-h = mid-length 0 (length f - 0) h (omega (arith, room-second)) ∙ sub-zero _;
               room = omega (arith, late-known .working, accepted .few);
             }
+
+        pub words-asked : {n' t' v' : ℕ} {f' u' h' work' : List ℕ} → T (leb 147 (W .working)) → n' ≡ n → t' ≡ t → v' ≡ v → f' ≡ f
+            → u' ≡ midOf 0 (length f - 0) u → h' ≡ midOf 0 (length f - 0) h → work' ≡ work → FactorsAsked n' t' v' f' u' h' work'
+        words-asked big en et' ev ef eu eh ew = rw (en, et', ev, ef, eu, eh, ew) (words big)

@@ -60,11 +60,17 @@ pub trailing-none : (n : ℕ) (f : List ℕ) → Trailing n f (length f)
 trailing-none n f = record { most = omega arith; done = holds-none _ _ }
 
 module _ {n t : ℕ} {f : List ℕ} (h : Trailing n f t) where
-  pub trailing-found : (b : Bool) → b ≡ is-nilpotent n (coef f (t - 1)) → not b ≡ true → t - 1 ≡ lead-place n f
-  trailing-found b e v = sub-one t ∙ ap pred (holds-until (h .done) (h .most) (sym e ∙ not-true _ v))
+  -- n' is the modulus of a record of n
+  pub trailing-found : (n' : ℕ) (b : Bool) → b ≡ is-nilpotent n' (coef f (t - 1)) → not b ≡ true → n' ≡ n → t - 1 ≡ lead-place n f
+  trailing-found n' b e₀ v is =
+      let e : b ≡ is-nilpotent n (coef f (t - 1)) = rw is at e₀ in
+      sub-one t ∙ ap pred (holds-until (h .done) (h .most) (sym e ∙ not-true _ v))
 
-  pub trailing-next : {t' : ℕ} (b : Bool) → 0 < t → b ≡ is-nilpotent n (coef f (t - 1)) → not b ≡ false → t' ≡ t - 1 → Trailing n f t'
-  trailing-next b l e v et = rw et (record { most = omega (arith, h .most); done = holds-more (h .done) l (sym e ∙ not-false _ v) })
+  pub trailing-next : {t' : ℕ} (n' : ℕ) (b : Bool) → 0 < t → b ≡ is-nilpotent n' (coef f (t - 1)) → not b ≡ false → n' ≡ n → t' ≡ t - 1
+      → Trailing n f t'
+  trailing-next n' b l e₀ v is et =
+      let e : b ≡ is-nilpotent n (coef f (t - 1)) = rw is at e₀ in
+      rw et (record { most = omega (arith, h .most); done = holds-more (h .done) l (sym e ∙ not-false _ v) })
 
   pub trailing-end : t ≤ 0 → 0 ≡ lead-place n f
   trailing-end l = ap pred (holds-all (h .done) (omega arith))

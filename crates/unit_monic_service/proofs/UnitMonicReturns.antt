@@ -76,11 +76,11 @@ module _ (W : Width) (n s : ℕ) (f : List ℕ) (is : s ≡ first-refusal (refus
     work-is = left-refused r work b;
   }
 
-  pub done-told : r ≡ 0 → (ys zs work' : List ℕ) → UnitTimesMonic n f t ys zs → work' ≡ replicate (length work) 0
-      → UnitTimesMonicAnswer W n f u (putMid 0 (length f - 0) u ys) h (putMid 0 (length f - 0) h zs) work work' t 0
-  done-told w ys zs work' d c =
+  pub done-told : r ≡ 0 → {x : ℕ} {u' h' : List ℕ} (ys zs work' : List ℕ) → UnitTimesMonic n f t ys zs → work' ≡ replicate (length work) 0
+      → u' ≡ putMid 0 (length f - 0) u ys → h' ≡ putMid 0 (length f - 0) h zs → x ≡ t → UnitTimesMonicAnswer W n f u u' h h' work work' x 0
+  done-told w ys zs work' d c eu eh ex =
       let k : ℕ = length f - 0 in
-      record {
+      rw (eu, eh, ex) (record {
         status-is = passed-on (refusals-one W n f) (asked W n f u h work) s 0 is z (sym w ∙ er ∙ late-is);
         value-is = et;
         result = record {
@@ -92,4 +92,4 @@ module _ (W : Width) (n s : ℕ) (f : List ℕ) (is : s ≡ first-refusal (refus
           rest-h = placed-drop k (length f) h zs (d .length-h) (sub-zero (length f));
         };
         work-is = c;
-      }
+      })

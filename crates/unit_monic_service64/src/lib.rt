@@ -11,22 +11,24 @@ ghost use lib.Dec.{eqb};
 ghost use lib.ListN.{length, replicate};
 ghost use Rattle.definitions.specs.Polynomials.{coef, tabulate, UnitTimesMonic};
 ghost use Rattle.refusals.specs.Refusals.{short, first-refusal};
+ghost use Rattle.reduction64.specs.Moduli.{Ready};
 ghost use Rattle.refusals64.specs.Wide.{wide};
 ghost use Rattle.windows.specs.Window.{piece};
 ghost use Rattle.window_factor64.specs.Factors.{Given, Factored};
 ghost use Rattle.law_polynomial_tests.specs.UnitTests.{is-nilpotent, lead-place};
 ghost use Rattle.unit_monic_service.specs.UnitMonicStages.{FactorsAsked};
 ghost use Rattle.unit_monic_service.specs.FactorsService.{UnitTimesMonicAnswer};
+use reduction64::Reciprocal;
 use refusals64::Answer;
 
 // ---- the leading coefficient
 
-// Whether a is nilpotent modulo n.
-fn nilpotent(n: u64, a: u64) -> bool
-    requires { ⌜ 2 ≤ n ⌝ }
-    ensures { λ r. ⌜ r ≡ is-nilpotent n a ⌝ }
+// Whether a is nilpotent modulo n, whose record is m.
+fn nilpotent(m: Reciprocal, a: u64) -> bool
+    requires { ⌜ (2 ≤ m .n) × Ready m ⌝ }
+    ensures { λ r. ⌜ r ≡ is-nilpotent (m .n) a ⌝ }
 {
-    match residue64::kind_of(n, a) {
+    match residue64::kind_of(m, a) {
         residue64::Kind::Unit(i) => false,
         residue64::Kind::Nilpotent => true,
         residue64::Kind::Splits(p, q) => false,
@@ -38,9 +40,10 @@ pub fn leading_place(n: u64, f: &[u64]) -> usize
     requires { ⌜ 2 ≤ n ⌝ }
     ensures { λ r. ⌜ r ≡ lead-place n (now (f .entry)) ⌝ }
 {
+    let m = reduction64::modulus_of(n);
     let mut t = f.len();
     while 0 < t {
-        if !nilpotent(n, f[t - 1]) {
+        if !nilpotent(m, f[t - 1]) {
             return t - 1;
         }
         t -= 1;

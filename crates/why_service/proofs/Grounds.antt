@@ -1,9 +1,9 @@
 -- From what the search finds to the grounds as the service words them.
 --
---   coprime         d is 1
+--   wiped-zeros, wiped-asked, coprime    the buffer after the wipe; d is 1
 --   both-zero       the first ground
---   degree-fits, monic-asked, common-divisor     the second
---   grounds         the rules
+--   degree-fits, monic-known, monic-asked, common-divisor     the second
+--   grounds, coprimes    the rules
 use mathlib.Core.Path.{_≡_, refl, sym, ap, subst, _∙_}
 use mathlib.Core.List.{List}
 use mathlib.Core.Logic.{⊎-elim}
@@ -16,6 +16,8 @@ use borrow.Author.Needs.{needs}
 use lib.ListN.{length, getD, replicate, length-replicate}
 use Rattle.definitions.specs.Polynomials.{coef}
 use Rattle.law_numbers.specs.Congruence.{Cong, c-refl, c-sym, c-trans, c-eq, c-mul, c-mod}
+use Rattle.modulus.specs.Values.{Known}
+use Rattle.modulus.specs.declared.Modulus.{Modulus}
 use Rattle.windows.specs.Window.{piece}
 use Rattle.windows.proofs.Leaf.{piece-at, piece-over, lt-or-le}
 use Rattle.common_factor.specs.Common.{DividesModulo}
@@ -27,8 +29,18 @@ use Rattle.common_factor.specs.declared.Ground.the-variants.{Zero, Common}
 use Rattle.why_service.specs.Asked.{GroundAsked}
 use Rattle.why_service.specs.WhyService.{NamedDivisor, Coprime, BothZero, CommonDivisor}
 
-wiped-zeros : {d : ℕ} {f g o w work : List ℕ} → GroundAsked d f g w work → o ≡ replicate (length w) 0 → o ≡ replicate 49 0
+pub wiped-zeros : {d : ℕ} {f g o w work : List ℕ} → GroundAsked d f g w work → o ≡ replicate (length w) 0 → o ≡ replicate 49 0
 wiped-zeros a e = e ∙ ap (λ (x : ℕ). replicate x 0) (a .words)
+
+pub wiped-asked : {d : ℕ} {f g o w work : List ℕ} → GroundAsked d f g w work → o ≡ replicate (length w) 0 → GroundAsked d f g o work
+wiped-asked {w = w} a e = record {
+  least = a .least;
+  words = ap length e ∙ length-replicate (length w) 0 ∙ a .words;
+  few-f = a .few-f;
+  few-g = a .few-g;
+  room = a .room;
+  only = a .only;
+}
 
 pub coprime : {d : ℕ} {f g o w work : List ℕ} → GroundAsked d f g w work → o ≡ replicate (length w) 0 → d ≡ 1 → Coprime d o 0 0
 coprime a e h = record { one = h; zeros = wiped-zeros a e; no-modulus = refl; no-degree = refl }
@@ -77,14 +89,13 @@ named : (d m : ℕ) → m ∣ d → 2 ≤ m → NamedDivisor d d m
 named d m h l = record { divides-n = h; above = l; divides-D = h }
 
 module _ (d : ℕ) (f g work : List ℕ) (r : Ground) where
-  pub both-zero : {m : ℕ} {o w work₀ : List ℕ} → r ≡ Zero m → GroundIn d f g work r → GroundAsked d f g w work₀ → o ≡ replicate (length w) 0
-      → BothZero d d f g o m 0
-  both-zero {m} e y a h = let z = subst (GroundIn d f g work) e y in
+  pub both-zero : {m : ℕ} {w : List ℕ} → r ≡ Zero m → GroundIn d f g work r → w ≡ replicate 49 0 → BothZero d d f g w m 0
+  both-zero {m} e y h = let z = subst (GroundIn d f g work) e y in
       record {
         modulus = named d m (z .divides) (z .two);
         first = z .first;
         second = z .second;
-        zeros = wiped-zeros a h;
+        zeros = h;
         no-degree = refl;
       }
 
@@ -95,33 +106,38 @@ module _ (d : ℕ) (f g work : List ℕ) (r : Ground) where
     pub degree-fits : {t : ℕ} → t ≡ h .degree → Fits w32 t
     degree-fits et = record { fits = omega (arith, common .few) }
 
-    pub monic-asked : {m a t : ℕ} {o w work₀ : List ℕ} → GroundAsked d f g w work₀ → o ≡ replicate (length w) 0 → m ≡ h .m → a ≡ h .at
-        → t ≡ h .degree → MonicAsked m a t o work
-    monic-asked {o = o} {w = w} s eo em ea et = rw (em, ea, et) (record {
+    pub monic-known : {m : Modulus} → m ≡ h .m → Known m
+    monic-known em = rw em (common .known)
+
+    pub monic-asked : {m a t : ℕ} {w work₀ : List ℕ} → GroundAsked d f g w work₀ → m ≡ h .m .n → a ≡ h .at → t ≡ h .degree
+        → MonicAsked m a t w work
+    monic-asked s em ea et = rw (em, ea, et) (record {
       two = common .two;
-      fits = omega (arith, common .few, ap length eo ∙ length-replicate (length w) 0 ∙ s .words);
+      fits = omega (arith, common .few, s .words);
       inside = common .inside;
       unit = common .unit;
     })
 
-    pub common-divisor : {o o' : List ℕ} {m t : ℕ} → MonicOf (h .m) (h .at) (h .degree) work o o' → m ≡ h .m → t ≡ h .degree
+    pub common-divisor : {o o' : List ℕ} {m t : ℕ} → MonicOf (h .m .n) (h .at) (h .degree) work o o' → m ≡ h .m .n → t ≡ h .degree
         → CommonDivisor d d f g o' m t
     common-divisor {o} {o'} v em et = rw (em, et) (record {
-      modulus = named d (h .m) (common .divides) (common .two);
+      modulus = named d (h .m .n) (common .divides) (common .two);
       some = common .one;
-      residues = record { at = λ k _. below (h .m) (h .degree) (h .at) work o o' (common .two) v k };
+      residues = record { at = λ k _. below (h .m .n) (h .degree) (h .at) work o o' (common .two) v k };
       monic = record {
-        lead = ap (λ (x : ℕ). x % h .m) (v .lead);
-        above = λ k l. ap (λ (x : ℕ). x % h .m) (v .above k l) ∙ zero-mod (h .m);
+        lead = ap (λ (x : ℕ). x % h .m .n) (v .lead);
+        above = λ k l. ap (λ (x : ℕ). x % h .m .n) (v .above k l) ∙ zero-mod (h .m .n);
       };
-      first = divides-trans (h .m) some-m o' _ f written (common .first);
-      second = divides-trans (h .m) some-m o' _ g written (common .second);
+      first = divides-trans (h .m .n) some-m o' _ f written (common .first);
+      second = divides-trans (h .m .n) some-m o' _ g written (common .second);
     })
       where
-        some-m : 1 ≤ h .m
+        some-m : 1 ≤ h .m .n
         some-m = omega (arith, common .two)
 
-        written : DividesModulo (h .m) o' (piece work (h .at) (h .degree + 1))
-        written = monic-divides (h .m) (h .degree) (h .at) work o o' (common .two) v
+        written : DividesModulo (h .m .n) o' (piece work (h .at) (h .degree + 1))
+        written = monic-divides (h .m .n) (h .degree) (h .at) work o o' (common .two) v
 
-pub ruleset grounds = (needs, coprime, both-zero, degree-fits, monic-asked, common-divisor)
+pub ruleset grounds = (needs, both-zero, degree-fits, monic-known, monic-asked, common-divisor)
+
+pub ruleset coprimes = (needs, wiped-zeros, wiped-asked, coprime)

@@ -1,11 +1,13 @@
 // Why two polynomials are not coprime, as a service (02, W4): from any words and lengths an answer, or a numbered refusal.
 //
+//   named      the ground where f and g are not coprime
 //   ground     what is said of f and g, whose reduced resultant is d
 //   room_refusal, refusal    the number of the first refusal that applies, 0 where none does
 //   served     the answer
 //   why        the service
 ghost use mathlib.Core.Path.{_≡_};
 ghost use mathlib.Core.List.{[], _∷_};
+ghost use Prim.Native.Nat.{_≤_};
 ghost use lib.ListN.{length, replicate};
 ghost use Rattle.windows.specs.Window.{Scratch};
 ghost use Rattle.refusals.specs.Refusals.{narrow, short, first-refusal};
@@ -27,6 +29,34 @@ pub struct Reason {
     pub status: u32,
 }
 
+// One of the two grounds, modulo d above 1. The 49 words of w, zeros before, are the divisor, or stay.
+fn named(w: &mut [u32], work: &mut [u32], d: u32, f: &[u32], g: &[u32]) -> Reason
+    requires { ⌜ (2 ≤ d) × ((GroundAsked d (now f) (now g) (now w) (now work)) × (now w ≡ replicate 49 0)) ⌝ }
+    ensures { λ r. ⌜ GroundHolds (r .ground) d d (now (f .entry)) (now (g .entry)) (now (w .exit)) (r .m) (r .degree) ⌝ }
+    ensures { λ r. ⌜ (r .status ≡ 0) × Scratch (now (work .entry)) (now (work .exit)) ⌝ }
+{
+    match common_factor::search(work, d, f, g) {
+        Ground::Zero(m) => Reason {
+            ground: 1,
+            m,
+            degree: 0,
+            status: 0,
+        },
+        Ground::Common(h) => {
+            let t = h.degree;
+            let degree = t as u32;
+            let m = h.m;
+            common_factor::monic(w, work, m, h.at, t);
+            Reason {
+                ground: 2,
+                m: m.n,
+                degree,
+                status: 0,
+            }
+        }
+    }
+}
+
 // Coprime, or one of the two grounds, modulo d. The 49 words of w are the divisor, or zeros.
 fn ground(w: &mut [u32], work: &mut [u32], d: u32, f: &[u32], g: &[u32]) -> Reason
     requires { ⌜ GroundAsked d (now f) (now g) (now w) (now work) ⌝ }
@@ -42,24 +72,7 @@ fn ground(w: &mut [u32], work: &mut [u32], d: u32, f: &[u32], g: &[u32]) -> Reas
             status: 0,
         };
     }
-    match common_factor::search(work, d, f, g) {
-        Ground::Zero(m) => Reason {
-            ground: 1,
-            m,
-            degree: 0,
-            status: 0,
-        },
-        Ground::Common(h) => {
-            let t = h.degree;
-            common_factor::monic(w, work, h.m, h.at, t);
-            Reason {
-                ground: 2,
-                m: h.m,
-                degree: t as u32,
-                status: 0,
-            }
-        }
-    }
+    named(w, work, d, f, g)
 }
 
 // The refusals 6 and 7; 0 where neither applies. These are the lengths of the buffers.

@@ -6,8 +6,8 @@
 //   m      the record of the modulus n
 //   s      how many words of the quotient are still to come; c and k, or c and q, are the next two of them
 //
-//   divide, divide_by                  the remainder alone, by n and by its record
-//   divide_keeping, divide_keeping_by  the remainder and the quotient
+//   divide            the remainder alone
+//   divide_keeping    the remainder and the quotient
 ghost use mathlib.Core.Path.{_≡_};
 ghost use Prim.Native.Nat.{_+_, _*_, _%_};
 ghost use lib.ListN.{getD};
@@ -17,7 +17,7 @@ use modulus::Modulus;
 
 // The remainder, d words, stands at b; the words after it, where the quotient would stand, are residues of no further meaning.
 // Two quotient words share one reduction a word.
-pub fn divide_by(w: &mut [u32], m: Modulus, a: usize, d: usize, b: usize, e: usize, i: u32)
+pub fn divide(w: &mut [u32], m: Modulus, a: usize, d: usize, b: usize, e: usize, i: u32)
     requires { ⌜ (Known m) × (DivisionLengthsAsked (m .n) a d b e (now w)) ⌝ }
     requires { ⌜ (Pair (m .n) a d b e (now w)) × ((i * getD (now w) (a + d) 0) % m .n ≡ 1 % m .n) ⌝ }
     ensures { λ _. ⌜ Remainder (m .n) a d b e (now (w .entry)) (now (w .exit)) ⌝ }
@@ -38,17 +38,8 @@ pub fn divide_by(w: &mut [u32], m: Modulus, a: usize, d: usize, b: usize, e: usi
     modulus_windows::add_scaled(w, m, n - c, a, b + 0, d);
 }
 
-pub fn divide(w: &mut [u32], n: u32, a: usize, d: usize, b: usize, e: usize, i: u32)
-    requires { ⌜ DivisionLengthsAsked n a d b e (now w) ⌝ }
-    requires { ⌜ (Pair n a d b e (now w)) × ((i * getD (now w) (a + d) 0) % n ≡ 1 % n) ⌝ }
-    ensures { λ _. ⌜ Remainder n a d b e (now (w .entry)) (now (w .exit)) ⌝ }
-{
-    let m = modulus::modulus_of(n);
-    divide_by(w, m, a, d, b, e, i);
-}
-
-// As `divide_by`, with the quotient kept: the remainder, d words, at b, and the e + 1 - d words of the quotient after it.
-pub fn divide_keeping_by(w: &mut [u32], m: Modulus, a: usize, d: usize, b: usize, e: usize, i: u32)
+// As `divide`, with the quotient kept: the remainder, d words, at b, and the e + 1 - d words of the quotient after it.
+pub fn divide_keeping(w: &mut [u32], m: Modulus, a: usize, d: usize, b: usize, e: usize, i: u32)
     requires { ⌜ (Known m) × (DivisionLengthsAsked (m .n) a d b e (now w)) ⌝ }
     requires { ⌜ (Pair (m .n) a d b e (now w)) × ((i * getD (now w) (a + d) 0) % m .n ≡ 1 % m .n) ⌝ }
     ensures { λ _. ⌜ Quotient (m .n) a d b e (now (w .entry)) (now (w .exit)) ⌝ }
@@ -70,13 +61,4 @@ pub fn divide_keeping_by(w: &mut [u32], m: Modulus, a: usize, d: usize, b: usize
     let c = modulus::multiply(m, i, w[b + (d + 0)]);
     modulus_windows::add_scaled(w, m, n - c, a, b + 0, d);
     w[b + (d + 0)] = c;
-}
-
-pub fn divide_keeping(w: &mut [u32], n: u32, a: usize, d: usize, b: usize, e: usize, i: u32)
-    requires { ⌜ DivisionLengthsAsked n a d b e (now w) ⌝ }
-    requires { ⌜ (Pair n a d b e (now w)) × ((i * getD (now w) (a + d) 0) % n ≡ 1 % n) ⌝ }
-    ensures { λ _. ⌜ Quotient n a d b e (now (w .entry)) (now (w .exit)) ⌝ }
-{
-    let m = modulus::modulus_of(n);
-    divide_keeping_by(w, m, a, d, b, e, i);
 }

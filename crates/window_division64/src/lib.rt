@@ -3,12 +3,12 @@
 //   a, d   the divisor: d + 1 words from a on
 //   b, e   the dividend: e + 1 words from b on, where remainder and quotient are left
 //   i      the inverse of the divisor's leading word
-//   s      how many words of the quotient are still to come; c and k, or c and m, are the next two of them
+//   s      how many words of the quotient are still to come; c and k, or c and q, are the next two of them
 //
-//   r      the modulus n with its reciprocal
+//   m      the modulus n with its reciprocal
 //
-//   divide, divide_by                  the remainder alone; with the reciprocal found
-//   divide_keeping, divide_keeping_by  the remainder and the quotient; with the reciprocal found
+//   divide            the remainder alone
+//   divide_keeping    the remainder and the quotient
 ghost use mathlib.Core.Path.{_≡_};
 ghost use Prim.Native.Nat.{_+_, _*_, _%_};
 ghost use lib.ListN.{getD};
@@ -18,84 +18,48 @@ use reduction64::Reciprocal;
 
 // The remainder, d words, stands at b; the words after it, where the quotient would stand, are residues of no further meaning.
 // Two quotient words are worked in one pass.
-pub fn divide_by(
-    w: &mut [u64],
-    n: u64,
-    r: Reciprocal,
-    a: usize,
-    d: usize,
-    b: usize,
-    e: usize,
-    i: u64,
-)
-    requires { ⌜ (Ready r) × (r .n ≡ n) ⌝ }
-    requires { ⌜ DivisionLengthsAsked n a d b e (now w) ⌝ }
-    requires { ⌜ (Pair n a d b e (now w)) × ((i * getD (now w) (a + d) 0) % n ≡ 1 % n) ⌝ }
-    ensures { λ _. ⌜ Remainder n a d b e (now (w .entry)) (now (w .exit)) ⌝ }
+pub fn divide(w: &mut [u64], m: Reciprocal, a: usize, d: usize, b: usize, e: usize, i: u64)
+    requires { ⌜ (Ready m) × (DivisionLengthsAsked (m .n) a d b e (now w)) ⌝ }
+    requires { ⌜ (Pair (m .n) a d b e (now w)) × ((i * getD (now w) (a + d) 0) % m .n ≡ 1 % m .n) ⌝ }
+    ensures { λ _. ⌜ Remainder (m .n) a d b e (now (w .entry)) (now (w .exit)) ⌝ }
 {
+    let n = m.n;
     let mut s = e + 1 - d;
     while 1 < s {
         s -= 2;
-        let c = multipliers64::product(n, r, i, w[b + (d + s + 1)]);
-        let t = multipliers64::add_product(n, r, w[b + (d + s)], n - c, w[a + (d - 1)]);
-        let k = multipliers64::product(n, r, i, t);
-        windows64::add_pair_by(w, n, r, n - c, n - k, a, b + s, d);
+        let c = multipliers64::product(n, m, i, w[b + (d + s + 1)]);
+        let t = multipliers64::add_product(n, m, w[b + (d + s)], n - c, w[a + (d - 1)]);
+        let k = multipliers64::product(n, m, i, t);
+        windows64::add_pair(w, n, m, n - c, n - k, a, b + s, d);
     }
     if s == 0 {
         return;
     }
-    let c = multipliers64::product(n, r, i, w[b + (d + 0)]);
-    windows64::add_scaled_by(w, n, r, n - c, a, b + 0, d);
+    let c = multipliers64::product(n, m, i, w[b + (d + 0)]);
+    windows64::add_scaled(w, n, m, n - c, a, b + 0, d);
 }
 
-pub fn divide(w: &mut [u64], n: u64, a: usize, d: usize, b: usize, e: usize, i: u64)
-    requires { ⌜ DivisionLengthsAsked n a d b e (now w) ⌝ }
-    requires { ⌜ (Pair n a d b e (now w)) × ((i * getD (now w) (a + d) 0) % n ≡ 1 % n) ⌝ }
-    ensures { λ _. ⌜ Remainder n a d b e (now (w .entry)) (now (w .exit)) ⌝ }
+// As `divide`, with the quotient kept: the remainder, d words, at b, and the e + 1 - d words of the quotient after it.
+pub fn divide_keeping(w: &mut [u64], m: Reciprocal, a: usize, d: usize, b: usize, e: usize, i: u64)
+    requires { ⌜ (Ready m) × (DivisionLengthsAsked (m .n) a d b e (now w)) ⌝ }
+    requires { ⌜ (Pair (m .n) a d b e (now w)) × ((i * getD (now w) (a + d) 0) % m .n ≡ 1 % m .n) ⌝ }
+    ensures { λ _. ⌜ Quotient (m .n) a d b e (now (w .entry)) (now (w .exit)) ⌝ }
 {
-    let r = reduction64::modulus_of(n);
-    divide_by(w, n, r, a, d, b, e, i);
-}
-
-// As `divide_by`, with the quotient kept: the remainder, d words, at b, and the e + 1 - d words of the quotient after it.
-pub fn divide_keeping_by(
-    w: &mut [u64],
-    n: u64,
-    r: Reciprocal,
-    a: usize,
-    d: usize,
-    b: usize,
-    e: usize,
-    i: u64,
-)
-    requires { ⌜ (Ready r) × (r .n ≡ n) ⌝ }
-    requires { ⌜ DivisionLengthsAsked n a d b e (now w) ⌝ }
-    requires { ⌜ (Pair n a d b e (now w)) × ((i * getD (now w) (a + d) 0) % n ≡ 1 % n) ⌝ }
-    ensures { λ _. ⌜ Quotient n a d b e (now (w .entry)) (now (w .exit)) ⌝ }
-{
+    let n = m.n;
     let mut s = e + 1 - d;
     while 1 < s {
         s -= 2;
-        let c = multipliers64::product(n, r, i, w[b + (d + s + 1)]);
-        let t = multipliers64::add_product(n, r, w[b + (d + s)], n - c, w[a + (d - 1)]);
-        let m = multipliers64::product(n, r, i, t);
-        windows64::add_pair_by(w, n, r, n - c, n - m, a, b + s, d);
+        let c = multipliers64::product(n, m, i, w[b + (d + s + 1)]);
+        let t = multipliers64::add_product(n, m, w[b + (d + s)], n - c, w[a + (d - 1)]);
+        let q = multipliers64::product(n, m, i, t);
+        windows64::add_pair(w, n, m, n - c, n - q, a, b + s, d);
         w[b + (d + s + 1)] = c;
-        w[b + (d + s)] = m;
+        w[b + (d + s)] = q;
     }
     if s == 0 {
         return;
     }
-    let c = multipliers64::product(n, r, i, w[b + (d + 0)]);
-    windows64::add_scaled_by(w, n, r, n - c, a, b + 0, d);
+    let c = multipliers64::product(n, m, i, w[b + (d + 0)]);
+    windows64::add_scaled(w, n, m, n - c, a, b + 0, d);
     w[b + (d + 0)] = c;
-}
-
-pub fn divide_keeping(w: &mut [u64], n: u64, a: usize, d: usize, b: usize, e: usize, i: u64)
-    requires { ⌜ DivisionLengthsAsked n a d b e (now w) ⌝ }
-    requires { ⌜ (Pair n a d b e (now w)) × ((i * getD (now w) (a + d) 0) % n ≡ 1 % n) ⌝ }
-    ensures { λ _. ⌜ Quotient n a d b e (now (w .entry)) (now (w .exit)) ⌝ }
-{
-    let r = reduction64::modulus_of(n);
-    divide_keeping_by(w, n, r, a, d, b, e, i);
 }

@@ -2,7 +2,8 @@
 --
 --   word-is    the word that `series_word` makes
 --   Growing    the invariant, with its start, round and end
---   series     the rules
+--   unit-by, series-by    the modulus of the record is n
+--   series, modulus-of    the rules
 use mathlib.Core.Path.{_≡_, refl, sym, ap, ap₂, subst, _∙_}
 use mathlib.Core.List.{List}
 use mathlib.Core.Logic.{⊎-elim}
@@ -168,5 +169,15 @@ module _ (n k i s len j : ℕ) (w₀ w : List ℕ) (x : Growing n k s len w₀ w
 
 pub growing-end : (n k s len j : ℕ) (w₀ w : List ℕ) → Growing n k s len w₀ w j → len ≤ j → Series n k s len w₀ w
 growing-end n k s len j w₀ w x h = let e : j ≡ len = omega (arith, x .most) in rw e at (x .done)
+
+-- ---- the modulus of the record is n
+
+pub unit-by : {n n' : ℕ} (i x : ℕ) → n' ≡ n → (i * x) % n ≡ 1 % n → (i * x) % n' ≡ 1 % n'
+unit-by i x e h = rw e h
+
+pub series-by : {n n' k s len : ℕ} {w₀ w : List ℕ} → Series n' k s len w₀ w → n' ≡ n → Series n k s len w₀ w
+series-by h e = rw e at h
+
+pub ruleset modulus-of = (needs, unit-by, series-by)
 
 pub ruleset series = (needs, word-is, growing-start, word-asked, growing-next, growing-end)

@@ -11,7 +11,8 @@
 //   divide_round        the same, and the zeros of the remainder counted
 //   unit_times_monic    f = U H, U a unit polynomial, H monic
 //   series_word         one word of s U_0 / U as a power series
-//   series_inverse      all of them: the inverse of U where s is that of U_0
+//   series_inverse_by   all of them: the inverse of U where s is that of U_0
+//   series_inverse      the same, by n
 ghost use mathlib.Core.Path.{_≡_};
 ghost use Prim.Native.Nat.{_+_, _*_, _%_, _<_, _≤_};
 ghost use lib.ListN.{length};
@@ -21,6 +22,7 @@ ghost use Rattle.modulus.specs.Values.{Known};
 ghost use Rattle.window_factor.specs.Factors.{HighestOf, RoundAsked, Round, RoundLeft, Given, Factored, SeriesAsked, next-word};
 ghost use Rattle.window_factor.specs.Factors.{Series};
 use modulus::Modulus;
+use reduction::Reciprocal;
 
 // A unit with its place and its inverse; a coefficient that splits n into two factors; or neither.
 pub enum Highest {
@@ -61,7 +63,7 @@ fn divide_copy(w: &mut [u32], m: Modulus, d: usize, t: usize)
     if t == 0 {
         return;
     }
-    window_division::divide_keeping_by(w, m, h, t, v, d, 1);
+    window_division::divide_keeping(w, m, h, t, v, d, 1);
 }
 
 // A round: a copy of f divided by H, as in `divide_copy`. Answers the number of zeros that the t words of the remainder begin with.
@@ -95,26 +97,41 @@ pub fn unit_times_monic(w: &mut [u32], m: Modulus, d: usize, t: usize, i: u32)
 }
 
 // Word j of Y, where Y U = s U_0 and i is the inverse of U_0: U stands at 0, and the words of Y before j stand after it.
-fn series_word(w: &[u32], n: u32, k: usize, i: u32, s: u32, j: usize) -> u32
-    requires { ⌜ SeriesAsked n k i j (now w) ⌝ }
-    ensures { λ r. ⌜ r ≡ next-word n i s (coef (piece (now (w .entry)) 0 (k + 1))) (coef (piece (now (w .entry)) (k + 1) j)) j ⌝ }
+fn series_word(w: &[u32], m: Modulus, k: usize, i: u32, s: u32, j: usize) -> u32
+    requires { ⌜ (Known m) × (SeriesAsked (m .n) k i j (now w)) ⌝ }
+    ensures { λ r. ⌜ r ≡ next-word (m .n) i s (coef (piece (now (w .entry)) 0 (k + 1))) (coef (piece (now (w .entry)) (k + 1) j)) j ⌝ }
 {
     if j == 0 {
         return s;
     }
-    let x = convolution::product_word(n, &w[1..k + 1], &w[k + 1..k + 1 + j], j - 1);
-    arithmetic::mul_mod(n, n - i, x)
+    let r = Reciprocal {
+        n: m.n,
+        v: m.v,
+        c: m.c as u64,
+    };
+    let x = convolution::product_word_by(r, &w[1..k + 1], &w[k + 1..k + 1 + j], j - 1);
+    modulus::multiply(m, m.n - i, x)
 }
 
 // Y with Y U = s U_0: U, the inverse of whose constant is i, at 0; then the len words of Y.
+pub fn series_inverse_by(w: &mut [u32], m: Modulus, k: usize, i: u32, s: u32, len: usize)
+    requires { ⌜ (Known m) × ((s < m .n) × ((i ≤ m .n) × (k + 1 + len ≤ length (now w)))) ⌝ }
+    requires { ⌜ (i * coef (piece (now w) 0 (k + 1)) 0) % m .n ≡ 1 % m .n ⌝ }
+    ensures { λ _. ⌜ Series (m .n) k s len (now (w .entry)) (now (w .exit)) ⌝ }
+{
+    let mut j: usize = 0;
+    while j < len {
+        w[k + 1 + j] = series_word(w, m, k, i, s, j);
+        j += 1;
+    }
+}
+
+// The same, where the modulus comes without its record.
 pub fn series_inverse(w: &mut [u32], n: u32, k: usize, i: u32, s: u32, len: usize)
     requires { ⌜ (s < n) × ((i ≤ n) × (k + 1 + len ≤ length (now w))) ⌝ }
     requires { ⌜ (i * coef (piece (now w) 0 (k + 1)) 0) % n ≡ 1 % n ⌝ }
     ensures { λ _. ⌜ Series n k s len (now (w .entry)) (now (w .exit)) ⌝ }
 {
-    let mut j: usize = 0;
-    while j < len {
-        w[k + 1 + j] = series_word(w, n, k, i, s, j);
-        j += 1;
-    }
+    let m = modulus::modulus_of(n);
+    series_inverse_by(w, m, k, i, s, len);
 }

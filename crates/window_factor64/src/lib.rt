@@ -11,7 +11,8 @@
 //   divide_round        the same, and the zeros of the remainder counted
 //   unit_times_monic    f = U H, U a unit polynomial, H monic
 //   series_word         one word of s U_0 / U as a power series
-//   series_inverse      all of them: the inverse of U where s is that of U_0
+//   series_inverse_by   all of them: the inverse of U where s is that of U_0
+//   series_inverse      the same, by n
 ghost use mathlib.Core.Path.{_≡_};
 ghost use Prim.Native.Nat.{_+_, _*_, _%_, _<_, _≤_};
 ghost use lib.ListN.{length};
@@ -30,14 +31,14 @@ pub enum Highest {
 }
 
 // The highest coefficient of s that is not nilpotent.
-pub fn highest_of(s: &[u64], n: u64) -> Highest
-    requires { ⌜ 2 ≤ n ⌝ }
-    ensures { λ r. ⌜ HighestOf n (now (s .entry)) r ⌝ }
+pub fn highest_of(s: &[u64], m: Reciprocal) -> Highest
+    requires { ⌜ (2 ≤ m .n) × Ready m ⌝ }
+    ensures { λ r. ⌜ HighestOf (m .n) (now (s .entry)) r ⌝ }
 {
     let mut t = s.len();
     while 0 < t {
         t -= 1;
-        match residue64::kind_of(n, s[t]) {
+        match residue64::kind_of(m, s[t]) {
             residue64::Kind::Unit(i) => {
                 return Highest::UnitAt(t, i);
             }
@@ -61,7 +62,7 @@ fn divide_copy(w: &mut [u64], m: Reciprocal, d: usize, t: usize)
     if t == 0 {
         return;
     }
-    window_division64::divide_keeping_by(w, m.n, m, h, t, v, d, 1);
+    window_division64::divide_keeping(w, m, h, t, v, d, 1);
 }
 
 // A round: a copy of f divided by H, as in `divide_copy`. Answers the number of zeros that the t words of the remainder begin with.
@@ -95,26 +96,36 @@ pub fn unit_times_monic(w: &mut [u64], m: Reciprocal, d: usize, t: usize, i: u64
 }
 
 // Word j of Y, where Y U = s U_0 and i is the inverse of U_0: U stands at 0, and the words of Y before j stand after it.
-fn series_word(w: &[u64], n: u64, k: usize, i: u64, s: u64, j: usize) -> u64
-    requires { ⌜ SeriesAsked n k i j (now w) ⌝ }
-    ensures { λ r. ⌜ r ≡ next-word n i s (coef (piece (now (w .entry)) 0 (k + 1))) (coef (piece (now (w .entry)) (k + 1) j)) j ⌝ }
+fn series_word(w: &[u64], m: Reciprocal, k: usize, i: u64, s: u64, j: usize) -> u64
+    requires { ⌜ (Ready m) × (SeriesAsked (m .n) k i j (now w)) ⌝ }
+    ensures { λ r. ⌜ r ≡ next-word (m .n) i s (coef (piece (now (w .entry)) 0 (k + 1))) (coef (piece (now (w .entry)) (k + 1) j)) j ⌝ }
 {
     if j == 0 {
         return s;
     }
-    let x = convolution64::product_word(n, &w[1..k + 1], &w[k + 1..k + 1 + j], j - 1);
-    arithmetic64::mul_mod(n, n - i, x)
+    let x = convolution64::product_word_by(m, &w[1..k + 1], &w[k + 1..k + 1 + j], j - 1);
+    reduction64::product(m, m.n - i, x)
 }
 
 // Y with Y U = s U_0: U, the inverse of whose constant is i, at 0; then the len words of Y.
+pub fn series_inverse_by(w: &mut [u64], m: Reciprocal, k: usize, i: u64, s: u64, len: usize)
+    requires { ⌜ (Ready m) × ((s < m .n) × ((i ≤ m .n) × (k + 1 + len ≤ length (now w)))) ⌝ }
+    requires { ⌜ (i * coef (piece (now w) 0 (k + 1)) 0) % m .n ≡ 1 % m .n ⌝ }
+    ensures { λ _. ⌜ Series (m .n) k s len (now (w .entry)) (now (w .exit)) ⌝ }
+{
+    let mut j: usize = 0;
+    while j < len {
+        w[k + 1 + j] = series_word(w, m, k, i, s, j);
+        j += 1;
+    }
+}
+
+// The same, where the modulus comes without its reciprocal.
 pub fn series_inverse(w: &mut [u64], n: u64, k: usize, i: u64, s: u64, len: usize)
     requires { ⌜ (s < n) × ((i ≤ n) × (k + 1 + len ≤ length (now w))) ⌝ }
     requires { ⌜ (i * coef (piece (now w) 0 (k + 1)) 0) % n ≡ 1 % n ⌝ }
     ensures { λ _. ⌜ Series n k s len (now (w .entry)) (now (w .exit)) ⌝ }
 {
-    let mut j: usize = 0;
-    while j < len {
-        w[k + 1 + j] = series_word(w, n, k, i, s, j);
-        j += 1;
-    }
+    let m = reduction64::modulus_of(n);
+    series_inverse_by(w, m, k, i, s, len);
 }

@@ -1,7 +1,7 @@
 // Leaves over windows of one lent buffer: places src and dst of one slice, len words each.
 //
-//   add_scaled, add_pair, scale                         words made of those of another window, times multipliers
-//   ..._by, ..._masked                                  the same with the reciprocal of n, and for a power of two
+//   add_scaled, add_pair, scale                words made of those of another window, times multipliers
+//   ..._masked                                          the same for a power of two
 //   copy, copy_reversed                                 words of another window
 //   divide_words, reduce_words, clear, wipe             words made of themselves, or zeros
 //   residue, load                                       words of a lent polynomial, as residues
@@ -20,15 +20,7 @@ ghost use Rattle.windows.specs.Window.{zeroed, PairAsked, Paired, Apart,
 use reduction::Reciprocal;
 
 // w[dst + j] += c * w[src + j], for j < len, with the reciprocal of n.
-pub fn add_scaled_by(
-    w: &mut [u32],
-    n: u32,
-    m: Reciprocal,
-    c: u32,
-    src: usize,
-    dst: usize,
-    len: usize,
-)
+pub fn add_scaled(w: &mut [u32], n: u32, m: Reciprocal, c: u32, src: usize, dst: usize, len: usize)
     requires { ⌜ (1 ≤ n) × ((Ready m) × (m .n ≡ n)) ⌝ }
     requires { ⌜ (src + len ≤ length (now w)) × (dst + len ≤ length (now w)) ⌝ }
     requires { ⌜ Clear src dst len ⌝ }
@@ -59,22 +51,8 @@ pub fn add_scaled_masked(w: &mut [u32], n: u32, c: u32, src: usize, dst: usize, 
     }
 }
 
-// w[dst + j] += c * w[src + j], for j < len.
-pub fn add_scaled(w: &mut [u32], n: u32, c: u32, src: usize, dst: usize, len: usize)
-    requires { ⌜ (1 ≤ n) × ((src + len ≤ length (now w)) × (dst + len ≤ length (now w))) ⌝ }
-    requires { ⌜ Clear src dst len ⌝ }
-    ensures { λ _. ⌜ Moved (addMul n c) src dst len (now (w .entry)) (now (w .exit)) ⌝ }
-{
-    if reduction::power_of_two(n) {
-        add_scaled_masked(w, n, c, src, dst, len);
-        return;
-    }
-    let m = reduction::modulus_of(n);
-    add_scaled_by(w, n, m, c, src, dst, len);
-}
-
 // w[dst + j] = c * w[src + j], for j < len, with the reciprocal of n.
-pub fn scale_by(w: &mut [u32], n: u32, m: Reciprocal, c: u32, src: usize, dst: usize, len: usize)
+pub fn scale(w: &mut [u32], n: u32, m: Reciprocal, c: u32, src: usize, dst: usize, len: usize)
     requires { ⌜ (1 ≤ n) × ((Ready m) × (m .n ≡ n)) ⌝ }
     requires { ⌜ (src + len ≤ length (now w)) × (dst + len ≤ length (now w)) ⌝ }
     requires { ⌜ Clear src dst len ⌝ }
@@ -105,20 +83,6 @@ pub fn scale_masked(w: &mut [u32], n: u32, c: u32, src: usize, dst: usize, len: 
     }
 }
 
-// w[dst + j] = c * w[src + j], for j < len.
-pub fn scale(w: &mut [u32], n: u32, c: u32, src: usize, dst: usize, len: usize)
-    requires { ⌜ (1 ≤ n) × ((src + len ≤ length (now w)) × (dst + len ≤ length (now w))) ⌝ }
-    requires { ⌜ Clear src dst len ⌝ }
-    ensures { λ _. ⌜ Moved (mulBy n c) src dst len (now (w .entry)) (now (w .exit)) ⌝ }
-{
-    if reduction::power_of_two(n) {
-        scale_masked(w, n, c, src, dst, len);
-        return;
-    }
-    let m = reduction::modulus_of(n);
-    scale_by(w, n, m, c, src, dst, len);
-}
-
 // w[dst + j] = w[src + j], for j < len.
 pub fn copy(w: &mut [u32], src: usize, dst: usize, len: usize)
     requires { ⌜ (src + len ≤ length (now w)) × (dst + len ≤ length (now w)) ⌝ }
@@ -146,27 +110,27 @@ pub fn zeros(s: &[u32]) -> usize
     j
 }
 
-// w[dst + j] += c * w[src + j - 1] + m * w[src + j], for j < len, one reduction a word, with the reciprocal of n; the word before the first
+// w[dst + j] += c * w[src + j - 1] + e * w[src + j], for j < len, one reduction a word, with the reciprocal of n; the word before the first
 // counts as 0.
-pub fn add_pair_by(
+pub fn add_pair(
     w: &mut [u32],
     n: u32,
-    modulus: Reciprocal,
+    m: Reciprocal,
     c: u32,
-    m: u32,
+    e: u32,
     src: usize,
     dst: usize,
     len: usize,
 )
-    requires { ⌜ (Ready modulus) × (modulus .n ≡ n) ⌝ }
-    requires { ⌜ PairAsked n m src dst len (now w) ⌝ }
-    ensures { λ _. ⌜ Paired n c m src dst len (now (w .entry)) (now (w .exit)) ⌝ }
+    requires { ⌜ (Ready m) × (m .n ≡ n) ⌝ }
+    requires { ⌜ PairAsked n e src dst len (now w) ⌝ }
+    ensures { λ _. ⌜ Paired n c e src dst len (now (w .entry)) (now (w .exit)) ⌝ }
 {
     let mut j: usize = 0;
     let mut y: u32 = 0;
     while j < len {
         let z = w[src + j];
-        let r = reduction::sum_two(modulus, w[dst + j], c, y, m, z);
+        let r = reduction::sum_two(m, w[dst + j], c, y, e, z);
         if r >= n {
             return;
         }
@@ -177,32 +141,19 @@ pub fn add_pair_by(
 }
 
 // The same for a power n of two.
-pub fn add_pair_masked(w: &mut [u32], n: u32, c: u32, m: u32, src: usize, dst: usize, len: usize)
+pub fn add_pair_masked(w: &mut [u32], n: u32, c: u32, e: u32, src: usize, dst: usize, len: usize)
     requires { ⌜ PowerOfTwo n ⌝ }
-    requires { ⌜ PairAsked n m src dst len (now w) ⌝ }
-    ensures { λ _. ⌜ Paired n c m src dst len (now (w .entry)) (now (w .exit)) ⌝ }
+    requires { ⌜ PairAsked n e src dst len (now w) ⌝ }
+    ensures { λ _. ⌜ Paired n c e src dst len (now (w .entry)) (now (w .exit)) ⌝ }
 {
     let mut j: usize = 0;
     let mut y: u32 = 0;
     while j < len {
         let z = w[src + j];
-        w[dst + j] = reduction::sum_masked(n, w[dst + j], c, y, m, z);
+        w[dst + j] = reduction::sum_masked(n, w[dst + j], c, y, e, z);
         y = z;
         j += 1;
     }
-}
-
-// w[dst + j] += c * w[src + j - 1] + m * w[src + j], for j < len; the word before the first counts as 0.
-pub fn add_pair(w: &mut [u32], n: u32, c: u32, m: u32, src: usize, dst: usize, len: usize)
-    requires { ⌜ PairAsked n m src dst len (now w) ⌝ }
-    ensures { λ _. ⌜ Paired n c m src dst len (now (w .entry)) (now (w .exit)) ⌝ }
-{
-    if reduction::power_of_two(n) {
-        add_pair_masked(w, n, c, m, src, dst, len);
-        return;
-    }
-    let modulus = reduction::modulus_of(n);
-    add_pair_by(w, n, modulus, c, m, src, dst, len);
 }
 
 // The greatest common divisor of n and of every word of s.
@@ -234,12 +185,12 @@ pub fn divide_words(w: &mut [u32], c: u32, at: usize, len: usize)
     }
 }
 
-// w[at + j] = w[at + j] % n, for j < len.
-pub fn reduce_words(w: &mut [u32], n: u32, at: usize, len: usize)
-    requires { ⌜ (1 ≤ n) × (at + len ≤ length (now w)) ⌝ }
+// w[at + j] = w[at + j] % n, for j < len, with the reciprocal of n.
+pub fn reduce_words(w: &mut [u32], n: u32, m: Reciprocal, at: usize, len: usize)
+    requires { ⌜ (1 ≤ n) × ((Ready m) × (m .n ≡ n)) ⌝ }
+    requires { ⌜ at + len ≤ length (now w) ⌝ }
     ensures { λ _. ⌜ Moved (reduced-by n) at at len (now (w .entry)) (now (w .exit)) ⌝ }
 {
-    let m = reduction::modulus_of(n);
     let mut j: usize = 0;
     while j < len {
         let r = reduction::product(m, w[at + j], 1);

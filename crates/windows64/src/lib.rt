@@ -1,6 +1,6 @@
 // Leaves over windows of one lent buffer: places src and dst of one slice, len words each.
 //
-//   add_scaled, add_scaled_by, add_pair_by, scale       words made of those of another window, times multipliers
+//   add_scaled, add_pair, scale                   words made of those of another window, times multipliers
 //   copy, copy_reversed                                 words of another window
 //   divide_words, reduce_words, clear, wipe             words made of themselves, or zeros
 //   residue, load                                       words of a lent polynomial, as residues
@@ -18,15 +18,7 @@ ghost use Rattle.windows.specs.Window.{zeroed, PairAsked, Paired, Apart, Zeros,
 use reduction64::Reciprocal;
 
 // w[dst + j] += c * w[src + j], for j < len, with the reciprocal of n.
-pub fn add_scaled_by(
-    w: &mut [u64],
-    n: u64,
-    m: Reciprocal,
-    c: u64,
-    src: usize,
-    dst: usize,
-    len: usize,
-)
+pub fn add_scaled(w: &mut [u64], n: u64, m: Reciprocal, c: u64, src: usize, dst: usize, len: usize)
     requires { ⌜ (Ready m) × (m .n ≡ n) ⌝ }
     requires { ⌜ (src + len ≤ length (now w)) × (dst + len ≤ length (now w)) ⌝ }
     requires { ⌜ Clear src dst len ⌝ }
@@ -36,31 +28,6 @@ pub fn add_scaled_by(
     let mut j: usize = 0;
     while j < len {
         w[dst + j] = multipliers64::add_times(m, w[dst + j], f, w[src + j]);
-        j += 1;
-    }
-}
-
-// w[dst + j] += c * w[src + j], for j < len.
-pub fn add_scaled(w: &mut [u64], n: u64, c: u64, src: usize, dst: usize, len: usize)
-    requires { ⌜ (1 ≤ n) × ((src + len ≤ length (now w)) × (dst + len ≤ length (now w))) ⌝ }
-    requires { ⌜ Clear src dst len ⌝ }
-    ensures { λ _. ⌜ Moved (addMul n c) src dst len (now (w .entry)) (now (w .exit)) ⌝ }
-{
-    let m = reduction64::modulus_of(n);
-    add_scaled_by(w, n, m, c, src, dst, len);
-}
-
-// w[dst + j] = c * w[src + j], for j < len.
-pub fn scale(w: &mut [u64], n: u64, c: u64, src: usize, dst: usize, len: usize)
-    requires { ⌜ (1 ≤ n) × ((src + len ≤ length (now w)) × (dst + len ≤ length (now w))) ⌝ }
-    requires { ⌜ Clear src dst len ⌝ }
-    ensures { λ _. ⌜ Moved (mulBy n c) src dst len (now (w .entry)) (now (w .exit)) ⌝ }
-{
-    let m = reduction64::modulus_of(n);
-    let f = multipliers64::multiplier_of(m, c);
-    let mut j: usize = 0;
-    while j < len {
-        w[dst + j] = multipliers64::times(m, f, w[src + j]);
         j += 1;
     }
 }
@@ -149,7 +116,7 @@ fn add_pair_held(
 }
 
 // w[dst + j] += c * w[src + j - 1] + e * w[src + j], for j < len, with the reciprocal of n; the word before the first counts as 0.
-pub fn add_pair_by(
+pub fn add_pair(
     w: &mut [u64],
     n: u64,
     m: Reciprocal,
@@ -199,12 +166,12 @@ pub fn divide_words(w: &mut [u64], c: u64, at: usize, len: usize)
     }
 }
 
-// w[at + j] = w[at + j] % n, for j < len.
-pub fn reduce_words(w: &mut [u64], n: u64, at: usize, len: usize)
-    requires { ⌜ (1 ≤ n) × (at + len ≤ length (now w)) ⌝ }
+// w[at + j] = w[at + j] % n, for j < len, with the reciprocal of n.
+pub fn reduce_words(w: &mut [u64], n: u64, m: Reciprocal, at: usize, len: usize)
+    requires { ⌜ (1 ≤ n) × ((Ready m) × (m .n ≡ n)) ⌝ }
+    requires { ⌜ at + len ≤ length (now w) ⌝ }
     ensures { λ _. ⌜ Moved (reduced-by n) at at len (now (w .entry)) (now (w .exit)) ⌝ }
 {
-    let m = reduction64::modulus_of(n);
     let mut j: usize = 0;
     while j < len {
         let r = reduction64::product(m, w[at + j], 1);

@@ -4,7 +4,4 @@ use Rattle.arithmetic64.proofs.mul_add_mod.Statement.{statement}
 use Rattle.arithmetic64.proofs.mul_add_mod.Tie as tie
 
 pub mul-add-mod-spec : {M : Type 1} → statement M
-mul-add-mod-spec =
-    tie.close
-    (tie.spec
-    (λ c κs. search needs) (λ c κs. search needs) (λ c. search (needs, modulo)))
+mul-add-mod-spec = tie.close (tie.spec (λ c κs. search needs) (λ c κs. search needs) (λ c. search (needs, modulo)))

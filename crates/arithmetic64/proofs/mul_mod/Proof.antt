@@ -4,7 +4,4 @@ use Rattle.arithmetic64.proofs.mul_mod.Statement.{statement}
 use Rattle.arithmetic64.proofs.mul_mod.Tie as tie
 
 pub mul-mod-spec : {M : Type 1} → statement M
-mul-mod-spec =
-    tie.close
-    (tie.spec
-    (λ c κs. search needs) (λ c κs. search needs) (λ c. search (needs, modulo)))
+mul-mod-spec = tie.close (tie.spec (λ c κs. search needs) (λ c κs. search needs) (λ c. search (needs, modulo)))

@@ -1,12 +1,7 @@
-use Rattle.arithmetic.proofs.Squares.{Powering, powers}
+use borrow.Author.Needs.{needs}
+use Rattle.reduction.proofs.Reciprocals.{modulo}
 use Rattle.arithmetic64.proofs.power.Statement.{statement}
 use Rattle.arithmetic64.proofs.power.Tie as tie
 
 pub power-spec : {M : Type 1} → statement M
-power-spec =
-    tie.close
-    (tie.spec
-    (λ n x k m r₀ y₀ j₀ r y j. Powering n x k r y j) (λ n x k m r₀ y₀ j₀ r y j. j)
-    (λ c κs. search powers) (λ c κs. search powers) (λ c. search powers)
-    (λ c κs. search powers) (λ c. search powers) (λ c κs. search powers)
-    (λ c κs. search powers) (λ c. search powers) (λ c. search powers) (λ c. search powers))
+power-spec = tie.close (tie.spec (λ c κs. search needs) (λ c κs. search needs) (λ c. search (needs, modulo)))

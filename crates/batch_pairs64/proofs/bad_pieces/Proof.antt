@@ -4,8 +4,5 @@ use Rattle.batch_pairs64.proofs.bad_pieces.Statement.{statement}
 use Rattle.batch_pairs64.proofs.bad_pieces.Tie as tie
 
 pub bad-pieces-spec : {M : Type 1} → statement M
-bad-pieces-spec =
-    tie.close
-    (tie.spec
-    (λ c. search sizes) (λ c. search needs) (λ c. search needs) (λ c. search sizes) (λ c. search needs) (λ c. search needs)
-    (λ c. search sizes))
+bad-pieces-spec = tie.close (tie.spec (λ c. search sizes) (λ c. search needs) (λ c. search needs) (λ c. search sizes) (λ c. search needs)
+    (λ c. search needs) (λ c. search sizes))

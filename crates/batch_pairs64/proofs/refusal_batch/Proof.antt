@@ -12,7 +12,7 @@ refusal-batch-spec =
     (λ c κs. search needs) (λ c. search cascade depth 8) (λ c κs. search needs) (λ c. search (cascade, pair-stops) depth 8)
     (λ c κs. let r = c .before .before .before in
     let x = r .before .before .before .args in
-    let p = pieces-told (x .d) (x .e) (x .count) (length (x .f .now)) (length (x .g .now)) _ (c .before .refusal-pieces .ensures)
+    let p = pieces-told (x .b .d) (x .b .e) (x .b .count) (length (x .f .now)) (length (x .g .now)) _ (c .before .refusal-pieces .ensures)
     (c .if2 .left) in
     search (needs, p))
     (λ c. search (cascade, pair-stops, pair-passes) depth 10)

@@ -4,8 +4,5 @@ use Rattle.bivariate.proofs.first_words.Statement.{statement}
 use Rattle.bivariate.proofs.first_words.Tie as tie
 
 pub first-words-spec : {M : Type 1} → statement M
-first-words-spec =
-    tie.close
-    (tie.spec
-    (λ c. search needs) (λ c. search needs) (λ c. search needs) (λ c. search needs) (λ c. search needs) (λ c. search needs)
-    (λ c. search needs) (λ c. search needs) (λ c κs. search needs) (λ c. search needs) (λ c. search (needs, run-is)))
+first-words-spec = tie.close (tie.spec (λ c. search needs) (λ c. search needs) (λ c. search needs) (λ c. search needs) (λ c. search needs)
+    (λ c. search needs) (λ c. search needs) (λ c. search needs) (λ c κs. search needs) (λ c. search needs) (λ c. search (needs, run-is)))

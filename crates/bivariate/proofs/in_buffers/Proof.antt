@@ -4,8 +4,5 @@ use Rattle.bivariate.proofs.in_buffers.Statement.{statement}
 use Rattle.bivariate.proofs.in_buffers.Tie as tie
 
 pub in-buffers-spec : {M : Type 1} → statement M
-in-buffers-spec =
-    tie.close
-    (tie.spec
-    (λ c κs. search needs) (λ c κs. search needs) (λ c κs. search needs) (λ c. search needs) (λ c. search needs) (λ c. search needs)
-    (λ c. (search (needs, run-value), search needs)))
+in-buffers-spec = tie.close (tie.spec (λ c κs. search needs) (λ c κs. search needs) (λ c κs. search needs) (λ c. search needs)
+    (λ c. search needs) (λ c. search needs) (λ c. (search (needs, run-value), search needs)))

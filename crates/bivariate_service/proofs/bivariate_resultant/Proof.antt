@@ -4,8 +4,5 @@ use Rattle.bivariate_service.proofs.bivariate_resultant.Statement.{stat
 use Rattle.bivariate_service.proofs.bivariate_resultant.Tie as tie
 
 pub bivariate-resultant-spec : {M : Type 1} → statement M
-bivariate-resultant-spec =
-    tie.close
-    (tie.spec
-    (λ c κs. search needs) (λ c. search answers) (λ c. search answers) (λ c. search answers) (λ c. search answers) (λ c κs. search needs)
+bivariate-resultant-spec = tie.close (tie.spec (λ c κs. search needs) (λ c. search answers) (λ c κs. search answers) (λ c κs. search needs)
     (λ c. search answers) (λ c κs. search answers) (λ c. search needs) (λ c. search needs) (λ c. search answers))

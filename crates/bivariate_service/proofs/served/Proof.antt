@@ -4,7 +4,5 @@ use Rattle.bivariate_service.proofs.served.Statement.{statement}
 use Rattle.bivariate_service.proofs.served.Tie as tie
 
 pub served-spec : {M : Type 1} → statement M
-served-spec =
-    tie.close
-    (tie.spec
-    (λ c κs. search needs) (λ c κs. search needs) (λ c. search needs) (λ c. search needs) (λ c. search (needs, wiped)))
+served-spec = tie.close (tie.spec (λ c κs. search needs) (λ c κs. search needs) (λ c. search needs) (λ c. search needs)
+    (λ c. search (needs, wiped)))

@@ -4,8 +4,5 @@ use Rattle.claim_refusals.proofs.refusal_claim.Statement.{statement}
 use Rattle.claim_refusals.proofs.refusal_claim.Tie as tie
 
 pub refusal-claim-spec : {M : Type 1} → statement M
-refusal-claim-spec =
-    tie.close
-    (tie.spec
-    (λ c κs. search needs) (λ c. search (needs, sizes-refused)) (λ c κs. search (needs, sizes-served))
+refusal-claim-spec = tie.close (tie.spec (λ c κs. search needs) (λ c. search (needs, sizes-refused)) (λ c κs. search (needs, sizes-served))
     (λ c. search (needs, words-refused)) (λ c κs. search needs) (λ c. search (needs, words-passed)))

@@ -4,8 +4,5 @@ use Rattle.claim_service.proofs.check_claim.Statement.{statement}
 use Rattle.claim_service.proofs.check_claim.Tie as tie
 
 pub check-claim-spec : {M : Type 1} → statement M
-check-claim-spec =
-    tie.close
-    (tie.spec
-    (λ c κs. search needs) (λ c. search returning) (λ c κs. search returning) (λ c κs. search needs) (λ c. search needs)
-    (λ c. search returning) (λ c. search needs) (λ c. search returning))
+check-claim-spec = tie.close (tie.spec (λ c κs. search needs) (λ c. search returning) (λ c κs. search returning) (λ c κs. search needs)
+    (λ c. search needs) (λ c. search returning) (λ c. search needs) (λ c. search returning))

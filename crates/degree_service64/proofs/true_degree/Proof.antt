@@ -3,8 +3,5 @@ use Rattle.degree_service64.proofs.true_degree.Statement.{statement}
 use Rattle.degree_service64.proofs.true_degree.Tie as tie
 
 pub true-degree-spec : {M : Type 1} → statement M
-true-degree-spec =
-    tie.close
-    (tie.spec
-    (λ c κs. search degrees) (λ c. search degrees) (λ c κs. search degrees) (λ c. search degrees) (λ c. search degrees)
-    (λ c. search degrees) (λ c. search degrees))
+true-degree-spec = tie.close (tie.spec (λ c κs. search degrees) (λ c. search degrees) (λ c κs. search degrees) (λ c. search degrees)
+    (λ c. search degrees) (λ c. search degrees) (λ c. search degrees))

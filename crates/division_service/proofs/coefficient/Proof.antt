@@ -3,7 +3,4 @@ use Rattle.division_service.proofs.coefficient.Statement.{statement}
 use Rattle.division_service.proofs.coefficient.Tie as tie
 
 pub coefficient-spec : {M : Type 1} → statement M
-coefficient-spec =
-    tie.close
-    (tie.spec
-    (λ c. search quotients) (λ c. search quotients) (λ c. search quotients) (λ c. search quotients))
+coefficient-spec = tie.close (tie.spec (λ c. search quotients) (λ c. search quotients) (λ c. search quotients) (λ c. search quotients))

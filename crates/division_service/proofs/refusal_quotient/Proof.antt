@@ -3,7 +3,5 @@ use Rattle.division_service.proofs.refusal_quotient.Statement.{statemen
 use Rattle.division_service.proofs.refusal_quotient.Tie as tie
 
 pub refusal-quotient-spec : {M : Type 1} → statement M
-refusal-quotient-spec =
-    tie.close
-    (tie.spec
-    (λ c. search cascade depth 7) (λ c. search cascade depth 7) (λ c. search cascade depth 7) (λ c. search cascade depth 7))
+refusal-quotient-spec = tie.close (tie.spec (λ c. search cascade depth 7) (λ c. search cascade depth 7) (λ c. search cascade depth 7)
+    (λ c. search cascade depth 7))

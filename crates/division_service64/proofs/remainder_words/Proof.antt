@@ -6,10 +6,7 @@ use Rattle.division_service64.proofs.remainder_words.Statement.{stateme
 use Rattle.division_service64.proofs.remainder_words.Tie as tie
 
 pub remainder-words-spec : {M : Type 1} → statement M
-remainder-words-spec =
-    tie.close
-    (tie.spec
-    (λ n f g q r₀ m k₀ r k. (k ≤ length r₀) × Filled (remainders n f g q) k r₀ r) (λ n f g q r₀ m k₀ r k. length r₀ - k)
-    (λ c κs. search quotients) (λ c. search quotients) (λ c κs. search quotients) (λ c κs. search quotients) (λ c κs. search quotients)
-    (λ c. search quotients) (λ c. search quotients) (λ c. search quotients) (λ c. search quotients) (λ c. search quotients)
-    (λ c. search quotients) (λ c. search quotients))
+remainder-words-spec = tie.close (tie.spec (λ m f g q r₀ k₀ r k. (k ≤ length r₀) × Filled (remainders (m .n) f g q) k r₀ r)
+    (λ m f g q r₀ k₀ r k. length r₀ - k) (λ c. search quotients) (λ c κs. search quotients) (λ c κs. search quotients)
+    (λ c κs. search quotients) (λ c. search quotients) (λ c. search quotients) (λ c. search quotients) (λ c. search quotients)
+    (λ c. search quotients) (λ c. search quotients) (λ c. search quotients))

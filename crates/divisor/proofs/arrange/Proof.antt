@@ -4,8 +4,5 @@ use Rattle.divisor.proofs.arrange.Statement.{statement}
 use Rattle.divisor.proofs.arrange.Tie as tie
 
 pub arrange-spec : {M : Type 1} → statement M
-arrange-spec =
-    tie.close
-    (tie.spec
-    (λ c κs. search needs) (λ c. search needs) (λ c κs. search needs) (λ c κs. search needs) (λ c. search needs) (λ c κs. search needs)
-    (λ c. search needs) (λ c. search padded))
+arrange-spec = tie.close (tie.spec (λ c κs. search needs) (λ c. search needs) (λ c κs. search needs) (λ c κs. search needs)
+    (λ c. search needs) (λ c κs. search needs) (λ c. search needs) (λ c. search padded))

@@ -1,13 +1,9 @@
 use borrow.Author.Needs.{needs}
-use Rattle.divisor.proofs.Cases.{attempts, trying}
+use Rattle.divisor.proofs.Halves.{half-asked}
+use Rattle.divisor.proofs.Cases.{attempts}
 use Rattle.divisor.proofs.general.Statement.{statement}
 use Rattle.divisor.proofs.general.Tie as tie
 
 pub general-spec : {M : Type 1} → statement M
-general-spec =
-    tie.close
-    (tie.spec
-    (λ c κs. search needs) (λ c. search needs) (λ c. (search attempts, search needs)) (λ c κs. search needs) (λ c. search needs)
-    (λ c. search needs) (λ c κs. (search needs, search trying)) (λ c. search needs) (λ c κs. (search needs, search trying))
-    (λ c. search needs) (λ c. (search attempts, search needs)) (λ c. search needs) (λ c. (search attempts, search needs))
-    (λ c. search needs) (λ c. search needs))
+general-spec = tie.close (tie.spec (λ c κs. search needs) (λ c. search needs) (λ c. (search attempts, search needs))
+    (λ c κs. search attempts) (λ c κs. (search needs, (search needs, search half-asked))) (λ c. search needs) (λ c. search needs))

@@ -4,7 +4,4 @@ use Rattle.divisor64.proofs.over.Statement.{statement}
 use Rattle.divisor64.proofs.over.Tie as tie
 
 pub over-spec : {M : Type 1} → statement M
-over-spec =
-    tie.close
-    (tie.spec
-    (λ c. search windows) (λ c κs. search needs) (λ c. search needs) (λ c. search needs))
+over-spec = tie.close (tie.spec (λ c. search windows) (λ c κs. search needs) (λ c. search needs) (λ c. search needs))

@@ -4,9 +4,6 @@ use Rattle.divisor64.proofs.swapped.Statement.{statement}
 use Rattle.divisor64.proofs.swapped.Tie as tie
 
 pub swapped-spec : {M : Type 1} → statement M
-swapped-spec =
-    tie.close
-    (tie.spec
-    (λ c κs. search swappings) (λ c. search needs) (λ c. search needs) (λ c κs. search swappings) (λ c. search needs) (λ c. search needs)
-    (λ c. (search swappings, search needs)) (λ c. search needs) (λ c. (search swappings, search needs)) (λ c. search needs)
-    (λ c. (search swappings, search needs)))
+swapped-spec = tie.close (tie.spec (λ c κs. search swappings) (λ c. search needs) (λ c. search needs) (λ c κs. search swappings)
+    (λ c. search needs) (λ c. search needs) (λ c. (search swappings, search needs)) (λ c. search needs)
+    (λ c. (search swappings, search needs)) (λ c. search needs) (λ c. (search swappings, search needs)))

@@ -12,9 +12,9 @@ pub each-pair-spec : {M : Type 1} → statement M
 each-pair-spec =
     tie.close
     (tie.spec
-    (λ out₀ work₀ n f d g e count i₀ next₀ out work i next. (next ≡ i + 1) × ((i ≤ count) × (Pairs (Reduced n) f d g e i out₀ out
+    (λ n f g b out₀ work₀ i₀ next₀ out work i next. (next ≡ i + 1) × ((i ≤ b .count) × (Pairs (Reduced n) f (b .d) g (b .e) i out₀ out
     × Scratch work₀ work)))
-    (λ out₀ work₀ n f d g e count i₀ next₀ out work i next. count - i)
+    (λ n f g b out₀ work₀ i₀ next₀ out work i next. b .count - i)
     (λ c. search rounds) (λ c κs. search rounds) (λ c. search needs) (λ c. search needs) (λ c. search needs) (λ c. search needs)
     (λ c. (search needs, (search needs, (search rounds, search rounds)))) (λ c. search needs) (λ c. search needs)
     (λ c. (search rounds, search rounds)))

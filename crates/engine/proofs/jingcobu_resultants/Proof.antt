@@ -3,7 +3,5 @@ use Rattle.engine.proofs.jingcobu_resultants.Statement.{statement}
 use Rattle.engine.proofs.jingcobu_resultants.Tie as tie
 
 pub jingcobu-resultants-spec : {M : Type 1} → statement M
-jingcobu-resultants-spec =
-    tie.close
-    (tie.spec
-    (λ c κs. search needs) (λ c. search needs) (λ c. search needs) (λ c. c .before .before .before .before .resultants .ensures))
+jingcobu-resultants-spec = tie.close (tie.spec (λ c κs. search needs) (λ c. search needs) (λ c. search needs)
+    (λ c. c .before .before .before .before .resultants .ensures))

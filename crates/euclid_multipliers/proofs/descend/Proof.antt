@@ -6,9 +6,6 @@ use Rattle.euclid_multipliers.proofs.descend.Statement.{statement}
 use Rattle.euclid_multipliers.proofs.descend.Tie as tie
 
 pub descend-spec : {M : Type 1} → statement M
-descend-spec =
-    tie.close
-    (tie.spec
-    (λ w₀ m h y₀ j₀ w y j. Descending m h y₀ w₀ j y w) (λ w₀ m h y₀ j₀ w y j. y .d + y .e)
+descend-spec = tie.close (tie.spec (λ w₀ m h y₀ j₀ w y j. Descending m h y₀ w₀ j y w) (λ w₀ m h y₀ j₀ w y j. y .d + y .e)
     (λ c. search descents) (λ c κs. search needs) (λ c. search needs) (λ c. search needs) (λ c. search needs) (λ c κs. search descents)
     (λ c. search needs) (λ c. search needs) (λ c. search descents) (λ c. search needs) (λ c. search descents))

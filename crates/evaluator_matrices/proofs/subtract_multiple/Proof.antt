@@ -5,10 +5,7 @@ use Rattle.evaluator_matrices.proofs.subtract_multiple.Statement.{state
 use Rattle.evaluator_matrices.proofs.subtract_multiple.Tie as tie
 
 pub subtract-multiple-spec : {M : Type 1} → statement M
-subtract-multiple-spec =
-    tie.close
-    (tie.spec
-    (λ n q x y m z₀ c₀ z c. ArrayWritten 0 (less n q x y) 8 c z) (λ n q x y m z₀ c₀ z c. 8 - c)
+subtract-multiple-spec = tie.close (tie.spec (λ m q x y z₀ c₀ z c. ArrayWritten 0 (less (m .n) q x y) 8 c z) (λ m q x y z₀ c₀ z c. 8 - c)
+    (λ c. search words) (λ c. search words) (λ c. search words) (λ c. search words) (λ c. search words) (λ c. search words)
     (λ c κs. search words) (λ c. search words) (λ c. search words) (λ c. search words) (λ c. search words) (λ c. search words)
-    (λ c. search words) (λ c κs. search words) (λ c. search words) (λ c. search words) (λ c. search words) (λ c. search words)
-    (λ c. search words) (λ c. search words))
+    (λ c. search words))

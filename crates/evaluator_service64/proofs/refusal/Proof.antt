@@ -3,8 +3,5 @@ use Rattle.evaluator_service64.proofs.refusal.Statement.{statement}
 use Rattle.evaluator_service64.proofs.refusal.Tie as tie
 
 pub refusal-spec : {M : Type 1} → statement M
-refusal-spec =
-    tie.close
-    (tie.spec
-    (λ c κs. search statuses) (λ c. search statuses) (λ c κs. search statuses) (λ c. search statuses) (λ c κs. search statuses)
-    (λ c. search statuses) (λ c. search statuses))
+refusal-spec = tie.close (tie.spec (λ c κs. search statuses) (λ c. search statuses) (λ c κs. search statuses) (λ c. search statuses)
+    (λ c κs. search statuses) (λ c. search statuses) (λ c. search statuses))

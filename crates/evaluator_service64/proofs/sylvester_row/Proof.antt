@@ -5,9 +5,6 @@ use Rattle.evaluator_service64.proofs.sylvester_row.Statement.{statemen
 use Rattle.evaluator_service64.proofs.sylvester_row.Tie as tie
 
 pub sylvester-row-spec : {M : Type 1} → statement M
-sylvester-row-spec =
-    tie.close
-    (tie.spec
-    (λ f g r x₀ c₀ x c. ArrayWritten 0 (row-word f g r) 8 c x) (λ f g r x₀ c₀ x c. 8 - c)
+sylvester-row-spec = tie.close (tie.spec (λ f g r x₀ c₀ x c. ArrayWritten 0 (row-word f g r) 8 c x) (λ f g r x₀ c₀ x c. 8 - c)
     (λ c. search filling) (λ c κs. search filling) (λ c. search filling) (λ c. search filling) (λ c. search filling) (λ c. search filling)
     (λ c. search filling) (λ c. search filling))

@@ -3,8 +3,5 @@ use Rattle.hexadecimal.proofs.eight.Statement.{statement}
 use Rattle.hexadecimal.proofs.eight.Tie as tie
 
 pub eight-spec : {M : Type 1} → statement M
-eight-spec =
-    tie.close
-    (tie.spec
-    (λ c κs. search eights) (λ c. search eights) (λ c. search eights) (λ c κs. search eights) (λ c. search eights)
-    (λ c. search eights) (λ c. search eights) (λ c. search eights))
+eight-spec = tie.close (tie.spec (λ c κs. search eights) (λ c. search eights) (λ c. search eights) (λ c κs. search eights)
+    (λ c. search eights) (λ c. search eights) (λ c. search eights) (λ c. search eights))

@@ -1,4 +1,3 @@
-use borrow.Author.Needs.{needs}
 use Prim.Native.Nat.{_≤_}
 use Rattle.interpolation.specs.NewtonWords.{Grown}
 use Rattle.interpolation.proofs.Newton.{expansions}
@@ -6,10 +5,7 @@ use Rattle.interpolation.proofs.expand.Statement.{statement}
 use Rattle.interpolation.proofs.expand.Tie as tie
 
 pub expand-spec : {M : Type 1} → statement M
-expand-spec =
-    tie.close
-    (tie.spec
-    (λ w₀ n b j₀ w j. (j ≤ b) × Grown n b j w₀ w) (λ w₀ n b j₀ w j. j)
-    (λ c. search expansions) (λ c. search needs) (λ c. search needs) (λ c. search needs) (λ c. search needs) (λ c. search needs)
-    (λ c κs. ((search needs, (search expansions, search expansions)), search needs)) (λ c. search needs) (λ c. search expansions)
-    (λ c. search needs) (λ c. search expansions))
+expand-spec = tie.close (tie.spec (λ w₀ b n r j₀ w j. (j ≤ b) × Grown n b j w₀ w) (λ w₀ b n r j₀ w j. j) (λ c. search expansions)
+    (λ c. search expansions) (λ c. search expansions) (λ c. search expansions) (λ c. search expansions) (λ c. search expansions)
+    (λ c. search expansions) (λ c κs. (search expansions, ((search expansions, search expansions), search expansions)))
+    (λ c. search expansions) (λ c. search expansions) (λ c. search expansions) (λ c. search expansions))

@@ -5,10 +5,8 @@ use Rattle.inverse_service64.proofs.inverse.Statement.{statement}
 use Rattle.inverse_service64.proofs.inverse.Tie as tie
 
 pub inverse-spec : {M : Type 1} → statement M
-inverse-spec =
-    tie.close
-    (tie.spec
-    (λ c κs. search needs) (λ c. search inverse-refused) (λ c κs. search modulus-told) (λ c. search place-scaled) (λ c. search place-told)
-    (λ c κs. search modulus-one) (λ c κs. search needs) (λ c. search needs) (λ c. search some-told) (λ c. search lengths)
-    (λ c. search lengths) (λ c κs. search needs) (λ c. search inverse-late) (λ c. search needs) (λ c. search needs)
-    (λ c. search room-told) (λ c κs. search inverse-asked) (λ c. search needs) (λ c. search needs) (λ c. search inverse-done))
+inverse-spec = tie.close (tie.spec (λ c κs. search needs) (λ c. search inverse-refused) (λ c κs. search modulus-told)
+    (λ c. search place-scaled) (λ c. search place-told) (λ c κs. search modulus-one) (λ c κs. search needs) (λ c. search needs)
+    (λ c. search some-told) (λ c. search lengths) (λ c. search lengths) (λ c κs. search needs) (λ c. search inverse-late)
+    (λ c. search needs) (λ c. search needs) (λ c. search room-told) (λ c κs. search inverse-asked) (λ c. search needs) (λ c. search needs)
+    (λ c. search inverse-done))

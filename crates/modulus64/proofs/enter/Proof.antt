@@ -3,7 +3,4 @@ use Rattle.modulus64.proofs.enter.Statement.{statement}
 use Rattle.modulus64.proofs.enter.Tie as tie
 
 pub enter-spec : {M : Type 1} → statement M
-enter-spec =
-    tie.close
-    (tie.spec
-    (λ c κs. search answers) (λ c. search answers))
+enter-spec = tie.close (tie.spec (λ c κs. search answers) (λ c. search answers))

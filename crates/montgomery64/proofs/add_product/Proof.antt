@@ -3,8 +3,5 @@ use Rattle.montgomery64.proofs.add_product.Statement.{statement}
 use Rattle.montgomery64.proofs.add_product.Tie as tie
 
 pub add-product-spec : {M : Type 1} → statement M
-add-product-spec =
-    tie.close
-    (tie.spec
-    (λ c κs. search rules) (λ c κs. search rules) (λ c κs. search rules) (λ c κs. search rules) (λ c. search rules)
-    (λ c. search rules) (λ c. search rules))
+add-product-spec = tie.close (tie.spec (λ c κs. search rules) (λ c κs. search rules) (λ c κs. search rules) (λ c κs. search rules)
+    (λ c. search rules) (λ c. search rules) (λ c. search rules))

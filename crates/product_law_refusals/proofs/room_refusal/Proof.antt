@@ -3,8 +3,5 @@ use Rattle.product_law_refusals.proofs.room_refusal.Statement.{statemen
 use Rattle.product_law_refusals.proofs.room_refusal.Tie as tie
 
 pub room-refusal-spec : {M : Type 1} → statement M
-room-refusal-spec =
-    tie.close
-    (tie.spec
-    (λ c. search cascade depth 8) (λ c. search cascade depth 8) (λ c. search cascade depth 8) (λ c. search cascade depth 8)
-    (λ c. search cascade depth 8))
+room-refusal-spec = tie.close (tie.spec (λ c. search cascade depth 8) (λ c. search cascade depth 8) (λ c. search cascade depth 8)
+    (λ c. search cascade depth 8) (λ c. search cascade depth 8))

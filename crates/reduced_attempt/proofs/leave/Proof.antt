@@ -4,7 +4,4 @@ use Rattle.reduced_attempt.proofs.leave.Statement.{statement}
 use Rattle.reduced_attempt.proofs.leave.Tie as tie
 
 pub leave-spec : {M : Type 1} → statement M
-leave-spec =
-    tie.close
-    (tie.spec
-    (λ c. search attempts) (λ c κs. search needs) (λ c κs. search needs) (λ c. search needs) (λ c. search attempts))
+leave-spec = tie.close (tie.spec (λ c. search attempts) (λ c κs. search needs) (λ c. search needs) (λ c. search attempts))

@@ -4,7 +4,5 @@ use Rattle.reduced_attempt64.proofs.arrange.Statement.{statement}
 use Rattle.reduced_attempt64.proofs.arrange.Tie as tie
 
 pub arrange-spec : {M : Type 1} → statement M
-arrange-spec =
-    tie.close
-    (tie.spec
-    (λ c. search needs) (λ c κs. search needs) (λ c κs. search needs) (λ c κs. search needs) (λ c. search needs) (λ c. search attempts))
+arrange-spec = tie.close (tie.spec (λ c. search needs) (λ c κs. search needs) (λ c κs. search needs) (λ c κs. search needs)
+    (λ c. search needs) (λ c. search attempts))

@@ -7,12 +7,15 @@ pub both-halves-spec : {M : Type 1} → statement M
 both-halves-spec =
     tie.close
     (tie.spec
-    (λ c κs. search needs) (λ c. search needs) (λ c. search needs) (λ c κs. (search attempts, search attempts)) (λ c. search needs)
-    -- applied by hand: held against all places, the answer of the first half takes a search too many steps
-    (λ c κs. let h = c .before .before .before .before .before .before .before .before .before .before .before .before .before .before
-    .before .before .before .before .before .before .pre .1 in
-    let z = c .before .before .before .before .before .before .before .before .before .before .before .half .ensures in
-    later-at _ _ _ _ _ _ _ _ _ _ _ (c .before .before .before .enum-told .given .1) (z .0) h (z .1))
-    (λ c. search needs) (λ c. search needs) (λ c. search needs) (λ c. (search attempts, search attempts)) (λ c. search needs)
-    (λ c. search needs) (λ c. search needs) (λ c. (search attempts, search attempts)) (λ c. search needs) (λ c. search needs)
-    (λ c. search needs) (λ c. (search attempts, search attempts)))
+    (λ c κs. search attempts) (λ c. search needs) (λ c. search needs) (λ c κs. (search attempts, (search attempts, search attempts)))
+    (λ c. search needs)
+    -- the first half's answer by hand: held against all places, it takes a search too many steps
+    (λ c κs. (
+      search needs,
+      let z = c .before .before .before .before .before .before .before .before .before .before .before .half .ensures in
+          later-at _ _ _ _ _ _ _ _ _ _ _ (c .before .before .before .enum-told .given .1) (z .0) (search needs) (z .1),
+    ))
+    (λ c. search needs) (λ c. search needs) (λ c. search needs)
+    (λ c. (search attempts, search attempts)) (λ c. search needs) (λ c. search needs) (λ c. search needs)
+    (λ c. (search attempts, search attempts)) (λ c. search needs) (λ c. search needs) (λ c. search needs)
+    (λ c. (search attempts, search attempts)))

@@ -4,8 +4,5 @@ use Rattle.reduced_attempt64.proofs.split.Statement.{statement}
 use Rattle.reduced_attempt64.proofs.split.Tie as tie
 
 pub split-spec : {M : Type 1} → statement M
-split-spec =
-    tie.close
-    (tie.spec
-    (λ c κs. search needs) (λ c. search needs) (λ c. search needs) (λ c. search needs) (λ c. search attempts) (λ c. search attempts)
-    (λ c. search attempts))
+split-spec = tie.close (tie.spec (λ c κs. search needs) (λ c. search needs) (λ c. search needs) (λ c. search needs) (λ c. search attempts)
+    (λ c. search attempts) (λ c. search attempts))

@@ -4,7 +4,4 @@ use Rattle.reduced_quotients64.proofs.place.Statement.{statement}
 use Rattle.reduced_quotients64.proofs.place.Tie as tie
 
 pub place-spec : {M : Type 1} → statement M
-place-spec =
-    tie.close
-    (tie.spec
-    (λ c κs. search needs) (λ c κs. search needs) (λ c. search needs) (λ c. search placed))
+place-spec = tie.close (tie.spec (λ c κs. search needs) (λ c κs. search needs) (λ c. search needs) (λ c. search placed))

@@ -4,7 +4,5 @@ use Rattle.reduced_stages64.proofs.with_content.Statement.{statement}
 use Rattle.reduced_stages64.proofs.with_content.Tie as tie
 
 pub with-content-spec : {M : Type 1} → statement M
-with-content-spec =
-    tie.close
-    (tie.spec
-    (λ c. search needs) (λ c. search answers) (λ c. search needs) (λ c. search answers) (λ c. search answers))
+with-content-spec = tie.close (tie.spec (λ c. search needs) (λ c. search answers) (λ c. search needs) (λ c. search answers)
+    (λ c. search answers))

@@ -3,7 +3,5 @@ use Rattle.residue.proofs.idempotent.Statement.{statement}
 use Rattle.residue.proofs.idempotent.Tie as tie
 
 pub idempotent-spec : {M : Type 1} → statement M
-idempotent-spec =
-    tie.close
-    (tie.spec
-    (λ c κs. search joins) (λ c. search joins) (λ c. search joins) (λ c. search joins) (λ c. search joins))
+idempotent-spec = tie.close (tie.spec (λ c κs. search joins) (λ c. search joins) (λ c. search joins) (λ c. search joins)
+    (λ c. search joins))

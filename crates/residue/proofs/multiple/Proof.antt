@@ -3,8 +3,5 @@ use Rattle.residue.proofs.multiple.Statement.{statement}
 use Rattle.residue.proofs.multiple.Tie as tie
 
 pub multiple-spec : {M : Type 1} → statement M
-multiple-spec =
-    tie.close
-    (tie.spec
-    (λ c. search cofactors) (λ c. search cofactors) (λ c. search cofactors) (λ c. search cofactors) (λ c. search cofactors)
-    (λ c. search cofactors))
+multiple-spec = tie.close (tie.spec (λ c. search cofactors) (λ c. search cofactors) (λ c. search cofactors) (λ c. search cofactors)
+    (λ c. search cofactors) (λ c. search cofactors))

@@ -3,7 +3,5 @@ use Rattle.residue_service.proofs.gcd_with_cofactors.Statement.{stateme
 use Rattle.residue_service.proofs.gcd_with_cofactors.Tie as tie
 
 pub gcd-with-cofactors-spec : {M : Type 1} → statement M
-gcd-with-cofactors-spec =
-    tie.close
-    (tie.spec
-    (λ c κs. search promises) (λ c. search promises) (λ c κs. search promises) (λ c. search promises))
+gcd-with-cofactors-spec = tie.close (tie.spec (λ c κs. search promises) (λ c. search promises) (λ c κs. search promises)
+    (λ c. search promises))

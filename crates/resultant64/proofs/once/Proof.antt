@@ -1,11 +1,7 @@
 use borrow.Author.Needs.{needs}
-use Rattle.resultant.proofs.Entering.{entering}
 use Rattle.resultant64.proofs.once.Statement.{statement}
 use Rattle.resultant64.proofs.once.Tie as tie
 
 pub once-spec : {M : Type 1} → statement M
-once-spec =
-    tie.close
-    (tie.spec
-    (λ c κs. search needs) (λ c κs. search needs) (λ c. search needs) (λ c. search entering) (λ c κs. search needs) (λ c. search needs)
-    (λ c. search entering))
+once-spec = tie.close (tie.spec (λ c κs. search needs) (λ c. search needs) (λ c. search needs) (λ c κs. search needs) (λ c. search needs)
+    (λ c. search needs))

@@ -4,7 +4,5 @@ use Rattle.resultant64.proofs.swapped.Statement.{statement}
 use Rattle.resultant64.proofs.swapped.Tie as tie
 
 pub swapped-spec : {M : Type 1} → statement M
-swapped-spec =
-    tie.close
-    (tie.spec
-    (λ c κs. search needs) (λ c. search needs) (λ c. search needs) (λ c κs. search needs) (λ c. search needs) (λ c. search loading))
+swapped-spec = tie.close (tie.spec (λ c κs. search needs) (λ c. search needs) (λ c. search needs) (λ c κs. search needs) (λ c. search needs)
+    (λ c. search loading))

@@ -4,7 +4,5 @@ use Rattle.resultant_steps.proofs.copy_pair.Statement.{statement}
 use Rattle.resultant_steps.proofs.copy_pair.Tie as tie
 
 pub copy-pair-spec : {M : Type 1} → statement M
-copy-pair-spec =
-    tie.close
-    (tie.spec
-    (λ c κs. search needs) (λ c. search needs) (λ c κs. search needs) (λ c. search needs) (λ c. search copying))
+copy-pair-spec = tie.close (tie.spec (λ c κs. search needs) (λ c. search needs) (λ c κs. search needs) (λ c. search needs)
+    (λ c. search copying))

@@ -4,7 +4,5 @@ use Rattle.resultant_steps.proofs.times_sign.Statement.{statement}
 use Rattle.resultant_steps.proofs.times_sign.Tie as tie
 
 pub times-sign-spec : {M : Type 1} → statement M
-times-sign-spec =
-    tie.close
-    (tie.spec
-    (λ c. search needs) (λ c κs. search rotated) (λ c. search needs) (λ c. search rotated) (λ c. search rotated))
+times-sign-spec = tie.close (tie.spec (λ c. search needs) (λ c κs. search rotated) (λ c. search needs) (λ c. search rotated)
+    (λ c. search rotated))

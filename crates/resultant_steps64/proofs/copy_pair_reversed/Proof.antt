@@ -4,7 +4,5 @@ use Rattle.resultant_steps64.proofs.copy_pair_reversed.Statement.{state
 use Rattle.resultant_steps64.proofs.copy_pair_reversed.Tie as tie
 
 pub copy-pair-reversed-spec : {M : Type 1} → statement M
-copy-pair-reversed-spec =
-    tie.close
-    (tie.spec
-    (λ c κs. search needs) (λ c. search needs) (λ c κs. search needs) (λ c. search needs) (λ c. search copying))
+copy-pair-reversed-spec = tie.close (tie.spec (λ c κs. search needs) (λ c. search needs) (λ c κs. search needs) (λ c. search needs)
+    (λ c. search copying))

@@ -5,8 +5,5 @@ use Rattle.resultants_service.proofs.resultants.Statement.{statement}
 use Rattle.resultants_service.proofs.resultants.Tie as tie
 
 pub resultants-spec : {M : Type 1} → statement M
-resultants-spec =
-    tie.close
-    (tie.spec
-    (λ c κs. search needs) (λ c. search ends) (λ c κs. search (batch-asked narrow)) (λ c κs. search needs) (λ c. search needs)
-    (λ c. search needs) (λ c. search ends))
+resultants-spec = tie.close (tie.spec (λ c κs. search needs) (λ c. search ends) (λ c κs. search (batch-asked narrow)) (λ c κs. search needs)
+    (λ c. search needs) (λ c. search needs) (λ c. search ends))

@@ -5,10 +5,7 @@ use Rattle.test_vectors.proofs.run.Statement.{statement}
 use Rattle.test_vectors.proofs.run.Tie as tie
 
 pub run-spec : {M : Type 1} → statement M
-run-spec =
-    tie.close
-    (tie.spec
-    (λ line₀ words₀ rounds₀ line words rounds. (length line ≡ length line₀) × (length words ≡ length words₀))
-    (λ line₀ words₀ rounds₀ line words rounds. rounds)
-    (λ c. search needs) (λ c κs. search needs) (λ c. search needs) (λ c. search needs) (λ c. search needs) (λ c. search needs)
-    (λ c. search needs) (λ c. search needs) (λ c. search needs) (λ c. search needs) (λ c. search needs))
+run-spec = tie.close (tie.spec (λ line₀ words₀ rounds₀ line words rounds. (length line ≡ length line₀) × (length words ≡ length words₀))
+    (λ line₀ words₀ rounds₀ line words rounds. rounds) (λ c. search needs) (λ c κs. search needs) (λ c. search needs) (λ c. search needs)
+    (λ c. search needs) (λ c. search needs) (λ c. search needs) (λ c. search needs) (λ c. search needs) (λ c. search needs)
+    (λ c. search needs))

@@ -4,9 +4,6 @@ use Rattle.test_vectors64.proofs.combines.Statement.{statement}
 use Rattle.test_vectors64.proofs.combines.Tie as tie
 
 pub combines-spec : {M : Type 1} → statement M
-combines-spec =
-    tie.close
-    (tie.spec
-    (λ n f g u v c count k₀ k. Unit {0}) (λ n f g u v c count k₀ k. count - k)
-    (λ c. search needs) (λ c κs. search needs) (λ c κs. search needs) (λ c. search needs) (λ c κs. search needs) (λ c. search needs)
-    (λ c. search needs) (λ c. search needs) (λ c. search needs) (λ c. search needs))
+combines-spec = tie.close (tie.spec (λ n f g u v c count k₀ k. Unit {0}) (λ n f g u v c count k₀ k. count - k) (λ c. search needs)
+    (λ c κs. search needs) (λ c κs. search needs) (λ c. search needs) (λ c κs. search needs) (λ c. search needs) (λ c. search needs)
+    (λ c. search needs) (λ c. search needs) (λ c. search needs))

@@ -3,8 +3,5 @@ use Rattle.unit_monic_service64.proofs.refusal_factors.Statement.{state
 use Rattle.unit_monic_service64.proofs.refusal_factors.Tie as tie
 
 pub refusal-factors-spec : {M : Type 1} → statement M
-refusal-factors-spec =
-    tie.close
-    (tie.spec
-    (λ c. search cascade depth 9) (λ c. search cascade depth 9) (λ c. search cascade depth 9) (λ c. search cascade depth 9)
-    (λ c. search cascade depth 9))
+refusal-factors-spec = tie.close (tie.spec (λ c. search cascade depth 9) (λ c. search cascade depth 9) (λ c. search cascade depth 9)
+    (λ c. search cascade depth 9) (λ c. search cascade depth 9))

@@ -7,22 +7,9 @@ use Rattle.unit_monic_service64.proofs.unit_times_monic.Statement.{stat
 use Rattle.unit_monic_service64.proofs.unit_times_monic.Tie as tie
 
 pub unit-times-monic-spec : {M : Type 1} → statement M
-unit-times-monic-spec =
-    tie.close
-    (tie.spec
-    (λ c κs. search needs) (λ c. search (needs, factors-refused)) (λ c κs. search (needs, modulus-told wide))
-    (λ c. search (needs, place-scaled wide)) (λ c. search (needs, place-told wide)) (λ c κs. search (needs, modulus-one wide))
-    (λ c κs. search needs) (λ c. search (needs, late-told wide)) (λ c. search needs) (λ c. search needs)
-    (λ c. search (needs, room-first wide)) (λ c. search needs) (λ c. search needs) (λ c. search (needs, room-second wide))
-    (λ c κs. let i = c .before .before .before .before .before .before .before .before in words-asked wide _ _ _ (i .before .refusal-one
-    .ensures) (i .if1 .left) _ (c .before .before .before .before .before .before .before .leading-place .ensures) _ _ _ _ _ _ (c .before
-    .before .before .before .before .cofactor .ensures) (c .before .before .before .before .refusal-factors .ensures) (c .before .before
-    .before .if2 .left) tt)
-    (λ c. search needs) (λ c. search needs) (λ c. search needs)
-    (λ c. let i = c .before .before .before .before .before .before .before .before .before .before .before .before .before .before
-    .before in done-told wide _ _ _ (i .before .refusal-one .ensures) (i .if1 .left) _ (c .before .before .before .before .before .before
-    .before .before .before .before .before .before .before .before .leading-place .ensures) _ _ _ _ _ _ (c .before .before .before
-    .before .before .before .before .before .before .before .before .before .cofactor .ensures) (c .before .before .before .before .before
-    .before .before .before .before .before .before .refusal-factors .ensures) (c .before .before .before .before .before .before .before
-    .before .before .before .if2 .left) _ _ _ (c .before .before .before .before .before .before .factor-words .ensures .1) (c .before
-    .before .before .before .before .before .factor-words .ensures .0)))
+unit-times-monic-spec = tie.close (tie.spec (λ c κs. search needs) (λ c. search (needs, factors-refused))
+    (λ c κs. search (needs, modulus-told wide)) (λ c. search (needs, place-scaled wide)) (λ c. search (needs, place-told wide))
+    (λ c κs. search (needs, modulus-one wide)) (λ c κs. search needs) (λ c. search (needs, late-told wide)) (λ c. search needs)
+    (λ c. search needs) (λ c. search (needs, room-first wide)) (λ c. search needs) (λ c. search needs)
+    (λ c. search (needs, room-second wide)) (λ c κs. search (words-asked wide)) (λ c. search needs) (λ c. search needs) (λ c. search needs)
+    (λ c. search (done-told wide)))

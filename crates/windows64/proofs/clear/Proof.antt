@@ -5,9 +5,6 @@ use Rattle.windows64.proofs.clear.Statement.{statement}
 use Rattle.windows64.proofs.clear.Tie as tie
 
 pub clear-spec : {M : Type 1} → statement M
-clear-spec =
-    tie.close
-    (tie.spec
-    (λ w₀ at len j₀ w j. Moving zeroed at at len w₀ w j) (λ w₀ at len j₀ w j. len - j)
+clear-spec = tie.close (tie.spec (λ w₀ at len j₀ w j. Moving zeroed at at len w₀ w j) (λ w₀ at len j₀ w j. len - j) (λ c. search leaves)
     (λ c. search leaves) (λ c. search leaves) (λ c. search leaves) (λ c. search leaves) (λ c. search leaves) (λ c. search leaves)
-    (λ c. search leaves) (λ c. search leaves) (λ c. search leaves))
+    (λ c. search leaves) (λ c. search leaves))
