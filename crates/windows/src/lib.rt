@@ -1,6 +1,6 @@
 // Leaves over windows of one lent buffer: places src and dst of one slice, len words each.
 //
-//   add_scaled, add_pair, scale                words made of those of another window, times multipliers
+//   add_scaled, add_pair, scale                         words made of those of another window, times multipliers
 //   ..._masked                                          the same for a power of two
 //   copy, copy_reversed                                 words of another window
 //   divide_words, reduce_words, clear, wipe             words made of themselves, or zeros

@@ -1,12 +1,12 @@
 // Leaves over windows of one lent buffer: places src and dst of one slice, len words each.
 //
-//   add_scaled, add_pair, scale                   words made of those of another window, times multipliers
+//   add_scaled, add_pair                                words made of those of another window, times multipliers
 //   copy, copy_reversed                                 words of another window
 //   divide_words, reduce_words, clear, wipe             words made of themselves, or zeros
 //   residue, load                                       words of a lent polynomial, as residues
 //   zeros, content                                      what a polynomial's words have in front, and in common
 //
-// The loops that multiply find the fraction of a multiplier once and divide no more; those that only reduce find the reciprocal of n. Two
+// The loops that multiply find the fraction of a multiplier once and divide no more; the reciprocal of n is handed in. Two
 // multipliers at a time are held where n is odd, and a word then costs one reduction.
 ghost use mathlib.Core.Path.{_≡_};
 ghost use Prim.Native.Nat.{_+_, _-_, _%_, _<_, _≤_};
