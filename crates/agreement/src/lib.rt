@@ -1,4 +1,6 @@
 // The plain evaluator and the resultant of the same polynomials, one beside the other.
+#![tactic(auto)]
+
 ghost use Rattle.refusals.specs.Refusals.{narrow};
 ghost use Rattle.agreement.specs.Agreement.{BothAnswers};
 

@@ -1,4 +1,6 @@
 // The end of an answered call, for every service that answers a number.
+#![tactic(auto)]
+
 ghost use Rattle.std.specs.Prelude.{◌≡◌, length, replicate};
 
 use refusals::Answer;

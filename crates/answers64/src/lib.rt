@@ -1,4 +1,6 @@
 // The end of an answered call, for every service that answers a number, words of 64 bits.
+#![tactic(auto)]
+
 ghost use Rattle.std.specs.Prelude.{◌≡◌, length, replicate};
 
 use refusals64::Answer;

@@ -4,6 +4,8 @@
 //   add_mod, sub_mod, mul_mod, mul_add_mod
 //   negate          -a, with no division
 //   power           x to the power k
+#![tactic(auto)]
+
 ghost use Rattle.std.specs.Prelude.{◌≡◌, ℕ, ◌+◌, ◌-◌, ◌*◌, ◌%◌, ◌^◌, ◌<◌, ◌≤◌};
 ghost use Rattle.arithmetic.specs.Powers.{TimesDigit};
 

@@ -4,6 +4,8 @@
 //   add_mod, sub_mod, mul_mod, mul_add_mod
 //   negate          -a, with no division
 //   power           x to the power k
+#![tactic(auto)]
+
 ghost use Rattle.std.specs.Prelude.{◌≡◌, ℕ, ◌+◌, ◌-◌, ◌*◌, ◌%◌, ◌^◌, ◌<◌, ◌≤◌};
 
 pub fn mul_mod(n: u64, a: u64, b: u64) -> u64

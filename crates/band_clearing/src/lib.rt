@@ -8,6 +8,8 @@
 //   add_row, reduce_row, subtract_multiple   a multiple of a row added to a row
 //   euclid, clear_row, clear_column          the first column cleared but for one row
 //   pivot                                    the row to begin with
+#![tactic(auto)]
+
 ghost use Rattle.std.specs.Prelude.{◌+◌, ◌*◌, ◌<◌, ◌≤◌, length, get_or};
 ghost use Rattle.windows.specs.Window.{Moved, Clear, addMul};
 ghost use Rattle.band_clearing.specs.Bands.{row_size, row_count, band_room, PairAsked, HeadsBelow, RowAdded, RowReduced};

@@ -6,6 +6,8 @@
 //   Stage                            how many rows are live, and the factor
 //   put_reversed, enter, come_in     rows that come in
 //   shift_row, shift_rows, leave     the row with the column's only word leaves
+#![tactic(auto)]
+
 ghost use Rattle.std.specs.Prelude.{◌+◌, ◌≤◌, length};
 ghost use Rattle.windows.specs.Window.{Written};
 ghost use Rattle.band_clearing.specs.Bands.{from_top, EnterAsked, RowEntered, ShiftAsked, RowShifted, Shifted};

@@ -8,6 +8,8 @@
 //   pieces_below         whether the words of count polynomials are residues
 //   refusal_pieces, refusal_words, refusal_room     the refusals 2; 3; 6 and 7
 //   refusal_batch        the first refusal that applies
+#![tactic(auto)]
+
 ghost use Rattle.std.specs.Prelude.{◌≡◌, not, [], ◌∷◌, length};
 ghost use Rattle.refusals64.specs.Wide.{wide};
 ghost use Rattle.refusals.specs.Refusals.{all_below_of, short, first_refusal};

@@ -2,6 +2,8 @@
 //
 //   gcd         the greatest common divisor
 //   cofactor    that of n and a, with s such that s a is it modulo n
+#![tactic(auto)]
+
 ghost use Rattle.std.specs.Prelude.{◌≡◌, ℕ, ◌+◌, ◌-◌, ◌*◌, ◌%◌, ◌<◌, ◌≤◌};
 ghost use Rattle.law_numbers.specs.Divisors.{IsGcd, GcdCofactor};
 

@@ -15,6 +15,8 @@
 //   first_words, in_buffers, at_point    the resultant of the pair at a point
 //   values        the resultants at the points 0 to B
 //   resultant_in_y    the words of the resultant
+#![tactic(auto)]
+
 ghost use Rattle.std.specs.Prelude.{◌≡◌, ◌+◌, ◌*◌, ◌^◌, ◌%◌, ◌<◌, ◌≤◌, length, get_or};
 ghost use Rattle.definitions.specs.Polynomials.{total};
 ghost use Rattle.definitions.specs.Resultants.{resultant};

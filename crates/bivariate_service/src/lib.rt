@@ -6,6 +6,8 @@
 //   bad_shape, sent_refusal         the refusals 1, 2 and 3
 //   prime, prime_divides, room_refusal     the refusals 12, 11, 6 and 7
 //   degree_in_z, served, bivariate_resultant     B, the answer, and the service
+#![tactic(auto)]
+
 ghost use Rattle.std.specs.Prelude.{◌≡◌, ◌+◌, ◌<◌, ◌≤◌, length, get_or, replicate};
 ghost use Rattle.definitions.specs.Bivariate.{bivariate_resultant_of, bivariate_degree};
 ghost use Rattle.law_numbers.specs.PrimeTable.{table};

@@ -3,6 +3,8 @@
 //   bad_multiplier                                  the test of refusal 16
 //   refusal_sizes, refusal_words, refusal_room      1, 2 and 16; 3; 7
 //   refusal_claim                                   the first refusal that applies
+#![tactic(auto)]
+
 ghost use Rattle.std.specs.Prelude.{◌≡◌, [], ◌∷◌};
 ghost use Rattle.refusals.specs.Refusals.{narrow, short, first_refusal};
 ghost use Rattle.claim_refusals.specs.ClaimRefusals.{bad_multiplier_of, size_refusals, word_refusals, claim_status, ServedLengthsAsked};

@@ -3,6 +3,8 @@
 //   Claim                                           what a call answers
 //   check_claim                                     the service; its refusals are in `claim_refusals`
 //   check_claim_words                               the same in two words
+#![tactic(auto)]
+
 ghost use Rattle.refusals.specs.Refusals.{narrow};
 ghost use Rattle.claim_service.specs.ClaimService.{ClaimAnswer, ClaimCase};
 

@@ -4,6 +4,8 @@
 //   longest, combined_word, combines   the second: u f + v g is D modulo n, one coefficient at a time; nothing is stored
 //   is_reduced                         the third: D is the reduced resultant
 //   judge                              the first of the three that fails
+#![tactic(auto)]
+
 ghost use Rattle.std.specs.Prelude.{◌≡◌, max, ◌+◌, ◌-◌, ◌%◌, ◌≤◌, length};
 ghost use Rattle.std.specs.Int.{◌∣◌};
 ghost use Rattle.definitions.specs.Polynomials.{coef, convolve};

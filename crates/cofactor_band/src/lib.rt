@@ -9,6 +9,8 @@
 //   column, columns                          a round of the loop over the columns, and the loop
 //   last_row                                 all columns: one row of one word is left
 //   scale_into, cofactors                    the last row times the factor: the cofactors
+#![tactic(auto)]
+
 ghost use Rattle.std.specs.Prelude.{◌+◌, ◌-◌, ◌<◌, ◌≤◌, length};
 ghost use Rattle.windows.specs.Window.{Scratch};
 ghost use Rattle.band_clearing.specs.Bands.{band_room, Moment, StepAsked, LastAsked, LastRow, Scaled};

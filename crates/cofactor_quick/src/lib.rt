@@ -10,6 +10,8 @@
 //   settle                 the same where s is a unit
 //   ordered, try_quick     the quick way where f is not the longer of the two, and in any order
 //   cofactors              both ways, the quick one first
+#![tactic(auto)]
+
 ghost use Rattle.std.specs.Prelude.{◌≡◌, ◌-◌, ◌*◌, ◌%◌, ◌^◌, ◌≤◌, length};
 ghost use Rattle.windows.specs.Window.{Scratch};
 ghost use Rattle.modulus.specs.Values.{Known, value};

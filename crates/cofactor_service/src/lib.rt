@@ -2,6 +2,8 @@
 //
 //   room_refusal, refusal  the number of the first refusal that applies, 0 where none does
 //   resultant_cofactors    the service
+#![tactic(auto)]
+
 ghost use Rattle.std.specs.Prelude.{◌≡◌, ◌≤◌};
 ghost use Rattle.refusals.specs.Refusals.{narrow, first_refusal};
 ghost use Rattle.cofactor_service.specs.CofactorService.{room_refusals, CofactorTold, CofactorAnswer};

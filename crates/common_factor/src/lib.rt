@@ -13,6 +13,8 @@
 //   start     both are zero, or have a divisor of degree 1 or more
 //   search    the same for lent polynomials, which `load_both` puts side by side
 //   monic     a polynomial with its leading word made 1, of what `write_out` leaves
+#![tactic(auto)]
+
 ghost use Rattle.std.specs.Prelude.{◌≡◌, ◌+◌, ◌≤◌, length};
 ghost use Rattle.modulus.specs.Values.{Known};
 ghost use Rattle.windows.specs.Window.{piece, Scratch};

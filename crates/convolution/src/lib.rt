@@ -4,6 +4,8 @@
 //   first, end         the range of places whose words meet in word k
 //   product_word_by    word k of f g, where the modulus comes with its reciprocal: for loops over k
 //   product_word       word k of f g
+#![tactic(auto)]
+
 ghost use Rattle.std.specs.Prelude.{◌≡◌, ◌+◌, ◌-◌, ◌*◌, ◌%◌, ◌≤◌, min};
 ghost use Rattle.definitions.specs.Polynomials.{coef, convolve};
 ghost use Rattle.reduction.specs.Moduli.{Ready};

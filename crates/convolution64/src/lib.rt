@@ -2,6 +2,8 @@
 //
 //   product_word_by    word k of f g, where the modulus comes with its reciprocal: for loops over k
 //   product_word       word k of f g
+#![tactic(auto)]
+
 ghost use Rattle.std.specs.Prelude.{◌≡◌, ◌%◌, ◌≤◌};
 ghost use Rattle.definitions.specs.Polynomials.{coef, convolve};
 ghost use Rattle.reduction64.specs.Moduli.{Ready};

@@ -5,6 +5,8 @@
 //   true_degree_words    the same in three words
 //   words_up_to          how many words there are up to that place
 //   leading              the words up to that place, the caller's own
+#![tactic(auto)]
+
 ghost use Rattle.std.specs.Prelude.{◌≡◌};
 ghost use Rattle.definitions.specs.Polynomials.{extent};
 ghost use Rattle.refusals.specs.Refusals.{narrow};

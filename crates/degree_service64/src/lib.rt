@@ -4,6 +4,8 @@
 //   true_degree          the place of the highest nonzero word, or none
 //   true_degree_words    the same in three words
 //   leading              the words up to that place, the caller's own
+#![tactic(auto)]
+
 ghost use Rattle.std.specs.Prelude.{◌≡◌};
 ghost use Rattle.definitions.specs.Polynomials.{extent};
 ghost use Rattle.refusals64.specs.Wide.{wide};

@@ -2,6 +2,8 @@
 // It answers the lines that are complete before it reads again. Where a read or a write fails, it says so on standard error, with
 // the reason, and stops; an unfinished line is then not answered. A call that a signal interrupts, or that would have to wait on a
 // non-blocking descriptor, has not failed: it is tried again.
+#![tactic(auto)]
+
 ghost use Rattle.std.specs.Prelude.{◌≡◌, ◌*◌, ◌≤◌, length};
 
 use frame_pieces::Input;

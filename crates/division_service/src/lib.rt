@@ -3,6 +3,8 @@
 //
 //   division        quotient and remainder by a polynomial whose top word is a unit
 //   excess          by how much a degree is above another
+#![tactic(auto)]
+
 ghost use Rattle.std.specs.Prelude.{◌≡◌, not, [], ◌∷◌, ℕ, ◌+◌, ◌-◌, ◌*◌, ◌%◌, ◌≤◌, eqb, length};
 ghost use Rattle.definitions.specs.Polynomials.{coef, deg, convolve, tabulate, Division};
 ghost use Rattle.reduction.specs.Moduli.{Ready};

@@ -1,6 +1,8 @@
 // Division with remainder as a service, words of 64 bits: `division_service` has the description.
 //
 //   division        quotient and remainder by a polynomial whose top word is a unit
+#![tactic(auto)]
+
 ghost use Rattle.std.specs.Prelude.{◌≡◌, not, [], ◌∷◌, ℕ, ◌+◌, ◌-◌, ◌*◌, ◌%◌, ◌≤◌, eqb, length};
 ghost use Rattle.definitions.specs.Polynomials.{coef, deg, convolve, tabulate, Division};
 ghost use Rattle.reduction64.specs.Moduli.{Ready};

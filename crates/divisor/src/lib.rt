@@ -17,6 +17,8 @@
 //   attempt_by            the same by n, whose record it finds
 //   joined                D modulo a product of two coprime factors
 //   run                   D; a split of n is worked on each factor, and the answers are multiplied
+#![tactic(auto)]
+
 ghost use Rattle.std.specs.Prelude.{◌≡◌, max, ◌*◌, ◌<◌, ◌≤◌, length};
 ghost use Rattle.definitions.specs.Resultants.{Reduced};
 ghost use Rattle.windows.specs.Window.{Moved, quotient_by, Scratch};

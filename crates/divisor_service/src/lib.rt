@@ -1,4 +1,6 @@
 // The reduced resultant D alone as a service (S44): from any words and lengths an answer, or a numbered refusal.
+#![tactic(auto)]
+
 ghost use Rattle.refusals.specs.Refusals.{narrow};
 ghost use Rattle.divisor_service.specs.DivisorService.{DivisorAnswer};
 

@@ -1,5 +1,7 @@
 // The reduced resultant D alone as a service, words of 64 bits: from any words and lengths an answer, or a numbered refusal. The promise is
 // that of `divisor_service`, at another width.
+#![tactic(auto)]
+
 ghost use Rattle.refusals64.specs.Wide.{wide};
 ghost use Rattle.divisor_service.specs.DivisorService.{DivisorAnswer};
 

@@ -15,6 +15,8 @@
 //   clear_contents     the content of B, then the unit factor
 //   times              D over a content, times the content
 //   content_stage, division_stage    the stages that call each other
+#![tactic(auto)]
+
 ghost use Rattle.std.specs.Prelude.{◌≡◌, ◌+◌, ◌*◌, ◌/◌, ◌≤◌};
 ghost use Rattle.windows.specs.Window.{piece, Scratch};
 ghost use Rattle.modulus.specs.Values.{Known};

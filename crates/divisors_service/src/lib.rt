@@ -7,6 +7,8 @@
 //   pair          D of the i-th pair
 //   each_pair     those of all pairs, one after the other
 //   divisors      the service
+#![tactic(auto)]
+
 ghost use Rattle.definitions.specs.Resultants.{Reduced};
 ghost use Rattle.windows.specs.Window.{Scratch};
 ghost use Rattle.refusals.specs.Refusals.{narrow};

@@ -26,6 +26,8 @@
 //   jingcobu64_divisor            divisor_service64::divisor
 //   jingcobu64_gcd                residue_service64::gcd_with_cofactors
 //   jingcobu64_true_degree        degree_service64::true_degree_words
+#![tactic(auto)]
+
 ghost use Rattle.std.specs.Prelude.{◌≡◌, [], ◌∷◌};
 ghost use Rattle.refusals.specs.Refusals.{narrow};
 ghost use Rattle.refusals64.specs.Wide.{wide};

@@ -13,6 +13,8 @@
 //   ascend         the steps back
 //   start          the polynomials in the buffer
 //   multipliers    the whole run
+#![tactic(auto)]
+
 ghost use Rattle.std.specs.Prelude.{◌≡◌, ◌+◌, ◌≤◌, length};
 ghost use Rattle.windows.specs.Window.{Around, Scratch};
 ghost use Rattle.modulus.specs.Values.{Known};

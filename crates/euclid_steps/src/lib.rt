@@ -7,6 +7,7 @@
 //   Logged    what is kept of a step
 //   Found     where the multipliers stand
 //   Ending    the same at the end, with what is known of the resultant
+#![tactic(auto)]
 
 // f of degree d at a, g of degree e at b. p is the product of the powers of leading words taken so far, s that of the p's at each degree,
 // t what zero leading words gave: s p^d times the resultant asked for is p t times that of f and g. The last step took y times the g before

@@ -7,6 +7,7 @@
 //   Logged           what is kept of a step
 //   Found            where the multipliers stand
 //   Ending           the same at the end, with what is known of the resultant
+#![tactic(auto)]
 
 // The value, by one inverse, if every lead was a unit; otherwise a product of leading words that is no unit.
 #[derive(Drop)]

@@ -7,6 +7,8 @@
 //   clear_entry, clear_column, triangulate
 //   diagonal                the product of the diagonal
 //   determinant             all of it, with the reciprocal of n found once
+#![tactic(auto)]
+
 ghost use Rattle.std.specs.Prelude.{◌≡◌, ◌+◌, ◌≤◌};
 ghost use Rattle.reduction.specs.Moduli.{Ready};
 ghost use Rattle.evaluator_matrices.specs.LeadingMinors.{leading_minor};

@@ -5,6 +5,8 @@
 //   shifted, sylvester_word, sylvester_row, sylvester_matrix
 //   bad_lengths, bad_words, refusal the tests, and the status
 //   evaluate                        the service
+#![tactic(auto)]
+
 ghost use Rattle.std.specs.Prelude.{◌≡◌, ◌-◌, ◌<◌, ◌≤◌, pos, length};
 ghost use Rattle.definitions.specs.Polynomials.{deg};
 ghost use Rattle.definitions.specs.Resultants.{sylvester};

@@ -5,6 +5,8 @@
 //   degree_sum, multiplied       the sum of the degrees and the product of the resultants
 //   taken, absent, full          what refuses an arrival with 14, a leaving with 14, an arrival with 13
 //   arrival_refusal, leaving_refusal      the refusals in their order
+#![tactic(auto)]
+
 ghost use Rattle.std.specs.Prelude.{◌≡◌, ◌≤◌};
 ghost use Rattle.refusals.specs.Refusals.{narrow, first_refusal};
 ghost use Rattle.factor_places.specs.Places.{place_of, sum, multiplied, taken, absent, full, arrival_tests, leaving_tests};

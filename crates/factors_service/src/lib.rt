@@ -8,6 +8,8 @@
 //   replaced_at                   the state with another factor, or none, in a place
 //   arrive_served, arrive_beside     an arrival, with h, that nothing refuses; one that may be refused
 //   start, arrive, leave, read   the services
+#![tactic(auto)]
+
 ghost use Rattle.std.specs.Prelude.{◌≡◌, ◌-◌, ◌<◌, ◌≤◌, ◌++◌, length, replicate};
 ghost use Rattle.refusals.specs.Refusals.{narrow};
 ghost use Rattle.factors_service.specs.FactorsService.{served_length_of, state_h, replaced_at_of};

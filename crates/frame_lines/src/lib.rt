@@ -7,6 +7,8 @@
 //   newline       the end of a line
 //   write_short   its kind and status
 //   write_line    an answer line
+#![tactic(auto)]
+
 ghost use Rattle.std.specs.Prelude.{◌≡◌, ◌++◌, ◌+◌, ◌*◌, ◌≤◌, ◌<◌, length, take, drop, set};
 ghost use Rattle.hexadecimal.specs.Hexadecimal.{digits_of};
 ghost use Rattle.frame_lines.specs.FrameLines.{answer_line};

@@ -4,6 +4,8 @@
 //   skip                  how far there is no newline, at least
 //   find_newline          the end of a line
 //   keep                  an unfinished line
+#![tactic(auto)]
+
 ghost use Rattle.std.specs.Prelude.{◌≡◌, ◌≤◌, length};
 ghost use Rattle.frame_pieces.specs.Inputs.{input_of};
 ghost use Rattle.frame_pieces.specs.Newlines.{Clear, NewlineAt, KeepsPending, LineAfter};

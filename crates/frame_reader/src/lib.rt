@@ -1,5 +1,7 @@
 // An input that comes in pieces of any size: the lines that end in a piece are answered, and the unfinished line is kept until
 // the next. Of a line that is too long for a frame nothing but that is kept.
+#![tactic(auto)]
+
 ghost use Rattle.std.specs.Prelude.{◌≡◌, min, ◌+◌, ◌*◌, ◌≤◌, length};
 ghost use Rattle.frame_runs.specs.Working.{Working};
 ghost use Rattle.frame_pieces.specs.Newlines.{LineAfter};

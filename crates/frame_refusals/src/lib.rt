@@ -2,6 +2,8 @@
 //
 //   zero_top, top_refusal     whether the top word is 0; refusal 10
 //   job_refusal               the first refusal that applies
+#![tactic(auto)]
+
 ghost use Rattle.std.specs.Prelude.{◌≡◌};
 ghost use Rattle.refusals.specs.Refusals.{first_refusal};
 ghost use Rattle.frame_refusals.specs.FrameRefusals.{zero_top_of, top_refusals, job_refusals};

@@ -13,6 +13,8 @@
 //   resultant    the resultant
 //   divisor      D on the words lent, and they are zeros again
 //   reduced      D, on as many words as its run asks for
+#![tactic(auto)]
+
 ghost use Rattle.std.specs.Prelude.{◌≡◌, ◌≤◌, length, replicate};
 ghost use Rattle.definitions.specs.Resultants.{resultant, Reduced};
 ghost use Rattle.windows.specs.Window.{Scratch};

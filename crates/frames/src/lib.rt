@@ -5,6 +5,8 @@
 //   frame_words                   room for the words of a frame
 //   read_and_serve, serve_line    the words of a line are read and served, and wiped
 //   tell, write_told, answer      what the answer to a line says, and the answer line
+#![tactic(auto)]
+
 ghost use Rattle.std.specs.Prelude.{◌≡◌, ◌+◌, ◌≤◌, length, take, drop, replicate, ◌++◌};
 ghost use Rattle.frame_lines.specs.FrameLines.{answer_line};
 ghost use Rattle.frames.specs.Frames.{Value, Served, Told, Wrote};

@@ -9,6 +9,8 @@
 //   word         what eight characters spell
 //   character    the digit of a value
 //   write        a number in digits
+#![tactic(auto)]
+
 ghost use Rattle.std.specs.Prelude.{◌≡◌, ◌++◌, ◌+◌, ◌≤◌, ◌<◌, length, take, drop};
 ghost use Rattle.hexadecimal.specs.Hexadecimal.{character_of, digits_of};
 ghost use Rattle.hexadecimal.specs.Readings.{reading_of};

@@ -8,6 +8,8 @@
 //   differences   all passes
 //   expand        from Newton's form to powers, by Horner's rule
 //   interpolate   both
+#![tactic(auto)]
+
 ghost use Rattle.std.specs.Prelude.{◌≤◌, ◌<◌};
 ghost use Rattle.modulus.specs.Values.{Known};
 ghost use Rattle.interpolation.specs.Interpolated.{Valued, Interpolated, Differenced};

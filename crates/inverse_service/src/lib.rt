@@ -2,6 +2,8 @@
 // words, the constant first; after an answer the whole working buffer is zero.
 //
 //   inverse             the inverse of a unit polynomial
+#![tactic(auto)]
+
 ghost use Rattle.std.specs.Prelude.{◌≡◌, not, cond, false, [], ◌∷◌, eqb, length, replicate};
 ghost use Rattle.definitions.specs.Polynomials.{InverseOf};
 ghost use Rattle.refusals.specs.Refusals.{narrow, short, first_refusal};

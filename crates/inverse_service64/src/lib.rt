@@ -1,6 +1,8 @@
 // The inverse of a unit polynomial as a service, words of 64 bits: `inverse_service` has the description.
 //
 //   inverse             the inverse of a unit polynomial
+#![tactic(auto)]
+
 ghost use Rattle.std.specs.Prelude.{◌≡◌, not, cond, false, [], ◌∷◌, eqb, length, replicate};
 ghost use Rattle.definitions.specs.Polynomials.{InverseOf};
 ghost use Rattle.refusals.specs.Refusals.{short, first_refusal};

@@ -12,6 +12,8 @@
 //   m          the modulus
 //   x, y, l    words below n
 //   a, b, z    numbers
+#![tactic(auto)]
+
 ghost use Rattle.std.specs.Prelude.{◌≡◌, ◌+◌, ◌-◌, ◌*◌, ◌%◌, ◌<◌, ◌≤◌};
 ghost use Rattle.modulus.specs.Values.{Known, ModulusOf, value};
 ghost use Rattle.modulus.specs.Values.{Enters, Leaves, Multiplies, Adds, Subtracts};

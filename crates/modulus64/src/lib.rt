@@ -10,6 +10,8 @@
 //   m          the modulus with its reciprocal
 //   x, y, l    words below n
 //   a, b       numbers
+#![tactic(auto)]
+
 ghost use Rattle.std.specs.Prelude.{◌≡◌, ◌+◌, ◌-◌, ◌*◌, ◌%◌, ◌<◌, ◌≤◌};
 ghost use Rattle.reduction64.specs.Moduli.{Ready};
 ghost use Rattle.modulus.specs.Values.{value, Enters, Leaves, Multiplies, Subtracts};

@@ -18,6 +18,8 @@
 //   m          the modulus
 //   l, c, e    words below n; held multipliers
 //   form       the modulus with what Montgomery's reductions need of it
+#![tactic(auto)]
+
 ghost use Rattle.std.specs.Prelude.{ℕ, ◌+◌, ◌-◌, ◌<◌, ◌≤◌, length, get_or};
 ghost use Rattle.windows.specs.Window.{Clear, Apart, Below, PairAsked, Paired, Moved, Written, addMul, mulBy, reduced_by};
 ghost use Rattle.window_combining.specs.Combined.{combination};

@@ -10,6 +10,8 @@
 //
 //   m          the modulus with its reciprocal
 //   l, c, e    words below n
+#![tactic(auto)]
+
 ghost use Rattle.std.specs.Prelude.{◌+◌, ◌-◌, ◌<◌, ◌≤◌, length};
 ghost use Rattle.windows.specs.Window.{Clear, Apart, Below, PairAsked, Paired, Moved, addMul, mulBy};
 ghost use Rattle.window_combining.specs.Combined.{combination};

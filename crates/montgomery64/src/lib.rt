@@ -11,6 +11,8 @@
 //   k       the inverse of n modulo 2^64
 //   s       2^128 modulo n, at most n
 //   t, u, v sums of products, of two words
+#![tactic(auto)]
+
 ghost use Rattle.std.specs.Prelude.{◌≡◌, ◌+◌, ◌-◌, ◌*◌, ◌/◌, ◌%◌, ◌^◌, ◌<◌, ◌≤◌};
 ghost use Rattle.reduction.specs.Newton.{Refined};
 ghost use Rattle.montgomery64.specs.Forms.{Formed, Squared, Held, Reduced, Inverse, Carried, Factors};

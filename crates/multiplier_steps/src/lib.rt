@@ -11,6 +11,8 @@
 //   bottom            the end of the steps
 //   exchange, raise   a step backwards: over a division's end, over an elimination before it
 //   lift              the one of the two that the step asks for
+#![tactic(auto)]
+
 ghost use Rattle.std.specs.Prelude.{◌≡◌, true, false, ◌+◌, ◌-◌, ◌<◌, ◌≤◌, length};
 ghost use Rattle.windows.specs.Window.{Apart, Below};
 ghost use Rattle.window_combining.specs.Combined.{combination};

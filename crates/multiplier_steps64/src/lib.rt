@@ -9,6 +9,8 @@
 //   bottom            the end of the steps
 //   exchange, raise   a step backwards: over a division's end, over an elimination before it
 //   lift              the one of the two that the step asks for
+#![tactic(auto)]
+
 ghost use Rattle.std.specs.Prelude.{◌≡◌, true, false, ◌+◌, ◌<◌, ◌≤◌, length};
 ghost use Rattle.reduction64.specs.Moduli.{Ready};
 ghost use Rattle.euclid_steps64.specs.Backs.{Ended, LiftAsked, Lifted};

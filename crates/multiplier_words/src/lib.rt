@@ -7,6 +7,8 @@
 //   w, m       the buffer, and the modulus
 //   r          where the multipliers stand
 //   a, b       how many words of each
+#![tactic(auto)]
+
 ghost use Rattle.std.specs.Prelude.{◌+◌, ◌≤◌, length};
 ghost use Rattle.windows.specs.Window.{Below};
 ghost use Rattle.modulus.specs.Values.{Known, values};

@@ -8,6 +8,8 @@
 //   product, add_product         as those of `reduction64`, for a caller that knows n
 //
 //   m       the modulus with its reciprocal
+#![tactic(auto)]
+
 ghost use Rattle.std.specs.Prelude.{◌≡◌, ◌+◌, ◌*◌, ◌%◌, ◌<◌, ◌≤◌};
 ghost use Rattle.reduction64.specs.Moduli.{Ready};
 ghost use Rattle.multipliers64.specs.Multipliers.{IsMultiplier, HasFraction};

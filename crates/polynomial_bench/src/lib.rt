@@ -1,4 +1,6 @@
 // Product and division for the benchmark in bench/polynomial.c: the services, callable from C.
+#![tactic(auto)]
+
 ghost use Rattle.refusals.specs.Refusals.{narrow};
 ghost use Rattle.product_service.specs.ProductService.{ProductAnswer};
 ghost use Rattle.division_service.specs.DivisionService.{DivisionAnswer};

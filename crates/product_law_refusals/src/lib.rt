@@ -3,6 +3,8 @@
 //   sizes_refusal, words_refusal    1 and 2, of n and the lengths; 3, of the words
 //   sent_refusal                    the refusals 1, 2 and 3 of n, f, g and h
 //   room_refusal                    the refusals 6 and 7 of the lent buffers
+#![tactic(auto)]
+
 ghost use Rattle.std.specs.Prelude.{◌≡◌};
 ghost use Rattle.refusals.specs.Refusals.{narrow, first_refusal};
 ghost use Rattle.product_law_refusals.specs.LawRefusals.{law_sizes, law_words, law_sent, law_room};

@@ -1,4 +1,6 @@
 // The refusals of the law of products, words of 64 bits: `product_law_refusals` has the description.
+#![tactic(auto)]
+
 ghost use Rattle.std.specs.Prelude.{◌≡◌};
 ghost use Rattle.refusals.specs.Refusals.{first_refusal};
 ghost use Rattle.refusals64.specs.Wide.{wide};

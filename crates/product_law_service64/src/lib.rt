@@ -5,6 +5,8 @@
 //   law_of_products    the numbers of seven calls: of the product, then two each of f, g and the product with h
 //   refusal            the first refusal of the seven
 //   factor_numbers     the numbers of f and of g
+#![tactic(auto)]
+
 ghost use Rattle.std.specs.Prelude.{◌≡◌};
 ghost use Rattle.refusals.specs.Refusals.{first_refusal};
 ghost use Rattle.refusals64.specs.Wide.{wide};

@@ -3,6 +3,8 @@
 //
 //   product             the product, coefficient by coefficient, the constant first
 //   refusal_product     the number of the first refusal of a product, which the service of one word has too
+#![tactic(auto)]
+
 ghost use Rattle.std.specs.Prelude.{◌≡◌, ℕ, ◌%◌, ◌≤◌, length};
 ghost use Rattle.definitions.specs.Polynomials.{coef, convolve, tabulate};
 ghost use Rattle.refusals.specs.Refusals.{narrow};

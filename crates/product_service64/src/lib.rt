@@ -2,6 +2,8 @@
 //
 //   product             the product, coefficient by coefficient, the constant first
 //   refusal_product     the number of the first refusal of a product
+#![tactic(auto)]
+
 ghost use Rattle.std.specs.Prelude.{◌≡◌, ℕ, ◌%◌, ◌≤◌, length};
 ghost use Rattle.definitions.specs.Polynomials.{coef, convolve, tabulate};
 ghost use Rattle.refusals64.specs.Wide.{wide};

@@ -3,6 +3,8 @@
 // word, and may read each word before the next is made.
 //
 //   product_word    word k of the product, alone
+#![tactic(auto)]
+
 ghost use Rattle.refusals.specs.Refusals.{narrow};
 ghost use Rattle.product_word_service.specs.ProductWord.{ProductWordAnswer};
 

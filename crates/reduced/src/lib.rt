@@ -6,6 +6,8 @@
 //   run                D and the cofactors; by_factors and second_factor are the run on the two factors of n
 //
 //   m                  the record of the modulus: `run` finds that of n once, and `merge` that of p q
+#![tactic(auto)]
+
 ghost use Rattle.std.specs.Prelude.{◌≡◌, ◌+◌, ◌-◌, ◌*◌, ◌<◌, ◌≤◌, length};
 ghost use Rattle.definitions.specs.Polynomials.{L};
 ghost use Rattle.windows.specs.Window.{Scratch};

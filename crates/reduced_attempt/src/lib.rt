@@ -15,6 +15,8 @@
 //   attempt          both_halves in turn, other_half the second
 //
 //   m                the record of the modulus, found once; `over_content` finds that of n / c
+#![tactic(auto)]
+
 ghost use Rattle.std.specs.Prelude.{◌+◌, ◌≤◌, length};
 ghost use Rattle.windows.specs.Window.{Scratch};
 ghost use Rattle.modulus.specs.Values.{Known};

@@ -6,6 +6,8 @@
 //   attempt           D, or a coefficient that splits n into two coprime factors
 //
 //   m                 the record of the modulus, found once; `over_content` finds that of n / c
+#![tactic(auto)]
+
 ghost use Rattle.std.specs.Prelude.{◌+◌, ◌≤◌, length};
 ghost use Rattle.windows.specs.Window.{Scratch};
 ghost use Rattle.reduction64.specs.Moduli.{Ready};

@@ -10,6 +10,8 @@
 //   r       the record of v over a content c
 //   p       the places of A, of B and of their multipliers, of l words each; z holds a and l
 //   u       a unit among the coefficients of B
+#![tactic(auto)]
+
 ghost use Rattle.std.specs.Prelude.{◌≡◌, ◌+◌, ◌/◌, ◌≤◌};
 ghost use Rattle.modulus.specs.Values.{Known};
 ghost use Rattle.windows.specs.Window.{Kept};

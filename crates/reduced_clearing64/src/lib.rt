@@ -4,6 +4,8 @@
 //   Clearing          what it comes to
 //   modulus_over      the modulus over a content
 //   clear_contents    the content, then the unit factor
+#![tactic(auto)]
+
 ghost use Rattle.std.specs.Prelude.{◌≡◌, ◌+◌, ◌/◌, ◌≤◌};
 ghost use Rattle.reduction64.specs.Moduli.{Ready};
 ghost use Rattle.windows.specs.Window.{Kept};

@@ -14,6 +14,8 @@
 //   q       the place of H, behind G at 0 and F at e + 1
 //   x, y    the cofactors of F and of G
 //   w       the window: what it holds afterwards is for no caller to use
+#![tactic(auto)]
+
 ghost use Rattle.std.specs.Prelude.{◌-◌, ◌≤◌};
 ghost use Rattle.modulus.specs.Values.{Known};
 ghost use Rattle.windows.specs.Window.{Scratch};

@@ -2,6 +2,8 @@
 // laws.
 //
 //   core    F is factored, the stages find D with the multiplier of G, and the cofactor of F is had by division
+#![tactic(auto)]
+
 ghost use Rattle.std.specs.Prelude.{◌-◌, ◌≤◌};
 ghost use Rattle.reduction64.specs.Moduli.{Ready};
 ghost use Rattle.windows.specs.Window.{Scratch};

@@ -8,6 +8,8 @@
 //   dst      the place of the words that lose the product
 //   m        the record of the modulus n
 //   Span     a place and a number of words: f and g are the factors in that form
+#![tactic(auto)]
+
 ghost use Rattle.modulus.specs.Values.{Known};
 ghost use Rattle.reduced_products.specs.Products.{ProductAsked, Factors, Subtracted, FactorsModulo, TakenFrom};
 

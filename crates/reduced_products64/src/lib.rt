@@ -5,6 +5,8 @@
 //   take_product    a product is taken away, modulo a monic polynomial
 //
 //   m        the modulus n with its reciprocal
+#![tactic(auto)]
+
 ghost use Rattle.reduction64.specs.Moduli.{Ready};
 ghost use Rattle.reduced_products.specs.Products.{ProductAsked, Factors, Subtracted, FactorsModulo, TakenFrom};
 

@@ -8,6 +8,8 @@
 //   ordered    the quick attempt where f is not the longer of the two
 //   quick      the quick attempt
 //   attempt    both attempts, the quick one first
+#![tactic(auto)]
+
 ghost use Rattle.std.specs.Prelude.{◌≤◌, length};
 ghost use Rattle.windows.specs.Window.{Scratch};
 ghost use Rattle.modulus.specs.Values.{Known};

@@ -7,6 +7,8 @@
 //   exact_quotient    a constant less a product, by H
 //
 //   m    the record of the modulus n
+#![tactic(auto)]
+
 ghost use Rattle.std.specs.Prelude.{◌≡◌, ◌+◌, ◌≤◌, length, get_or, replicate};
 ghost use Rattle.definitions.specs.Polynomials.{UnitPolynomial};
 ghost use Rattle.modulus.specs.Values.{Known};

@@ -4,6 +4,8 @@
 //   over_first        a polynomial over a unit polynomial
 //   prepare           H and G modulo H, with the multipliers 0 and 1, for the content stage
 //   exact_quotient    a constant less a product, by H
+#![tactic(auto)]
+
 ghost use Rattle.std.specs.Prelude.{◌≡◌, ◌+◌, ◌≤◌, length, get_or, replicate};
 ghost use Rattle.definitions.specs.Polynomials.{UnitPolynomial};
 ghost use Rattle.reduction64.specs.Moduli.{Ready};

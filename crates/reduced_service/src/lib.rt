@@ -3,6 +3,8 @@
 //   put_constant, constants    two polynomials of sent degree 0: D with the least cofactors
 //   by_run, worked             D with its cofactors, by the run; of constants or by the run
 //   served, reduced_resultant  the answer once none of the refusals applies; the service
+#![tactic(auto)]
+
 ghost use Rattle.std.specs.Prelude.{◌-◌, ◌≤◌, length};
 ghost use Rattle.definitions.specs.Polynomials.{L};
 ghost use Rattle.windows.specs.Window.{Scratch};

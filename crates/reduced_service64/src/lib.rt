@@ -2,6 +2,8 @@
 // at most 2977 words; 16384 working words. The 32-bit twin `reduced_service` has the description and the laws.
 //
 //   reduced_resultant    the service
+#![tactic(auto)]
+
 ghost use Rattle.std.specs.Prelude.{◌-◌, ◌≤◌, length};
 ghost use Rattle.definitions.specs.Polynomials.{L};
 ghost use Rattle.windows.specs.Window.{Scratch};

@@ -13,6 +13,8 @@
 // m and v are the records of two moduli: the multipliers have l words, modulo that of m; A and B are polynomials modulo that of v, a
 // divisor of the former. A stage keeps H and leaves the multiplier found; the other words of the window are room, of which nothing is
 // promised afterwards.
+#![tactic(auto)]
+
 ghost use Rattle.std.specs.Prelude.{◌≡◌, ◌+◌, ◌/◌, ◌≤◌};
 ghost use Rattle.modulus.specs.Values.{Known};
 ghost use Rattle.windows.specs.Window.{Kept};

@@ -2,6 +2,8 @@
 //
 //   content_stage     content and unit factor are cleared
 //   division_stage    A is divided by B
+#![tactic(auto)]
+
 ghost use Rattle.std.specs.Prelude.{◌≡◌, ◌+◌, ◌/◌, ◌≤◌};
 ghost use Rattle.reduction64.specs.Moduli.{Ready};
 ghost use Rattle.windows.specs.Window.{Kept};

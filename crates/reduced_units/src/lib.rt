@@ -13,6 +13,8 @@
 //
 // m is the record of the modulus of the multipliers, v that of the modulus of A and B. In `Sizes`: A has degree a, and B a words; the
 // multipliers have l words, and zeros above.
+#![tactic(auto)]
+
 ghost use Rattle.std.specs.Prelude.{◌+◌, ◌*◌, ◌<◌, ◌≤◌, length};
 ghost use Rattle.definitions.specs.Residues.{K};
 ghost use Rattle.definitions.specs.Polynomials.{UnitPolynomial};

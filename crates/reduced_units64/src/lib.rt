@@ -3,6 +3,8 @@
 //
 //   negate_inverse    -1 over a unit polynomial
 //   take_unit         the unit factor of B
+#![tactic(auto)]
+
 ghost use Rattle.std.specs.Prelude.{◌+◌, ◌*◌, ◌<◌, ◌≤◌, length};
 ghost use Rattle.definitions.specs.Residues.{K};
 ghost use Rattle.definitions.specs.Polynomials.{UnitPolynomial};

@@ -14,6 +14,8 @@
 //   power                   x to the power k modulo n
 //
 //   m       the modulus with its reciprocal
+#![tactic(auto)]
+
 ghost use Rattle.std.specs.Prelude.{◌≡◌, ◌+◌, ◌-◌, ◌*◌, ◌/◌, ◌%◌, ◌^◌, ◌<◌, ◌≤◌};
 ghost use Rattle.law_words.specs.Fractions.{Fraction};
 ghost use Rattle.arithmetic.specs.Powers.{TimesDigit};

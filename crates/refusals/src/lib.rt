@@ -3,6 +3,8 @@
 //   bad_modulus, bad_length, all_below    the tests of the refusals 1, 2 and 3
 //   refusal_one, refusal_of_pair          the first of them that applies to one polynomial, or to two
 //   refusal_lengths, refusal_words        2 of two polynomials, and 3
+#![tactic(auto)]
+
 ghost use Rattle.std.specs.Prelude.{◌≡◌, not, [], ◌∷◌, ℕ, length};
 ghost use Rattle.refusals.specs.Refusals.{narrow, bad_modulus_of, bad_length_of, all_below_of};
 ghost use Rattle.refusals.specs.Refusals.{first_refusal, refusals_one, refusals_of_pair};

@@ -7,6 +7,8 @@
 //   join          the residue modulo n1 n2 that is x modulo n1 and y modulo n2
 //   gcd_with_cofactors    gcd(a, b, n) as s a + t b modulo n, with the least s and then the least t
 //   modulus_of    n with K n
+#![tactic(auto)]
+
 ghost use Rattle.std.specs.Prelude.{◌≡◌, ℕ, ◌+◌, ◌-◌, ◌*◌, ◌/◌, ◌%◌, ◌<◌, ◌≤◌};
 ghost use Rattle.definitions.specs.Residues.{K, GcdWithCofactors, LeastCofactors};
 ghost use Rattle.residue.specs.Kinds.{KindOf};

@@ -10,6 +10,8 @@
 //   modulus_of    n with K n, in the record that the words of 32 bits have too
 //
 //   m       the modulus with its reciprocal
+#![tactic(auto)]
+
 ghost use Rattle.std.specs.Prelude.{◌≡◌, ℕ, ◌+◌, ◌-◌, ◌*◌, ◌/◌, ◌%◌, ◌<◌, ◌≤◌};
 ghost use Rattle.definitions.specs.Residues.{K, GcdWithCofactors, LeastCofactors};
 ghost use Rattle.residue.specs.Moduli.{CoprimeModuli};

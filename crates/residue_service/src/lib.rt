@@ -4,6 +4,8 @@
 //   sum, difference, product, power
 //   gcd_with_cofactors    gcd(a, b, n) as s a + t b modulo n, with the least s and then the least t
 //   classify              the kind of a residue
+#![tactic(auto)]
+
 ghost use Rattle.std.specs.Prelude.{◌≡◌};
 ghost use Rattle.refusals.specs.Refusals.{narrow, first_refusal};
 ghost use Rattle.residue_service.specs.Services.{refusals_residue, refusals_residues};

@@ -11,6 +11,8 @@
 //   settled    what is left where some leading word is no unit: a split, or the general attempt
 //   general    the general attempt
 //   swapped    one attempt where g has no more words than f
+#![tactic(auto)]
+
 ghost use Rattle.std.specs.Prelude.{◌≡◌, ◌≤◌, length};
 ghost use Rattle.definitions.specs.Resultants.{resultant};
 ghost use Rattle.windows.specs.Window.{Scratch};

@@ -12,6 +12,8 @@
 //   reversed                a constant that is a unit
 //   by_content, primitive   a leading word that is no unit: the content, and the highest coefficient that is not nilpotent
 //   factors                 f as a unit polynomial times a monic one; monic_part and unit_part are the attempts at the two
+#![tactic(auto)]
+
 ghost use Rattle.std.specs.Prelude.{◌≡◌, ◌+◌, ◌*◌, ◌%◌, ◌<◌, ◌≤◌, get_or};
 ghost use Rattle.definitions.specs.Residues.{IsUnit};
 ghost use Rattle.definitions.specs.Resultants.{resultant};

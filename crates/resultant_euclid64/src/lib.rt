@@ -14,6 +14,8 @@
 //   pair_step           two eliminations at once, where e = d + 1: the normal case
 //   last_step           the last elimination, where e = d
 //   elimination_step    an elimination before the last
+#![tactic(auto)]
+
 ghost use Rattle.std.specs.Prelude.{◌≡◌, ◌+◌, ◌<◌, ◌≤◌};
 ghost use Rattle.definitions.specs.Resultants.{resultant};
 ghost use Rattle.law_polynomials.specs.ResultantLaws.{signed};

@@ -3,6 +3,7 @@
 //
 //   EuclidAttempt    a value, or a product of leading words that is no unit
 //   State            where the run stands
+#![tactic(auto)]
 
 // The value, by one inverse, if every lead was a unit; otherwise a product of leading words that is no unit.
 #[derive(Drop)]

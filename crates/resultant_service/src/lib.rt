@@ -1,4 +1,6 @@
 // The resultant as a service (S42): from any words and lengths an answer, or a numbered refusal.
+#![tactic(auto)]
+
 ghost use Rattle.refusals.specs.Refusals.{narrow};
 ghost use Rattle.resultant_service.specs.ResultantService.{ResultantAnswer};
 

@@ -1,5 +1,7 @@
 // The resultant as a service (S42, S71), words of 64 bits: from any words and lengths an answer, or a numbered refusal. The promise is that
 // of `resultant_service`, at another width.
+#![tactic(auto)]
+
 ghost use Rattle.refusals64.specs.Wide.{wide};
 ghost use Rattle.resultant_service.specs.ResultantService.{ResultantAnswer};
 

@@ -1,6 +1,8 @@
 // What the runs of a resultant have in common: laws of their eliminations, in specs/, and the sign that an exchange costs.
 //
 //   with_sign    a residue with a sign
+#![tactic(auto)]
+
 ghost use Rattle.std.specs.Prelude.{◌≡◌, ◌<◌};
 ghost use Rattle.law_polynomials.specs.ResultantLaws.{signed};
 

@@ -1,6 +1,8 @@
 // The sign that an exchange costs, words of 64 bits. The 32-bit twin `resultant_signs` has the laws.
 //
 //   with_sign    a residue with a sign
+#![tactic(auto)]
+
 ghost use Rattle.std.specs.Prelude.{◌≡◌, ◌<◌};
 ghost use Rattle.law_polynomials.specs.ResultantLaws.{signed};
 

@@ -10,6 +10,8 @@
 //   clear_content                  the content c of f taken out; v is the record of n / c
 //   lift_split                     a split of the modulus from one of a divisor of it
 //   times, times_sign, lifted      an answer turned into another
+#![tactic(auto)]
+
 ghost use Rattle.std.specs.Prelude.{◌≡◌, ◌+◌, ◌-◌, ◌*◌, ◌/◌, ◌%◌, ◌<◌, ◌≤◌, length};
 ghost use Rattle.std.specs.Int.{◌∣◌};
 ghost use Rattle.law_polynomials.specs.ResultantLaws.{signed};

@@ -7,6 +7,8 @@
 //   pair          the resultant of the i-th pair
 //   each_pair     those of all pairs, one after the other
 //   resultants    the service
+#![tactic(auto)]
+
 ghost use Rattle.std.specs.Prelude.{◌≡◌};
 ghost use Rattle.definitions.specs.Resultants.{resultant};
 ghost use Rattle.windows.specs.Window.{Scratch};

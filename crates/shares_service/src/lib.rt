@@ -4,6 +4,8 @@
 //   first_waiting    the group that gets the next frame
 //   give_frame       one frame given out
 //   shares           the service
+#![tactic(auto)]
+
 ghost use Rattle.std.specs.Prelude.{◌≡◌, [], ◌∷◌, ℕ, ◌+◌, ◌<◌, get_or};
 ghost use Rattle.shares_service.specs.GivingOut.{first_waiting_of, give_frame_of, giving};
 ghost use Rattle.shares_service.specs.SharesService.{SharesAnswer};

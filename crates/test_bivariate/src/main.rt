@@ -3,6 +3,8 @@
 // Each line of the input is a case: n, the number of words of f, its degrees d and a, the number of words of g, its degrees e and b, the
 // lengths of the result and of the working words, the words of f, the words of g. Each is answered by a line: the status, the value, and
 // what became of the lent words.
+#![tactic(auto)]
+
 use refusals::Answer;
 use test_lines::{MARK, size};
 

@@ -6,6 +6,8 @@
 // with its D, times the step. If it is 2, they are sent; the words that are not sent repeat those a step before. Each is answered by a
 // line: the engine's D if it was asked, then status and value of the claim in words and what became of the working words, and the same
 // from the case told.
+#![tactic(auto)]
+
 ghost use Rattle.std.specs.Prelude.{◌≤◌, length};
 
 use claim_service::Claim;

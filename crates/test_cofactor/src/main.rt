@@ -5,6 +5,8 @@
 // whether u f + v g is the value. It is 2 for a row, which sends no g: f with the first so many g of that length, at most 3, in the order
 // in which the constant changes last; so many stands where a pair has the length of u. Each answer is short (test_lines), and a question
 // mark where u f + v g is not the value.
+#![tactic(auto)]
+
 ghost use Rattle.std.specs.Prelude.{◌≤◌};
 
 use refusals::Answer;

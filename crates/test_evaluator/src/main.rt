@@ -3,6 +3,8 @@
 // Each line of the input is a case: the service, n, the lengths of f and g, a count, the words of f, the words of g. The service is 1 for
 // one pair, which is answered by its status and value; and 2 for a row, which sends no g: f with the first so many g of that length, at
 // most 3, in the order in which the constant changes last, each answer short (test_lines).
+#![tactic(auto)]
+
 ghost use Rattle.std.specs.Prelude.{◌≤◌};
 
 use refusals::Answer;

@@ -5,6 +5,8 @@
 // is 3, the factor with this number leaves; any other kind puts a state that no start made: n and the length of h, then the word of all h,
 // the number, the degree and the resultant of all places. Each is answered by a line: the status, of an arrival what became of the working
 // words, then the status and the value of a reading.
+#![tactic(auto)]
+
 ghost use Rattle.std.specs.Prelude.{◌≤◌, length};
 
 use factors_service::Factors;

@@ -10,6 +10,8 @@
 //   put_hexadecimal                                a number in so many digits
 //   MARK, fill, ending                             what stands in lent words before a call, and how many at the end are one number
 //   X64, WIDE_MARK                                 the same for words of 64 bits
+#![tactic(auto)]
+
 ghost use Rattle.std.specs.Prelude.{◌+◌, ◌-◌, ◌*◌, ◌%◌, ◌≤◌, ◌<◌, min, ◌≡◌, length, replicate};
 ghost use Rattle.test_lines.specs.Lines.{Ending, FrontWritten, hexadecimal, spelled, part};
 

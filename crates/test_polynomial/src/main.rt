@@ -3,6 +3,8 @@
 // Each line of the input is a case: the service, n, the lengths of f and g, the lengths of the first and second result and of the working
 // words, the words of f, the words of g. Each is answered by a line: the name of the service, the status, the value, and what became of
 // the lent words that it writes.
+#![tactic(auto)]
+
 use degree_service::Degree;
 use refusals::Answer;
 use test_lines::{MARK, put, put_lent, put_name, put_working, size};

@@ -3,6 +3,8 @@
 // Each line of the input is a case of four numbers: the service, n, a, b. Each is answered by a line: the name of the service, the
 // status and what it answered. A service's number and 10 stands for a row: all b below the fourth number, each answer short (test_lines).
 // Joining has n1 and n2 for n and a, and b is x: a line has the idempotent, and x joined with each y.
+#![tactic(auto)]
+
 ghost use Rattle.std.specs.Prelude.{◌≤◌};
 ghost use Rattle.residue.specs.Moduli.{CoprimeModuli};
 

@@ -5,6 +5,8 @@
 // of the service, the status, the value or values, and what became of the lent words. The words of p are all written, in brackets; of a
 // cofactor how many words at the end are as found, and what the two combine to at two points; of the working words how many at the end
 // are as found, and how many are zero.
+#![tactic(auto)]
+
 ghost use Rattle.std.specs.Prelude.{◌+◌, ◌≤◌, ◌≡◌, length};
 
 use product_law_service64::Numbers;

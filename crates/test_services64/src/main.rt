@@ -4,6 +4,8 @@
 // buffers u and v and of the working words in 4 each, the words of f and g in 16 each. For each it writes a line, decimal: the name of the
 // service, the status, the value, and what became of the lent words. The words of u and v are all written, in brackets; of the working
 // words how many at the end are as found, and how many are zero.
+#![tactic(auto)]
+
 ghost use Rattle.std.specs.Prelude.{◌+◌, ◌≤◌, ◌≡◌, length};
 
 use degree_service::Degree;

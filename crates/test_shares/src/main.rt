@@ -2,6 +2,8 @@
 //
 // Each line of the input is a case of five numbers: N, and what waits in each of the four groups. Each is answered by a line: the status,
 // and the four shares.
+#![tactic(auto)]
+
 use test_lines::put;
 
 fn answer(frames: u32, a: u32, b: u32, c: u32, d: u32) {

@@ -4,6 +4,8 @@
 // and the codes of the characters to be read. A line of the writer has the status, the number of characters, how many of the lent bytes
 // are zero after them and how many as found after these, and the text; a line of the reader the status, the number of words, what became
 // of the lent words, and the text that was read.
+#![tactic(auto)]
+
 ghost use Rattle.std.specs.Prelude.{◌≤◌, length};
 
 use refusals::Answer;

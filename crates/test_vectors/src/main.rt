@@ -5,6 +5,8 @@
 // words of the frame, that for D alone too; the cofactors have to combine f and g to D, the words beyond L to be unchanged, the working
 // words to be zero, and, if d + e is at most 8, the plain evaluator to answer the same. So with the cofactors of the resultant: they
 // combine f and g to it, and the words beyond e and d are unchanged.
+#![tactic(auto)]
+
 ghost use Rattle.std.specs.Prelude.{◌≤◌, ◌≡◌, length};
 
 use refusals::Answer;

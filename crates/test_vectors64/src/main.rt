@@ -3,6 +3,8 @@
 // Reads a pair a line, n in 16 digits, d and e in 2, the words of f and g in 16 each, and writes for each the resultant and the reduced
 // resultant, which are compared with the other program's numbers. After a number stands what was wrong, if anything was: the cofactors have
 // to combine f and g to D, the words beyond L to be unchanged, and the working words to be zero.
+#![tactic(auto)]
+
 ghost use Rattle.std.specs.Prelude.{◌≤◌, ◌≡◌, length};
 
 use refusals64::Answer;

@@ -7,6 +7,8 @@
 // that length, at most 3, as the length of the divisor says; the first number is that of the first g, the second the step to the next; the
 // digits of its number to the base n are the words of g, modulo n^3. Each answer is the ground, the modulus of ground 1 and 2, and of
 // ground 2 the degree and the words below the top one, a character each (test_lines); a question mark if the ground does not hold.
+#![tactic(auto)]
+
 ghost use Rattle.std.specs.Prelude.{◌≤◌};
 
 use refusals::Answer;

@@ -4,6 +4,8 @@
 //   number_after, coefficient_after    the number and the coefficient being read, after one more character
 //   store, end_term, gather            the words that a text comes to
 //   same_text, is_text_of              whether a text is that of lent words
+#![tactic(auto)]
+
 ghost use Rattle.std.specs.Prelude.{◌≡◌, cond, ◌≤◌, eqb, length};
 ghost use Rattle.text_notation.specs.Notation.{text};
 ghost use Rattle.text_notation.specs.Candidates.{number_after_of, coefficient_after_of, stored, gathered, same_text};

@@ -5,6 +5,8 @@
 //   refused                            the answer where a call is refused
 //   put_words, hand_over, read_words   words into the lent buffer, and the answer
 //   read_text                          the service
+#![tactic(auto)]
+
 ghost use Rattle.std.specs.Prelude.{◌≡◌, false, ◌++◌, ◌≤◌, length, take, drop};
 ghost use Rattle.refusals.specs.Refusals.{narrow, bad_modulus_of};
 ghost use Rattle.text_reader_service.specs.TextReader.{HandedOver, WordsAnswer, ReadAnswer};

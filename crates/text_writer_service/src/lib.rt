@@ -4,6 +4,8 @@
 //   put_number, put_power, put_plus, put_term    write one part from place `at` on, and answer the place after it
 //   put_text                                     the text of lent words
 //   write_text                                   the service
+#![tactic(auto)]
+
 ghost use Rattle.std.specs.Prelude.{◌≡◌, ◌+◌, ◌-◌, ◌≤◌, length, replicate};
 ghost use Rattle.refusals.specs.Refusals.{narrow};
 ghost use Rattle.text_notation.specs.Notation.{decimal, power_text, text};

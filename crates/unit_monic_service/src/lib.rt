@@ -4,6 +4,8 @@
 //   leading_place       the place of the highest coefficient that is not nilpotent
 //   hand_out            a result out of the working buffer, zeros above it
 //   unit_times_monic    f = u h, u a unit polynomial, h monic; the value is the degree of h
+#![tactic(auto)]
+
 ghost use Rattle.std.specs.Prelude.{◌≡◌, not, [], ◌∷◌, ◌+◌, ◌≤◌, eqb, length, replicate};
 ghost use Rattle.definitions.specs.Polynomials.{coef, tabulate, UnitTimesMonic};
 ghost use Rattle.refusals.specs.Refusals.{narrow, short, first_refusal};

@@ -5,6 +5,8 @@
 //   room_refusal, refusal    the number of the first refusal that applies, 0 where none does
 //   served     the answer
 //   why        the service
+#![tactic(auto)]
+
 ghost use Rattle.std.specs.Prelude.{◌≡◌, [], ◌∷◌, ◌≤◌, length, replicate};
 ghost use Rattle.windows.specs.Window.{Scratch};
 ghost use Rattle.refusals.specs.Refusals.{narrow, short, first_refusal};

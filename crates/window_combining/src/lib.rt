@@ -4,6 +4,8 @@
 //
 //   l       what the words at dst are multiplied by: the leading word of the divisor, or its square
 //   c, m    the multipliers of the word before and of the word itself: two quotient words
+#![tactic(auto)]
+
 ghost use Rattle.std.specs.Prelude.{◌+◌, ◌≤◌, length};
 ghost use Rattle.windows.specs.Window.{Written, Apart, Below};
 ghost use Rattle.reduction.specs.Moduli.{Ready};

@@ -9,6 +9,8 @@
 //
 //   divide            the remainder alone
 //   divide_keeping    the remainder and the quotient
+#![tactic(auto)]
+
 ghost use Rattle.std.specs.Prelude.{◌≡◌, ◌+◌, ◌*◌, ◌%◌, get_or};
 ghost use Rattle.reduction64.specs.Moduli.{Ready};
 ghost use Rattle.window_division.specs.Remainders.{DivisionLengthsAsked, Pair, Remainder, Quotient};

@@ -13,6 +13,8 @@
 //   series_word         one word of s U_0 / U as a power series
 //   series_inverse_by   all of them: the inverse of U where s is that of U_0
 //   series_inverse      the same, by n
+#![tactic(auto)]
+
 ghost use Rattle.std.specs.Prelude.{◌≡◌, ◌+◌, ◌*◌, ◌%◌, ◌<◌, ◌≤◌, length};
 ghost use Rattle.definitions.specs.Polynomials.{coef};
 ghost use Rattle.windows.specs.Window.{piece};

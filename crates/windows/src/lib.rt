@@ -10,6 +10,8 @@
 // The loops that reduce a word find the reciprocal of n once and divide no more. Where such a loop tests a residue against n, the
 // test fails always: it keeps the back end from vector code, which has no upper half of a product. Modulo a power of two the low bits of
 // a sum are enough: those loops become vector code.
+#![tactic(auto)]
+
 ghost use Rattle.std.specs.Prelude.{◌≡◌, ◌+◌, ◌-◌, ◌%◌, ◌<◌, ◌≤◌, length, replicate};
 ghost use Rattle.reduction.specs.Moduli.{Ready};
 ghost use Rattle.reduction.specs.Powers.{PowerOfTwo};

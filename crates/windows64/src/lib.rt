@@ -8,6 +8,8 @@
 //
 // The loops that multiply find the fraction of a multiplier once and divide no more; the reciprocal of n is handed in. Two
 // multipliers at a time are held where n is odd, and a word then costs one reduction.
+#![tactic(auto)]
+
 ghost use Rattle.std.specs.Prelude.{◌≡◌, ◌+◌, ◌-◌, ◌%◌, ◌<◌, ◌≤◌, length, replicate};
 ghost use Rattle.montgomery64.specs.Forms.{Formed, Squared};
 ghost use Rattle.reduction64.specs.Moduli.{Ready};
