@@ -95,7 +95,7 @@ module _ {R : Type 0} (𝓡 : CRing R) where
   sink {m = zero} F (suc j) l v b = absurd (omega arith)
   sink {m = suc m} {D = D} F (suc j) l v b =
       ap (λ x. D (ins 0 v x)) (top b) ∙ swap F 0 (omega arith) v (b 0) (λ r. b (suc r))
-      ∙ ap (λ x. - x) (sink (fix_top F (b 0)) j (omega arith) v (λ r. b (suc r))
+      ∙ ap (λ x. - x) (sink {m = m} (fix_top F (b 0)) j (omega arith) v (λ r. b (suc r))
       ∙ ap (λ x. sgn 𝓡 j (D x)) (fun_ext (elim [ zero ↦ refl | suc r ↦ refl ])))
 
   -- multiples of the top row are added to the others
@@ -105,7 +105,7 @@ module _ {R : Type 0} (𝓡 : CRing R) where
   add_top {m = suc m} {D = D} F p c b =
       let t : ℕ → ℕ → R = λ r. comb 𝓡 (c (suc r)) p (b (suc r)) in
       ap (λ x. D (ins 0 p x)) (top b) ∙ swap F 0 (omega arith) p (b 0) (λ r. b (suc r))
-      ∙ ap (λ x. - x) (add_top (fix_top F (b 0)) p (λ r. c (suc r)) (λ r. b (suc r))) ∙ sym (swap F 0 (omega arith) p (b 0) t)
+      ∙ ap (λ x. - x) (add_top {m = m} (fix_top F (b 0)) p (λ r. c (suc r)) (λ r. b (suc r))) ∙ sym (swap F 0 (omega arith) p (b 0) t)
       ∙ sym (zero_add (D (ins 0 p (ins 0 (b 0) t)))) ∙ ap (λ x. x + D (ins 0 p (ins 0 (b 0) t)))
       (sym (mul_zero 𝓡 (c 0)) ∙ ap (λ x. c 0 * x) (sym (F.two 0 (omega arith) p t)))
       ∙ sym ((fix_top F p).lin 0 (omega arith) (c 0) p (b 0) t) ∙ ap (λ x. D (ins 0 p x)) (sym (top (λ r. comb 𝓡 (c r) p (b r))))

@@ -154,7 +154,7 @@ module _ {R : Type 0} (𝓡 : CRing R) where
   scale_all {m = zero} {D = D} F x a = F.cong _ a (λ r c p q. absurd (omega arith)) ∙ sym (one_mul (D a))
   scale_all {m = suc m} {D = D} F x a =
       ap D (sym (ins_eta 0 (λ r c. x * a r c)))
-      ∙ scale_all (fix_top 𝓡 F (λ c. x * a 0 c)) x (λ r. a (suc r))
+      ∙ scale_all {m = m} (fix_top 𝓡 F (λ c. x * a 0 c)) x (λ r. a (suc r))
       ∙ ap (λ y. pw 𝓡 x m * y) (lin_scale F 0 (omega arith) x (a 0) (λ r. a (suc r)))
       ∙ sym (mul_assoc (pw 𝓡 x m) x _) ∙ ap₂ ◌*◌ (mul_comm (pw 𝓡 x m) x) (ap D (ins_eta 0 a))
 
