@@ -13,7 +13,8 @@ mkdir -p "$folder/tools" "$folder/bin" "$folder/crates/other/src" "$crate/src" "
 cp tools/edits.py "$folder/tools"
 echo 'two:' > "$folder/crates.txt"
 source() { # what the third function calls
-    printf '%s\n' 'pub fn first(x: u32) -> u32 {' '    x + 1' '}' 'fn second(x: u32) -> u32 {' '    x + 2' '}' 'fn third() -> u32 {' "    $1(3)" '}'
+    printf '%s\n' 'pub fn first(x: u32) -> u32 {' '    x + 1' '}' 'fn second(x: u32) -> u32 {' '    x + 2' '}' 'fn third() -> u32 {' \
+        "    $1(3)" '}'
 }
 source other::first > "$crate/src/lib.rt"
 versions() { # the second version: OLD NEW
@@ -44,7 +45,8 @@ second='fn two::second: no proof: expected answers in ./proofs/second/Answers.an
 good='edits: 2 wrong versions tried, 0 not refused in what they change'
 bad='edits: 2 wrong versions tried, 1 not refused in what they change'
 echo | expect 0 check "$not_known"
-[ "$(head -n 1 "$folder/out")" = 'SKIPPED: that each version is refused which shares a file with others: 1 of 1 files have not been tried so (tools/edits.py each)' ] ||
+skipped='SKIPPED: that each version is refused which shares a file with others: 1 of 1 files have not been tried so (tools/edits.py each)'
+[ "$(head -n 1 "$folder/out")" = "$skipped" ] ||
     fail "edits.py check says: $(cat "$folder/out")"
 printf '%s\n' "$error" "$first" "$second" | expect 0 each "$good"
 [ "$(cat "$folder/known")" = two: ] || fail "the copy is of: $(cat "$folder/known")"

@@ -1,6 +1,6 @@
-# What rt builds for the Makefiles of the root, tests, examples and bench: crates/NAME/out/libNAME.a of a static library, crates/NAME/out/NAME
-# of a program. Each is built again when any crate has changed: every file, and every folder, whose time changes when a file comes or goes;
-# rt sees for itself which of them it proves again. ROOT is the way to the root.
+# What rt builds for the Makefiles of the root, tests, examples and bench: of a static library crates/NAME/out/libNAME.a, of a program
+# crates/NAME/out/NAME. Each is built again when any crate has changed: every file, and every folder, whose time changes when a file comes
+# or goes; rt sees for itself which of them it proves again. ROOT is the way to the root.
 ROOT ?= ..
 PARTS = src specs proofs proofs/*
 CRATES := $(ROOT)/crates.txt $(wildcard $(PARTS:%=$(ROOT)/crates/*/%) \
