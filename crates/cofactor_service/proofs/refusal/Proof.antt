@@ -11,5 +11,5 @@ refusal_spec =
     (λ c κs. search rules) (λ c. search (rules, refused_pair)) (λ c. search (rules, some_first)) (λ c. search (rules, some_second))
     (λ c κs. (search (rules, few_first), search (rules, few_second)))
     (λ c. let s = c.before.before in let a = s.before.before.before.args in
-    later_told a.n a.f.now a.g.now a.first a.second a.working _ s.refusal_of_pair.ensures c.before.if1.false
+    later_told a.n a.f.now a.g.now a.first a.second a.working _ s.refusal_of_pair-s.ensures c.before.if-s-ne0.false
     c.room_refusal.ensures))
