@@ -27,7 +27,8 @@ use Rattle.windows.specs.Window.{piece, Below, Moved, quotient_by, reduced_by, C
 use Rattle.windows.proofs.Leaf.{lt_or_le, piece_at, piece_over, piece_same, piece_length, apart_at}
 use Rattle.windows.proofs.Lift.{moved_around}
 use Rattle.window_factor.specs.Factors.{SplitOf, AllNilpotents}
-use Rattle.law_multipliers.specs.Reductions.{UnitLead, reduced_same, reduced_lead, reduced_none}
+use Rattle.law_multipliers.specs.Reductions.{UnitLead, reduced_same, reduced_lead}
+use Rattle.law_multipliers.proofs.ZeroSecond.{reduced_none}
 use Rattle.reduced_units.specs.States.{Splitter}
 use Rattle.reduced_units.proofs.Regions.{apart_swap}
 pub use Rattle.reduced_clearing.proofs.UnitSteps.{split_splitter}

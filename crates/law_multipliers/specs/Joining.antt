@@ -3,7 +3,9 @@
 --   combination_flip       f and g exchanged
 --   combination_same       the words count modulo n only
 --   combination_content    f = c f' and g = c g' modulo c n
---   combination_coprime, combination_joined    modulo n₁ n₂, coprime; by Bézout's equation
+--   combination_coprime    modulo n₁ n₂, coprime
+--
+-- proofs/BezoutJoined has the same by Bézout's equation.
 use Rattle.std.specs.Prelude.{◌≡◌, List, ℕ, ◌≤◌, ◌%◌, ◌+◌, ◌*◌}
 use Rattle.std.proofs.Common.{sym, ◌∙◌, ap, add_comm, mul_comm}
 use Rattle.std.proofs.Math.Nat.{zero-mod}
@@ -11,7 +13,6 @@ use Rattle.definitions.specs.Polynomials.{coef, convolve}
 use Rattle.definitions.specs.Residues.{Coprime}
 use Rattle.definitions.specs.Resultants.{Combination}
 use Rattle.law_numbers.specs.Congruence.{c_refl, c_trans, c_eq, c_mul}
-use Rattle.law_numbers.specs.Coprimality.{coprime_of_bezout}
 use Rattle.law_polynomials.specs.ReachedSteps.{plus_mod, lift_mod, convolve_mod, constant_scale, content_both, Times}
 use Rattle.law_polynomials.specs.ReducedLaws.{combination_mixed}
 pub use Rattle.law_polynomials.specs.ReducedLaws.{Mixed}
@@ -54,11 +55,3 @@ combination_coprime {n₁} {n₂} p₁ p₂ c a b D₁ D₂ a₁ a₂ b₁ b₂ 
     (record { same = b₁ ∙ sym (zero-mod n₁) })
     (record { same = a₂ ∙ sym (zero-mod n₂) })
     (c_mul (record { same = b₂ }) (c_refl {a = D₂}))
-
--- where s n₁ + t n₂ is 1 modulo n₁ n₂
-pub combination_joined : (n₁ n₂ s t : ℕ) → 1 ≤ n₁ → 1 ≤ n₂ → (s * n₁ + t * n₂) % (n₁ * n₂) ≡ 1 % (n₁ * n₂) → (a b D₁ D₂ : ℕ)
-    → a % n₁ ≡ D₂ % n₁ → a % n₂ ≡ 0 → b % n₁ ≡ 0 → b % n₂ ≡ D₁ % n₂
-    → (f g u u₁ u₂ v v₁ v₂ : List ℕ) → Mixed (n₁ * n₂) a b u₁ u₂ u → Mixed (n₁ * n₂) a b v₁ v₂ v
-    → Combination n₁ f g u₁ v₁ D₁ → Combination n₂ f g u₂ v₂ D₂
-    → Combination (n₁ * n₂) f g u v (D₁ * D₂)
-combination_joined n₁ n₂ s t p₁ p₂ bezout = combination_coprime p₁ p₂ (coprime_of_bezout s t (record { same = bezout }))

@@ -6,8 +6,10 @@
 --   reduced_same, reduced_same_second    the words count modulo n only
 --   reduced_unit_second   a unit factor of the second
 --   reduced_step          a step of Euclid's algorithm
---   reduced_lead          D4 with a leading unit: the content of the second
---   reduced_unity, reduced_unit_constant, reduced_none    the second is 1, a unit, 0
+--   reduced_inverse, reduced_lead    D4 with a leading unit: the content of the second
+--   reduced_unity, reduced_unit_constant    the second is 1, a unit
+--
+-- proofs/ZeroSecond has reduced_none: the second is 0.
 use Rattle.std.specs.Prelude.{◌≡◌, refl, List, [], ◌∷◌, ℕ, zero, suc, ◌<◌, ◌≤◌, ◌%◌, ◌*◌, length}
 use Rattle.std.proofs.Common.{sym, ◌∙◌, subst, mul-pos, zero-mul, mul-one, one-mul, mul_comm, zero-add, arith}
 use Rattle.std.proofs.Math.Path.{ap, fun_ext}
@@ -110,15 +112,9 @@ reduced_unit_constant n i l f g z u =
     is zero = sym (mul-one (coef g 0))
     is (suc k) = z (suc k) (omega arith) ∙ sym (mul-zero (coef g 0))
 
--- D4 with a leading unit: r is c r'
-module _ (c n t : ℕ) (c_pos : 1 ≤ c) (n_pos : 1 ≤ n) (t_pos : 1 ≤ t) (f : List ℕ) (lead : UnitLead (c * n) t f) where
-  i : ℕ
-  i = lead.unit.inverse
-
-  inverse : (i * coef f t) % (c * n) ≡ 1 % (c * n)
-  unfolding i
-  inverse = ap (λ (x : ℕ). x % (c * n)) (mul_comm lead.unit.inverse (coef f t)) ∙ lead.unit.is.one
-
+-- D4 with the inverse i of the leading word
+module _ (c n t : ℕ) (c_pos : 1 ≤ c) (n_pos : 1 ≤ n) (t_pos : 1 ≤ t) (f : List ℕ) (i : ℕ) (inverse : (i * coef f t) % (c * n) ≡ 1 % (c * n))
+    (above : (k : ℕ) → t < k → coef f k ≡ 0) where
   -- f over its leading unit
   monic : List ℕ
   monic = tabulate (length f) (λ k. i * coef f k)
@@ -138,25 +134,19 @@ module _ (c n t : ℕ) (c_pos : 1 ≤ c) (n_pos : 1 ≤ n) (t_pos : 1 ≤ t) (f 
       one_times : (1 * coef f k) % (c * n) ≡ (i * coef f t * coef f k) % (c * n)
       one_times = (c_mul (c_sym (record { same = inverse })) (c_refl {a = coef f k})).same
 
-  pub reduced_lead : (r r' : List ℕ) (D : ℕ) → Times (c * n) c r r' → Reduced n f r' D → Reduced (c * n) f r (c * D)
-  reduced_lead r r' D tr x =
-      reduced_scaled (c * n) (coef f t) i (mul-pos c_pos n_pos) f monic r (c * D) inverse back
-      (reduced_monic c n D monic r r' t c_pos n_pos t_pos (ap (λ (x : ℕ). x % (c * n)) (monic_at t) ∙ inverse)
-      (λ k l. ap (λ (x : ℕ). x % (c * n)) (monic_at k ∙ ap (λ (x : ℕ). i * x) (lead.above k l) ∙ mul-zero i) ∙ zero-mod (c * n))
-      tr (reduced_scaled n i (coef f t) n_pos monic f r' D swapped (λ k. ap (λ (x : ℕ). x % n) (monic_at k)) x))
+  pub reduced_inverse : (s s' : List ℕ) (E : ℕ) → Times (c * n) c s s' → Reduced n f s' E → Reduced (c * n) f s (c * E)
+  reduced_inverse s s' E tr x =
+      reduced_scaled (c * n) (coef f t) i (mul-pos c_pos n_pos) f monic s (c * E) inverse back
+      (reduced_monic c n E monic s s' t c_pos n_pos t_pos (ap (λ (x : ℕ). x % (c * n)) (monic_at t) ∙ inverse)
+      (λ k l. ap (λ (x : ℕ). x % (c * n)) (monic_at k ∙ ap (λ (x : ℕ). i * x) (above k l) ∙ mul-zero i) ∙ zero-mod (c * n))
+      tr (reduced_scaled n i (coef f t) n_pos monic f s' E swapped (λ k. ap (λ (x : ℕ). x % n) (monic_at k)) x))
     where
       swapped : (coef f t * i) % n ≡ 1 % n
       swapped = (c_trans (c_eq (mul_comm (coef f t) i)) (c_dvd (dvd-mul_left n c) (record { same = inverse }))).same
 
--- the second is 0
-pub reduced_none : (ν t : ℕ) → 1 ≤ ν → 1 ≤ t → (f r : List ℕ) → UnitLead ν t f → ((k : ℕ) → coef r k % ν ≡ 0) → Reduced ν f r ν
-reduced_none ν t p q f r u z =
-    subst (λ (x : ℕ). Reduced x f r x) one_more
-    (reduced_lead ν 1 t p (omega arith) q f (subst (λ (x : ℕ). UnitLead x t f) (sym one_more) u) r [] 1
-    (record { at = λ k. ap (λ (x : ℕ). coef r k % x) one_more ∙ z k ∙ sym (nothing k) }) (reduced_one f []))
-  where
-    one_more : ν * 1 ≡ ν
-    one_more = mul-one ν
-
-    nothing : (k : ℕ) → (ν * coef [] k) % (ν * 1) ≡ 0
-    nothing k = ap (λ (x : ℕ). (ν * coef [] k) % x) one_more ∙ mul-mod_right ν (coef [] k)
+-- D4 with a leading unit: r is c r'
+module _ (c n t : ℕ) (c_pos : 1 ≤ c) (n_pos : 1 ≤ n) (t_pos : 1 ≤ t) (f : List ℕ) (lead : UnitLead (c * n) t f) where
+  pub reduced_lead : (r r' : List ℕ) (D : ℕ) → Times (c * n) c r r' → Reduced n f r' D → Reduced (c * n) f r (c * D)
+  reduced_lead =
+      reduced_inverse c n t c_pos n_pos t_pos f lead.unit.inverse
+      (ap (λ (x : ℕ). x % (c * n)) (mul_comm lead.unit.inverse (coef f t)) ∙ lead.unit.is.one) lead.above

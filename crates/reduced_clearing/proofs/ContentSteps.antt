@@ -25,7 +25,8 @@ use Rattle.windows.specs.Window.{piece, Moved, mulBy, quotient_by, reduced_by, z
 use Rattle.windows.proofs.Leaf.{lt_or_le, piece_at, piece_over, piece_same, piece_length, apart_at}
 use Rattle.windows.proofs.Lift.{moved_around}
 use Rattle.law_multipliers.specs.Multipliers.{HasMultiplier, Completes, lifted, multiplier_scaled, completes_none}
-use Rattle.law_multipliers.specs.Reductions.{UnitLead, reduced_same, reduced_lead, reduced_none}
+use Rattle.law_multipliers.specs.Reductions.{UnitLead, reduced_same, reduced_lead}
+use Rattle.law_multipliers.proofs.ZeroSecond.{reduced_none}
 use Rattle.reduced_products.specs.Products.{MonicAtZero}
 use Rattle.reduced_units.specs.States.{Multiplier, Stage, StageAt, Solved, Change}
 use Rattle.reduced_units.specs.declared.Places.{Places}

@@ -1,0 +1,2 @@
+pub mod ZeroSecond
+pub mod BezoutJoined
