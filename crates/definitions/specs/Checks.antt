@@ -5,7 +5,6 @@
 --   degree_of_zero, degree_of_constant     the zero polynomial has no degree, the constant 5 has degree 0
 --   zero_top_of           zero top words count in Sylvester's matrix
 --   long_multipliers   multipliers may be longer than e and d words
---   not_the_gcd        D is not the gcd of the resultant and n
 --   bivariate_0, bivariate_1, bivariate_3, bivariate_uneven     words of resultants of two variables, from another program
 use Rattle.std.specs.Prelude.{◌≡◌, refl, List, [], ◌∷◌, ℕ, zero, suc, ◌+◌, ◌*◌, ◌-◌, ◌%◌, ◌<◌, ◌≤◌, length}
 use Rattle.std.proofs.Common.{◌∙◌, ap, ap₂, mul-zero, zero-mul, arith}
@@ -43,7 +42,7 @@ unfolding resultant expansion extent
 zero_top_of = refl
 
 -- S92: "Cofactors of D cut to degrees below e and d: modulo 4, 1,2 and 3,2 have none so short."
-long_multipliers : Reached 4 (1 ∷ 2 ∷ []) (3 ∷ 2 ∷ []) 1
+pub long_multipliers : Reached 4 (1 ∷ 2 ∷ []) (3 ∷ 2 ∷ []) 1
 unfolding resultant expansion
 long_multipliers = record {
   u = 1 ∷ 2 ∷ [];
@@ -58,10 +57,6 @@ long_multipliers = record {
     ];
   };
 }
-
--- S92: "D taken as gcd(resultant, n)": the resultant of these two is 0 modulo 4, and D is 1
-not_the_gcd : (D : ℕ) → Reduced 4 (1 ∷ 2 ∷ []) (3 ∷ 2 ∷ []) D → D ≡ 1
-not_the_gcd D r = eq-one_of_dvd-one (r.only 1 (omega arith) long_multipliers)
 
 -- f = 1 + 2z + (3 + 4z) y, g = 5 + 6z + (7 + 8z) y + (9 + 10z) y²
 bivariate_0 : bivariate_resultant_of 1009 1 1 2 1 (1 ∷ 2 ∷ 3 ∷ 4 ∷ []) (5 ∷ 6 ∷ 7 ∷ 8 ∷ 9 ∷ 10 ∷ []) 0 ≡ 33

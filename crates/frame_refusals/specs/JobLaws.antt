@@ -8,7 +8,7 @@ use Rattle.refusals.specs.Refusals.{narrow}
 use Rattle.refusals.specs.Conditions.{Fails, Listed, conditions_of_pair, modulus_fails, length_fails, words_fail}
 use Rattle.frame_refusals.specs.FrameRefusals.{zero_top_of, job_refusals}
 
-top_fails : (f : List ℕ) → Fails (zero_top_of f) (coef f (deg f) ≡ 0 → ⊥)
+pub top_fails : (f : List ℕ) → Fails (zero_top_of f) (coef f (deg f) ≡ 0 → ⊥)
 top_fails f = record {
   passed = λ e h. true≢false (sym (eq-eqb (coef f (deg f)) 0 h) ∙ e);
   failed = λ e h. h (eqb-true (coef f (deg f)) 0 e);
@@ -17,6 +17,3 @@ top_fails f = record {
 -- the conditions of an answer: so `status_zero` and `status_is` (refusals/Conditions) say when the status is 0, and when it is k
 abbrev pub job_conditions : ℕ → List ℕ → List ℕ → List (Type 0)
 job_conditions n f g = conditions_of_pair narrow n f g ++ ((coef f (deg f) ≡ 0 → ⊥) ∷ (coef g (deg g) ≡ 0 → ⊥) ∷ [])
-
-pub job_listed : (n : ℕ) (f g : List ℕ) → Listed (job_refusals n f g) (job_conditions n f g)
-job_listed n f g = search (arith, tt, modulus_fails, length_fails, words_fail, top_fails) depth 20

@@ -64,20 +64,6 @@ joined_of {n₁} {n₂} {e} x y l₁ l₂ b i =
     iteration : (n z : ℕ) → y + z ≡ n → y + (x + z) ≡ x + n * 1
     iteration n z h = omega arith
 
-pub joined_exists : {n₁ n₂ : ℕ} → 1 ≤ n₁ → 1 ≤ n₂ → Coprime n₁ n₂ → (x y : ℕ) → (r : ℕ) × Joined n₁ n₂ x y r
-joined_exists {n₁} {n₂} l₁ l₂ c x y =
-    let n : ℕ = n₁ * n₂ in
-    let z : ℕ = y % n in
-    let e = idempotent_exists l₁ l₂ c in
-    let j = joined_of x z l₁ l₂ (le_of_lt (mod-lt y (mul-pos l₁ l₂))) e.1 in (
-      (z + e.0 * ((x + (n - z)) % n)) % n,
-      record {
-        below = j.below;
-        first = j.first;
-        second = j.second ∙ mod-mod_of_dvd n₂ y (dvd-mul_left n₂ n₁);
-      },
-    )
-
 pub chinese_same : {n₁ n₂ x y : ℕ} → 1 ≤ n₁ → 1 ≤ n₂ → Coprime n₁ n₂ → Cong n₁ x y → Cong n₂ x y → Cong (n₁ * n₂) x y
 chinese_same {n₁} {n₂} {x} {y} l₁ l₂ c p q = pick (dec_le x y)
   where

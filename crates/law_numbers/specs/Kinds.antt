@@ -126,44 +126,9 @@ pub record Splits (n a : ℕ) : Type 0 where
   pub n₂ : ℕ
   pub is : Splitting n a n₁ n₂
 
-module _ {n a : ℕ} where
-  -- nothing is left in common, or there is a smaller rest
-  round : (m h : ℕ) → Parts n a m h → ((m' h' : ℕ) → m' < m → Parts n a m' h' → IsNilpotent n a ⊎ Splits n a) → Dec (1 < h) → Dec (m ≡ 1)
-      → IsNilpotent n a ⊎ Splits n a
-  round m h q ih (yes l) e =
-      let g = gcd_exists (m / h) a in
-      ih (m / h) g.0 (div-lt_self q.positive l) (parts_step q l g.1)
-  round m h q ih (no l) (yes e) = inl (parts_nilpotent q e)
-  round m h q ih (no l) (no e) = inr (record { n₁ = n / m; n₂ = m; is = parts_splitting q (omega arith) e })
-
-  rounds : (c m h : ℕ) → m < c → Parts n a m h → IsNilpotent n a ⊎ Splits n a
-  rounds zero m h l q = absurd (omega arith)
-  rounds (suc c) m h l q = round m h q (λ m' h' b q'. rounds c m' h' (omega arith) q') (dec_lt 1 h) (ℕ_discrete m 1)
-
-pub kind_exists : (n a : ℕ) → 2 ≤ n → IsUnit n a ⊎ (IsNilpotent n a ⊎ Splits n a)
-kind_exists n a l = pick (ℕ_discrete b.g 1)
-  where
-    b : HasCofactor n a
-    b = bezout_exists n a (le_of_lt l)
-
-    pick : Dec (b.g ≡ 1) → IsUnit n a ⊎ (IsNilpotent n a ⊎ Splits n a)
-    pick (yes e) = inl (record { inverse = b.s; is = cofactor_inverse l b.is e })
-    pick (no e) =
-        let h = gcd_exists (n / b.g) a in
-        inr (rounds (suc (n / b.g)) (n / b.g) h.0 (omega arith) (parts_start (le_of_lt l) b.is e h.1))
-
 -- one of three, and no two of them
 pub record ExactlyOne (A B C : Type 0) : Type 0 where
   pub one : A ⊎ (B ⊎ C)
   pub not_ab : A → B → ⊥
   pub not_ac : A → C → ⊥
   pub not_bc : B → C → ⊥
-
--- S13: "every residue is one of three"
-pub one_kind : (n a : ℕ) → 2 ≤ n → ExactlyOne (IsUnit n a) (IsNilpotent n a) (Splits n a)
-one_kind n a l = record {
-  one = kind_exists n a l;
-  not_ab = unit_not_nilpotent l;
-  not_ac = λ u x. unit_not_splitting u x.is;
-  not_bc = λ y x. nilpotent_not_splitting y x.is;
-}

@@ -7,7 +7,8 @@ use Rattle.std.specs.Prelude.{◌≡◌, refl, ◌⊎◌, ℕ, ◌≤◌}
 use Rattle.std.proofs.Common.{ap, ap₂, ⊎_elim}
 use Rattle.definitions.specs.Residues.{Inverse, IsUnit, IsNilpotent, Splitting}
 use Rattle.law_numbers.specs.Units.{inverse_unique}
-use Rattle.law_numbers.specs.Kinds.{Splits, kind_exists, unit_not_nilpotent, unit_not_splitting, nilpotent_not_splitting, splitting_unique}
+use Rattle.law_numbers.proofs.KindExists.{kind_exists}
+use Rattle.law_numbers.specs.Kinds.{Splits, unit_not_nilpotent, unit_not_splitting, nilpotent_not_splitting, splitting_unique}
 use Rattle.residue.specs.declared.Kind.{Kind}
 use Rattle.residue.specs.declared.Kind.TheVariants.{Unit as Unit', Nilpotent, Splits as Splits'}
 

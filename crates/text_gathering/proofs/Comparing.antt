@@ -16,9 +16,9 @@ use lib.Dec.{eqb}
 use lib.ListN.{length, get_or, take, drop, drop_of_length-le}
 use lib.Seq.{drop-cons, take_at}
 use Rattle.text_notation.specs.Notation.{text}
-use Rattle.text_notation.specs.Lengths.{text_short}
+use Rattle.text_notation.proofs.Lengths.{text_short}
 use Rattle.text_notation.specs.Candidates.{same_text_of}
-use Rattle.text_notation.specs.NotationLaws.{same_true}
+use Rattle.text_notation.proofs.NotationLaws.{same_true}
 use Rattle.text_writer_service.specs.Parts.{Put}
 use Rattle.text_writer_service.proofs.Putting.{put_length}
 

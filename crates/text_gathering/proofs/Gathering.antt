@@ -15,7 +15,7 @@ use lib.Dec.{eqb}
 use lib.ListN.{length, get_or, drop, set, drop_of_length-le}
 use lib.Seq.{drop-cons, set_out}
 use Rattle.text_notation.specs.Candidates.{number_after_of, coefficient_after_of, stored, gathered}
-use Rattle.text_notation.specs.NotationLaws.{after_length}
+use Rattle.text_notation.proofs.NotationLaws.{after_length}
 use Rattle.text_gathering.specs.InWord.{in_word}
 
 pub fits_in_word : (y : ℕ) → y < 4294967296 → in_word y ≡ y

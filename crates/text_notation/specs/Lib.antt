@@ -1,9 +1,4 @@
 pub mod Notation
-pub mod Decimals
-pub mod Lengths
-pub mod Tops
 pub mod Candidates
-pub mod CandidateLaws
-pub mod NotationLaws
 pub mod Examples
 pub mod Quoted

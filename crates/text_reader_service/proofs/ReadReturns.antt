@@ -24,10 +24,10 @@ use Rattle.degree_service.specs.declared.Degree.{Degree}
 use Rattle.degree_service.specs.declared.Degree.TheVariants.{None, At, Refused}
 use Rattle.degree_service.specs.DegreeService.{told, degree_number, TrueDegreeAnswer}
 use Rattle.text_notation.specs.Notation.{text, last_place, dropped, padded}
-use Rattle.text_notation.specs.Lengths.{long_other}
-use Rattle.text_notation.specs.Tops.{dropped_within, dropped_length, padded_dropped}
+use Rattle.text_notation.proofs.Lengths.{long_other}
+use Rattle.text_notation.proofs.Tops.{dropped_within, dropped_length, padded_dropped}
 use Rattle.text_notation.specs.Candidates.{gathered, same_text_of, is_text_of, is_text}
-use Rattle.text_notation.specs.NotationLaws.{gathered_length, text_found, test_same}
+use Rattle.text_notation.proofs.NotationLaws.{gathered_length, text_found, test_same}
 use Rattle.text_gathering.specs.InWord.{in_word}
 use Rattle.text_gathering.proofs.Gathering.{fits_in_word}
 use Rattle.text_reader_service.specs.TextReader.{HandedOver, WordsAnswer, ReadAnswer}

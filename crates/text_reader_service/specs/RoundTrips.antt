@@ -8,7 +8,7 @@ use Rattle.std.proofs.lemmas.List.{length-replicate}
 use Rattle.refusals.specs.Refusals.{Width}
 use Rattle.refusals.specs.Conditions.{status_zero}
 use Rattle.text_notation.specs.Notation.{text, dropped, padded, TextOf}
-use Rattle.text_notation.specs.NotationLaws.{text_unique, written_read}
+use Rattle.text_notation.proofs.NotationLaws.{text_unique, written_read}
 use Rattle.text_writer_service.specs.TextWriter.{WriteAnswer, write_refusals, write_conditions, write_listed}
 use Rattle.text_reader_service.specs.TextReader.{ReadAnswer, read_refusals, read_conditions, read_listed}
 

@@ -10,7 +10,7 @@ use Rattle.refusals.specs.Refusals.{Width, Tested, bad_modulus_of, all_below_of,
 use Rattle.refusals.specs.Conditions.{Listed, ServedModulus, modulus_fails, short_fails}
 use Rattle.text_notation.specs.Notation.{dropped, padded, TextOf}
 use Rattle.text_notation.specs.Candidates.{is_text}
-use Rattle.text_notation.specs.NotationLaws.{text_fails}
+use Rattle.text_notation.proofs.NotationLaws.{text_fails}
 
 -- "It refuses with 17 any other text or a power above 48, tested after 1 and before 6"; l is the number of words lent: "needs 49 words"
 abbrev pub read_refusals : Width → ℕ → List ℕ → ℕ → List Tested

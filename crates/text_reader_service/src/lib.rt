@@ -17,7 +17,7 @@ use refusals::Answer;
 // The words that the reader needs.
 const ROOM: usize = 49;
 
-// The characters of the longest text (text_notation/specs/Lengths.antt).
+// The characters of the longest text (text_notation/proofs/Lengths.antt).
 const LONGEST: usize = 767;
 
 // The refusal of what is no text of a polynomial modulo n.
@@ -72,7 +72,7 @@ fn read_words(n: u32, f: &[u32], words: &mut [u32]) -> Answer
     }
 }
 
-// "The reader answers the number of words". A text of more than 767 characters is not of the notation (text_notation/specs/Lengths.antt)
+// "The reader answers the number of words". A text of more than 767 characters is not of the notation (text_notation/proofs/Lengths.antt)
 // and is refused unread.
 pub fn read_text(n: u32, text: &[u8], words: &mut [u32]) -> Answer
     ensures { ReadAnswer narrow n text.now words.old words.new result.value result.status }

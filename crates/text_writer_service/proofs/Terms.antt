@@ -14,8 +14,8 @@ use borrow.Author.Rules.{rules}
 use lib.ListN.{length, drop, get_or, set, length-append, length-set}
 use lib.Seq.{drop-length, drop-cons}
 use Rattle.text_notation.specs.Notation.{decimal, power_text, term, plus_joined, terms, or_zero, text}
-use Rattle.text_notation.specs.Decimals.{decimal_small, decimal_large, decimal_some, decimal_short}
-use Rattle.text_notation.specs.Lengths.{power_short}
+use Rattle.text_notation.proofs.Decimals.{decimal_small, decimal_large, decimal_some, decimal_short}
+use Rattle.text_notation.proofs.Lengths.{power_short}
 use Rattle.text_writer_service.specs.Parts.{Put, Room, plus, added}
 use Rattle.text_writer_service.proofs.Putting.{put_none, put_as, put_one, put_length, put_then, put_set}
 

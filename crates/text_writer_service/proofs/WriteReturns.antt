@@ -11,7 +11,7 @@ use Rattle.refusals.specs.Refusals.{narrow, short, first_refusal, refusals_one}
 use Rattle.refusals.specs.Conditions.{accepted_one}
 use Rattle.refusals.proofs.Statuses.{refused_early, passed_on, too_short, long_enough, refused_value, replaced_refused}
 use Rattle.text_notation.specs.Notation.{text, padded}
-use Rattle.text_notation.specs.Lengths.{text_short}
+use Rattle.text_notation.proofs.Lengths.{text_short}
 use Rattle.text_writer_service.specs.Parts.{Put, Room}
 use Rattle.text_writer_service.specs.TextWriter.{WriteAnswer}
 use Rattle.text_writer_service.proofs.Putting.{put_then}

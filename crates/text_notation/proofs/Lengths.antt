@@ -8,9 +8,9 @@ use Rattle.std.proofs.Common.{ap, arith, length-append}
 use Rattle.definitions.specs.Polynomials.{coef}
 use Rattle.refusals.specs.Conditions.{Fails}
 use Rattle.text_notation.specs.Notation.{digits_within, decimal, power_text, term, plus_joined, terms, or_zero, text, TextOf}
-use Rattle.text_notation.specs.Decimals.{decimal_short}
+use Rattle.text_notation.proofs.Decimals.{decimal_short}
 use Rattle.text_notation.specs.Candidates.{is_text}
-use Rattle.text_notation.specs.NotationLaws.{text_fails}
+use Rattle.text_notation.proofs.NotationLaws.{text_fails}
 
 pub joined_length : (s t : List ℕ) → length (plus_joined s t) ≤ length s + 1 + length t
 joined_length [] t = omega arith

@@ -16,10 +16,10 @@ use Rattle.definitions.specs.Polynomials.{coef, Residues, true_degree}
 use Rattle.refusals.specs.Refusals.{all_below_of}
 use Rattle.refusals.specs.Conditions.{Fails, fails, residues_of, residues_below}
 use Rattle.text_notation.specs.Notation.{text, last_place, dropped, padded, TextOf}
-use Rattle.text_notation.specs.Tops.{text_padded, text_dropped, dropped_within, dropped_length, dropped_above, dropped_dropped}
+use Rattle.text_notation.proofs.Tops.{text_padded, text_dropped, dropped_within, dropped_length, dropped_above, dropped_dropped}
 use Rattle.text_notation.specs.Candidates.{number_after_of, coefficient_after_of, stored, gathered, candidate}
 use Rattle.text_notation.specs.Candidates.{same_text_of, is_text_of, is_text}
-use Rattle.text_notation.specs.CandidateLaws.{gathered_text}
+use Rattle.text_notation.proofs.CandidateLaws.{gathered_text}
 
 -- ---- equal texts
 

@@ -14,7 +14,7 @@ use Rattle.std.proofs.lemmas.List.{length-replicate, replicate-append-replicate,
 use borrow.Author.Tests.{ne_eqb}
 use Rattle.definitions.specs.Polynomials.{coef}
 use Rattle.text_notation.specs.Notation.{digits_within, decimal, power_text, term, plus_joined, terms, or_zero, text, padded}
-use Rattle.text_notation.specs.Decimals.{within_small, within_large, decimal_some}
+use Rattle.text_notation.proofs.Decimals.{within_small, within_large, decimal_some}
 use Rattle.text_notation.specs.Candidates.{number_after_of, coefficient_after_of, stored, gathered}
 
 -- the coefficient c of power k, put to its place

@@ -1,0 +1,2 @@
+pub mod JoinedExists
+pub mod KindExists
