@@ -80,8 +80,8 @@ def apply(crate, pairs, texts):
     change outside of functions."""
     changed = set()
     for where, old, new in pairs:
-        if not where or not where.startswith(('src/', 'specs/')) or not os.path.isfile(os.path.join(ROOT, 'crates', crate, where)):
-            raise ValueError('%s: no file of src/ or specs/: %s' % (crate, where))
+        if not re.match(r'(src|specs)/|proofs/\w+\.antt$', where or '') or not os.path.isfile(os.path.join(ROOT, 'crates', crate, where)):
+            raise ValueError('%s: no file of src/ or specs/, and no theorems of proofs/: %s' % (crate, where))
         if where not in texts:
             texts[where] = text_of(os.path.join(ROOT, 'crates', crate, where))
         text = texts[where]
