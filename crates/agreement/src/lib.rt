@@ -5,7 +5,7 @@ ghost use Rattle.refusals.specs.Refusals.{narrow};
 ghost use Rattle.agreement.specs.Agreement.{BothAnswers};
 
 // What each of the two answered.
-#[derive(Drop)]
+#[derive(Clone, Copy)]
 pub struct Agreement {
     pub evaluator: refusals::Answer,
     pub resultant: refusals::Answer,

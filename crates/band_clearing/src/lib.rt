@@ -23,7 +23,7 @@ pub const FIRST: usize = 49;
 pub const SECOND: usize = 97;
 
 // The words of a row at the columns that are left, and the degrees of f and g.
-#[derive(Drop)]
+#[derive(Clone, Copy)]
 pub struct Sizes {
     pub b: usize,
     pub d: usize,

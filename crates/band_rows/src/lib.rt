@@ -16,7 +16,7 @@ ghost use Rattle.band_clearing.specs.Bands.{LeaveAsked, RowLeft, ComeAsked, Came
 use band_clearing::{FIRST, ROW, SECOND, Sizes};
 
 // How many rows are live, and the factor that the rows which left make, with its sign.
-#[derive(Drop)]
+#[derive(Clone, Copy)]
 pub struct Stage {
     pub rows: usize,
     pub factor: u32,

@@ -15,7 +15,7 @@ ghost use Rattle.refusals.specs.Refusals.{narrow, all_below_of, short, first_ref
 ghost use Rattle.batch_pairs.specs.Batches.{bad_pieces_of, ServedPieces, batch_status};
 
 // count polynomials of sent degree d one after the other, and as many of sent degree e.
-#[derive(Drop)]
+#[derive(Clone, Copy)]
 pub struct Batch {
     pub d: usize,
     pub e: usize,

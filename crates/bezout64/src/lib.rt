@@ -8,7 +8,7 @@ ghost use Rattle.std.specs.Prelude.{◌≡◌, ℕ, ◌+◌, ◌-◌, ◌*◌, �
 ghost use Rattle.law_numbers.specs.Divisors.{IsGcd, GcdCofactor};
 
 // A greatest common divisor g, with the cofactor s.
-#[derive(Drop)]
+#[derive(Clone, Copy)]
 pub struct Bezout {
     pub g: u64,
     pub s: u64,

@@ -32,7 +32,7 @@ use modulus::Modulus;
 const WORDS: usize = 49;
 
 // The degrees of f in y and in z, and those of g.
-#[derive(Drop)]
+#[derive(Clone, Copy)]
 pub struct Degrees {
     pub d: usize,
     pub a: usize,
@@ -41,7 +41,7 @@ pub struct Degrees {
 }
 
 // The same with a point.
-#[derive(Drop)]
+#[derive(Clone, Copy)]
 struct Point {
     d: usize,
     a: usize,

@@ -11,7 +11,7 @@ ghost use Rattle.claim_service.specs.ClaimService.{ClaimAnswer, ClaimCase};
 use refusals::Answer;
 
 // Accepted; the number of the first of the three that fails; or the number of the refusal.
-#[derive(Drop)]
+#[derive(Clone, Copy)]
 pub enum Claim {
     Accepted,
     Fails(u32),

@@ -24,21 +24,21 @@ ghost use Rattle.common_factor.specs.Searches.{StartAsked, SearchAsked, BothLoad
 use modulus::Modulus;
 
 // The words left of a polynomial, and the modulus.
-#[derive(Drop)]
+#[derive(Clone, Copy)]
 struct Cut {
     n: u32,
     len: usize,
 }
 
 // The same with the record of the modulus.
-#[derive(Drop)]
+#[derive(Clone, Copy)]
 struct Lead {
     m: Modulus,
     len: usize,
 }
 
 // A divisor modulo the n of m: its place and its degree.
-#[derive(Drop)]
+#[derive(Clone, Copy)]
 pub struct Found {
     pub m: Modulus,
     pub at: usize,
@@ -46,7 +46,7 @@ pub struct Found {
 }
 
 // "both polynomials are zero modulo m, or a monic w of degree at least 1 divides both modulo m"
-#[derive(Drop)]
+#[derive(Clone, Copy)]
 pub enum Ground {
     Zero(u32),
     Common(Found),

@@ -13,7 +13,7 @@ ghost use Rattle.refusals.specs.Refusals.{narrow};
 ghost use Rattle.degree_service.specs.DegreeService.{words_told, TrueDegreeAnswer, DegreeWordsAnswer, LeadingAnswer};
 
 // None for the zero polynomial, the degree, or the number of the refusal.
-#[derive(Drop)]
+#[derive(Clone, Copy)]
 pub enum Degree {
     None,
     At(u32),
@@ -22,7 +22,7 @@ pub enum Degree {
 
 // The same for a host: some is 1 where there is a degree, else 0; status is 0 or the number of the refusal.
 #[repr(C)]
-#[derive(Drop)]
+#[derive(Clone, Copy)]
 pub struct DegreeAnswer {
     pub some: u32,
     pub degree: u32,

@@ -28,7 +28,7 @@ use residue::Attempt;
 use window_factor::Highest;
 
 // The places and the degrees of A and B.
-#[derive(Drop)]
+#[derive(Clone, Copy)]
 pub struct Windows {
     pub a: usize,
     pub d: usize,
@@ -38,7 +38,7 @@ pub struct Windows {
 
 // What the clearing of a content comes to: D; two coprime divisors of the modulus; or the content c, the record of n / c, the degree of B,
 // whose leading word is a unit now, and the inverse of that word.
-#[derive(Drop)]
+#[derive(Clone, Copy)]
 pub enum Clearing {
     Done(u32),
     Parts(u32, u32),

@@ -29,7 +29,7 @@ use window_factor64::Highest;
 
 // What the clearing of a content comes to: D; two coprime divisors of the modulus; or the content c, the record of n / c, the degree of B,
 // whose leading word is a unit now, and the inverse of that word.
-#[derive(Drop)]
+#[derive(Clone, Copy)]
 pub enum Clearing {
     Done(u64),
     Parts(u64, u64),

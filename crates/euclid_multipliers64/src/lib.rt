@@ -27,7 +27,7 @@ use euclid_steps64::{Ending, Found, Logged, Stage};
 use reduction64::Reciprocal;
 
 // f of degree d at a and g of degree e at b, after so many steps; s, p and t as in a `Stage`.
-#[derive(Drop)]
+#[derive(Clone, Copy)]
 pub struct Descent {
     a: usize,
     d: usize,

@@ -6,7 +6,7 @@
 use Rattle.std.specs.Prelude.{List, ℕ}
 use Rattle.resultant_pseudo.specs.StandingRuns as resultant
 use Rattle.resultant_pseudo.specs.declared.EuclidAttempt.{EuclidAttempt as NarrowEuclidAttempt}
-use Rattle.resultant_pseudo.specs.declared.EuclidAttempt.TheVariants as at-32
+use Rattle.resultant_pseudo.specs.declared.EuclidAttempt.TheVariants as at_32
 use Rattle.euclid_steps.specs.EuclidStages as narrow
 use Rattle.euclid_steps.specs.declared.Stage.{Stage as NarrowStage}
 use Rattle.euclid_steps.specs.declared.Logged.{Logged as NarrowLogged}

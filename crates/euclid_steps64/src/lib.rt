@@ -10,7 +10,7 @@
 #![tactic(auto)]
 
 // The value, by one inverse, if every lead was a unit; otherwise a product of leading words that is no unit.
-#[derive(Drop)]
+#[derive(Clone, Copy)]
 pub enum EuclidAttempt {
     Value(u64),
     NotUnit(u64),
@@ -19,7 +19,7 @@ pub enum EuclidAttempt {
 // f of degree d at a, g of degree e at b. p is the product of the powers of leading words taken so far, s that of the p's at each degree,
 // t what zero leading words gave: s p^d times the resultant asked for is p t times that of f and g. The last step took y times the g before
 // it, less c X + k times the f before it, and f became g (swap); or less k X^(e - d) times f, and f stayed. At the beginning they are 0.
-#[derive(Drop)]
+#[derive(Clone, Copy)]
 pub struct Stage {
     pub a: usize,
     pub d: usize,
@@ -36,7 +36,7 @@ pub struct Stage {
 
 // A step: f of degree d and g of degree e before it. With swap it took y times g less (c X + k) f, and f took the place of g; without, y
 // times g less k X^(e - d) f, and f stayed.
-#[derive(Drop)]
+#[derive(Clone, Copy)]
 pub struct Logged {
     pub d: usize,
     pub e: usize,
@@ -47,7 +47,7 @@ pub struct Logged {
 }
 
 // beta at u, gamma at v, and the factor k of gamma; d and e are the degrees of f and g.
-#[derive(Drop)]
+#[derive(Clone, Copy)]
 pub struct Found {
     pub u: usize,
     pub v: usize,
@@ -57,7 +57,7 @@ pub struct Found {
 }
 
 // beta at u, gamma at v, and the factor k of gamma; c is the constant, and s times the resultant is p t c^e.
-#[derive(Drop)]
+#[derive(Clone, Copy)]
 pub struct Ending {
     pub u: usize,
     pub v: usize,

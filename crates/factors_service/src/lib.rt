@@ -20,7 +20,7 @@ use refusals::{Answer, MAX_LENGTH};
 
 // A place is free where its number is 0; degree 0 and resultant 1 stand there. h has len words, zeros above.
 #[repr(C)]
-#[derive(Drop)]
+#[derive(Clone, Copy)]
 pub struct Factors {
     pub n: u32,
     pub len: u32,
@@ -31,7 +31,7 @@ pub struct Factors {
 }
 
 #[repr(C)]
-#[derive(Drop)]
+#[derive(Clone, Copy)]
 pub struct FactorsAnswer {
     pub factors: Factors,
     pub status: u32,

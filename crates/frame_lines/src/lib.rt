@@ -52,7 +52,7 @@ pub const NO_FRAME: u32 = 8;
 pub const LINE_END: u8 = 10;
 
 // The head of a line: kind, modulus and degrees, where the line can be a frame by its length and its first 14 characters.
-#[derive(Drop)]
+#[derive(Clone, Copy)]
 pub enum Head {
     Frame {
         kind: u32,

@@ -17,7 +17,7 @@ pub const TOO_LONG: usize = 799;
 const DIGIT_BIT: u64 = 0x2020202020202020;
 
 // What the count of a read means: that many characters came, or the input has ended.
-#[derive(Drop)]
+#[derive(Clone, Copy)]
 pub enum Input {
     Ended,
     Came(usize),

@@ -10,7 +10,7 @@ ghost use Rattle.frame_reader.specs.Pieces.{PendingAnswered, PartAnswered, Steps
 use refusals::WORKING_WORDS;
 
 // What a step leaves: the count of the pending line, and of the characters written.
-#[derive(Drop)]
+#[derive(Clone, Copy)]
 pub struct Progress {
     pub pending: usize,
     pub written: usize,

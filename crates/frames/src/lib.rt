@@ -21,7 +21,7 @@ use refusals::Answer;
 const WORDS: usize = 98;
 
 // What an answer line says.
-#[derive(Drop)]
+#[derive(Clone, Copy)]
 struct Line {
     kind: u32,
     status: u32,

@@ -42,7 +42,7 @@ const SIX: u64 = 0x0606060606060606;
 const OVER: u64 = 0x1010101010101010;
 
 // What characters come to: a number, or something else.
-#[derive(Drop)]
+#[derive(Clone, Copy)]
 pub enum Reading {
     Number(u32),
     Other,

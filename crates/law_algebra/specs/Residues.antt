@@ -52,5 +52,5 @@ module _ (m : ℕ) where
     mul_assoc = λ a b c. native.Mathlib.Fin.val_path (simp (mul_mod_l, mul_mod_r, mul_assoc));
     mul_comm = λ a b. native.Mathlib.Fin.val_path (ap (λ x. x % suc m) (mul_comm a.0 b.0));
     one_mul = λ a. native.Mathlib.Fin.val_path (mul_mod_l 1 a.0 (suc m) ∙ ap (λ x. x % suc m) (one-mul a.0) ∙ mod-eq_of_lt a.1);
-    mul_add = λ a b c. native.Mathlib.Fin.val_path (simp (mul_mod_r, mod-add-mod, add-mod-mod, mul_add));
+    mul_add = λ a b c. native.Mathlib.Fin.val_path (simp (mul_mod_r, mod-add-mod, add-mod-mod, mul-add));
   }

@@ -49,7 +49,7 @@ module _ {R : Type 0} (𝓡 : CRing R) where
       (sym (F.two 0 (omega arith) v b) ∙ sink 𝓡 (fix_top 𝓡 F v) k (omega arith) v b)
   equal_rows {m = suc (suc m)} F (suc i) zero p l v b = absurd (omega arith)
   equal_rows {m = suc (suc m)} {D = D} F (suc i) (suc k) p l v b =
-      ap D (fun_ext (elim [ zero ↦ refl | suc r ↦ refl ])) ∙ equal_rows (fix_top 𝓡 F (b 0)) i k (omega arith) (omega arith) v
+      ap D (fun_ext (elim [ zero ↦ refl | suc r ↦ refl ])) ∙ equal_rows {m = suc m} (fix_top 𝓡 F (b 0)) i k (omega arith) (omega arith) v
       (λ r. b (suc r))
 
   -- a, with the row k replaced by w
@@ -181,7 +181,7 @@ module _ {R : Type 0} (𝓡 : CRing R) where
   blocks {N = zero} F m (suc n) h a b = absurd (omega arith)
   blocks {N = suc N} {D = D} F m (suc n) h a b =
       ap D (fun_ext (stack_split m a b)) ∙ rise F m (omega arith) (b 0) (stack m a (λ i. b (suc i)))
-      ∙ ap (sgn 𝓡 m) (blocks (fix_top 𝓡 F (b 0)) m n (omega arith) a (λ i. b (suc i)))
+      ∙ ap (sgn 𝓡 m) (blocks {N = N} (fix_top 𝓡 F (b 0)) m n (omega arith) a (λ i. b (suc i)))
       ∙ sym (sgn_add 𝓡 m (n *ℕ m) _)
       ∙ ap₂ (λ (j : ℕ) (x : ℕ → ℕ → R). sgn 𝓡 j (D x)) (more n m) (fun_ext (elim [ zero ↦ refl | suc r ↦ refl ]))
     where
@@ -192,7 +192,7 @@ module _ {R : Type 0} (𝓡 : CRing R) where
   pub backward : {n k : ℕ} {D : (ℕ → ℕ → R) → R} → Form 𝓡 n k D → (a : ℕ → ℕ → R) → D (back n a) ≡ sgn 𝓡 (tri n) (D a)
   backward {n = zero} F a = refl
   backward {n = suc n} {D = D} F a =
-      ap D (fun_ext (elim [ zero ↦ refl | suc r ↦ refl ])) ∙ backward (fix_top 𝓡 F (a n)) a
+      ap D (fun_ext (elim [ zero ↦ refl | suc r ↦ refl ])) ∙ backward {n = n} (fix_top 𝓡 F (a n)) a
       ∙ ap (sgn 𝓡 (tri n)) (sink 𝓡 F n (omega arith) (a n) a
       ∙ ap (sgn 𝓡 n) (F.cong _ a (λ r c p q. ap (λ (v : ℕ → R). v c) (last n a r (omega arith)))))
       ∙ sym (sgn_add 𝓡 (tri n) n (D a)) ∙ ap (λ (j : ℕ). sgn 𝓡 j (D a)) (comm (tri n) n)

@@ -25,7 +25,7 @@ use reduction::Reciprocal;
 // held is 1, negative is -n and inverse that of n modulo 2^32; else these three are 0. "the record of a modulus that both sets share holds
 // the wider n and its K" (02, W9): wide and k. There is no padding but at the end: a copy of the record is words that the reader finds
 // whole.
-#[derive(Drop)]
+#[derive(Clone, Copy)]
 pub struct Modulus {
     pub wide: u64,
     pub v: u64,

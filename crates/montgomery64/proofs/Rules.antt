@@ -234,4 +234,4 @@ pub ruleset sums = (three_second, three_third, three_less, three_is)
 
 pub ruleset pairs = (form_small, within, negative_most, negative_room, pair_room, pair_less, pair_is)
 
-pub ruleset rules = (rules, words, inverses, carries, reductions)
+pub ruleset montgomery_rules = (rules, words, inverses, carries, reductions)

@@ -18,7 +18,7 @@ ghost use Rattle.reduction.specs.Newton.{Refined};
 ghost use Rattle.montgomery64.specs.Forms.{Formed, Squared, Held, Reduced, Inverse, Carried, Factors};
 
 // hi 2^64 + lo.
-#[derive(Drop)]
+#[derive(Clone, Copy)]
 struct Wide {
     hi: u64,
     lo: u64,

@@ -31,4 +31,4 @@ pub sum_three : {m : Reciprocal} (a b c x y s z r : ℕ) → Ready m → r ≡ (
     → z ≡ c % m.n → r ≡ (a + b + c) % m.n
 sum_three a b c x y s z r ready er es ex ey ez = sum_residues (a + b) c s z r ready er (sum_residues a b x y s ready es ex ey) ez
 
-pub ruleset rules = (rules, modulo, no_fraction, some_fraction, known_fraction, residue_below, residue_most, sum_residues, sum_three)
+pub ruleset multiplier_rules = (rules, modulo, no_fraction, some_fraction, known_fraction, residue_below, residue_most, sum_residues, sum_three)

@@ -17,7 +17,7 @@ ghost use Rattle.multipliers64.specs.Multipliers.{IsMultiplier, HasFraction};
 use reduction64::Reciprocal;
 
 // A multiplier c below n, and w, what it is of n as a fraction of 2^64.
-#[derive(Drop)]
+#[derive(Clone, Copy)]
 pub struct Multiplier {
     pub c: u64,
     pub w: u64,

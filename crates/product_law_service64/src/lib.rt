@@ -14,7 +14,7 @@ ghost use Rattle.product_law_service.specs.HowFar.{HowFarAnswer};
 ghost use Rattle.product_law_service.specs.LawService.{law_refusals, FactorNumbers, LawAnswer};
 
 // The resultant, the reduced resultant D as `divisor`, and 0 or the number of the refusal.
-#[derive(Drop)]
+#[derive(Clone, Copy)]
 pub struct Differing {
     pub resultant: u64,
     pub divisor: u64,
@@ -51,7 +51,7 @@ pub fn how_far(
 }
 
 // The resultants r, rf, rg of the product, of f and of g with h, their reduced resultants d, df, dg, and 0 or the number of the refusal.
-#[derive(Drop)]
+#[derive(Clone, Copy)]
 pub struct Numbers {
     pub r: u64,
     pub rf: u64,
@@ -63,7 +63,7 @@ pub struct Numbers {
 }
 
 // The resultants and the reduced resultants of f and of g, each with h.
-#[derive(Drop)]
+#[derive(Clone, Copy)]
 struct Factors {
     rf: u64,
     rg: u64,
@@ -72,7 +72,7 @@ struct Factors {
 }
 
 // The lengths of the buffers: of the product, of the two cofactors, and of the working words.
-#[derive(Drop)]
+#[derive(Clone, Copy)]
 struct Room {
     product: usize,
     first: usize,

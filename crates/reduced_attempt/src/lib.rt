@@ -32,7 +32,7 @@ use residue::Attempt;
 
 // What the half of an attempt comes to that factors the first polynomial: D; two coprime divisors of n; or all coefficients of that
 // polynomial, over the common content, are nilpotent.
-#[derive(Drop)]
+#[derive(Clone, Copy)]
 pub enum HalfAttempt {
     Found(u32),
     Divisors(u32, u32),
@@ -40,7 +40,7 @@ pub enum HalfAttempt {
 }
 
 // The content that was taken out of the words, and the unit that they were multiplied by.
-#[derive(Drop)]
+#[derive(Clone, Copy)]
 pub struct Scale {
     pub c: u32,
     pub r: u32,

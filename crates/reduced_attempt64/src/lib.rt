@@ -22,7 +22,7 @@ use residue64::Attempt;
 
 // What the half of an attempt comes to that factors the first polynomial: D; two coprime divisors of n; or all coefficients of that
 // polynomial, over the common content, are nilpotent.
-#[derive(Drop)]
+#[derive(Clone, Copy)]
 pub enum HalfAttempt {
     Found(u64),
     Divisors(u64, u64),

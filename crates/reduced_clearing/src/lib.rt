@@ -23,7 +23,7 @@ use reduced_units::{Places, Sizes, UnitAt};
 
 // What the clearing of contents and unit factors comes to: the reduced resultant; two coprime divisors of the modulus; or the content,
 // the degree of the second polynomial, monic now, and the words of the multipliers, for the division stage.
-#[derive(Drop)]
+#[derive(Clone, Copy)]
 pub enum Clearing {
     Done(u32),
     Parts(u32, u32),

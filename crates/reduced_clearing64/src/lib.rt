@@ -18,7 +18,7 @@ use reduction64::Reciprocal;
 
 // What the clearing of contents and unit factors comes to: the reduced resultant; two coprime divisors of the modulus; or the content,
 // the degree of the second polynomial, monic now, and the words of the multipliers, for the division stage.
-#[derive(Drop)]
+#[derive(Clone, Copy)]
 pub enum Clearing {
     Done(u64),
     Parts(u64, u64),

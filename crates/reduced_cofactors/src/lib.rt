@@ -28,7 +28,7 @@ use reduced_units::Places;
 use residue::Attempt;
 
 // F, of degree d, with a unit and its inverse i at t and nilpotents above it, and G, of degree e.
-#[derive(Drop)]
+#[derive(Clone, Copy)]
 pub struct Factored {
     pub d: usize,
     pub e: usize,

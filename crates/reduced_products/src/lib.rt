@@ -16,7 +16,7 @@ ghost use Rattle.reduced_products.specs.Products.{ProductAsked, Factors, Subtrac
 use modulus::Modulus;
 
 // The len words at `at`.
-#[derive(Drop)]
+#[derive(Clone, Copy)]
 pub struct Span {
     pub at: usize,
     pub len: usize,

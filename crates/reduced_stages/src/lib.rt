@@ -83,7 +83,7 @@ fn clearing_stage(w: &mut [u32], m: Modulus, v: Modulus, p: Places, a: usize, l:
 }
 
 // What the clearing left: B is monic of degree b once its content c was taken out, and the multipliers have l words.
-#[derive(Drop)]
+#[derive(Clone, Copy)]
 pub struct Cleared {
     pub c: u32,
     pub b: usize,

@@ -80,7 +80,7 @@ fn clearing_stage(
 }
 
 // What the clearing left: B is monic of degree b once its content c was taken out, and the multipliers have l words.
-#[derive(Drop)]
+#[derive(Clone, Copy)]
 pub struct Cleared {
     pub c: u64,
     pub b: usize,

@@ -28,7 +28,7 @@ use modulus::Modulus;
 use reduced_products::Span;
 
 // Where a stage finds A, B and their multipliers.
-#[derive(Drop)]
+#[derive(Clone, Copy)]
 pub struct Places {
     pub t: usize,
     pub pa: usize,
@@ -38,14 +38,14 @@ pub struct Places {
 }
 
 // The degree a of A, where B has a words, and the words l of the multipliers.
-#[derive(Drop)]
+#[derive(Clone, Copy)]
 pub struct Sizes {
     pub a: usize,
     pub l: usize,
 }
 
 // A coefficient at s that is a unit, with its inverse i.
-#[derive(Drop)]
+#[derive(Clone, Copy)]
 pub struct UnitAt {
     pub s: usize,
     pub i: u32,

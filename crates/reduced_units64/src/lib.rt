@@ -19,7 +19,7 @@ use reduced_units::{Places, Sizes};
 use reduction64::Reciprocal;
 
 // A coefficient at s that is a unit, with its inverse i.
-#[derive(Drop)]
+#[derive(Clone, Copy)]
 pub struct UnitAt {
     pub s: usize,
     pub i: u64,

@@ -24,7 +24,7 @@ ghost use Rattle.reduction64.specs.Moduli.{Ready};
 
 // What is found once for a modulus n: `Ready` says that v1, v0 and r belong to it, and that k is 0, or n is odd and below 2^63, k its
 // inverse modulo 2^64 and s 2^128 modulo n.
-#[derive(Drop)]
+#[derive(Clone, Copy)]
 pub struct Reciprocal {
     pub n: u64,
     pub r: u64,
@@ -35,7 +35,7 @@ pub struct Reciprocal {
 }
 
 // A quotient and what is left.
-#[derive(Drop)]
+#[derive(Clone, Copy)]
 struct Parts {
     q: u64,
     x: u64,

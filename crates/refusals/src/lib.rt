@@ -20,7 +20,7 @@ pub const WORKING_WORDS: usize = 8192;
 
 // What a service answers: the number, and 0 or the number of the refusal.
 #[repr(C)]
-#[derive(Drop)]
+#[derive(Clone, Copy)]
 pub struct Answer {
     pub value: u32,
     pub status: u32,

@@ -17,7 +17,7 @@ pub const WORKING_WORDS: usize = 16384;
 
 // What a service answers: the number, and 0 or the number of the refusal.
 #[repr(C)]
-#[derive(Drop)]
+#[derive(Clone, Copy)]
 pub struct Answer {
     pub value: u64,
     pub status: u32,

@@ -15,7 +15,7 @@ ghost use Rattle.residue.specs.Kinds.{KindOf};
 ghost use Rattle.residue.specs.Moduli.{CoprimeModuli};
 
 // S13, S79: "unit with its inverse, nilpotent, or splitting with two factors"
-#[derive(Drop)]
+#[derive(Clone, Copy)]
 pub enum Kind {
     Unit(u32),
     Nilpotent,
@@ -23,7 +23,7 @@ pub enum Kind {
 }
 
 // What an attempt modulo n comes to: a value, or two coprime factors above 1, of n or of a divisor of n.
-#[derive(Drop)]
+#[derive(Clone, Copy)]
 pub enum Attempt {
     Value(u32),
     Splits(u32, u32),
@@ -76,7 +76,7 @@ pub fn join(n1: u32, n2: u32, x: u32, y: u32) -> u32
 }
 
 // A greatest common divisor g with the cofactors s and t.
-#[derive(Drop)]
+#[derive(Clone, Copy)]
 pub struct Cofactors {
     pub g: u32,
     pub s: u32,
@@ -122,7 +122,7 @@ pub fn gcd_with_cofactors(n: u32, a: u32, b: u32) -> Cofactors
 }
 
 // A modulus and its K. n has 64 bits, so that the record serves wider words too.
-#[derive(Drop)]
+#[derive(Clone, Copy)]
 pub struct Modulus {
     pub n: u64,
     pub k: u32,

@@ -22,7 +22,7 @@ use reduction64::Reciprocal;
 use residue::Modulus;
 
 // S13, S79: "unit with its inverse, nilpotent, or splitting with two factors"
-#[derive(Drop)]
+#[derive(Clone, Copy)]
 pub enum Kind {
     Unit(u64),
     Nilpotent,
@@ -30,7 +30,7 @@ pub enum Kind {
 }
 
 // What an attempt modulo n comes to: a value, or two coprime factors above 1, of n or of a divisor of n.
-#[derive(Drop)]
+#[derive(Clone, Copy)]
 pub enum Attempt {
     Value(u64),
     Splits(u64, u64),
@@ -83,7 +83,7 @@ pub fn join(m: Reciprocal, n1: u64, n2: u64, x: u64, y: u64) -> u64
 }
 
 // A greatest common divisor g with the cofactors s and t.
-#[derive(Drop)]
+#[derive(Clone, Copy)]
 pub struct Cofactors {
     pub g: u64,
     pub s: u64,

@@ -17,7 +17,7 @@ use residue::Kind;
 
 // A greatest common divisor with its cofactors, and 0 or the number of the refusal.
 #[repr(C)]
-#[derive(Drop)]
+#[derive(Clone, Copy)]
 pub struct GcdAnswer {
     pub g: u32,
     pub s: u32,
@@ -26,7 +26,7 @@ pub struct GcdAnswer {
 }
 
 // The kind of a residue, or the number of the refusal.
-#[derive(Drop)]
+#[derive(Clone, Copy)]
 pub enum KindAnswer {
     Known(Kind),
     Refused(u32),

@@ -18,7 +18,7 @@ use residue64::Kind;
 
 // A greatest common divisor with its cofactors, and 0 or the number of the refusal.
 #[repr(C)]
-#[derive(Drop)]
+#[derive(Clone, Copy)]
 pub struct GcdAnswer {
     pub g: u64,
     pub s: u64,
@@ -27,7 +27,7 @@ pub struct GcdAnswer {
 }
 
 // The kind of a residue, or the number of the refusal.
-#[derive(Drop)]
+#[derive(Clone, Copy)]
 pub enum KindAnswer {
     Known(Kind),
     Refused(u32),

@@ -28,7 +28,7 @@ use modulus::Modulus;
 use residue::Attempt;
 
 // f of degree d at a, and g of degree e at b.
-#[derive(Drop)]
+#[derive(Clone, Copy)]
 struct Pair {
     a: usize,
     d: usize,

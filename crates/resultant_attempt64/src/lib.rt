@@ -29,7 +29,7 @@ use reduction64::Reciprocal;
 use residue64::Attempt;
 
 // f of degree d at a, and g of degree e at b.
-#[derive(Drop)]
+#[derive(Clone, Copy)]
 struct Pair {
     a: usize,
     d: usize,

@@ -6,7 +6,7 @@
 #![tactic(auto)]
 
 // The value, by one inverse, if every lead was a unit; otherwise a product of leading words that is no unit.
-#[derive(Drop)]
+#[derive(Clone, Copy)]
 pub enum EuclidAttempt {
     Value(u32),
     NotUnit(u32),
@@ -14,7 +14,7 @@ pub enum EuclidAttempt {
 
 // f of degree d at a, g of degree e at b. p is the product of the powers of leading words taken so far, s that of the p's at each degree,
 // t what zero leading words gave: s p^d times the resultant asked for is p t times that of f and g.
-#[derive(Drop)]
+#[derive(Clone, Copy)]
 pub struct State {
     pub a: usize,
     pub d: usize,

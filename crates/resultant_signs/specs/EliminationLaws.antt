@@ -379,7 +379,7 @@ signed_times n (suc k) c R l =
     whole u l = omega arith
 
     parts : (v : ℕ) → v < n → n * R ≡ (n - v) * R + v * R
-    parts v l = ap (λ (x : ℕ). x * R) split ∙ native.Mathlib.Nat.add_mul (n - v) v R
+    parts v l = ap (λ (x : ℕ). x * R) split ∙ native.Mathlib.Nat.add-mul (n - v) v R
       where
         split : n ≡ n - v + v
         split = omega arith

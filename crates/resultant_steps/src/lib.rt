@@ -25,14 +25,14 @@ use modulus::Modulus;
 use residue::Attempt;
 
 // A content, and the record of the modulus that is left.
-#[derive(Drop)]
+#[derive(Clone, Copy)]
 pub struct Cleared {
     pub c: u32,
     pub v: Modulus,
 }
 
 // Two coprime factors.
-#[derive(Drop)]
+#[derive(Clone, Copy)]
 struct Split {
     p: u32,
     q: u32,

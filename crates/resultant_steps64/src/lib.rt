@@ -25,14 +25,14 @@ use reduction64::Reciprocal;
 use residue64::Attempt;
 
 // A content, and the record of the modulus that is left.
-#[derive(Drop)]
+#[derive(Clone, Copy)]
 pub struct Cleared {
     pub c: u64,
     pub v: Reciprocal,
 }
 
 // Two coprime factors.
-#[derive(Drop)]
+#[derive(Clone, Copy)]
 struct Split {
     p: u64,
     q: u64,

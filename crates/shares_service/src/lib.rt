@@ -19,14 +19,14 @@ const MAX_FRAMES: u32 = 1024;
 const BAD_FRAMES: u32 = 15;
 
 #[repr(C)]
-#[derive(Drop)]
+#[derive(Clone, Copy)]
 pub struct Plan {
     pub share: [u32; GROUPS],
     pub status: u32,
 }
 
 // Whose turn it is, what waits of each group, and what each was given.
-#[derive(Drop)]
+#[derive(Clone, Copy)]
 struct Giving {
     turn: usize,
     waiting: [u32; GROUPS],

@@ -62,28 +62,28 @@ GroundHolds (suc (suc zero)) n D f g h m degree = CommonDivisor n D f g h m degr
 GroundHolds (suc (suc (suc k))) n D f g h m degree = ⊥
 
 -- "words beyond are unchanged"; "The ground must be true as stated"
-pub record HoldsReason (n : ℕ) (f g w w' : List ℕ) (ground m degree : ℕ) : Type 0 where
+pub record HoldsReason (n : ℕ) (f g w w' : List ℕ) (kind m degree : ℕ) : Type 0 where
   pub D : ℕ
   pub reduced : Reduced n f g D
   pub same : length w' ≡ length w
   pub beyond : drop 49 w' ≡ drop 49 w
-  pub holds : GroundHolds ground n D f g (take 49 w') m degree
+  pub holds : GroundHolds kind n D f g (take 49 w') m degree
 
 -- "every lent buffer is left as found"
-pub record NothingNamed (w w' : List ℕ) (ground m degree : ℕ) : Type 0 where
-  pub no_ground : ground ≡ 0
+pub record NothingNamed (w w' : List ℕ) (kind m degree : ℕ) : Type 0 where
+  pub no_ground : kind ≡ 0
   pub no_modulus : m ≡ 0
   pub no_degree : degree ≡ 0
   pub kept : w' ≡ w
 
 -- an answer, or a refusal
 abbrev pub WhyLeft : ℕ → ℕ → List ℕ → List ℕ → List ℕ → List ℕ → ℕ → ℕ → ℕ → Type 0
-WhyLeft zero n f g w w' ground m degree = HoldsReason n f g w w' ground m degree
-WhyLeft (suc s) n f g w w' ground m degree = NothingNamed w w' ground m degree
+WhyLeft zero n f g w w' kind m degree = HoldsReason n f g w w' kind m degree
+WhyLeft (suc s) n f g w w' kind m degree = NothingNamed w w' kind m degree
 
-pub record WhyAnswer (W : Width) (n : ℕ) (f g w w' work work' : List ℕ) (ground m degree status : ℕ) : Type 0 where
+pub record WhyAnswer (W : Width) (n : ℕ) (f g w w' work work' : List ℕ) (kind m degree status : ℕ) : Type 0 where
   pub status_is : status ≡ why_status W n f g (length w) (length work)
-  pub result : WhyLeft status n f g w w' ground m degree
+  pub result : WhyLeft status n f g w w' kind m degree
   pub work_is : work' ≡ left status work
 
 -- the conditions of an answer: so `status_zero` and `status_is` (refusals/Conditions) say when the status is 0, and when it is k

@@ -22,7 +22,7 @@ const WORKING: usize = 8192;
 
 // The ground's number: 0 coprime, 1 both are zero modulo m, 2 a polynomial of that degree divides both modulo m. What says nothing is 0.
 #[repr(C)]
-#[derive(Drop)]
+#[derive(Clone, Copy)]
 pub struct Reason {
     pub ground: u32,
     pub m: u32,

@@ -26,7 +26,7 @@ use modulus::Modulus;
 use reduction::Reciprocal;
 
 // A unit with its place and its inverse; a coefficient that splits n into two factors; or neither.
-#[derive(Drop)]
+#[derive(Clone, Copy)]
 pub enum Highest {
     UnitAt(usize, u32),
     Splits(u32, u32),

@@ -25,7 +25,7 @@ ghost use Rattle.window_factor64.specs.Factors.{Series};
 use reduction64::Reciprocal;
 
 // A unit with its place and its inverse; a coefficient that splits n into two factors; or neither.
-#[derive(Drop)]
+#[derive(Clone, Copy)]
 pub enum Highest {
     UnitAt(usize, u64),
     Splits(u64, u64),

@@ -13,8 +13,5 @@ ascend_spec =
     (λ w₀ m h j o₀ i₀ w o i. Raising m h j o₀ w₀ i o w) (λ w₀ m h j o₀ i₀ w o i. i)
     (λ c. search rounds) (λ c. search rules) (λ c. search rules) (λ c. search rules) (λ c. search rules) (λ c κs. search rounds)
     (λ c κs. search rounds) (λ c. search rules)  -- by hand: a search takes more steps than it may
-    (λ c. let r = c.before.before.before.before in
-    let l = r.before.before.before in
-    let s = l.before.before.requires in
-    raising_next s.1 l.loop.invariant _ refl (omega arith) s.0.1 r.read.ensures c.before.before.lift.ensures)
+    (λ c. let s = c.requires in raising_next s.1 c.loop-i.invariant _ refl (omega arith) s.0.1 c.read-x.ensures c.lift-o.ensures)
     (λ c. search rules) (λ c. search raised))

@@ -7,24 +7,16 @@ use Rattle.euclid_multipliers64.proofs.multipliers.Statement.{statement}
 use Rattle.euclid_multipliers64.proofs.multipliers.Tie as tie
 
 -- too many places for a search: the rules are applied to what the four calls promise
-ascend_requires : tie.Need-ascend-requires
+ascend_requires : tie.Need-ascend-r-requires
 ascend_requires c κs =
-    let b = c.before.before.before in
-    let d = b.before.before.before.before.before in
-    let a = d.before.before.before.before in
-    let s = a.before.before.before.before.before.requires in
-    (s.0, rises (plain_sound s.0.0.pos) d.descend.ensures b.bottom.ensures refl)
+    let s = c.requires in (s.0, rises (plain_sound s.0.0.pos) c.descend-y.ensures c.bottom-z.ensures refl)
 
 returns : tie.Need-returns
 returns c =
-    let r = c.before.before in
-    let b = r.before.before.before.before in
-    let d = b.before.before.before.before.before in
-    let a = d.before.before.before.before in
-    let s = a.before.before.before.before.before.requires in
+    let s = c.requires in
     let k = plain_sound s.0.0.pos in (
-      multiplied k s.0.1 s.1 a.start.ensures d.descend.ensures b.bottom.ensures r.ascend.ensures refl,
-      scratched k s.0.1 s.1 a.start.ensures d.descend.ensures b.bottom.ensures r.ascend.ensures,
+      multiplied k s.0.1 s.1 c.start-x.ensures c.descend-y.ensures c.bottom-z.ensures c.ascend-r.ensures refl,
+      scratched k s.0.1 s.1 c.start-x.ensures c.descend-y.ensures c.bottom-z.ensures c.ascend-r.ensures,
     )
 
 pub multipliers_spec : {M : Type 1} → statement M

@@ -1,6 +1,6 @@
-use Rattle.multipliers64.proofs.Rules.{rules}
+use Rattle.multipliers64.proofs.Rules.{multiplier_rules}
 use Rattle.multipliers64.proofs.multiplier_of.Statement.{statement}
 use Rattle.multipliers64.proofs.multiplier_of.Tie as tie
 
 pub multiplier_of_spec : {M : Type 1} → statement M
-multiplier_of_spec = tie.close (tie.spec (λ c κs. search rules) (λ c. search rules) (λ c κs. search rules) (λ c. search rules))
+multiplier_of_spec = tie.close (tie.spec (λ c κs. search multiplier_rules) (λ c. search multiplier_rules) (λ c κs. search multiplier_rules) (λ c. search multiplier_rules))

@@ -31,9 +31,7 @@ pub +cleared_stage_clearing_stage_content_stage_division_stage_spec : {M : Type 
     _ own.clearing_stage.Reads.Post (λ c κs. search rules) (λ c. search rules) (λ c. search rules) (λ c. search rules)
     (λ c κs. (search nexts, search nexts))
     -- applied by hand: held against all places, the answer takes a search too many steps
-    (λ c κs. let b = c.before.before in let d = b.before.before.before in
-    next_fits _ _ _ _ _ _ _ d.before.before.before.before.clear_contents.ensures.0 d.c.given.1 _ _
-    b.cleared_stage.ensures.0)
+    (λ c κs. next_fits _ _ _ _ _ _ _ c.clear_contents.ensures.0 c.in-Next.is _ _ c.cleared_stage-r.ensures.0)
     (λ c. search rules) (λ c. (search stages, search stages))
     (λ c. search rules) (λ c. search stages) (λ c. search rules) (λ c. search stages))
     (λ t. cycle.Lts-content_stage.spec (

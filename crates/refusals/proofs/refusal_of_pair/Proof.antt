@@ -5,5 +5,5 @@ use Rattle.refusals.proofs.refusal_of_pair.Tie as tie
 
 pub refusal_of_pair_spec : {M : Type 1} → statement M
 refusal_of_pair_spec = tie.close (tie.spec (λ c κs. search rules) (λ c. search cascade depth 8) (λ c κs. search rules)
-    (λ c. search (cascade, pair_stops) depth 8) (λ c κs. lengths_told _ _ _ c.before.refusal_lengths.ensures c.if2.false)
+    (λ c. search (cascade, pair_stops) depth 8) (λ c κs. lengths_told _ _ _ c.before.refusal_lengths-two.ensures c.if-two-ne0.false)
     (λ c. search (cascade, pair_passes) depth 8))

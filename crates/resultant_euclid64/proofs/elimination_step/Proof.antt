@@ -12,9 +12,7 @@ elimination_step_spec =
     (λ c. search rules) (λ c. search rules) (λ c. search rules) (λ c. search rules) (λ c. search rules) (λ c. search rules)
     (λ c. search rules) (λ c κs. (search places, ((search places, (search places, search places)), search places))) (λ c. search rules)
     -- the words between the two loops: too many places for a search, so the rules are applied to the two facts
-    (λ c κs. let r = c.before.before.before in
-    let s = r.scale.ensures in
-    let p = r.before.before.before.before.before.requires.1.0.placed in (
+    (λ c κs. let s = c.scale.ensures in let p = c.requires.1.0.placed in (
       search places,
       (
         (search places, (search places, (elimination_first_room s p refl, elimination_second_room s p refl))),
