@@ -26,7 +26,8 @@ JINGCOBU_ALL ?= 1
 export JINGCOBU_ALL
 
 ROOT = .
-ENGINE = target/staticlib/libengine.a
+ENGINE = crates/engine/out/libengine.a
+DESK = crates/desk/out/desk
 SONAME = libjingcobu.so.$(MAJOR)
 SHARED = libjingcobu.so.$(VERSION)
 
@@ -47,9 +48,9 @@ build/libjingcobu.so: build/$(SHARED)
 	ln -sf $(SONAME) $@
 
 # The proved program, and beside it the shell program around it that users call.
-build/jingcobu-desk.proved: target/bin/desk
+build/jingcobu-desk.proved: $(DESK)
 	@mkdir -p build
-	cp target/bin/desk $@
+	cp $(DESK) $@
 
 build/jingcobu-desk: tools/jingcobu-desk build/jingcobu-desk.proved Makefile
 	sed -e 's|@VERSION@|$(VERSION)|' -e 's|@PROGRAM@||' tools/jingcobu-desk > $@.new
@@ -99,7 +100,7 @@ check-host:
 check-gate:
 	tests/gate.sh
 
-# on a tree whose edits have been tried (rt ci)
+# their texts, their names in documents, and what tools/edits.py each found of them
 check-edits:
 	tests/edits.sh
 
@@ -120,7 +121,7 @@ check-stack:
 
 # the proved program as it is, then what is installed around it
 check-desk: build/jingcobu-desk
-	python3 tests/desk.py target/bin/desk
+	python3 tests/desk.py $(DESK)
 	tests/desk.sh $(VERSION)
 
 check-parts: build/jingcobu-desk build/jingcobu-parts

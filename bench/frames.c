@@ -1,7 +1,8 @@
 /* Frames per second through the frame program, beside the time that the engine itself takes on the same pairs: by a call a pair, which wipes
  * 8192 working words each time, and by one call for all pairs, which wipes them once, as little as the frame program does. Of each kind
  * 100,000 frames of degree 8 and 10,000 of degree 48, modulo 4294967291. It exits with 1 if an answer of the frame program is not the
- * engine's, or the frame program fails. The frame program is ../target/bin/desk, or the one that the first argument names. Build and run: make -C bench */
+ * engine's, or the frame program fails. The frame program is ../crates/desk/out/desk, or the one that the first argument names. Build and
+ * run: make -C bench */
 #include <stdio.h>
 #include <stdlib.h>
 #include <string.h>
@@ -97,7 +98,7 @@ static void measure(const char *desk, int kind, int count, int d)
 
 int main(int argc, char **argv)
 {
-    const char *desk = argc > 1 ? argv[1] : "../target/bin/desk";
+    const char *desk = argc > 1 ? argv[1] : "../crates/desk/out/desk";
     for (int kind = 1; kind <= 2; kind++) {
         measure(desk, kind, 100000, 8);
         measure(desk, kind, 10000, 48);

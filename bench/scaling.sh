@@ -2,7 +2,7 @@
 # Frames per second through the frame program: alone, and by GNU parallel with one and two workers, in one run. make -C bench scaling
 set -eu
 cd "$(dirname "$0")/.."
-desk=$PWD/target/bin/desk
+desk=$PWD/crates/desk/out/desk
 folder=$(mktemp -d)
 trap 'rm -rf "$folder"' EXIT
 # the microseconds of the best of nine passes

@@ -8,7 +8,7 @@ trap 'rm -rf "$folder"' EXIT
 fail() { echo "FAILED: $1"; exit 1; }
 
 python3 tools/clauses.py || exit 1
-tar -cf - --exclude=./target --exclude=./build --exclude=./.git . | tar -xf - -C "$folder" || exit 1
+tar -cf - --exclude='./crates/*/out' --exclude=./build --exclude=./.git . | tar -xf - -C "$folder" || exit 1
 
 expect() { # WHAT FILE SENTENCE: the copy is wrong, and the sentence is said; then the file is put right
     if python3 tools/clauses.py "$folder" > "$folder/out"; then fail "$1: it is not found"; fi

@@ -1,5 +1,5 @@
 #!/usr/bin/env python3
-"""The frame program under the conditions of its surroundings: desk.py PROGRAM, PROGRAM being target/bin/desk.
+"""The frame program under the conditions of its surroundings: desk.py PROGRAM, PROGRAM being crates/desk/out/desk.
 
 Non-blocking pipes and sockets, interrupted calls (strace), pieces of one byte, a slow reader, a terminal, descriptors that are closed
 or refuse, limits, and a line of 64 MiB. The input is crates/desk/stdin, its answers crates/desk/stdout. It ends with a line that counts

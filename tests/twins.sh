@@ -11,7 +11,9 @@ python3 tools/twins.py --shared || exit 1
 mkdir "$folder/tools" && cp tools/twins.py "$folder/tools" || exit 1
 tar -cf - crates/*/proofs | tar -xf - -C "$folder" || exit 1
 python3 "$folder/tools/twins.py" --shared > /dev/null || fail "the copy is not like the sources"
-sed -i 's/search cascade depth 9/search cascade depth 8/' "$folder/crates/unit_monic_service64/proofs/refusal_factors/Proof.antt"
+# one answer of a pair whose proofs are the same, which an allowance of 0 says
+changed=$(grep -l search "$folder"/crates/product_service64/proofs/*/*.antt | head -n 1)
+sed -i '0,/search/s//find/' "$changed"
 if python3 "$folder/tools/twins.py" --shared > "$folder/out"; then fail "a proof that differs is not found"; fi
-grep -q 'FAILED: the proofs of unit_monic_service and unit_monic_service64 differ' "$folder/out" || fail "$(cat "$folder/out")"
+grep -q 'FAILED: the proofs of product_service and product_service64 differ' "$folder/out" || fail "$(cat "$folder/out")"
 echo "twins: a proof that differs is found"

@@ -12,7 +12,7 @@ say() { echo "NOT FOUND OUT: $1"; wrong=1; }
 versions() {
     local version=$3 output="$folder/output.$3" status
     while true; do
-        WRONG=$version ../target/${1}_wrong $2 1 > "$output"
+        WRONG=$version ../build/${1}_wrong $2 1 > "$output"
         status=$?
         [ $status = 99 ] && break
         if [ $status = 1 ] && grep -q '^FAILED' "$output"; then echo $version >> "$folder/found"
@@ -23,7 +23,7 @@ versions() {
 
 # all_versions HOST PAIRS EXPECTED
 all_versions() {
-    WRONG=0 ../target/${1}_wrong $2 > "$folder/output" || { echo "the library itself does not pass"; exit 1; }
+    WRONG=0 ../build/${1}_wrong $2 > "$folder/output" || { echo "the library itself does not pass"; exit 1; }
     diff -u $3 "$folder/output" || exit 1
     : > "$folder/found"
     : > "$folder/missed"

@@ -1,14 +1,17 @@
-# What rt builds for the Makefiles of the root, tests, examples and bench. An archive or a program is built again when any crate has
-# changed: every file, and every folder, whose time changes when a file comes or goes. ROOT is the way to the root.
+# What rt builds for the Makefiles of the root, tests, examples and bench: of a static library crates/NAME/out/libNAME.a, of a program
+# crates/NAME/out/NAME. Each is built again when any crate has changed: every file, and every folder, whose time changes when a file comes
+# or goes; rt sees for itself which of them it proves again. ROOT is the way to the root.
 ROOT ?= ..
 PARTS = src specs proofs proofs/*
-CRATES := $(ROOT)/crates.txt $(wildcard $(ROOT)/crates $(ROOT)/crates/* $(PARTS:%=$(ROOT)/crates/*/%) \
+CRATES := $(ROOT)/crates.txt $(wildcard $(PARTS:%=$(ROOT)/crates/*/%) \
     $(PARTS:%=$(ROOT)/crates/*/%/*.rt) $(PARTS:%=$(ROOT)/crates/*/%/*.antt))
+CRATE = $(patsubst %/out/,%,$(dir $@))
 
-$(ROOT)/target/staticlib/lib%.a: $(CRATES)
-	cd $(ROOT) && tools/need-rt && rt staticlib $*
+$(ROOT)/crates/engine/out/libengine.a $(ROOT)/crates/polynomial_bench/out/libpolynomial_bench.a: $(CRATES)
+	$(ROOT)/tools/need-rt && cd $(CRATE) && rt lib && touch out/$(@F)
 
-$(ROOT)/target/bin/%: $(CRATES)
-	cd $(ROOT) && tools/need-rt && rt check $* && touch target/bin/$*
+# rt builds a program only to run it: here on no input.
+$(ROOT)/crates/desk/out/desk: $(CRATES)
+	$(ROOT)/tools/need-rt && cd $(CRATE) && rt run < /dev/null && touch out/$(@F)
 
 .NOTPARALLEL:

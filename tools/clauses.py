@@ -6,6 +6,7 @@ file cites, on a citation of a clause that is not there, and on a number that tw
 
 A citation is a capital S with a number, standing by itself. "S30 to S33" cites the clauses between as well. In .rt and .antt files only
 comments count, since a name may be S1. CHANGELOG.md and docs/changes are not read: they may cite a clause that was dropped since."""
+import os
 import re
 import sys
 from pathlib import Path
@@ -13,7 +14,7 @@ from pathlib import Path
 SPECIFICATION = Path("docs", "SPECIFICATION.md")
 READ = {".md", ".rt", ".antt", ".edit", ".py", ".c", ".h", ".sh", ".gp", ".1", ".3"}
 COMMENT = {".rt": "//", ".antt": "--"}
-LEFT_OUT = [SPECIFICATION] + [Path(name) for name in ("tools/clauses.py", "CHANGELOG.md", "docs/changes", "build", "target", ".git")]
+LEFT_OUT = [SPECIFICATION] + [Path(name) for name in ("tools/clauses.py", "CHANGELOG.md", "docs/changes", "build", ".git")]
 CLAUSE = re.compile(r"^\*\*S(\d+)\.", re.MULTILINE)
 CITATION = re.compile(r"\bS([1-9]\d*)\b(?: to S([1-9]\d*)\b)?")
 
@@ -25,11 +26,13 @@ def defined(text):
 
 
 def sources(root):
-    """Every file that may cite a clause."""
-    for path in sorted(root.rglob("*")):
-        name = path.relative_to(root)
-        if path.suffix in READ and path.is_file() and not any(left == name or left in name.parents for left in LEFT_OUT):
-            yield name
+    """Every file that may cite a clause; what rt keeps in the folders out/ of crates is passed over."""
+    found = []
+    for at, folders, files in os.walk(root):
+        here = Path(at).relative_to(root)
+        folders[:] = [name for name in folders if here / name not in LEFT_OUT and not (name == "out" and here.parent == Path("crates"))]
+        found += [here / name for name in files if Path(name).suffix in READ and here / name not in LEFT_OUT]
+    return sorted(found)
 
 
 def citations(root, name):

@@ -1,13 +1,14 @@
 #!/usr/bin/env python3
 """Shows where the function proofs of a crate and of its 64-bit twin differ.
 
-A pair is X and X64. The two proof files of each function are compared after the names of crates are made alike (X64 to X, a crate's own
-name for its public one), the `use` lines are sorted and every need stands on a line of its own, however the file breaks them. What is left
-may differ in the constants of the width, in the invariant's lambda and in functions that exist at one width only.
+A pair is X and X64. What is written for each function (proofs/F/Proof.antt, Invariants.antt, Answers.antt) is compared after the names of
+crates are made alike (X64 to X), comments are left out, the `use` lines are sorted and every goal's answer stands on a line of its own,
+however the file breaks them. What is left may differ in the constants of the width, in the invariant and in functions that exist at one
+width only.
 
-    tools/twins.py                 one line for each pair: lines of proof at both widths, and how many needs differ
-    tools/twins.py CRATE...        the needs that differ in these pairs
-    tools/twins.py --shared        fails if a pair of SHARED, whose proofs are by rules, differs in more needs than stand there
+    tools/twins.py                 one line for each pair: lines of proof at both widths, and how many answers differ
+    tools/twins.py CRATE...        the answers that differ in these pairs
+    tools/twins.py --shared        fails if a pair of SHARED, whose proofs are by rules, differs in more answers than stand there
 """
 import difflib
 import pathlib
@@ -15,7 +16,7 @@ import re
 import sys
 
 ROOT = pathlib.Path(__file__).resolve().parent.parent
-# pairs whose function proofs are written by rules that both widths share: how many needs and `use` lines may differ
+# pairs whose function proofs are written by rules that both widths share: how many answers and `use` lines may differ
 SHARED = {
     "arithmetic": 36, "batch_pairs": 0, "bezout": 2, "convolution": 10, "degree_service": 0, "division_service": 3, "divisor": 12,
     "divisor_service": 7, "divisor_stages": 0, "divisors_service": 2, "euclid_multipliers": 4, "evaluator_matrices": 0,
@@ -28,15 +29,19 @@ SHARED = {
 }
 
 
-def plain(text, crate):
-    """The `use` lines and the needs of a proof file, with the names of crates made alike."""
-    text = re.sub(r"Rattle·([a-z_]+)64(?=[·.])", r"Rattle·\1", text)
-    text = re.sub(r"Rattle·%s·(proofs\.proofs|specs\.specs)" % re.escape(crate), lambda m: "Rattle·%s.%s" % (crate, m[1].split(".")[0]), text)
+def plain(text):
+    """The `use` lines and the answers of a proof file, with the names of crates made alike."""
+    text = re.sub(r"\bRattle\.([a-z_]+)64(?=\.)", r"Rattle.\1", text)
     text = re.sub(r"\bnarrow\b|\bwide\b", "WIDTH", text)
-    lines = [line for line in text.splitlines() if line.strip()]
-    uses = sorted(line for line in lines if line.startswith("use "))
-    rest = " ".join(line.strip() for line in lines if not line.startswith("use "))
-    return uses + re.split(r" (?=\(λ)", rest)
+    items = []
+    for line in text.splitlines():
+        # a line that is indented goes on with what stands above it
+        if line[:1].isspace() and line.strip() and items:
+            items[-1] += " " + line.strip()
+        elif line.strip() and not line.startswith("--"):
+            items.append(line.strip())
+    uses = sorted(item for item in items if item.startswith("use "))
+    return uses + re.split(r" (?=\(λ)|\n", "\n".join(item for item in items if not item.startswith("use ")))
 
 
 def pairs():
@@ -48,18 +53,18 @@ def pairs():
 
 def compare(crate):
     """(lines at 32 bits, lines at 64 bits, the lines that differ)"""
-    narrow, wide = (ROOT / "crates" / name / "proofs" for name in (crate, crate + "64"))
     count = [0, 0]
+    written = [{}, {}]
+    for i, name in enumerate((crate, crate + "64")):
+        for path in sorted((ROOT / "crates" / name / "proofs").glob("*/*.antt")):
+            text = path.read_text()
+            count[i] += len(text.splitlines())
+            written[i].setdefault(path.parent.name.replace(name, crate), {})[path.name] = text
     found = []
-    names = sorted({path.relative_to(base).as_posix() for base in (narrow, wide) for path in base.glob("*/Proof.antt")})
-    for name in names:
-        files = [base / name for base in (narrow, wide)]
-        texts = [path.read_text() if path.exists() else "" for path in files]
-        for i in (0, 1):
-            count[i] += len(texts[i].splitlines())
-        if all(texts):
-            lines = [plain(text, crate) for text in texts]
-            found += ["%s: %s" % (name, line) for line in difflib.ndiff(*lines) if line[0] in "+-"]
+    for function in sorted(set(written[0]) & set(written[1])):
+        for name in sorted(set(written[0][function]) | set(written[1][function])):
+            lines = [plain(side[function].get(name, "")) for side in written]
+            found += ["%s/%s: %s" % (function, name, line) for line in difflib.ndiff(*lines) if line[0] in "+-" and line[1:].strip()]
     return count[0], count[1], found
 
 

@@ -13,30 +13,30 @@ use borrow.Author.Rules.{rules}
 use borrow.Author.Tests.{eq-eqb, ne_eqb}
 use lib.ListN.{length, get_or, drop, drop_of_length-le}
 use lib.Seq.{drop-cons}
-use Rattle.factor_places.specs.Places.{place_of, sum, multiplied}
+use Rattle.factor_places.specs.Places.{first_place_of, sum, multiplied}
 
 pub record Sought (k : ℕ) (l : List ℕ) (i : ℕ) : Type 0 where
   pub most : i ≤ 16
-  pub so : place_of k l ≡ i + place_of k (drop i l)
+  pub so : first_place_of k l ≡ i + first_place_of k (drop i l)
 
 module _ {k i : ℕ} {l : List ℕ} (s : Sought k l i) (e : length l ≡ 16) where
-  pub found_here : i < 16 → get_or l i 0 ≡ k → i ≡ place_of k l
-  unfolding place_of
+  pub found_here : i < 16 → get_or l i 0 ≡ k → i ≡ first_place_of k l
+  unfolding first_place_of
   found_here h x = omega (arith, s.so, here)
     where
-      here : place_of k (drop i l) ≡ 0
+      here : first_place_of k (drop i l) ≡ 0
       here = rw (drop-cons l i 0 (omega arith), eq-eqb (get_or l i 0) k x)
 
   pub passed_over : {i' : ℕ} → i < 16 → (get_or l i 0 ≡ k → ⊥) → i' ≡ i + 1 → Sought k l i'
-  unfolding place_of
+  unfolding first_place_of
   passed_over h n ei = rw ei (record { most = omega arith; so = omega (arith, s.so, next) })
     where
-      next : place_of k (drop i l) ≡ suc (place_of k (drop (i + 1) l))
+      next : first_place_of k (drop i l) ≡ suc (first_place_of k (drop (i + 1) l))
       next = rw (drop-cons l i 0 (omega arith), ne_eqb (get_or l i 0) k n, add-one i)
 
-  pub none_found : 16 ≤ i → 16 ≡ place_of k l
-  unfolding place_of
-  none_found h = omega (arith, s.so, s.most, ap (place_of k) (drop_of_length-le l {i = i} (omega arith)))
+  pub none_found : 16 ≤ i → 16 ≡ first_place_of k l
+  unfolding first_place_of
+  none_found h = omega (arith, s.so, s.most, ap (first_place_of k) (drop_of_length-le l {i = i} (omega arith)))
 
 before : (i : ℕ) → 0 < i → suc (i - 1) ≡ i
 before i h = omega arith

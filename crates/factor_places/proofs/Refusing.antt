@@ -18,7 +18,7 @@ use Rattle.definitions.specs.Polynomials.{deg}
 use Rattle.refusals.specs.Refusals.{Tested, narrow, short, first_refusal, refusals_of_pair}
 use Rattle.refusals.specs.Conditions.{accepted_pair}
 use Rattle.refusals.proofs.Statuses.{row_applies, row_passes, refused_early, passed_on, too_short, long_enough}
-use Rattle.factor_places.specs.Places.{place_of, sum, absent, taken, full, arrival_tests}
+use Rattle.factor_places.specs.Places.{first_place_of, sum, absent, taken, full, arrival_tests}
 
 module _ (k : ℕ) (l : List ℕ) where
   pub taken_zero : k ≡ 0 → true ≡ taken k l
@@ -27,7 +27,7 @@ module _ (k : ℕ) (l : List ℕ) where
   pub absent_zero : k ≡ 0 → true ≡ absent k l
   absent_zero z = rw (eq-eqb k 0 z)
 
-  module _ (i : ℕ) (e : i ≡ place_of k l) (z : k ≡ 0 → ⊥) where
+  module _ (i : ℕ) (e : i ≡ first_place_of k l) (z : k ≡ 0 → ⊥) where
     pub taken_by : ltb i 16 ≡ taken k l
     taken_by = rw (ne_eqb k 0 z, e)
 
@@ -38,12 +38,12 @@ module _ (k : ℕ) (l : List ℕ) where
         go (yes h) = rw (le-leb 16 i h, le-ltb i 16 h)
         go (no h) = rw (lt-leb 16 i (omega arith), lt-ltb i 16 (omega arith))
 
-module _ (d : ℕ) (number degree : List ℕ) (i : ℕ) (e : i ≡ place_of 0 number) where
+module _ (d : ℕ) (number degree : List ℕ) (i : ℕ) (e : i ≡ first_place_of 0 number) where
   pub full_places : (j : ℕ) → j ≤ i → T (leb 16 j) → true ≡ full d number degree
-  full_places j h t = rw (le-ltb (place_of 0 number) 16 (omega (arith, e, leb→le 16 j t)))
+  full_places j h t = rw (le-ltb (first_place_of 0 number) 16 (omega (arith, e, leb→le 16 j t)))
 
   pub full_sum : (x : ℕ) → i < 16 → x ≡ sum degree → ltb 48 (x + d) ≡ full d number degree
-  full_sum x h p = rw (lt-ltb (place_of 0 number) 16 (omega (arith, e)), p)
+  full_sum x h p = rw (lt-ltb (first_place_of 0 number) 16 (omega (arith, e)), p)
 
 module _ (n : ℕ) (f h : List ℕ) (t : ℕ) (e : t ≡ first_refusal (refusals_of_pair narrow n f h)) where
   pub sent_some : t ≡ 0 → 1 ≤ length f

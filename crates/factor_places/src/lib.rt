@@ -9,7 +9,7 @@
 
 ghost use Rattle.std.specs.Prelude.{◌≡◌, ◌≤◌};
 ghost use Rattle.refusals.specs.Refusals.{narrow, first_refusal};
-ghost use Rattle.factor_places.specs.Places.{place_of, sum, multiplied, taken, absent, full, arrival_tests, leaving_tests};
+ghost use Rattle.factor_places.specs.Places.{first_place_of, sum, multiplied, taken, absent, full, arrival_tests, leaving_tests};
 
 // The places of factors.
 pub const PLACES: usize = 16;
@@ -21,7 +21,7 @@ const NO_ROOM: u32 = 13;
 
 // The first place that has the number k, or 16 where none has.
 pub fn place_of(number: [u16; PLACES], k: u16) -> usize
-    ensures { result ≡ place_of k number }
+    ensures { result ≡ first_place_of k number }
 {
     let mut i: usize = 0;
     while i < PLACES {

@@ -19,7 +19,7 @@ use Rattle.refusals.specs.Refusals.{narrow, bad_modulus_of, short, first_refusal
 use Rattle.refusals.specs.Conditions.{ServedModulus, Passed, modulus_fails, accepted_one, status_zero}
 use Rattle.refusals.proofs.Statuses.{row_applies, row_passes, passed_on, front_passes, long_enough, left_refused}
 use Rattle.resultant_service.specs.ResultantService.{ResultantAnswer}
-use Rattle.factor_places.specs.Places.{place_of, multiplied, taken, full, arrival_tests, leaving_tests}
+use Rattle.factor_places.specs.Places.{first_place_of, multiplied, taken, full, arrival_tests, leaving_tests}
 use Rattle.factors_service.specs.declared.Factors.{Factors}
 use Rattle.factors_service.specs.FactorsService.{served_length_of, state_h}
 use Rattle.factors_service.specs.FactorsService.{arrive_refusals, leave_refusals}
@@ -50,11 +50,11 @@ module _ (s : Factors) (k t : ℕ) (e : t ≡ first_refusal (leaving_tests narro
   pub leave_refused : (t ≡ 0 → ⊥) → LeaveAnswer narrow s k s t
   leave_refused z = record { status_is = e; factors_is = left_unchanged t z }
 
-  pub leave_answered : {r : Factors} (i : ℕ) → t ≡ 0 → i ≡ place_of k s.number → r ≡ replaced_at_of s i 0 0 1 → LeaveAnswer narrow s k r 0
+  pub leave_answered : {r : Factors} (i : ℕ) → t ≡ 0 → i ≡ first_place_of k s.number → r ≡ replaced_at_of s i 0 0 1 → LeaveAnswer narrow s k r 0
   leave_answered i z h p = record { status_is = sym z ∙ e; factors_is = p ∙ ap (λ (j : ℕ). replaced_at_of s j 0 0 1) h }
 
 pub place_present : (s : Factors) (k t i : ℕ) → t ≡ first_refusal (leaving_tests narrow s.n s.number k) → t ≡ 0
-    → i ≡ place_of k s.number → i < 16
+    → i ≡ first_place_of k s.number → i < 16
 place_present s k t i e z p =
     let passed = (status_zero (leave_refusals narrow s k) (ServedModulus narrow s.n ∷ ListedNumber k s.number ∷ [])
     (leave_listed narrow s k)).0 (sym e ∙ z) in
@@ -115,12 +115,12 @@ module _ {s : Factors} {k : ℕ} {f h work : List ℕ} (a : ArriveAsked s k f h 
   pub arrive_fits : Fits w32 (length f - 1)
   arrive_fits = record { fits = omega (arith, passed.1.0.few) }
 
-  pub arrive_free : {i : ℕ} → i ≡ place_of 0 s.number → i < 16
+  pub arrive_free : {i : ℕ} → i ≡ first_place_of 0 s.number → i < 16
   arrive_free p = omega (arith, p, passed.1.1.1.1.1.1.0.free_place)
 
   -- the resultant is asked of the service, which tests what was tested
   pub arrive_answered : {r : Factors} {work' : List ℕ} {x y i : ℕ} → ResultantAnswer narrow s.n f h work work' x y
-      → i ≡ place_of 0 s.number → r ≡ replaced_at_of s i k (length f - 1) x → ArriveAnswer narrow s k f work work' r 0
+      → i ≡ first_place_of 0 s.number → r ≡ replaced_at_of s i k (length f - 1) x → ArriveAnswer narrow s k f work work' r 0
   arrive_answered {r} {work'} {x} {y} {i} w p q = record {
     status_is = sym none;
     factors_is = q ∙ rw (p, sub-one (length f), value);

@@ -9,7 +9,7 @@ use Rattle.definitions.specs.Polynomials.{deg}
 use Rattle.refusals.specs.Refusals.{Width}
 use Rattle.refusals.specs.Conditions.{Fails, Listed, ServedModulus, conditions_of_pair}
 use Rattle.refusals.specs.Conditions.{either_fails, none_fails, below_fails, modulus_fails, length_fails, words_fail, short_fails}
-use Rattle.factor_places.specs.Places.{place_of, sum, absent, taken, full}
+use Rattle.factor_places.specs.Places.{first_place_of, sum, absent, taken, full}
 use Rattle.factors_service.specs.declared.Factors.{Factors}
 use Rattle.factors_service.specs.FactorsService.{state_h}
 use Rattle.factors_service.specs.FactorsService.{arrive_refusals, leave_refusals, reading_refusals}
@@ -17,31 +17,31 @@ use Rattle.factors_service.specs.FactorsService.{arrive_refusals, leave_refusals
 -- a number that is not 0 and that no place has
 pub record NewNumber (k : ℕ) (l : List ℕ) : Type 0 where
   pub nonzero : 1 ≤ k
-  pub unused : 16 ≤ place_of k l
+  pub unused : 16 ≤ first_place_of k l
 
 -- a number that is not 0 and that some place has
 pub record ListedNumber (k : ℕ) (l : List ℕ) : Type 0 where
   pub nonzero : 1 ≤ k
-  pub used : place_of k l < 16
+  pub used : first_place_of k l < 16
 
 -- a free place, and degrees that add up to 48 or less
 pub record Room (d : ℕ) (number degree : List ℕ) : Type 0 where
-  pub free_place : place_of 0 number < 16
+  pub free_place : first_place_of 0 number < 16
   pub degrees : sum degree + d ≤ 48
 
 taken_fails : (k : ℕ) (l : List ℕ) → Fails (taken k l) (NewNumber k l)
 taken_fails k l =
-    either_fails (none_fails k) (short_fails (place_of k l) 16) (λ a b. record { nonzero = a; unused = b }) (λ m. m.nonzero)
+    either_fails (none_fails k) (short_fails (first_place_of k l) 16) (λ a b. record { nonzero = a; unused = b }) (λ m. m.nonzero)
     (λ m. m.unused)
 
 absent_fails : (k : ℕ) (l : List ℕ) → Fails (absent k l) (ListedNumber k l)
 absent_fails k l =
-    either_fails (none_fails k) (below_fails (place_of k l) 16) (λ a b. record { nonzero = a; used = b }) (λ m. m.nonzero) (λ m. m.used)
+    either_fails (none_fails k) (below_fails (first_place_of k l) 16) (λ a b. record { nonzero = a; used = b }) (λ m. m.nonzero) (λ m. m.used)
 
 full_fails : (d : ℕ) (number degree : List ℕ) → Fails (full d number degree) (Room d number degree)
 full_fails d number degree =
-    subst (λ (b : Bool). Fails b (Room d number degree)) (rotated (ltb (place_of 0 number) 16) (ltb 48 (sum degree + d)))
-    (either_fails (below_fails (place_of 0 number) 16) (short_fails 48 (sum degree + d)) (λ a b. record { free_place = a; degrees = b })
+    subst (λ (b : Bool). Fails b (Room d number degree)) (rotated (ltb (first_place_of 0 number) 16) (ltb 48 (sum degree + d)))
+    (either_fails (below_fails (first_place_of 0 number) 16) (short_fails 48 (sum degree + d)) (λ a b. record { free_place = a; degrees = b })
     (λ m. m.free_place) (λ m. m.degrees))
   where
     rotated : (s t : Bool) → cond (not s) true t ≡ cond s t true

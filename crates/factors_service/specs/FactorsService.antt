@@ -9,7 +9,7 @@ use Rattle.std.specs.Prelude.{◌≡◌, cond, List, [], ◌∷◌, ◌++◌, �
 use Rattle.definitions.specs.Polynomials.{deg}
 use Rattle.definitions.specs.Resultants.{resultant}
 use Rattle.refusals.specs.Refusals.{Width, narrow, Tested, bad_modulus_of, first_refusal, refusals_one, answered, left}
-use Rattle.factor_places.specs.Places.{place_of, multiplied, arrival_tests, leaving_tests}
+use Rattle.factor_places.specs.Places.{first_place_of, multiplied, arrival_tests, leaving_tests}
 use Rattle.factors_service.specs.declared.Factors.{Factors}
 
 -- a state of any words: a count above 49 is no length of h, and no word is read
@@ -68,11 +68,11 @@ replaced_at_of s i k d x = record {
 
 -- "A refusal leaves the held factors unchanged."
 abbrev pub arrived : ℕ → Factors → ℕ → List ℕ → Factors
-arrived zero s k f = replaced_at_of s (place_of 0 s.number) k (deg f) (resultant s.n f (state_h s))
+arrived zero s k f = replaced_at_of s (first_place_of 0 s.number) k (deg f) (resultant s.n f (state_h s))
 arrived (suc t) s k f = s
 
 abbrev pub left_by : ℕ → Factors → ℕ → Factors
-left_by zero s k = replaced_at_of s (place_of k s.number) 0 0 1
+left_by zero s k = replaced_at_of s (first_place_of k s.number) 0 0 1
 left_by (suc t) s k = s
 
 -- ---- answers

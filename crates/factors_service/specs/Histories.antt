@@ -23,7 +23,7 @@ use Rattle.law_algebra.specs.Residues.{mul_mod_r}
 use Rattle.law_polynomials.specs.ResultantLaws.{law_of_products, resultant_const_first}
 use Rattle.refusals.specs.Refusals.{Width, bad_modulus_of, short, first_refusal, refusals_of_pair, answered}
 use Rattle.refusals.specs.Conditions.{Accepted, accepted_one, ServedModulus, modulus_fails, status_zero}
-use Rattle.factor_places.specs.Places.{place_of, multiplied, absent, taken, full}
+use Rattle.factor_places.specs.Places.{first_place_of, multiplied, absent, taken, full}
 use Rattle.factors_service.specs.declared.Factors.{Factors}
 use Rattle.factors_service.specs.FactorsService.{state_h, replaced_at_of, arrived, left_by}
 use Rattle.factors_service.specs.FactorsService.{arrive_refusals, leave_refusals, reading_refusals}
@@ -59,11 +59,11 @@ product_of n (f ∷ F) = product n f (product_of n F)
 
 -- "Factors arrive and leave": an arriving factor takes the first free place. "A refusal leaves the held factors unchanged."
 abbrev pub places_arrived : ℕ → ℕ → List ℕ → List Place → List Place
-places_arrived zero k f S = set S (place_of 0 (numbers S)) (present k f)
+places_arrived zero k f S = set S (first_place_of 0 (numbers S)) (present k f)
 places_arrived (suc t) k f S = S
 
 abbrev pub places_left : ℕ → ℕ → List Place → List Place
-places_left zero k S = set S (place_of k (numbers S)) free
+places_left zero k S = set S (first_place_of k (numbers S)) free
 places_left (suc t) k S = S
 
 -- "a state that an answered start made and only these calls changed"; a reading changes no state
@@ -163,9 +163,9 @@ module _ (W : Width) (n : ℕ) (h : List ℕ) where
     where
       taken_in : arrived 0 (stored n h S) k f ≡ stored n h (places_arrived 0 k f S)
       taken_in =
-          ap (λ (g : List ℕ). replaced_at_of (stored n h S) (place_of 0 (numbers S)) k (deg f) (resultant n f g))
+          ap (λ (g : List ℕ). replaced_at_of (stored n h S) (first_place_of 0 (numbers S)) k (deg f) (resultant n f g))
           (present_of n h S d.accepted.few)
-          ∙ placed_is n h S (place_of 0 (numbers S)) (present k f)
+          ∙ placed_is n h S (first_place_of 0 (numbers S)) (present k f)
   stands_arrival s r S k f (suc t) d e = record { accepted = d.accepted; is = e ∙ d.is }
 
   stands_leaving : (s r : Factors) (S : List Place) (k t : ℕ) → Stands W n h s S → r ≡ left_by t s k → Stands W n h r (places_left t k S)
@@ -177,8 +177,8 @@ module _ (W : Width) (n : ℕ) (h : List ℕ) where
     where
       given_up : left_by 0 (stored n h S) k ≡ stored n h (places_left 0 k S)
       given_up =
-          ap (λ (x : ℕ). replaced_at_of (stored n h S) (place_of k (numbers S)) 0 0 x) (sym (resultant_of_one n d.accepted.modulus h))
-          ∙ placed_is n h S (place_of k (numbers S)) free
+          ap (λ (x : ℕ). replaced_at_of (stored n h S) (first_place_of k (numbers S)) 0 0 x) (sym (resultant_of_one n d.accepted.modulus h))
+          ∙ placed_is n h S (first_place_of k (numbers S)) free
   stands_leaving s r S k (suc t) d e = record { accepted = d.accepted; is = e ∙ d.is }
 
   stands : {s : Factors} {S : List Place} → History W n h s S → Stands W n h s S

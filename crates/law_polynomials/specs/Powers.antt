@@ -7,8 +7,9 @@
 --   power_of_reached     the same of words: D ^ d is a multiple of the resultant modulo n where D is reached
 --   constant_reaches     d = 0: a unit constant f has D = 1
 --   divides_first, power_first     the two halves of the law, the second for every common divisor of r and n
---   between_first        THE LAW, where the top word of f is a unit
---   between_second       THE LAW, where the top word of g is one
+--   swapped_dvd          what divides n and the resultant of f and g divides that of g and f
+--
+-- proofs/Between has THE LAW, between_first and between_second.
 --
 -- The resultant of f and g is always that in their sent degrees d and e. On the way, with u of degree s at most, v of degree t at most and
 -- k = s + t + e: the constant x as second polynomial is taken in degree k + d, which gives f_d^(k + d) x^d; x = u f + v g there, and u f is
@@ -193,31 +194,13 @@ power_first (suc m) l f g D p r c h k =
     (dvd-mod_iff c {m = D ^ deg f} {n = suc m} k).0 (subst (λ (z : ℕ). c ∣ z) (sym Y.1)
     ((dvd-mod_iff c {m = Y.0 *ℕ resultant (suc m) f g} {n = suc m} k).1 (dvd_trans c h (dvd-mul_left (resultant (suc m) f g) Y.0))))
 
--- THE LAW, the top word of f a unit
-pub between_first : (n : ℕ) → 1 ≤ n → (f g : List ℕ) (D : ℕ) → IsUnit n (coef f (deg f)) → Reduced n f g D
-    → Between n (deg f) (resultant n f g) D
-between_first n l f g D p r = record {
-  divides = divides_first n l f g D p r;
-  power = λ h q. power_first n l f g D p r h q.left q.right;
-}
-
 -- a divisor of n that divides x divides x with a sign
 signed_dvd : (n c k x : ℕ) → 1 ≤ n → c ∣ n → c ∣ x → c ∣ signed n k x
 signed_dvd n c zero x l h p = p
 signed_dvd n c (suc k) x l h p = (dvd-mod_iff c {m = n - signed n k x} {n = n} h).1 (dvd-sub c h (signed_dvd n c k x l h p))
 
 -- so what divides n and the resultant of f and g divides that of g and f
-swapped_dvd : (n c : ℕ) (f g : List ℕ) → 1 ≤ n → c ∣ n → c ∣ resultant n f g → c ∣ resultant n g f
+pub swapped_dvd : (n c : ℕ) (f g : List ℕ) → 1 ≤ n → c ∣ n → c ∣ resultant n f g → c ∣ resultant n g f
 swapped_dvd zero c f g l h p = absurd (omega arith)
 swapped_dvd (suc m) c f g l h p =
     subst (λ (z : ℕ). c ∣ z) (sym (resultant_swap m g f)) (signed_dvd (suc m) c (deg g *ℕ deg f) _ l h p)
-
--- THE LAW, the top word of g a unit
-pub between_second : (n : ℕ) → 1 ≤ n → (f g : List ℕ) (D : ℕ) → IsUnit n (coef g (deg g)) → Reduced n f g D
-    → Between n (deg g) (resultant n f g) D
-between_second n l f g D p r =
-    let R = reduced_flip n l f g D r in
-    record {
-      divides = swapped_dvd n D g f l r.divides (divides_first n l g f D p R);
-      power = λ h q. power_first n l g f D p R h (swapped_dvd n h f g l q.right q.left) q.right;
-    }

@@ -9,7 +9,8 @@ use Rattle.std.proofs.Common.{sym, subst}
 use Rattle.definitions.specs.Polynomials.{coef, deg}
 use Rattle.definitions.specs.Residues.{IsUnit}
 use Rattle.definitions.specs.Resultants.{resultant}
-use Rattle.law_polynomials.specs.Powers.{Between, between_first, between_second}
+use Rattle.law_polynomials.specs.Powers.{Between}
+use Rattle.law_polynomials.proofs.Between.{between_first, between_second}
 use Rattle.refusals.specs.Refusals.{Width, answered}
 use Rattle.reduced_service.specs.ReducedService.{ReducedAnswer}
 use Rattle.product_law_service.specs.LawOfTheAnswers.{AnsweredResultant, AnsweredReduced, answered_modulus}

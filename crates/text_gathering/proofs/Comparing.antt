@@ -17,7 +17,7 @@ use lib.ListN.{length, get_or, take, drop, drop_of_length-le}
 use lib.Seq.{drop-cons, take_at}
 use Rattle.text_notation.specs.Notation.{text}
 use Rattle.text_notation.specs.Lengths.{text_short}
-use Rattle.text_notation.specs.Candidates.{same_text}
+use Rattle.text_notation.specs.Candidates.{same_text_of}
 use Rattle.text_notation.specs.NotationLaws.{same_true}
 use Rattle.text_writer_service.specs.Parts.{Put}
 use Rattle.text_writer_service.proofs.Putting.{put_length}
@@ -25,36 +25,36 @@ use Rattle.text_writer_service.proofs.Putting.{put_length}
 pub record Alike (s t : List ℕ) (i : ℕ) : Type 0 where
   pub most : i ≤ length s
   pub within : length s ≤ length t
-  pub same : same_text s t ≡ same_text (drop i s) (drop i t)
+  pub same : same_text_of s t ≡ same_text_of (drop i s) (drop i t)
 
 module _ {s t : List ℕ} {i : ℕ} (a : Alike s t i) where
   module _ (l : i < length s) where
-    step : same_text s t ≡ cond (eqb (get_or s i 0) (get_or t i 0)) (same_text (drop (i + 1) s) (drop (i + 1) t)) false
-    unfolding same_text
-    step = a.same ∙ ap₂ same_text (drop-cons s i 0 l) (drop-cons t i 0 (omega (arith, a.within))) ∙ rw (add-one i)
+    step : same_text_of s t ≡ cond (eqb (get_or s i 0) (get_or t i 0)) (same_text_of (drop (i + 1) s) (drop (i + 1) t)) false
+    unfolding same_text_of
+    step = a.same ∙ ap₂ same_text_of (drop-cons s i 0 l) (drop-cons t i 0 (omega (arith, a.within))) ∙ rw (add-one i)
 
     pub alike_next : {i' : ℕ} → get_or s i 0 ≡ get_or t i 0 → i' ≡ i + 1 → Alike s t i'
     alike_next e ei = rw ei (record { most = omega arith; within = a.within; same = step ∙ rw (eq-eqb _ _ e) })
 
-    pub alike_not : (get_or s i 0 ≡ get_or t i 0 → ⊥) → false ≡ same_text s t
+    pub alike_not : (get_or s i 0 ≡ get_or t i 0 → ⊥) → false ≡ same_text_of s t
     alike_not e = sym (step ∙ rw (ne_eqb _ _ e))
 
-    pub alike_less : get_or s i 0 < get_or t i 0 → false ≡ same_text s t
+    pub alike_less : get_or s i 0 < get_or t i 0 → false ≡ same_text_of s t
     alike_less h = alike_not (λ e. omega arith)
 
-  pub alike_end : length s ≡ length t → length s ≤ i → true ≡ same_text s t
-  unfolding same_text
+  pub alike_end : length s ≡ length t → length s ≤ i → true ≡ same_text_of s t
+  unfolding same_text_of
   alike_end e h =
-      sym (a.same ∙ ap₂ same_text (drop_of_length-le s {i = i} h) (drop_of_length-le t {i = i} (omega arith)))
+      sym (a.same ∙ ap₂ same_text_of (drop_of_length-le s {i = i} h) (drop_of_length-le t {i = i} (omega arith)))
 
-pub length_differs : (s t : List ℕ) → (length s ≡ length t → ⊥) → false ≡ same_text s t
-length_differs s t n = go (same_text s t) refl
+pub length_differs : (s t : List ℕ) → (length s ≡ length t → ⊥) → false ≡ same_text_of s t
+length_differs s t n = go (same_text_of s t) refl
   where
-    go : (b : Bool) → same_text s t ≡ b → false ≡ b
+    go : (b : Bool) → same_text_of s t ≡ b → false ≡ b
     go false e = refl
     go true e = absurd (n (ap length (same_true s t e)))
 
-pub length_above : (s t : List ℕ) → length t < length s → false ≡ same_text s t
+pub length_above : (s t : List ℕ) → length t < length s → false ≡ same_text_of s t
 length_above s t h = length_differs s t (λ e. omega arith)
 
 -- the text of f, written from the first byte of a buffer of 800
@@ -66,9 +66,9 @@ module _ (f : List ℕ) {r : ℕ} {o w : List ℕ} (p : Put (text f) 0 r o w) (f
   pub text_room : r ≤ length w
   text_room = omega (arith, inside, put_length p inside)
 
-  pub text_told : (s : List ℕ) (x : Bool) → x ≡ same_text s (take (r - 0) w) → x ≡ same_text s (text f)
+  pub text_told : (s : List ℕ) (x : Bool) → x ≡ same_text_of s (take (r - 0) w) → x ≡ same_text_of s (text f)
   text_told s x h =
       let e : length (text f) ≡ r - 0 = omega (arith, p.end) in
-      h ∙ ap (same_text s) (ap (take (r - 0)) p.is ∙ take_at (text f) (drop r o) (r - 0) e)
+      h ∙ ap (same_text_of s) (ap (take (r - 0)) p.is ∙ take_at (text f) (drop r o) (r - 0) e)
 
 pub ruleset comparing = (rules, alike_next, alike_not, alike_less, alike_end, length_differs, length_above, text_room, text_told)

@@ -8,7 +8,7 @@
 
 ghost use Rattle.std.specs.Prelude.{◌≡◌, cond, ◌≤◌, eqb, length};
 ghost use Rattle.text_notation.specs.Notation.{text};
-ghost use Rattle.text_notation.specs.Candidates.{number_after_of, coefficient_after_of, stored, gathered, same_text};
+ghost use Rattle.text_notation.specs.Candidates.{number_after_of, coefficient_after_of, stored, gathered, same_text_of};
 ghost use Rattle.text_gathering.specs.InWord.{in_word};
 
 // The largest word: no residue, and no power.
@@ -96,7 +96,7 @@ pub fn gather(s: &[u8], words: &mut [u32])
 }
 
 fn same_text(s: &[u8], t: &[u8]) -> bool
-    ensures { result ≡ same_text s.now t.now }
+    ensures { result ≡ same_text_of s.now t.now }
 {
     if s.len() != t.len() {
         return false;
@@ -114,7 +114,7 @@ fn same_text(s: &[u8], t: &[u8]) -> bool
 // Whether s is the text of the words f.
 pub fn is_text_of(s: &[u8], f: &[u32]) -> bool
     requires { length f.now ≤ 49 }
-    ensures { result ≡ same_text s.now (text f.now) }
+    ensures { result ≡ same_text_of s.now (text f.now) }
 {
     let mut t = [0u8; text_writer_service::ROOM];
     let count = text_writer_service::put_text(&mut t, f);

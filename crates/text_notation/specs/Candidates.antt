@@ -5,7 +5,7 @@
 --   stored c x w                        the words w with the term that was read
 --   gathered G s c x w                  the words w with the terms of s; G x stands for the number x, which may be too large for a word
 --   candidate s                         the 49 words that s comes to
---   same_text s t                       whether s and t are equal
+--   same_text_of s t                       whether s and t are equal
 --   is_text_of n s g, is_text n s       whether s is the text of the words g, and of any polynomial over Z/nZ
 use Rattle.std.specs.Prelude.{Bool, true, false, cond, ◌&&◌, List, [], ◌∷◌, ℕ, zero, suc, ◌+◌, ◌*◌, ◌%◌, eqb, set, replicate}
 use Rattle.refusals.specs.Refusals.{all_below_of}
@@ -32,16 +32,16 @@ gathered G (b ∷ s) c x w = gathered G s (coefficient_after_of b c x) (number_a
 abbrev pub candidate : List ℕ → List ℕ
 candidate s = gathered (λ (y : ℕ). y) s 0 0 (replicate 49 0)
 
-unfoldable pub same_text : List ℕ → List ℕ → Bool
-same_text [] [] = true
-same_text [] (b ∷ t) = false
-same_text (a ∷ s) [] = false
-same_text (a ∷ s) (b ∷ t) = cond (eqb a b) (same_text s t) false
+unfoldable pub same_text_of : List ℕ → List ℕ → Bool
+same_text_of [] [] = true
+same_text_of [] (b ∷ t) = false
+same_text_of (a ∷ s) [] = false
+same_text_of (a ∷ s) (b ∷ t) = cond (eqb a b) (same_text_of s t) false
 
 -- S55, S58: "Coefficients are decimal from 1 to n - 1"; "A text that is read is the text that would be written": s is the text of the words
 -- g
 abbrev pub is_text_of : ℕ → List ℕ → List ℕ → Bool
-is_text_of n s g = all_below_of n g && same_text s (text g)
+is_text_of n s g = all_below_of n g && same_text_of s (text g)
 
 abbrev pub is_text : ℕ → List ℕ → Bool
 is_text n s = is_text_of n s (candidate s)

@@ -18,26 +18,26 @@ use Rattle.refusals.specs.Conditions.{Fails, fails, residues_of, residues_below}
 use Rattle.text_notation.specs.Notation.{text, last_place, dropped, padded, TextOf}
 use Rattle.text_notation.specs.Tops.{text_padded, text_dropped, dropped_within, dropped_length, dropped_above, dropped_dropped}
 use Rattle.text_notation.specs.Candidates.{number_after_of, coefficient_after_of, stored, gathered, candidate}
-use Rattle.text_notation.specs.Candidates.{same_text, is_text_of, is_text}
+use Rattle.text_notation.specs.Candidates.{same_text_of, is_text_of, is_text}
 use Rattle.text_notation.specs.CandidateLaws.{gathered_text}
 
 -- ---- equal texts
 
-pub same_true : (s t : List ℕ) → same_text s t ≡ true → s ≡ t
-unfolding same_text
+pub same_true : (s t : List ℕ) → same_text_of s t ≡ true → s ≡ t
+unfolding same_text_of
 same_true [] [] h = refl
 same_true [] (b ∷ t) h = absurd (false≢true h)
 same_true (a ∷ s) [] h = absurd (false≢true h)
 same_true (a ∷ s) (b ∷ t) h = go (eqb a b) refl h (same_true s t)
   where
-    go : (q : Bool) → eqb a b ≡ q → cond q (same_text s t) false ≡ true → (same_text s t ≡ true → s ≡ t) → a ∷ s ≡ b ∷ t
+    go : (q : Bool) → eqb a b ≡ q → cond q (same_text_of s t) false ≡ true → (same_text_of s t ≡ true → s ≡ t) → a ∷ s ≡ b ∷ t
     go true e r ih = ap₂ (λ (x : ℕ) (y : List ℕ). x ∷ y) (eqb-true a b e) (ih r)
     go false e r ih = absurd (false≢true r)
 
-pub same_self : (s : List ℕ) → same_text s s ≡ true
-unfolding same_text
+pub same_self : (s : List ℕ) → same_text_of s s ≡ true
+unfolding same_text_of
 same_self [] = refl
-same_self (a ∷ s) = ap (λ (q : Bool). cond q (same_text s s) false) (eq-eqb a a refl) ∙ same_self s
+same_self (a ∷ s) = ap (λ (q : Bool). cond q (same_text_of s s) false) (eq-eqb a a refl) ∙ same_self s
 
 -- ---- the words that a text comes to
 
@@ -86,7 +86,7 @@ residues_padded n m f h r = record {
 
 pub text_found : (n : ℕ) (s g : List ℕ) → length g ≡ 49 → is_text_of n s g ≡ true → TextOf n s (dropped g)
 text_found n s g l h =
-    let b = (and-eq-true_iff (all_below_of n g) (same_text s (text g))).0 h in
+    let b = (and-eq-true_iff (all_below_of n g) (same_text_of s (text g))).0 h in
     let m = dropped_length g (omega arith) in
     let w = dropped_within g (omega arith) in
     record {
@@ -101,7 +101,7 @@ pub text_passes : {n : ℕ} {s f : List ℕ} → TextOf n s f → is_text_of n s
 text_passes {n} {s} {f} h =
     let n' : 1 ≤ n = omega (arith, h.residues.at 0 h.some) in
     ap₂ ◌&&◌ (residues_below n (padded 49 f) (residues_padded n 49 f n' h.residues))
-    (ap₂ same_text h.is (text_padded 49 f) ∙ same_self (text f))
+    (ap₂ same_text_of h.is (text_padded 49 f) ∙ same_self (text f))
 
 -- however numbers that do not fit a word are taken, B being above n and every power
 pub gathered_is : (G : ℕ → ℕ) (B : ℕ) → ((y : ℕ) → y < B → G y ≡ y) → 49 ≤ B → {n : ℕ} {s f : List ℕ} → n ≤ B → TextOf n s f

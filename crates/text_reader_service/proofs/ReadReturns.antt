@@ -26,7 +26,7 @@ use Rattle.degree_service.specs.DegreeService.{told, degree_number, TrueDegreeAn
 use Rattle.text_notation.specs.Notation.{text, last_place, dropped, padded}
 use Rattle.text_notation.specs.Lengths.{long_other}
 use Rattle.text_notation.specs.Tops.{dropped_within, dropped_length, padded_dropped}
-use Rattle.text_notation.specs.Candidates.{gathered, same_text, is_text_of, is_text}
+use Rattle.text_notation.specs.Candidates.{gathered, same_text_of, is_text_of, is_text}
 use Rattle.text_notation.specs.NotationLaws.{gathered_length, text_found, test_same}
 use Rattle.text_gathering.specs.InWord.{in_word}
 use Rattle.text_gathering.proofs.Gathering.{fits_in_word}
@@ -162,7 +162,7 @@ module _ (n : ℕ) (s w : List ℕ) (t : Bool) (b : t ≡ bad_modulus_of narrow 
   pub long_refused : {v st : ℕ} → 767 < length s → v ≡ 0 → st ≡ 17 → ReadAnswer narrow n s w w v st
   long_refused l = other (long_other n s (omega (arith, below)) l)
 
-  module _ (g : List ℕ) (eg : g ≡ gathered in_word s 0 0 (replicate 49 0)) (q : Bool) (same : q ≡ same_text s (text g)) where
+  module _ (g : List ℕ) (eg : g ≡ gathered in_word s 0 0 (replicate 49 0)) (q : Bool) (same : q ≡ same_text_of s (text g)) where
     tested : is_text_of n s g ≡ is_text n s
     tested = ap (is_text_of n s) eg ∙ test_same in_word 4294967296 fits_in_word (omega arith) n s (omega (arith, below))
 

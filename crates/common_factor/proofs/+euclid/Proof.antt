@@ -12,7 +12,7 @@ pub +euclid_spec : {M : Type 1} → cycle.statement M
     (λ c. search rules) (λ c. search rules) (λ c κs. (search rounds, search rounds)) (λ c. search rules)
     -- the precondition is too far for a search
     (λ c. (
-      let q = c.before.before.before.before.before.before.before.before.before.before.before.before.before.requires.1.1 in
+      let q = c.requires.1.1 in
           search next_found,
       search rules,
     )))

@@ -12,7 +12,7 @@ both_halves_spec =
     -- the first half's answer by hand: held against all places, it takes a search too many steps
     (λ c κs. (
       search rules,
-      let z = c.half.ensures in later_at _ _ _ _ _ _ _ _ _ _ _ c.enum_told-1.given.1 z.0 (search rules) z.1,
+      let z = c.half.ensures in later_at _ _ _ _ _ _ _ _ _ _ _ c.in-Nilpotent.is z.0 (search rules) z.1,
     ))
     (λ c. search rules) (λ c. search rules) (λ c. search rules)
     (λ c. (search attempts, search attempts)) (λ c. search rules) (λ c. search rules) (λ c. search rules)
