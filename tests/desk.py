@@ -167,11 +167,11 @@ def descriptors(folder):
     os.close(folder_fd)
     with open(given, "rb") as stdin, open("/dev/full", "wb") as stdout:
         refuse("/dev/full", OUTPUT + b"No space left on device\n", stdin, stdout)
-    for restore, wanted, status in ((True, b"", -signal.SIGPIPE), (False, OUTPUT + b"Broken pipe\n", 0)):
+    for restore in (True, False):  # the start of a program of Rattle's ignores the signal: tools/jingcobu-desk makes the status of it
         fetch, stdout = os.pipe()
         os.close(fetch)
         with open(given, "rb") as stdin:
-            refuse("a reader that has gone away", wanted, stdin, stdout, status, restore_signals=restore)
+            refuse("a reader that has gone away", OUTPUT + b"Broken pipe\n", stdin, stdout, restore_signals=restore)
         os.close(stdout)
     limits(folder, given)
 

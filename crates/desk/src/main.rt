@@ -4,122 +4,163 @@
 // non-blocking descriptor, has not failed: it is tried again.
 #![tactic(auto)]
 
-ghost use Rattle.std.specs.Prelude.{◌≡◌, ◌*◌, ◌≤◌, length};
+ghost use Rattle.std.specs.Prelude.{◌≡◌, ◌*◌, ◌≤◌, length, IfOk};
 
 use frame_pieces::Input;
-use libc::{EAGAIN, EINTR, STDIN_FILENO, STDOUT_FILENO};
+use std::alloc::{AllocError, Global};
+use std::io::{ErrorKind, Read, Write};
+use std::{io, thread};
+
+// Room for an unfinished line, of which no more than 798 characters are kept.
+const LINE: usize = 4096;
+
+// What a read takes at most.
+const PIECE: usize = 65536;
 
 // Room for the answers to 65536 lines, as many as can end in the characters of one read: 13 for each.
 const ROOM: usize = 851968;
 
-// What a read came to: an unfinished line is kept, the input has ended, or a call has failed.
+// What a read came to: an unfinished line is kept, or the input has ended.
 #[derive(Drop)]
 enum Next {
     Pending(usize),
     Ended,
-    Stopped,
 }
 
-// Whether the call that answered -1 just now is to be tried again.
-fn again() -> bool {
-    let error = os::errno();
-    if error == EINTR {
+// The call that has failed, and why.
+#[derive(Drop)]
+enum Failure {
+    Input(io::Error),
+    Output(io::Error),
+}
+
+// Whether the call that failed so is to be tried again.
+fn again(error: &io::Error) -> bool {
+    let kind = error.kind();
+    if kind == ErrorKind::Interrupted {
         return true;
     }
-    if error == EAGAIN {
-        libc::sched_yield();
+    if kind == ErrorKind::WouldBlock {
+        thread::yield_now();
         return true;
     }
     false
 }
 
-// Writes answers, from where a write stopped on; where they are not taken, it says so.
-fn put(answers: &[u8]) -> bool {
+// Writes answers, from where a write stopped on.
+fn put(to: &mut impl Write, answers: &[u8]) -> io::Result<()> {
     let mut done: usize = 0;
-    let mut tries = u64::MAX;
-    while done < answers.len() {
-        let rest = &answers[done..];
-        let got = libc::write(STDOUT_FILENO, rest);
-        if got < 1 {
-            if !again() {
-                os::fail(b"jingcobu-desk: standard output does not take the answers");
-                return false;
+    for _ in 0..u64::MAX {
+        if done >= answers.len() {
+            return Ok(());
+        }
+        match to.write(&answers[done..]) {
+            Ok(0) => return Err(io::Error::from(ErrorKind::WriteZero)),
+            Ok(got) => done += got,
+            Err(error) => {
+                if !again(&error) {
+                    return Err(error);
+                }
             }
         }
-        if tries == 0 {
-            return false;
-        }
-        tries -= 1;
-        done += io::count(got, rest);
     }
-    true
+    Err(io::Error::from(ErrorKind::TimedOut))
 }
 
 // Reads once, answers the lines that end in what came, and holds the rest; where the read is to be tried again, all stays as it
 // was. A character can end a line, and a line's answer has 13.
-fn take_next(pending: usize, line: &mut [u8], piece: &mut [u8], out: &mut [u8]) -> Next
+fn take_next(
+    input: &mut impl Read,
+    to: &mut impl Write,
+    pending: usize,
+    line: &mut [u8],
+    piece: &mut [u8],
+    out: &mut [u8],
+) -> Result<Next, Failure>
     requires { (798 ≤ length line.old) × (13 * length piece.old ≤ length out.old) }
 {
-    let got = libc::read(STDIN_FILENO, piece);
-    if got < 0 {
-        if again() {
-            return Next::Pending(pending);
+    let n = match input.read(piece) {
+        Ok(n) => n,
+        Err(error) => {
+            if again(&error) {
+                return Ok(Next::Pending(pending));
+            }
+            return Err(Failure::Input(error));
         }
-        os::fail(b"jingcobu-desk: standard input cannot be read");
-        return Next::Stopped;
-    }
-    let n = io::count(got, piece);
+    };
     let Input::Came(_) = frame_pieces::what_came(n) else {
-        return Next::Ended;
+        return Ok(Next::Ended);
     };
     let p = frame_reader::step(pending, line, &piece[0..n], out);
-    let written = p.written;
-    if put(&out[0..written]) {
-        return Next::Pending(p.pending);
-    }
-    Next::Stopped
+    put(to, &out[0..p.written]).map_err(Failure::Output)?;
+    Ok(Next::Pending(p.pending))
 }
 
 // Answers the last line, if it has no newline.
-fn end(pending: usize, line: &[u8], out: &mut [u8])
+fn end(to: &mut impl Write, pending: usize, line: &[u8], out: &mut [u8]) -> Result<(), Failure>
     requires { (798 ≤ length line.now) × (13 ≤ length out.old) }
 {
     let written = frame_reader::finish(pending, line, out);
-    put(&out[0..written]);
+    put(to, &out[0..written]).map_err(Failure::Output)
 }
 
-// A proved loop has to end, and nothing says that an input does: it counts its rounds down from a number that no run uses up.
-fn run(line: &mut [u8], piece: &mut [u8], out: &mut [u8])
+// A proved loop has to end, and nothing says that an input does: it ends after a number of rounds that no run uses up.
+fn run(
+    input: &mut impl Read,
+    to: &mut impl Write,
+    line: &mut [u8],
+    piece: &mut [u8],
+    out: &mut [u8],
+) -> Result<(), Failure>
     requires { (798 ≤ length line.old) × ((13 ≤ length out.old) × (13 * length piece.old ≤ length out.old)) }
 {
     let mut pending: usize = 0;
-    let mut rounds = u64::MAX;
-    while rounds > 0 {
-        match take_next(pending, line, piece, out) {
+    for _ in 0..u64::MAX {
+        match take_next(input, to, pending, line, piece, out)? {
             Next::Pending(h) => {
                 pending = h;
             }
             Next::Ended => {
-                end(pending, line, out);
-                return;
-            }
-            Next::Stopped => {
-                return;
+                return end(to, pending, line, out);
             }
         }
-        rounds -= 1;
+    }
+    Ok(())
+}
+
+fn answers_room(alloc: Global) -> Result<Vec<u8>, AllocError>
+    ensures { IfOk result (λ room. length room.items ≡ 851968) }
+{
+    vec![in alloc; 0; ROOM]
+}
+
+// The reason alone, without its number.
+fn reason(alloc: Global, error: &io::Error) -> Result<String, AllocError> {
+    let said = format!(in alloc; "{error}")?;
+    match said.as_str().split_once(" (os error ") {
+        Some((text, _)) => String::from_str(alloc, text),
+        None => Ok(said),
     }
 }
 
-fn answers_room() -> [u8; ROOM]
-    ensures { 851968 ≡ length result }
-{
-    [0; ROOM]
+fn complain(rt: &(impl Eprint + AllocGlobal), failure: &Failure) -> io::Result<()> {
+    let (what, error) = match failure {
+        Failure::Input(error) => ("standard input cannot be read", error),
+        Failure::Output(error) => ("standard output does not take the answers", error),
+    };
+    let why = reason(rt.alloc(), error)?;
+    eprintln!(rt; "jingcobu-desk: {what}: {why}")
 }
 
-fn main() {
-    let mut line = io::buffer();
-    let mut piece = io::large_buffer();
-    let mut out = answers_room();
-    run(&mut line, &mut piece, &mut out);
+fn main(rt: HostRuntime) -> io::Result<()> {
+    let alloc = rt.alloc();
+    let mut line = vec![in alloc; 0; LINE]?;
+    let mut piece = vec![in alloc; 0; PIECE]?;
+    let mut out = answers_room(alloc)?;
+    let mut input = rt.stdin();
+    let mut to = rt.stdout();
+    match run(&mut input, &mut to, &mut line, &mut piece, &mut out) {
+        Ok(()) => Ok(()),
+        Err(failure) => complain(&rt, &failure),
+    }
 }

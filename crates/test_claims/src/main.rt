@@ -12,6 +12,8 @@ ghost use Rattle.std.specs.Prelude.{◌≤◌, length};
 
 use claim_service::Claim;
 use refusals::Answer;
+use std::io;
+use std::io::{BufReader, Read};
 use test_lines::{MARK, put, put_name, put_working, size};
 
 const OWN: u32 = 1;
@@ -21,34 +23,53 @@ const HEAD: usize = 14;
 
 // ---- the claim
 
-fn put_case(c: Claim) {
+fn put_case(rt: &impl Print, c: Claim) -> io::Result<()> {
     match c {
         Claim::Accepted => {
-            put_name(b" accepted");
+            put_name(rt, b" accepted")?;
         }
         Claim::Fails(k) => {
-            put_name(b" fails");
-            put(k);
+            put_name(rt, b" fails")?;
+            put(rt, k)?;
         }
         Claim::Refused(s) => {
-            put_name(b" refused");
-            put(s);
+            put_name(rt, b" refused")?;
+            put(rt, s)?;
         }
     }
+    Ok(())
 }
 
-fn told(n: u32, f: &[u32], g: &[u32], d: u32, u: &[u32], v: &[u32], work: &mut [u32]) {
+fn told(
+    rt: &impl Print,
+    n: u32,
+    f: &[u32],
+    g: &[u32],
+    d: u32,
+    u: &[u32],
+    v: &[u32],
+    work: &mut [u32],
+) -> io::Result<()> {
     test_lines::fill(work, MARK);
-    put_case(claim_service::check_claim(n, f, g, d, u, v, work));
-    put_working(work);
+    put_case(rt, claim_service::check_claim(n, f, g, d, u, v, work))?;
+    put_working(rt, work)
 }
 
-fn claim(n: u32, f: &[u32], g: &[u32], d: u32, u: &[u32], v: &[u32], work: &mut [u32]) {
+fn claim(
+    rt: &impl Print,
+    n: u32,
+    f: &[u32],
+    g: &[u32],
+    d: u32,
+    u: &[u32],
+    v: &[u32],
+    work: &mut [u32],
+) -> io::Result<()> {
     test_lines::fill(work, MARK);
     let a: Answer = claim_service::check_claim_words(n, f, g, d, u, v, work);
-    test_lines::put_answer(b"claim", a.status, a.value);
-    put_working(work);
-    told(n, f, g, d, u, v, work);
+    test_lines::put_answer(rt, b"claim", a.status, a.value)?;
+    put_working(rt, work)?;
+    told(rt, n, f, g, d, u, v, work)
 }
 
 // ---- the multipliers
@@ -133,6 +154,7 @@ fn continue_words(sent: &[u32], w: &mut [u32], step: u32) {
 
 // The engine's D with its multipliers, these times c; whether it answered.
 fn engine(
+    rt: &impl Print,
     n: u32,
     f: &[u32],
     g: &[u32],
@@ -140,22 +162,23 @@ fn engine(
     u: &mut [u32],
     v: &mut [u32],
     work: &mut [u32],
-) -> bool {
+) -> io::Result<bool> {
     test_lines::fill(u, 0);
     test_lines::fill(v, 0);
     let a: Answer = reduced_service::reduced_resultant(n, f, g, u, v, work);
-    test_lines::put_answer(b"reduced", a.status, a.value);
-    put_name(b" ");
+    test_lines::put_answer(rt, b"reduced", a.status, a.value)?;
+    put_name(rt, b" ")?;
     if n < 1 {
-        return false;
+        return Ok(false);
     }
     scale(u, n, c);
     scale(v, n, c);
-    a.status == 0
+    Ok(a.status == 0)
 }
 
 // The multipliers of a line, before one word changes; whether they are there.
 fn multipliers(
+    rt: &impl Print,
     head: &[u32],
     f: &[u32],
     g: &[u32],
@@ -163,21 +186,22 @@ fn multipliers(
     u: &mut [u32],
     v: &mut [u32],
     work: &mut [u32],
-) -> bool
+) -> io::Result<bool>
     requires { 14 ≤ length head.now }
 {
     let step = head[11];
     if head[0] == OWN {
-        return engine(head[1], f, g, step, u, v, work);
+        return engine(rt, head[1], f, g, step, u, v, work);
     }
     let k = size(head[12], rest.len());
     continue_words(&rest[0..k], u, step);
     continue_words(&rest[k..rest.len()], v, step);
-    true
+    Ok(true)
 }
 
 // The case with the words that are lent.
 fn case(
+    rt: &impl Print,
     head: &[u32],
     f: &[u32],
     g: &[u32],
@@ -185,11 +209,11 @@ fn case(
     u: &mut [u32],
     v: &mut [u32],
     work: &mut [u32],
-)
+) -> io::Result<()>
     requires { 14 ≤ length head.now }
 {
-    if !multipliers(head, f, g, rest, u, v, work) {
-        return;
+    if !multipliers(rt, head, f, g, rest, u, v, work)? {
+        return Ok(());
     }
     let c = Change {
         which: head[8],
@@ -198,11 +222,12 @@ fn case(
     };
     change_word(head[1], c, u, v);
     let lw = size(head[7], work.len());
-    claim(head[1], f, g, head[4], u, v, &mut work[0..lw]);
+    claim(rt, head[1], f, g, head[4], u, v, &mut work[0..lw])
 }
 
 // The case with as much of u and v as it has.
 fn lend(
+    rt: &impl Print,
     head: &[u32],
     f: &[u32],
     g: &[u32],
@@ -210,27 +235,34 @@ fn lend(
     u: &mut [u32],
     v: &mut [u32],
     work: &mut [u32],
-)
+) -> io::Result<()>
     requires { 14 ≤ length head.now }
 {
     let lu = size(head[5], u.len());
     let lv = size(head[6], v.len());
-    case(head, f, g, rest, &mut u[0..lu], &mut v[0..lv], work);
+    case(rt, head, f, g, rest, &mut u[0..lu], &mut v[0..lv], work)
 }
 
 // ---- the run
 
 // The words of a line; whether they were all there.
-fn try_words(words: &[u32], u: &mut [u32], v: &mut [u32], work: &mut [u32]) -> bool {
+fn try_words(
+    rt: &impl Print,
+    words: &[u32],
+    u: &mut [u32],
+    v: &mut [u32],
+    work: &mut [u32],
+) -> io::Result<bool> {
     if words.len() < HEAD {
-        return false;
+        return Ok(false);
     }
     let l = size(words[2], 64);
     let m = size(words[3], 64);
     if words.len() < HEAD + l + m {
-        return false;
+        return Ok(false);
     }
     lend(
+        rt,
         &words[0..HEAD],
         &words[HEAD..HEAD + l],
         &words[HEAD + l..HEAD + l + m],
@@ -238,39 +270,51 @@ fn try_words(words: &[u32], u: &mut [u32], v: &mut [u32], work: &mut [u32]) -> b
         u,
         v,
         work,
-    );
-    test_lines::end_line();
-    true
+    )?;
+    test_lines::end_line(rt)?;
+    Ok(true)
 }
 
 // The next line; whether there was one.
 fn try_line(
+    rt: &impl Print,
+    input: &mut impl Read,
     line: &mut [u8],
     words: &mut [u32],
     u: &mut [u32],
     v: &mut [u32],
     work: &mut [u32],
-) -> bool {
-    let count = test_lines::read_line(line, words);
-    try_words(&words[0..count], u, v, work)
+) -> io::Result<bool> {
+    let count = test_lines::read_line(input, line, words)?;
+    try_words(rt, &words[0..count], u, v, work)
 }
 
-// A proved loop has to end, and nothing says that an input does: it counts its rounds down from a number that no run uses up.
-fn run(line: &mut [u8], words: &mut [u32], u: &mut [u32], v: &mut [u32], work: &mut [u32]) {
-    let mut rounds = u64::MAX;
-    while rounds > 0 {
-        if !try_line(line, words, u, v, work) {
-            return;
+// A proved loop has to end, and nothing says that an input does: it ends after a number of rounds that no run uses up.
+fn run(
+    rt: &impl Print,
+    input: &mut impl Read,
+    line: &mut [u8],
+    words: &mut [u32],
+    u: &mut [u32],
+    v: &mut [u32],
+    work: &mut [u32],
+) -> io::Result<()> {
+    for _ in 0..u64::MAX {
+        if !try_line(rt, input, line, words, u, v, work)? {
+            break;
         }
-        rounds -= 1;
     }
+    Ok(())
 }
 
-fn main() {
-    let mut line = io::large_buffer();
+fn main(rt: HostRuntime) -> io::Result<()> {
+    let mut input = BufReader::new(rt.alloc(), rt.stdin())?;
+    let mut line = [0u8; 65536];
     let mut words = [0u32; 8320];
     let mut u = [0u32; 4100];
     let mut v = [0u32; 4100];
     let mut work = [0u32; 8200];
-    run(&mut line, &mut words, &mut u, &mut v, &mut work);
+    run(
+        &rt, &mut input, &mut line, &mut words, &mut u, &mut v, &mut work,
+    )
 }

@@ -10,6 +10,8 @@
 ghost use Rattle.std.specs.Prelude.{◌≤◌};
 
 use refusals::Answer;
+use std::io;
+use std::io::{BufReader, Read};
 use test_lines::{MARK, ending, put_count, put_name, size};
 
 const PAIR: u32 = 1;
@@ -75,36 +77,63 @@ fn combines(n: u32, f: &[u32], g: &[u32], u: &[u32], v: &[u32], c: u32) -> bool
 
 // ---- one pair
 
-fn put_combines(n: u32, f: &[u32], g: &[u32], u: &[u32], v: &[u32], c: u32) {
+fn put_combines(
+    rt: &impl Print,
+    n: u32,
+    f: &[u32],
+    g: &[u32],
+    u: &[u32],
+    v: &[u32],
+    c: u32,
+) -> io::Result<()> {
     if n < 1 {
-        return;
+        return Ok(());
     }
     if combines(n, f, g, u, v, c) {
-        put_name(b" combines");
+        put_name(rt, b" combines")?;
     }
+    Ok(())
 }
 
-fn pair(n: u32, f: &[u32], g: &[u32], u: &mut [u32], v: &mut [u32], work: &mut [u32]) {
+fn pair(
+    rt: &impl Print,
+    n: u32,
+    f: &[u32],
+    g: &[u32],
+    u: &mut [u32],
+    v: &mut [u32],
+    work: &mut [u32],
+) -> io::Result<()> {
     let r: Answer = cofactor_service::resultant_cofactors(n, f, g, u, v, work);
-    test_lines::put_answer(b"cofactors", r.status, r.value);
-    put_count(ending(u, MARK));
-    put_count(ending(v, MARK));
-    test_lines::put_working(work);
+    test_lines::put_answer(rt, b"cofactors", r.status, r.value)?;
+    put_count(rt, ending(u, MARK))?;
+    put_count(rt, ending(v, MARK))?;
+    test_lines::put_working(rt, work)?;
     if r.status == 0 {
-        put_combines(n, f, g, u, v, r.value);
+        put_combines(rt, n, f, g, u, v, r.value)?;
     }
+    Ok(())
 }
 
 // The pair with marked words.
-fn mark(n: u32, f: &[u32], g: &[u32], u: &mut [u32], v: &mut [u32], work: &mut [u32]) {
+fn mark(
+    rt: &impl Print,
+    n: u32,
+    f: &[u32],
+    g: &[u32],
+    u: &mut [u32],
+    v: &mut [u32],
+    work: &mut [u32],
+) -> io::Result<()> {
     test_lines::fill(u, MARK);
     test_lines::fill(v, MARK);
     test_lines::fill(work, MARK);
-    pair(n, f, g, u, v, work);
+    pair(rt, n, f, g, u, v, work)
 }
 
 // The pair with as much of each buffer as is lent.
 fn lend(
+    rt: &impl Print,
     n: u32,
     f: &[u32],
     g: &[u32],
@@ -112,14 +141,14 @@ fn lend(
     u: &mut [u32],
     v: &mut [u32],
     work: &mut [u32],
-) {
+) -> io::Result<()> {
     if sizes.len() < 3 {
-        return;
+        return Ok(());
     }
     let lu = size(sizes[0], u.len());
     let lv = size(sizes[1], v.len());
     let lw = size(sizes[2], work.len());
-    mark(n, f, g, &mut u[0..lu], &mut v[0..lv], &mut work[0..lw]);
+    mark(rt, n, f, g, &mut u[0..lu], &mut v[0..lv], &mut work[0..lw])
 }
 
 // ---- rows
@@ -137,7 +166,7 @@ fn right(n: u32, f: &[u32], g: &[u32], u: &[u32], v: &[u32], c: u32) -> bool
     combines(n, f, g, u, v, c)
 }
 
-fn put_short(n: u32, f: &[u32], g: &[u32], work: &mut [u32])
+fn put_short(rt: &impl Print, n: u32, f: &[u32], g: &[u32], work: &mut [u32]) -> io::Result<()>
     requires { 1 ≤ n }
 {
     let mut u = [MARK; 4];
@@ -145,11 +174,10 @@ fn put_short(n: u32, f: &[u32], g: &[u32], work: &mut [u32])
     let r: Answer = cofactor_service::resultant_cofactors(n, f, g, &mut u, &mut v, work);
     if r.status == 0 {
         if !right(n, f, g, &u, &v, r.value) {
-            put_name(b"?");
-            return;
+            return put_name(rt, b"?");
         }
     }
-    test_lines::put_short(r.status, r.value);
+    test_lines::put_short(rt, r.status, r.value)
 }
 
 // The digits of t to the base n.
@@ -160,53 +188,75 @@ fn counted(n: u32, t: u32) -> [u32; 3]
 }
 
 // f with polynomial t of those of m words.
-fn put_one(n: u32, f: &[u32], m: usize, t: u32, work: &mut [u32])
+fn put_one(rt: &impl Print, n: u32, f: &[u32], m: usize, t: u32, work: &mut [u32]) -> io::Result<()>
     requires { (2 ≤ n) × (m ≤ 3) }
 {
     let g = counted(n, t);
-    put_short(n, f, &g[3 - m..3], work);
+    put_short(rt, n, f, &g[3 - m..3], work)
 }
 
-fn put_row(n: u32, f: &[u32], m: usize, count: u32, work: &mut [u32])
+fn put_row(
+    rt: &impl Print,
+    n: u32,
+    f: &[u32],
+    m: usize,
+    count: u32,
+    work: &mut [u32],
+) -> io::Result<()>
     requires { (2 ≤ n) × (m ≤ 3) }
 {
     for t in 0..count {
-        put_one(n, f, m, t, work);
+        put_one(rt, n, f, m, t, work)?;
     }
+    Ok(())
 }
 
-fn row(n: u32, f: &[u32], m: usize, count: u32, work: &mut [u32]) {
-    put_name(b"row ");
+fn row(
+    rt: &impl Print,
+    n: u32,
+    f: &[u32],
+    m: usize,
+    count: u32,
+    work: &mut [u32],
+) -> io::Result<()> {
+    put_name(rt, b"row ")?;
     if n < 2 {
-        return;
+        return Ok(());
     }
     if 3 < m {
-        return;
+        return Ok(());
     }
-    put_row(n, f, m, count, work);
+    put_row(rt, n, f, m, count, work)
 }
 
 // ---- the run
 
 // The words of a line; whether they were all there.
-fn try_words(words: &[u32], u: &mut [u32], v: &mut [u32], work: &mut [u32]) -> bool {
+fn try_words(
+    rt: &impl Print,
+    words: &[u32],
+    u: &mut [u32],
+    v: &mut [u32],
+    work: &mut [u32],
+) -> io::Result<bool> {
     if words.len() < 7 {
-        return false;
+        return Ok(false);
     }
     let l = size(words[2], 64);
     let m = size(words[3], 64);
     if words.len() < 7 + l {
-        return false;
+        return Ok(false);
     }
     let f = &words[7..7 + l];
     if words[0] != PAIR {
-        row(words[1], f, m, words[4], work);
-        return true;
+        row(rt, words[1], f, m, words[4], work)?;
+        return Ok(true);
     }
     if words.len() < 7 + l + m {
-        return false;
+        return Ok(false);
     }
     lend(
+        rt,
         words[1],
         f,
         &words[7 + l..7 + l + m],
@@ -214,42 +264,54 @@ fn try_words(words: &[u32], u: &mut [u32], v: &mut [u32], work: &mut [u32]) -> b
         u,
         v,
         work,
-    );
-    true
+    )?;
+    Ok(true)
 }
 
 // The next line; whether there was one.
 fn try_line(
+    rt: &impl Print,
+    input: &mut impl Read,
     line: &mut [u8],
     words: &mut [u32],
     u: &mut [u32],
     v: &mut [u32],
     work: &mut [u32],
-) -> bool {
-    let count = test_lines::read_line(line, words);
-    if !try_words(&words[0..count], u, v, work) {
-        return false;
+) -> io::Result<bool> {
+    let count = test_lines::read_line(input, line, words)?;
+    if !try_words(rt, &words[0..count], u, v, work)? {
+        return Ok(false);
     }
-    test_lines::end_line();
-    true
+    test_lines::end_line(rt)?;
+    Ok(true)
 }
 
-// A proved loop has to end, and nothing says that an input does: it counts its rounds down from a number that no run uses up.
-fn run(line: &mut [u8], words: &mut [u32], u: &mut [u32], v: &mut [u32], work: &mut [u32]) {
-    let mut rounds = u64::MAX;
-    while rounds > 0 {
-        if !try_line(line, words, u, v, work) {
-            return;
+// A proved loop has to end, and nothing says that an input does: it ends after a number of rounds that no run uses up.
+fn run(
+    rt: &impl Print,
+    input: &mut impl Read,
+    line: &mut [u8],
+    words: &mut [u32],
+    u: &mut [u32],
+    v: &mut [u32],
+    work: &mut [u32],
+) -> io::Result<()> {
+    for _ in 0..u64::MAX {
+        if !try_line(rt, input, line, words, u, v, work)? {
+            break;
         }
-        rounds -= 1;
     }
+    Ok(())
 }
 
-fn main() {
-    let mut line = io::buffer();
+fn main(rt: HostRuntime) -> io::Result<()> {
+    let mut input = BufReader::new(rt.alloc(), rt.stdin())?;
+    let mut line = [0u8; 4096];
     let mut words = [0u32; 128];
     let mut u = [0u32; 52];
     let mut v = [0u32; 52];
     let mut work = [0u32; 8200];
-    run(&mut line, &mut words, &mut u, &mut v, &mut work);
+    run(
+        &rt, &mut input, &mut line, &mut words, &mut u, &mut v, &mut work,
+    )
 }

@@ -8,12 +8,14 @@
 ghost use Rattle.std.specs.Prelude.{◌≤◌};
 
 use refusals::Answer;
+use std::io;
+use std::io::{BufReader, Read};
 
 const PAIR: u32 = 1;
 
-fn pair(n: u32, f: &[u32], g: &[u32]) {
+fn pair(rt: &impl Print, n: u32, f: &[u32], g: &[u32]) -> io::Result<()> {
     let r: Answer = evaluator_service::evaluate(n, f, g);
-    test_lines::put_answer(b"evaluate", r.status, r.value);
+    test_lines::put_answer(rt, b"evaluate", r.status, r.value)
 }
 
 // The digits of t to the base n.
@@ -24,78 +26,89 @@ fn counted(n: u32, t: u32) -> [u32; 3]
 }
 
 // f with polynomial t of those of m words.
-fn put_one(n: u32, f: &[u32], m: usize, t: u32)
+fn put_one(rt: &impl Print, n: u32, f: &[u32], m: usize, t: u32) -> io::Result<()>
     requires { (2 ≤ n) × (m ≤ 3) }
 {
     let g = counted(n, t);
     let r: Answer = evaluator_service::evaluate(n, f, &g[3 - m..3]);
-    test_lines::put_short(r.status, r.value);
+    test_lines::put_short(rt, r.status, r.value)
 }
 
-fn put_row(n: u32, f: &[u32], m: usize, count: u32)
+fn put_row(rt: &impl Print, n: u32, f: &[u32], m: usize, count: u32) -> io::Result<()>
     requires { (2 ≤ n) × (m ≤ 3) }
 {
     for t in 0..count {
-        put_one(n, f, m, t);
+        put_one(rt, n, f, m, t)?;
     }
+    Ok(())
 }
 
-fn row(n: u32, f: &[u32], m: usize, count: u32) {
-    test_lines::put_name(b"row ");
+fn row(rt: &impl Print, n: u32, f: &[u32], m: usize, count: u32) -> io::Result<()> {
+    test_lines::put_name(rt, b"row ")?;
     if n < 2 {
-        return;
+        return Ok(());
     }
     if 3 < m {
-        return;
+        return Ok(());
     }
-    put_row(n, f, m, count);
+    put_row(rt, n, f, m, count)
 }
 
 // The words of a line; whether they were all there.
-fn try_words(words: &[u32]) -> bool {
+fn try_words(rt: &impl Print, words: &[u32]) -> io::Result<bool> {
     if words.len() < 5 {
-        return false;
+        return Ok(false);
     }
     let l = test_lines::size(words[2], 64);
     let m = test_lines::size(words[3], 64);
     if words.len() < 5 + l {
-        return false;
+        return Ok(false);
     }
     let f = &words[5..5 + l];
     if words[0] != PAIR {
-        row(words[1], f, m, words[4]);
-        return true;
+        row(rt, words[1], f, m, words[4])?;
+        return Ok(true);
     }
     if words.len() < 5 + l + m {
-        return false;
+        return Ok(false);
     }
-    pair(words[1], f, &words[5 + l..5 + l + m]);
-    true
+    pair(rt, words[1], f, &words[5 + l..5 + l + m])?;
+    Ok(true)
 }
 
 // The next line; whether there was one.
-fn try_line(line: &mut [u8], words: &mut [u32]) -> bool {
-    let count = test_lines::read_line(line, words);
-    if !try_words(&words[0..count]) {
-        return false;
+fn try_line(
+    rt: &impl Print,
+    input: &mut impl Read,
+    line: &mut [u8],
+    words: &mut [u32],
+) -> io::Result<bool> {
+    let count = test_lines::read_line(input, line, words)?;
+    if !try_words(rt, &words[0..count])? {
+        return Ok(false);
     }
-    test_lines::end_line();
-    true
+    test_lines::end_line(rt)?;
+    Ok(true)
 }
 
-// A proved loop has to end, and nothing says that an input does: it counts its rounds down from a number that no run uses up.
-fn run(line: &mut [u8], words: &mut [u32]) {
-    let mut rounds = u64::MAX;
-    while rounds > 0 {
-        if !try_line(line, words) {
-            return;
+// A proved loop has to end, and nothing says that an input does: it ends after a number of rounds that no run uses up.
+fn run(
+    rt: &impl Print,
+    input: &mut impl Read,
+    line: &mut [u8],
+    words: &mut [u32],
+) -> io::Result<()> {
+    for _ in 0..u64::MAX {
+        if !try_line(rt, input, line, words)? {
+            break;
         }
-        rounds -= 1;
     }
+    Ok(())
 }
 
-fn main() {
-    let mut line = io::buffer();
+fn main(rt: HostRuntime) -> io::Result<()> {
+    let mut input = BufReader::new(rt.alloc(), rt.stdin())?;
+    let mut line = [0u8; 4096];
     let mut words = [0u32; 128];
-    run(&mut line, &mut words);
+    run(&rt, &mut input, &mut line, &mut words)
 }

@@ -12,10 +12,11 @@
 //   X64, WIDE_MARK                                 the same for words of 64 bits
 #![tactic(auto)]
 
-ghost use Rattle.std.specs.Prelude.{◌+◌, ◌-◌, ◌*◌, ◌%◌, ◌≤◌, ◌<◌, min, ◌≡◌, length, replicate};
+ghost use Rattle.std.specs.Prelude.{◌+◌, ◌-◌, ◌*◌, ◌%◌, ◌≤◌, ◌<◌, min, ◌≡◌, length, replicate, IfOk, OnErr};
 ghost use Rattle.test_lines.specs.Lines.{Ending, FrontWritten, hexadecimal, spelled, part};
 
-use libc::{STDIN_FILENO, STDOUT_FILENO};
+use std::io;
+use std::io::Read;
 
 // What stands in the lent words before a call.
 pub const MARK: u32 = 2882400001;
@@ -25,25 +26,26 @@ pub const WIDE_MARK: u64 = 12379813738877118345;
 // ---- what is read
 
 // Reads a character to place k; false at a newline and at the input's end.
-fn read_to(line: &mut [u8], k: usize) -> bool
+fn read_to(input: &mut impl Read, line: &mut [u8], k: usize) -> io::Result<bool>
     requires { k < length line.old }
 {
-    let got = libc::read(STDIN_FILENO, &mut line[k..k + 1]);
-    if got > 0 { line[k] != b'\n' } else { false }
+    let got = input.read(&mut line[k..k + 1])?;
+    Ok(if got > 0 { line[k] != b'\n' } else { false })
 }
 
-// The characters up to the next newline, the input's end or the end of the room; how many they are. What stands after them is any.
-pub fn next_line(line: &mut [u8]) -> usize
-    ensures { result ≤ length line.new }
+// The characters up to the next newline, the input's end or the end of the room; how many they are. What stands after them is any, and
+// after a read that failed all are.
+pub fn next_line(input: &mut impl Read, line: &mut [u8]) -> io::Result<usize>
+    ensures { IfOk result (λ count. count ≤ length line.new) }
 {
     let mut l: usize = 0;
     while l < line.len() {
-        if !read_to(line, l) {
-            return l;
+        if !read_to(input, line, l)? {
+            return Ok(l);
         }
         l += 1;
     }
-    l
+    Ok(l)
 }
 
 // A number, and the place after the character that ends it.
@@ -104,12 +106,13 @@ fn numbers(text: &[u8], words: &mut [u32]) -> usize
 }
 
 // Reads the next line, decimal numbers below 2^32 with a blank between, into the front of words; how many they are, 0 at the end of the
-// input. The line has at most as many characters as `line`, whose bytes are then any.
-pub fn read_line(line: &mut [u8], words: &mut [u32]) -> usize
-    ensures { FrontWritten words.old words.new result }
+// input. The line has at most as many characters as `line`, whose bytes are then any. A read that failed leaves the words as they were.
+pub fn read_line(input: &mut impl Read, line: &mut [u8], words: &mut [u32]) -> io::Result<usize>
+    ensures ok { IfOk result (λ count. FrontWritten words.old words.new count) }
+    ensures err { OnErr result (words.new ≡ words.old) }
 {
-    let l = next_line(line);
-    numbers(&line[0..l], words)
+    let l = next_line(input, line)?;
+    Ok(numbers(&line[0..l], words))
 }
 
 // A length, never above `most`.
@@ -220,127 +223,115 @@ pub fn spelt_words64(text: &[u8], at: usize, words: &mut [u64]) -> usize
 // ---- what is written
 
 // The name with which a line begins.
-pub fn put_name(name: &[u8]) {
-    io::write_all(STDOUT_FILENO, name);
+pub fn put_name(rt: &impl Print, name: &[u8]) -> io::Result<()> {
+    rt.write_all(name)
 }
 
 // A number, with a blank before it.
-pub fn put64(x: u64) {
-    io::write_all(STDOUT_FILENO, b" ");
-    io::print_decimal(STDOUT_FILENO, x);
+pub fn put64(rt: &impl Print, x: u64) -> io::Result<()> {
+    print!(rt; " {x}")
 }
 
-pub fn put(x: u32) {
-    put64(x as u64);
+pub fn put(rt: &impl Print, x: u32) -> io::Result<()> {
+    put64(rt, x as u64)
 }
 
 // A number of words, with a blank before it.
-pub fn put_count(x: usize) {
-    put64(x as u64);
+pub fn put_count(rt: &impl Print, x: usize) -> io::Result<()> {
+    put64(rt, x as u64)
 }
 
 // All words of w, in brackets.
-pub fn put_words(w: &[u32]) {
-    io::write_all(STDOUT_FILENO, b" [");
-    let mut i: usize = 0;
-    while i < w.len() {
-        put(w[i]);
-        i += 1;
+pub fn put_words(rt: &impl Print, w: &[u32]) -> io::Result<()> {
+    put_name(rt, b" [")?;
+    for x in w {
+        put(rt, *x)?;
     }
-    io::write_all(STDOUT_FILENO, b" ]");
+    put_name(rt, b" ]")
 }
 
-pub fn put_words64(w: &[u64]) {
-    io::write_all(STDOUT_FILENO, b" [");
-    let mut i: usize = 0;
-    while i < w.len() {
-        put64(w[i]);
-        i += 1;
+pub fn put_words64(rt: &impl Print, w: &[u64]) -> io::Result<()> {
+    put_name(rt, b" [")?;
+    for x in w {
+        put64(rt, *x)?;
     }
-    io::write_all(STDOUT_FILENO, b" ]");
+    put_name(rt, b" ]")
 }
 
 // How a service's line begins: its name, the status and the value.
-pub fn put_answer(name: &[u8], status: u32, value: u32) {
-    put_answer64(name, status, value as u64);
+pub fn put_answer(rt: &impl Print, name: &[u8], status: u32, value: u32) -> io::Result<()> {
+    put_answer64(rt, name, status, value as u64)
 }
 
-pub fn put_answer64(name: &[u8], status: u32, value: u64) {
-    put_name(name);
-    put(status);
-    put64(value);
+pub fn put_answer64(rt: &impl Print, name: &[u8], status: u32, value: u64) -> io::Result<()> {
+    put_name(rt, name)?;
+    put(rt, status)?;
+    put64(rt, value)
 }
 
 // What became of lent words: in brackets those up to the last that is not as found, then how many after it are as found.
-pub fn put_lent(w: &[u32]) {
+pub fn put_lent(rt: &impl Print, w: &[u32]) -> io::Result<()> {
     let l = w.len();
     let same = ending(w, MARK);
-    put_words(&w[0..l - same]);
-    put_count(same);
+    put_words(rt, &w[0..l - same])?;
+    put_count(rt, same)
 }
 
 // How many words at the end of a working buffer are as found, and how many are zero.
-pub fn put_working(w: &[u32]) {
-    put_count(ending(w, MARK));
-    put_count(ending(w, 0));
+pub fn put_working(rt: &impl Print, w: &[u32]) -> io::Result<()> {
+    put_count(rt, ending(w, MARK))?;
+    put_count(rt, ending(w, 0))
 }
 
-pub fn put_working64(w: &[u64]) {
-    put_count(ending64(w, WIDE_MARK));
-    put_count(ending64(w, 0));
+pub fn put_working64(rt: &impl Print, w: &[u64]) -> io::Result<()> {
+    put_count(rt, ending64(w, WIDE_MARK))?;
+    put_count(rt, ending64(w, 0))
 }
 
 // A number in so many hexadecimal digits, with no blank before it.
-pub fn put_hexadecimal(x: u64, digits: usize) {
-    io::print_hex(STDOUT_FILENO, x, digits);
+pub fn put_hexadecimal(rt: &impl Print, x: u64, digits: usize) -> io::Result<()> {
+    print!(rt; "{x:0digits$x}")
 }
 
 // A number below 62 as a digit or a letter, small letters before capitals, and 62, 63 and 64 as + / =; a question mark for any other.
-pub fn put_digit(x: u32) {
+pub fn put_digit(rt: &impl Print, x: u32) -> io::Result<()> {
     if x < 10 {
-        io::write_all(STDOUT_FILENO, &[b'0' + x as u8]);
-        return;
+        return put_name(rt, &[b'0' + x as u8]);
     }
     if x < 36 {
-        io::write_all(STDOUT_FILENO, &[b'a' + (x - 10) as u8]);
-        return;
+        return put_name(rt, &[b'a' + (x - 10) as u8]);
     }
     if x < 62 {
-        io::write_all(STDOUT_FILENO, &[b'A' + (x - 36) as u8]);
-        return;
+        return put_name(rt, &[b'A' + (x - 36) as u8]);
     }
-    put_sign(x);
+    put_sign(rt, x)
 }
 
-fn put_sign(x: u32) {
+fn put_sign(rt: &impl Print, x: u32) -> io::Result<()> {
     if x == 62 {
-        io::write_all(STDOUT_FILENO, b"+");
-        return;
+        return put_name(rt, b"+");
     }
     if x == 63 {
-        io::write_all(STDOUT_FILENO, b"/");
-        return;
+        return put_name(rt, b"/");
     }
     if x == 64 {
-        io::write_all(STDOUT_FILENO, b"=");
-        return;
+        return put_name(rt, b"=");
     }
-    io::write_all(STDOUT_FILENO, b"?");
+    put_name(rt, b"?")
 }
 
 // In a line of many answers: the digit of the value, or an exclamation mark and the status.
-pub fn put_short(status: u32, value: u32) {
+pub fn put_short(rt: &impl Print, status: u32, value: u32) -> io::Result<()> {
     if status != 0 {
-        io::write_all(STDOUT_FILENO, b"!");
-        put_digit(status);
-        return;
+        put_name(rt, b"!")?;
+        return put_digit(rt, status);
     }
-    put_digit(value);
+    put_digit(rt, value)
 }
 
 // The end of a line.
-pub fn end_line() {
-    io::write_all(STDOUT_FILENO, b"\n");
+pub fn end_line(rt: &impl Print) -> io::Result<()> {
+    put_name(rt, b"\n")
 }
 
 // ---- lent words

@@ -7,6 +7,8 @@
 
 use degree_service::Degree;
 use refusals::Answer;
+use std::io;
+use std::io::{BufReader, Read};
 use test_lines::{MARK, put, put_lent, put_name, put_working, size};
 
 const PRODUCT: u32 = 1;
@@ -19,55 +21,76 @@ const INVERSE: u32 = 4;
 
 const DEGREE: u32 = 5;
 
-fn put_answer(name: &[u8], r: Answer) {
-    test_lines::put_answer(name, r.status, r.value);
+fn put_answer(rt: &impl Print, name: &[u8], r: Answer) -> io::Result<()> {
+    test_lines::put_answer(rt, name, r.status, r.value)
 }
 
 // ---- the services
 
-fn product_line(n: u32, f: &[u32], g: &[u32], a: &mut [u32]) {
-    put_answer(b"product", product_service::product(n, f, g, a));
-    put_lent(a);
+fn product_line(rt: &impl Print, n: u32, f: &[u32], g: &[u32], a: &mut [u32]) -> io::Result<()> {
+    put_answer(rt, b"product", product_service::product(n, f, g, a))?;
+    put_lent(rt, a)
 }
 
-fn division_line(n: u32, f: &[u32], g: &[u32], a: &mut [u32], b: &mut [u32]) {
-    put_answer(b"division", division_service::division(n, f, g, a, b));
-    put_lent(a);
-    put_lent(b);
+fn division_line(
+    rt: &impl Print,
+    n: u32,
+    f: &[u32],
+    g: &[u32],
+    a: &mut [u32],
+    b: &mut [u32],
+) -> io::Result<()> {
+    put_answer(rt, b"division", division_service::division(n, f, g, a, b))?;
+    put_lent(rt, a)?;
+    put_lent(rt, b)
 }
 
-fn monic_line(n: u32, f: &[u32], a: &mut [u32], b: &mut [u32], work: &mut [u32]) {
+fn monic_line(
+    rt: &impl Print,
+    n: u32,
+    f: &[u32],
+    a: &mut [u32],
+    b: &mut [u32],
+    work: &mut [u32],
+) -> io::Result<()> {
     put_answer(
+        rt,
         b"monic",
         unit_monic_service::unit_times_monic(n, f, a, b, work),
-    );
-    put_lent(a);
-    put_lent(b);
-    put_working(work);
+    )?;
+    put_lent(rt, a)?;
+    put_lent(rt, b)?;
+    put_working(rt, work)
 }
 
-fn inverse_line(n: u32, f: &[u32], a: &mut [u32], work: &mut [u32]) {
-    put_answer(b"inverse", inverse_service::inverse(n, f, a, work));
-    put_lent(a);
-    put_working(work);
+fn inverse_line(
+    rt: &impl Print,
+    n: u32,
+    f: &[u32],
+    a: &mut [u32],
+    work: &mut [u32],
+) -> io::Result<()> {
+    put_answer(rt, b"inverse", inverse_service::inverse(n, f, a, work))?;
+    put_lent(rt, a)?;
+    put_working(rt, work)
 }
 
 // The true degree, and the leading part.
-fn degree_line(n: u32, f: &[u32]) {
+fn degree_line(rt: &impl Print, n: u32, f: &[u32]) -> io::Result<()> {
     match degree_service::true_degree(n, f) {
         Degree::None => {
-            put_name(b"degree none");
+            put_name(rt, b"degree none")?;
         }
         Degree::At(k) => {
-            put_name(b"degree");
-            put(k);
+            put_name(rt, b"degree")?;
+            put(rt, k)?;
         }
         Degree::Refused(s) => {
-            put_name(b"degree refused");
-            put(s);
+            put_name(rt, b"degree refused")?;
+            put(rt, s)?;
         }
     }
-    test_lines::put_words(degree_service::leading(n, f));
+    test_lines::put_words(rt, degree_service::leading(n, f))
 }
 
 // The product word by word, for k from 0 to d + e + 2: the answer to the last.
@@ -80,14 +103,15 @@ fn words_apart(n: u32, f: &[u32], g: &[u32], a: &mut [u32]) -> Answer {
     product_word_service::product_word(n, f, g, a, k)
 }
 
-fn words_line(n: u32, f: &[u32], g: &[u32], a: &mut [u32]) {
-    put_answer(b"words", words_apart(n, f, g, a));
-    put_lent(a);
+fn words_line(rt: &impl Print, n: u32, f: &[u32], g: &[u32], a: &mut [u32]) -> io::Result<()> {
+    put_answer(rt, b"words", words_apart(n, f, g, a))?;
+    put_lent(rt, a)
 }
 
 // ---- the run
 
 fn answer(
+    rt: &impl Print,
     service: u32,
     n: u32,
     f: &[u32],
@@ -95,32 +119,28 @@ fn answer(
     a: &mut [u32],
     b: &mut [u32],
     work: &mut [u32],
-) {
+) -> io::Result<()> {
     if service == PRODUCT {
-        product_line(n, f, g, a);
-        return;
+        return product_line(rt, n, f, g, a);
     }
     if service == DIVISION {
-        division_line(n, f, g, a, b);
-        return;
+        return division_line(rt, n, f, g, a, b);
     }
     if service == MONIC {
-        monic_line(n, f, a, b, work);
-        return;
+        return monic_line(rt, n, f, a, b, work);
     }
     if service == INVERSE {
-        inverse_line(n, f, a, work);
-        return;
+        return inverse_line(rt, n, f, a, work);
     }
     if service == DEGREE {
-        degree_line(n, f);
-        return;
+        return degree_line(rt, n, f);
     }
-    words_line(n, f, g, a);
+    words_line(rt, n, f, g, a)
 }
 
 // The call with marked words.
 fn mark(
+    rt: &impl Print,
     service: u32,
     n: u32,
     f: &[u32],
@@ -128,15 +148,16 @@ fn mark(
     a: &mut [u32],
     b: &mut [u32],
     work: &mut [u32],
-) {
+) -> io::Result<()> {
     test_lines::fill(a, MARK);
     test_lines::fill(b, MARK);
     test_lines::fill(work, MARK);
-    answer(service, n, f, g, a, b, work);
+    answer(rt, service, n, f, g, a, b, work)
 }
 
 // The call with as much of each buffer as is lent.
 fn lend(
+    rt: &impl Print,
     service: u32,
     n: u32,
     f: &[u32],
@@ -145,14 +166,15 @@ fn lend(
     a: &mut [u32],
     b: &mut [u32],
     work: &mut [u32],
-) {
+) -> io::Result<()> {
     if sizes.len() < 3 {
-        return;
+        return Ok(());
     }
     let la = size(sizes[0], a.len());
     let lb = size(sizes[1], b.len());
     let lw = size(sizes[2], work.len());
     mark(
+        rt,
         service,
         n,
         f,
@@ -160,20 +182,27 @@ fn lend(
         &mut a[0..la],
         &mut b[0..lb],
         &mut work[0..lw],
-    );
+    )
 }
 
 // The words of a line; whether they were all there.
-fn try_words(words: &[u32], a: &mut [u32], b: &mut [u32], work: &mut [u32]) -> bool {
+fn try_words(
+    rt: &impl Print,
+    words: &[u32],
+    a: &mut [u32],
+    b: &mut [u32],
+    work: &mut [u32],
+) -> io::Result<bool> {
     if words.len() < 7 {
-        return false;
+        return Ok(false);
     }
     let l = size(words[2], 64);
     let m = size(words[3], 64);
     if words.len() < 7 + l + m {
-        return false;
+        return Ok(false);
     }
     lend(
+        rt,
         words[0],
         words[1],
         &words[7..7 + l],
@@ -182,39 +211,51 @@ fn try_words(words: &[u32], a: &mut [u32], b: &mut [u32], work: &mut [u32]) -> b
         a,
         b,
         work,
-    );
-    test_lines::end_line();
-    true
+    )?;
+    test_lines::end_line(rt)?;
+    Ok(true)
 }
 
 // The next line; whether there was one.
 fn try_line(
+    rt: &impl Print,
+    input: &mut impl Read,
     line: &mut [u8],
     words: &mut [u32],
     a: &mut [u32],
     b: &mut [u32],
     work: &mut [u32],
-) -> bool {
-    let count = test_lines::read_line(line, words);
-    try_words(&words[0..count], a, b, work)
+) -> io::Result<bool> {
+    let count = test_lines::read_line(input, line, words)?;
+    try_words(rt, &words[0..count], a, b, work)
 }
 
-// A proved loop has to end, and nothing says that an input does: it counts its rounds down from a number that no run uses up.
-fn run(line: &mut [u8], words: &mut [u32], a: &mut [u32], b: &mut [u32], work: &mut [u32]) {
-    let mut rounds = u64::MAX;
-    while rounds > 0 {
-        if !try_line(line, words, a, b, work) {
-            return;
+// A proved loop has to end, and nothing says that an input does: it ends after a number of rounds that no run uses up.
+fn run(
+    rt: &impl Print,
+    input: &mut impl Read,
+    line: &mut [u8],
+    words: &mut [u32],
+    a: &mut [u32],
+    b: &mut [u32],
+    work: &mut [u32],
+) -> io::Result<()> {
+    for _ in 0..u64::MAX {
+        if !try_line(rt, input, line, words, a, b, work)? {
+            break;
         }
-        rounds -= 1;
     }
+    Ok(())
 }
 
-fn main() {
-    let mut line = io::buffer();
+fn main(rt: HostRuntime) -> io::Result<()> {
+    let mut input = BufReader::new(rt.alloc(), rt.stdin())?;
+    let mut line = [0u8; 4096];
     let mut words = [0u32; 128];
     let mut a = [0u32; 2048];
     let mut b = [0u32; 64];
     let mut work = [0u32; 8200];
-    run(&mut line, &mut words, &mut a, &mut b, &mut work);
+    run(
+        &rt, &mut input, &mut line, &mut words, &mut a, &mut b, &mut work,
+    )
 }

@@ -11,6 +11,8 @@ ghost use Rattle.residue.specs.Moduli.{CoprimeModuli};
 use refusals::Answer;
 use residue::Kind;
 use residue_service::{GcdAnswer, KindAnswer};
+use std::io;
+use std::io::{BufReader, Read};
 use test_lines::{put, put_answer, put_name};
 
 const SUM: u32 = 1;
@@ -30,24 +32,20 @@ const JOIN: u32 = 7;
 const ROWS: u32 = 10;
 
 // The name of a service of two numbers.
-fn put_service(service: u32) {
+fn put_service(rt: &impl Print, service: u32) -> io::Result<()> {
     if service == SUM {
-        put_name(b"sum");
-        return;
+        return put_name(rt, b"sum");
     }
     if service == DIFFERENCE {
-        put_name(b"difference");
-        return;
+        return put_name(rt, b"difference");
     }
     if service == PRODUCT {
-        put_name(b"times");
-        return;
+        return put_name(rt, b"times");
     }
     if service == POWER {
-        put_name(b"power");
-        return;
+        return put_name(rt, b"power");
     }
-    put_name(b"gcd");
+    put_name(rt, b"gcd")
 }
 
 fn apply(service: u32, n: u32, a: u32, b: u32) -> Answer {
@@ -65,165 +63,173 @@ fn apply(service: u32, n: u32, a: u32, b: u32) -> Answer {
 
 // ---- one case
 
-fn gcd_line(n: u32, a: u32, b: u32) {
+fn gcd_line(rt: &impl Print, n: u32, a: u32, b: u32) -> io::Result<()> {
     let c = residue_service::gcd_with_cofactors(n, a, b);
-    put_answer(b"gcd", c.status, c.g);
-    put(c.s);
-    put(c.t);
+    put_answer(rt, b"gcd", c.status, c.g)?;
+    put(rt, c.s)?;
+    put(rt, c.t)
 }
 
 // The K of n, and the kind of a.
-fn kind_line(n: u32, a: u32) {
-    put_name(b"kind");
-    put(residue::modulus_of(n).k);
+fn kind_line(rt: &impl Print, n: u32, a: u32) -> io::Result<()> {
+    put_name(rt, b"kind")?;
+    put(rt, residue::modulus_of(n).k)?;
     match residue_service::classify(n, a) {
         KindAnswer::Known(k) => match k {
             Kind::Unit(i) => {
-                put_name(b" unit");
-                put(i);
+                put_name(rt, b" unit")?;
+                put(rt, i)?;
             }
             Kind::Nilpotent => {
-                put_name(b" nilpotent");
+                put_name(rt, b" nilpotent")?;
             }
             Kind::Splits(p, q) => {
-                put_name(b" splits");
-                put(p);
-                put(q);
+                put_name(rt, b" splits")?;
+                put(rt, p)?;
+                put(rt, q)?;
             }
         },
         KindAnswer::Refused(s) => {
-            put_name(b" refused");
-            put(s);
+            put_name(rt, b" refused")?;
+            put(rt, s)?;
         }
     }
+    Ok(())
 }
 
 // ---- joining
 
-fn put_joined(n1: u32, n2: u32, x: u32, y: u32)
+fn put_joined(rt: &impl Print, n1: u32, n2: u32, x: u32, y: u32) -> io::Result<()>
     requires { CoprimeModuli 4294967296 n1 n2 }
 {
     if x >= n1 {
-        return;
+        return Ok(());
     }
     if y >= n2 {
-        return;
+        return Ok(());
     }
-    put(residue::join(n1, n2, x, y));
+    put(rt, residue::join(n1, n2, x, y))
 }
 
-fn put_all_joined(n1: u32, n2: u32, x: u32)
+fn put_all_joined(rt: &impl Print, n1: u32, n2: u32, x: u32) -> io::Result<()>
     requires { CoprimeModuli 4294967296 n1 n2 }
 {
-    put(residue::idempotent(n1, n2));
+    put(rt, residue::idempotent(n1, n2))?;
     for y in 0..n2 {
-        put_joined(n1, n2, x, y);
+        put_joined(rt, n1, n2, x, y)?;
     }
+    Ok(())
 }
 
-fn join_small(n1: u32, n2: u32, x: u32)
+fn join_small(rt: &impl Print, n1: u32, n2: u32, x: u32) -> io::Result<()>
     requires le_n1 { (1 ≤ n1) × (n1 ≤ 16) }
     requires le_n2 { (1 ≤ n2) × (n2 ≤ 16) }
 {
     if bezout::gcd(n1, n2) != 1 {
-        return;
+        return Ok(());
     }
-    put_all_joined(n1, n2, x);
+    put_all_joined(rt, n1, n2, x)
 }
 
-fn join_line(n1: u32, n2: u32, x: u32) {
-    put_name(b"join");
+fn join_line(rt: &impl Print, n1: u32, n2: u32, x: u32) -> io::Result<()> {
+    put_name(rt, b"join")?;
     if n1 < 1 {
-        return;
+        return Ok(());
     }
     if n1 > 16 {
-        return;
+        return Ok(());
     }
     if n2 < 1 {
-        return;
+        return Ok(());
     }
     if n2 > 16 {
-        return;
+        return Ok(());
     }
-    join_small(n1, n2, x);
+    join_small(rt, n1, n2, x)
 }
 
 // ---- rows
 
-fn put_short_gcd(c: GcdAnswer) {
-    test_lines::put_short(c.status, c.g);
+fn put_short_gcd(rt: &impl Print, c: GcdAnswer) -> io::Result<()> {
+    test_lines::put_short(rt, c.status, c.g)?;
     if c.status != 0 {
-        return;
+        return Ok(());
     }
-    test_lines::put_digit(c.s);
-    test_lines::put_digit(c.t);
+    test_lines::put_digit(rt, c.s)?;
+    test_lines::put_digit(rt, c.t)
 }
 
-fn put_one(service: u32, n: u32, a: u32, b: u32) {
+fn put_one(rt: &impl Print, service: u32, n: u32, a: u32, b: u32) -> io::Result<()> {
     if service == GCD {
-        put_short_gcd(residue_service::gcd_with_cofactors(n, a, b));
-        return;
+        return put_short_gcd(rt, residue_service::gcd_with_cofactors(n, a, b));
     }
     let r = apply(service, n, a, b);
-    test_lines::put_short(r.status, r.value);
+    test_lines::put_short(rt, r.status, r.value)
 }
 
 // One service with a and all b below count.
-fn row(service: u32, n: u32, a: u32, count: u32) {
-    put_service(service);
-    put_name(b" ");
+fn row(rt: &impl Print, service: u32, n: u32, a: u32, count: u32) -> io::Result<()> {
+    put_service(rt, service)?;
+    put_name(rt, b" ")?;
     for b in 0..count {
-        put_one(service, n, a, b);
+        put_one(rt, service, n, a, b)?;
     }
+    Ok(())
 }
 
 // ---- the run
 
-fn answer(service: u32, n: u32, a: u32, b: u32) {
+fn answer(rt: &impl Print, service: u32, n: u32, a: u32, b: u32) -> io::Result<()> {
     if service > ROWS {
-        row(service - ROWS, n, a, b);
-        return;
+        return row(rt, service - ROWS, n, a, b);
     }
     if service == GCD {
-        gcd_line(n, a, b);
-        return;
+        return gcd_line(rt, n, a, b);
     }
     if service == KIND {
-        kind_line(n, a);
-        return;
+        return kind_line(rt, n, a);
     }
     if service == JOIN {
-        join_line(n, a, b);
-        return;
+        return join_line(rt, n, a, b);
     }
     let r = apply(service, n, a, b);
-    put_service(service);
-    put_answer(b"", r.status, r.value);
+    put_service(rt, service)?;
+    put_answer(rt, b"", r.status, r.value)
 }
 
 // The next line; whether there was one.
-fn try_line(line: &mut [u8], words: &mut [u32]) -> bool {
-    if test_lines::read_line(line, words) < 4 {
-        return false;
+fn try_line(
+    rt: &impl Print,
+    input: &mut impl Read,
+    line: &mut [u8],
+    words: &mut [u32],
+) -> io::Result<bool> {
+    if test_lines::read_line(input, line, words)? < 4 {
+        return Ok(false);
     }
-    answer(words[0], words[1], words[2], words[3]);
-    test_lines::end_line();
-    true
+    answer(rt, words[0], words[1], words[2], words[3])?;
+    test_lines::end_line(rt)?;
+    Ok(true)
 }
 
-// A proved loop has to end, and nothing says that an input does: it counts its rounds down from a number that no run uses up.
-fn run(line: &mut [u8], words: &mut [u32]) {
-    let mut rounds = u64::MAX;
-    while rounds > 0 {
-        if !try_line(line, words) {
-            return;
+// A proved loop has to end, and nothing says that an input does: it ends after a number of rounds that no run uses up.
+fn run(
+    rt: &impl Print,
+    input: &mut impl Read,
+    line: &mut [u8],
+    words: &mut [u32],
+) -> io::Result<()> {
+    for _ in 0..u64::MAX {
+        if !try_line(rt, input, line, words)? {
+            break;
         }
-        rounds -= 1;
     }
+    Ok(())
 }
 
-fn main() {
-    let mut line = io::buffer();
+fn main(rt: HostRuntime) -> io::Result<()> {
+    let mut input = BufReader::new(rt.alloc(), rt.stdin())?;
+    let mut line = [0u8; 4096];
     let mut words = [0u32; 4];
-    run(&mut line, &mut words);
+    run(&rt, &mut input, &mut line, &mut words)
 }

@@ -11,6 +11,8 @@ ghost use Rattle.std.specs.Prelude.{◌+◌, ◌≤◌, ◌≡◌, length};
 
 use product_law_service64::Numbers;
 use refusals64::Answer;
+use std::io;
+use std::io::{BufReader, Read};
 use test_lines::{
     WIDE_MARK, ending64, put_answer64, put_count, put_working64, put64, size, spelt, spelt64,
 };
@@ -41,8 +43,8 @@ struct Sent {
 
 // ---- what is written
 
-fn put_answer(name: &[u8], a: Answer) {
-    put_answer64(name, a.status, a.value);
+fn put_answer(rt: &impl Print, name: &[u8], a: Answer) -> io::Result<()> {
+    put_answer64(rt, name, a.status, a.value)
 }
 
 // The value at x of the polynomial in the first `count` words of f, modulo n.
@@ -69,50 +71,92 @@ fn combined(n: u64, f: &[u64], g: &[u64], u: &[u64], v: &[u64], x: u64) -> u64
 }
 
 // How many words of the cofactors u and v are as found, and what they combine f and g to at 3 and at -2.
-fn put_cofactors(n: u64, f: &[u64], g: &[u64], u: &[u64], v: &[u64]) {
-    put_count(ending64(u, WIDE_MARK));
-    put_count(ending64(v, WIDE_MARK));
+fn put_cofactors(
+    rt: &impl Print,
+    n: u64,
+    f: &[u64],
+    g: &[u64],
+    u: &[u64],
+    v: &[u64],
+) -> io::Result<()> {
+    put_count(rt, ending64(u, WIDE_MARK))?;
+    put_count(rt, ending64(v, WIDE_MARK))?;
     if n < 2 {
-        return;
+        return Ok(());
     }
-    put64(combined(n, f, g, u, v, 3));
-    put64(combined(n, f, g, u, v, n - 2));
+    put64(rt, combined(n, f, g, u, v, 3))?;
+    put64(rt, combined(n, f, g, u, v, n - 2))
 }
 
 // ---- the services
 
-fn resultant_line(n: u64, f: &[u64], g: &[u64], work: &mut [u64]) {
-    put_answer(b"resultant", resultant_service64::resultant(n, f, g, work));
-    put_working64(work);
+fn resultant_line(
+    rt: &impl Print,
+    n: u64,
+    f: &[u64],
+    g: &[u64],
+    work: &mut [u64],
+) -> io::Result<()> {
+    put_answer(
+        rt,
+        b"resultant",
+        resultant_service64::resultant(n, f, g, work),
+    )?;
+    put_working64(rt, work)
 }
 
-fn reduced_line(n: u64, f: &[u64], g: &[u64], u: &mut [u64], v: &mut [u64], work: &mut [u64]) {
+fn reduced_line(
+    rt: &impl Print,
+    n: u64,
+    f: &[u64],
+    g: &[u64],
+    u: &mut [u64],
+    v: &mut [u64],
+    work: &mut [u64],
+) -> io::Result<()> {
     put_answer(
+        rt,
         b"reduced",
         reduced_service64::reduced_resultant(n, f, g, u, v, work),
-    );
-    put_cofactors(n, f, g, u, v);
-    put_working64(work);
+    )?;
+    put_cofactors(rt, n, f, g, u, v)?;
+    put_working64(rt, work)
 }
 
-fn how_far_line(n: u64, f: &[u64], g: &[u64], u: &mut [u64], v: &mut [u64], work: &mut [u64]) {
+fn how_far_line(
+    rt: &impl Print,
+    n: u64,
+    f: &[u64],
+    g: &[u64],
+    u: &mut [u64],
+    v: &mut [u64],
+    work: &mut [u64],
+) -> io::Result<()> {
     let a = product_law_service64::how_far(n, f, g, u, v, work);
-    put_answer64(b"how_far", a.status, a.resultant);
-    put64(a.divisor);
-    put_cofactors(n, f, g, u, v);
-    put_working64(work);
+    put_answer64(rt, b"how_far", a.status, a.resultant)?;
+    put64(rt, a.divisor)?;
+    put_cofactors(rt, n, f, g, u, v)?;
+    put_working64(rt, work)
 }
 
-fn put_numbers(a: Numbers) {
-    put_answer64(b"law", a.status, a.r);
-    put64(a.rf);
-    put64(a.rg);
-    put64(a.d);
-    put64(a.df);
-    put64(a.dg);
+fn put_numbers(rt: &impl Print, a: Numbers) -> io::Result<()> {
+    put_answer64(rt, b"law", a.status, a.r)?;
+    put64(rt, a.rf)?;
+    put64(rt, a.rg)?;
+    put64(rt, a.d)?;
+    put64(rt, a.df)?;
+    put64(rt, a.dg)
 }
 
-fn law_line(c: Sent, words: &[u64], p: &mut [u64], u: &mut [u64], v: &mut [u64], work: &mut [u64])
+fn law_line(
+    rt: &impl Print,
+    c: Sent,
+    words: &[u64],
+    p: &mut [u64],
+    u: &mut [u64],
+    v: &mut [u64],
+    work: &mut [u64],
+) -> io::Result<()>
     requires { c.f + c.g + c.h ≤ length words.now }
 {
     let first = c.f;
@@ -120,15 +164,19 @@ fn law_line(c: Sent, words: &[u64], p: &mut [u64], u: &mut [u64], v: &mut [u64],
     let f = &words[0..first];
     let g = &words[first..second];
     let h = &words[second..second + c.h];
-    put_numbers(product_law_service64::law_of_products(c.n, f, g, h, p, u, v, work));
-    test_lines::put_words64(p);
+    put_numbers(
+        rt,
+        product_law_service64::law_of_products(c.n, f, g, h, p, u, v, work),
+    )?;
+    test_lines::put_words64(rt, p)?;
     let m = p.len() - ending64(p, WIDE_MARK);
-    put_cofactors(c.n, &p[0..m], h, u, v);
-    put_working64(work);
+    put_cofactors(rt, c.n, &p[0..m], h, u, v)?;
+    put_working64(rt, work)
 }
 
 // A service of f and g.
 fn pair_line(
+    rt: &impl Print,
     service: u32,
     n: u64,
     f: &[u64],
@@ -136,28 +184,34 @@ fn pair_line(
     u: &mut [u64],
     v: &mut [u64],
     work: &mut [u64],
-) {
+) -> io::Result<()> {
     if service == EVALUATE {
-        put_answer(b"evaluate", evaluator_service64::evaluate(n, f, g));
-        return;
+        return put_answer(rt, b"evaluate", evaluator_service64::evaluate(n, f, g));
     }
     if service == RESULTANT {
-        resultant_line(n, f, g, work);
-        return;
+        return resultant_line(rt, n, f, g, work);
     }
     if service == REDUCED {
-        reduced_line(n, f, g, u, v, work);
-        return;
+        return reduced_line(rt, n, f, g, u, v, work);
     }
-    how_far_line(n, f, g, u, v, work);
+    how_far_line(rt, n, f, g, u, v, work)
 }
 
-fn call(c: Sent, words: &[u64], p: &mut [u64], u: &mut [u64], v: &mut [u64], work: &mut [u64])
+fn call(
+    rt: &impl Print,
+    c: Sent,
+    words: &[u64],
+    p: &mut [u64],
+    u: &mut [u64],
+    v: &mut [u64],
+    work: &mut [u64],
+) -> io::Result<()>
     requires { c.f + c.g + c.h ≤ length words.now }
 {
     if c.service <= HOW_FAR {
         let first = c.f;
-        pair_line(
+        return pair_line(
+            rt,
             c.service,
             c.n,
             &words[0..first],
@@ -166,9 +220,8 @@ fn call(c: Sent, words: &[u64], p: &mut [u64], u: &mut [u64], v: &mut [u64], wor
             v,
             work,
         );
-        return;
     }
-    law_line(c, words, p, u, v, work);
+    law_line(rt, c, words, p, u, v, work)
 }
 
 // ---- the run
@@ -187,7 +240,7 @@ fn working_room() -> [u64; 16400]
 }
 
 // The call with as much of each buffer as is lent.
-fn lend(text: &[u8], c: Sent, words: &[u64])
+fn lend(rt: &impl Print, text: &[u8], c: Sent, words: &[u64]) -> io::Result<()>
     requires { c.f + c.g + c.h ≤ length words.now }
 {
     let lp = size(spelt(text, 24, 28), 64);
@@ -199,13 +252,14 @@ fn lend(text: &[u8], c: Sent, words: &[u64])
     let mut v = result_room();
     let mut work = working_room();
     call(
+        rt,
         c,
         words,
         &mut p[0..lp],
         &mut u[0..lu],
         &mut v[0..lv],
         &mut work[0..lw],
-    );
+    )
 }
 
 // The head of a line.
@@ -222,38 +276,48 @@ fn called(text: &[u8]) -> Sent
 }
 
 // The text of a call; whether it was one.
-fn try_text(text: &[u8], words: &mut [u64]) -> bool {
+fn try_text(rt: &impl Print, text: &[u8], words: &mut [u64]) -> io::Result<bool> {
     if text.len() < HEAD {
-        return false;
+        return Ok(false);
     }
     let c = called(text);
     if test_lines::spelt_words64(text, HEAD, words) < c.f + c.g + c.h {
-        return false;
+        return Ok(false);
     }
-    lend(text, c, words);
-    test_lines::end_line();
-    true
+    lend(rt, text, c, words)?;
+    test_lines::end_line(rt)?;
+    Ok(true)
 }
 
 // The next line; whether it was a call.
-fn try_line(line: &mut [u8], words: &mut [u64]) -> bool {
-    let l = test_lines::next_line(line);
-    try_text(&line[0..l], words)
+fn try_line(
+    rt: &impl Print,
+    input: &mut impl Read,
+    line: &mut [u8],
+    words: &mut [u64],
+) -> io::Result<bool> {
+    let l = test_lines::next_line(input, line)?;
+    try_text(rt, &line[0..l], words)
 }
 
-// A proved loop has to end, and nothing says that an input does: it counts its rounds down from a number that no run uses up.
-fn run(line: &mut [u8], words: &mut [u64]) {
-    let mut rounds = u64::MAX;
-    while rounds > 0 {
-        if !try_line(line, words) {
-            return;
+// A proved loop has to end, and nothing says that an input does: it ends after a number of rounds that no run uses up.
+fn run(
+    rt: &impl Print,
+    input: &mut impl Read,
+    line: &mut [u8],
+    words: &mut [u64],
+) -> io::Result<()> {
+    for _ in 0..u64::MAX {
+        if !try_line(rt, input, line, words)? {
+            break;
         }
-        rounds -= 1;
     }
+    Ok(())
 }
 
-fn main() {
-    let mut line = io::buffer();
+fn main(rt: HostRuntime) -> io::Result<()> {
+    let mut input = BufReader::new(rt.alloc(), rt.stdin())?;
+    let mut line = [0u8; 4096];
     let mut words = [0u64; 150];
-    run(&mut line, &mut words);
+    run(&rt, &mut input, &mut line, &mut words)
 }

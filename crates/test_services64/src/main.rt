@@ -12,6 +12,8 @@ use degree_service::Degree;
 use refusals64::Answer;
 use residue_service64::KindAnswer;
 use residue64::Kind;
+use std::io;
+use std::io::{BufReader, Read};
 use test_lines::{
     WIDE_MARK, put, put_answer64, put_name, put_words64, put_working64, put64, size, spelt, spelt64,
 };
@@ -44,117 +46,136 @@ const HEAD: usize = 34;
 
 const MOST: usize = 50;
 
-fn put_answer(name: &[u8], a: Answer) {
-    put_answer64(name, a.status, a.value);
+fn put_answer(rt: &impl Print, name: &[u8], a: Answer) -> io::Result<()> {
+    put_answer64(rt, name, a.status, a.value)
 }
 
 // ---- the services on residues
 
-fn gcd_line(n: u64, a: u64, b: u64) {
+fn gcd_line(rt: &impl Print, n: u64, a: u64, b: u64) -> io::Result<()> {
     let r = residue_service64::gcd_with_cofactors(n, a, b);
-    put_answer64(b"gcd", r.status, r.g);
-    put64(r.s);
-    put64(r.t);
+    put_answer64(rt, b"gcd", r.status, r.g)?;
+    put64(rt, r.s)?;
+    put64(rt, r.t)
 }
 
-fn kind_line(n: u64, a: u64) {
+fn kind_line(rt: &impl Print, n: u64, a: u64) -> io::Result<()> {
     match residue_service64::classify(n, a) {
         KindAnswer::Known(k) => match k {
             Kind::Unit(i) => {
-                put_name(b"unit");
-                put64(i);
+                put_name(rt, b"unit")?;
+                put64(rt, i)?;
             }
             Kind::Nilpotent => {
-                put_name(b"nilpotent");
+                put_name(rt, b"nilpotent")?;
             }
             Kind::Splits(p, q) => {
-                put_name(b"splits");
-                put64(p);
-                put64(q);
+                put_name(rt, b"splits")?;
+                put64(rt, p)?;
+                put64(rt, q)?;
             }
         },
         KindAnswer::Refused(s) => {
-            put_name(b"no kind");
-            put(s);
+            put_name(rt, b"no kind")?;
+            put(rt, s)?;
         }
     }
+    Ok(())
 }
 
-fn residues(service: u32, n: u64, a: u64, b: u64) {
+fn residues(rt: &impl Print, service: u32, n: u64, a: u64, b: u64) -> io::Result<()> {
     if service == SUM {
-        put_answer(b"sum", residue_service64::sum(n, a, b));
-        return;
+        return put_answer(rt, b"sum", residue_service64::sum(n, a, b));
     }
     if service == DIFFERENCE {
-        put_answer(b"difference", residue_service64::difference(n, a, b));
-        return;
+        return put_answer(rt, b"difference", residue_service64::difference(n, a, b));
     }
     if service == TIMES {
-        put_answer(b"times", residue_service64::product(n, a, b));
-        return;
+        return put_answer(rt, b"times", residue_service64::product(n, a, b));
     }
     if service == POWER {
-        put_answer(b"power", residue_service64::power(n, a, b as usize));
-        return;
+        return put_answer(rt, b"power", residue_service64::power(n, a, b as usize));
     }
     if service == GCD {
-        gcd_line(n, a, b);
-        return;
+        return gcd_line(rt, n, a, b);
     }
-    kind_line(n, a);
+    kind_line(rt, n, a)
 }
 
 // ---- the services on polynomials
 
-fn product_line(n: u64, f: &[u64], g: &[u64], p: &mut [u64]) {
-    put_answer(b"product", product_service64::product(n, f, g, p));
-    put_words64(p);
+fn product_line(rt: &impl Print, n: u64, f: &[u64], g: &[u64], p: &mut [u64]) -> io::Result<()> {
+    put_answer(rt, b"product", product_service64::product(n, f, g, p))?;
+    put_words64(rt, p)
 }
 
-fn division_line(n: u64, f: &[u64], g: &[u64], q: &mut [u64], r: &mut [u64]) {
-    put_answer(b"division", division_service64::division(n, f, g, q, r));
-    put_words64(q);
-    put_words64(r);
+fn division_line(
+    rt: &impl Print,
+    n: u64,
+    f: &[u64],
+    g: &[u64],
+    q: &mut [u64],
+    r: &mut [u64],
+) -> io::Result<()> {
+    put_answer(rt, b"division", division_service64::division(n, f, g, q, r))?;
+    put_words64(rt, q)?;
+    put_words64(rt, r)
 }
 
-fn degree_line(n: u64, f: &[u64]) {
+fn degree_line(rt: &impl Print, n: u64, f: &[u64]) -> io::Result<()> {
     match degree_service64::true_degree(n, f) {
         Degree::None => {
-            put_name(b"degree none");
+            put_name(rt, b"degree none")?;
         }
         Degree::At(k) => {
-            put_name(b"degree");
-            put(k);
+            put_name(rt, b"degree")?;
+            put(rt, k)?;
         }
         Degree::Refused(s) => {
-            put_name(b"no degree");
-            put(s);
+            put_name(rt, b"no degree")?;
+            put(rt, s)?;
         }
     }
+    Ok(())
 }
 
-fn leading_line(n: u64, f: &[u64]) {
-    put_name(b"leading");
-    put_words64(degree_service64::leading(n, f));
+fn leading_line(rt: &impl Print, n: u64, f: &[u64]) -> io::Result<()> {
+    put_name(rt, b"leading")?;
+    put_words64(rt, degree_service64::leading(n, f))
 }
 
-fn monic_line(n: u64, f: &[u64], u: &mut [u64], h: &mut [u64], work: &mut [u64]) {
+fn monic_line(
+    rt: &impl Print,
+    n: u64,
+    f: &[u64],
+    u: &mut [u64],
+    h: &mut [u64],
+    work: &mut [u64],
+) -> io::Result<()> {
     put_answer(
+        rt,
         b"monic",
         unit_monic_service64::unit_times_monic(n, f, u, h, work),
-    );
-    put_words64(u);
-    put_words64(h);
-    put_working64(work);
+    )?;
+    put_words64(rt, u)?;
+    put_words64(rt, h)?;
+    put_working64(rt, work)
 }
 
-fn inverse_line(n: u64, f: &[u64], out: &mut [u64], work: &mut [u64]) {
-    put_answer(b"inverse", inverse_service64::inverse(n, f, out, work));
-    put_words64(out);
-    put_working64(work);
+fn inverse_line(
+    rt: &impl Print,
+    n: u64,
+    f: &[u64],
+    out: &mut [u64],
+    work: &mut [u64],
+) -> io::Result<()> {
+    put_answer(rt, b"inverse", inverse_service64::inverse(n, f, out, work))?;
+    put_words64(rt, out)?;
+    put_working64(rt, work)
 }
 
 fn polynomials(
+    rt: &impl Print,
     service: u32,
     n: u64,
     f: &[u64],
@@ -162,28 +183,23 @@ fn polynomials(
     u: &mut [u64],
     v: &mut [u64],
     work: &mut [u64],
-) {
+) -> io::Result<()> {
     if service == PRODUCT {
-        product_line(n, f, g, u);
-        return;
+        return product_line(rt, n, f, g, u);
     }
     if service == DIVISION {
-        division_line(n, f, g, u, v);
-        return;
+        return division_line(rt, n, f, g, u, v);
     }
     if service == DEGREE {
-        degree_line(n, f);
-        return;
+        return degree_line(rt, n, f);
     }
     if service == LEADING {
-        leading_line(n, f);
-        return;
+        return leading_line(rt, n, f);
     }
     if service == MONIC {
-        monic_line(n, f, u, v, work);
-        return;
+        return monic_line(rt, n, f, u, v, work);
     }
-    inverse_line(n, f, u, work);
+    inverse_line(rt, n, f, u, work)
 }
 
 // ---- the run
@@ -197,6 +213,7 @@ fn head(f: &[u64]) -> u64 {
 }
 
 fn call(
+    rt: &impl Print,
     service: u32,
     n: u64,
     f: &[u64],
@@ -204,12 +221,11 @@ fn call(
     u: &mut [u64],
     v: &mut [u64],
     work: &mut [u64],
-) {
+) -> io::Result<()> {
     if service <= KIND {
-        residues(service, n, head(f), head(g));
-        return;
+        return residues(rt, service, n, head(f), head(g));
     }
-    polynomials(service, n, f, g, u, v, work);
+    polynomials(rt, service, n, f, g, u, v, work)
 }
 
 // The buffers as they are lent, each word marked, with words to spare. The contracts give only the lengths.
@@ -226,7 +242,7 @@ fn working_room() -> [u64; 16400]
 }
 
 // The call with as much of each buffer as is lent.
-fn lend(text: &[u8], f: &[u64], g: &[u64]) {
+fn lend(rt: &impl Print, text: &[u8], f: &[u64], g: &[u64]) -> io::Result<()> {
     let n = spelt64(text, 2, 18);
     let lu = size(spelt(text, 22, 26), 3040);
     let lv = size(spelt(text, 26, 30), 3040);
@@ -235,6 +251,7 @@ fn lend(text: &[u8], f: &[u64], g: &[u64]) {
     let mut v = result_room();
     let mut work = working_room();
     call(
+        rt,
         spelt(text, 0, 2),
         n,
         f,
@@ -242,43 +259,53 @@ fn lend(text: &[u8], f: &[u64], g: &[u64]) {
         &mut u[0..lu],
         &mut v[0..lv],
         &mut work[0..lw],
-    );
+    )
 }
 
 // The text of a call; whether it was one.
-fn try_text(text: &[u8], words: &mut [u64]) -> bool {
+fn try_text(rt: &impl Print, text: &[u8], words: &mut [u64]) -> io::Result<bool> {
     if text.len() < HEAD {
-        return false;
+        return Ok(false);
     }
     let l = size(spelt(text, 18, 20), MOST);
     let m = size(spelt(text, 20, 22), MOST);
     if test_lines::spelt_words64(text, HEAD, words) < l + m {
-        return false;
+        return Ok(false);
     }
-    lend(text, &words[0..l], &words[l..l + m]);
-    test_lines::end_line();
-    true
+    lend(rt, text, &words[0..l], &words[l..l + m])?;
+    test_lines::end_line(rt)?;
+    Ok(true)
 }
 
 // The next line; whether it was a call.
-fn try_line(line: &mut [u8], words: &mut [u64]) -> bool {
-    let l = test_lines::next_line(line);
-    try_text(&line[0..l], words)
+fn try_line(
+    rt: &impl Print,
+    input: &mut impl Read,
+    line: &mut [u8],
+    words: &mut [u64],
+) -> io::Result<bool> {
+    let l = test_lines::next_line(input, line)?;
+    try_text(rt, &line[0..l], words)
 }
 
-// A proved loop has to end, and nothing says that an input does: it counts its rounds down from a number that no run uses up.
-fn run(line: &mut [u8], words: &mut [u64]) {
-    let mut rounds = u64::MAX;
-    while rounds > 0 {
-        if !try_line(line, words) {
-            return;
+// A proved loop has to end, and nothing says that an input does: it ends after a number of rounds that no run uses up.
+fn run(
+    rt: &impl Print,
+    input: &mut impl Read,
+    line: &mut [u8],
+    words: &mut [u64],
+) -> io::Result<()> {
+    for _ in 0..u64::MAX {
+        if !try_line(rt, input, line, words)? {
+            break;
         }
-        rounds -= 1;
     }
+    Ok(())
 }
 
-fn main() {
-    let mut line = io::buffer();
+fn main(rt: HostRuntime) -> io::Result<()> {
+    let mut input = BufReader::new(rt.alloc(), rt.stdin())?;
+    let mut line = [0u8; 4096];
     let mut words = [0u64; 100];
-    run(&mut line, &mut words);
+    run(&rt, &mut input, &mut line, &mut words)
 }

@@ -9,6 +9,8 @@
 ghost use Rattle.std.specs.Prelude.{◌≤◌, length};
 
 use refusals::Answer;
+use std::io;
+use std::io::{BufReader, Read};
 use test_lines::{MARK, put_count, put_name, size};
 
 // What stands in lent bytes before a call.
@@ -40,40 +42,40 @@ fn passed(text: &[u8], at: usize, x: u8) -> usize
     i
 }
 
-fn put_text(text: &[u8]) {
-    put_name(b" ");
-    put_name(text);
+fn put_text(rt: &impl Print, text: &[u8]) -> io::Result<()> {
+    put_name(rt, b" ")?;
+    put_name(rt, text)
 }
 
 // What became of lent bytes of which the first are a text.
-fn put_bytes(text: &[u8], count: usize) {
+fn put_bytes(rt: &impl Print, text: &[u8], count: usize) -> io::Result<()> {
     if text.len() < count {
-        return;
+        return Ok(());
     }
     let zero = passed(text, count, 0);
-    put_count(zero - count);
-    put_count(passed(text, zero, BYTE) - zero);
-    put_text(&text[0..count]);
+    put_count(rt, zero - count)?;
+    put_count(rt, passed(text, zero, BYTE) - zero)?;
+    put_text(rt, &text[0..count])
 }
 
-fn writer_line(n: u32, f: &[u32], text: &mut [u8]) {
+fn writer_line(rt: &impl Print, n: u32, f: &[u32], text: &mut [u8]) -> io::Result<()> {
     fill(text, BYTE);
     let r: Answer = text_writer_service::write_text(n, f, text);
-    test_lines::put_answer(b"write", r.status, r.value);
-    put_bytes(text, r.value as usize);
+    test_lines::put_answer(rt, b"write", r.status, r.value)?;
+    put_bytes(rt, text, r.value as usize)
 }
 
-fn reader_line(n: u32, text: &[u8], words: &mut [u32]) {
+fn reader_line(rt: &impl Print, n: u32, text: &[u8], words: &mut [u32]) -> io::Result<()> {
     let r: Answer = text_reader_service::read_text(n, text, words);
-    test_lines::put_answer(b"read", r.status, r.value);
-    test_lines::put_lent(words);
-    put_text(text);
+    test_lines::put_answer(rt, b"read", r.status, r.value)?;
+    test_lines::put_lent(rt, words)?;
+    put_text(rt, text)
 }
 
 // The same, with marked words.
-fn mark(n: u32, text: &[u8], words: &mut [u32]) {
+fn mark(rt: &impl Print, n: u32, text: &[u8], words: &mut [u32]) -> io::Result<()> {
     test_lines::fill(words, MARK);
-    reader_line(n, text, words);
+    reader_line(rt, n, text, words)
 }
 
 fn byte(x: u32) -> u8 {
@@ -96,47 +98,66 @@ fn characters(codes: &[u32], text: &mut [u8]) -> usize
 }
 
 // The words of a line; whether they were all there.
-fn try_words(words: &[u32], text: &mut [u8], room: &mut [u32]) -> bool {
+fn try_words(
+    rt: &impl Print,
+    words: &[u32],
+    text: &mut [u8],
+    room: &mut [u32],
+) -> io::Result<bool> {
     if words.len() < 3 {
-        return false;
+        return Ok(false);
     }
     let rest = &words[3..];
     if words[0] == WRITE {
         let k = size(words[2], text.len());
-        writer_line(words[1], rest, &mut text[0..k]);
-        return true;
+        writer_line(rt, words[1], rest, &mut text[0..k])?;
+        return Ok(true);
     }
     let l = characters(rest, text);
     let k = size(words[2], room.len());
-    mark(words[1], &text[0..l], &mut room[0..k]);
-    true
+    mark(rt, words[1], &text[0..l], &mut room[0..k])?;
+    Ok(true)
 }
 
 // The next line; whether there was one.
-fn try_line(line: &mut [u8], words: &mut [u32], text: &mut [u8], room: &mut [u32]) -> bool {
-    let count = test_lines::read_line(line, words);
-    if !try_words(&words[0..count], text, room) {
-        return false;
+fn try_line(
+    rt: &impl Print,
+    input: &mut impl Read,
+    line: &mut [u8],
+    words: &mut [u32],
+    text: &mut [u8],
+    room: &mut [u32],
+) -> io::Result<bool> {
+    let count = test_lines::read_line(input, line, words)?;
+    if !try_words(rt, &words[0..count], text, room)? {
+        return Ok(false);
     }
-    test_lines::end_line();
-    true
+    test_lines::end_line(rt)?;
+    Ok(true)
 }
 
-// A proved loop has to end, and nothing says that an input does: it counts its rounds down from a number that no run uses up.
-fn run(line: &mut [u8], words: &mut [u32], text: &mut [u8], room: &mut [u32]) {
-    let mut rounds = u64::MAX;
-    while rounds > 0 {
-        if !try_line(line, words, text, room) {
-            return;
+// A proved loop has to end, and nothing says that an input does: it ends after a number of rounds that no run uses up.
+fn run(
+    rt: &impl Print,
+    input: &mut impl Read,
+    line: &mut [u8],
+    words: &mut [u32],
+    text: &mut [u8],
+    room: &mut [u32],
+) -> io::Result<()> {
+    for _ in 0..u64::MAX {
+        if !try_line(rt, input, line, words, text, room)? {
+            break;
         }
-        rounds -= 1;
     }
+    Ok(())
 }
 
-fn main() {
-    let mut line = io::buffer();
+fn main(rt: HostRuntime) -> io::Result<()> {
+    let mut input = BufReader::new(rt.alloc(), rt.stdin())?;
+    let mut line = [0u8; 4096];
     let mut words = [0u32; 820];
     let mut text = [0u8; 810];
     let mut room = [0u32; 52];
-    run(&mut line, &mut words, &mut text, &mut room);
+    run(&rt, &mut input, &mut line, &mut words, &mut text, &mut room)
 }

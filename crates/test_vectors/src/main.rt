@@ -10,6 +10,8 @@
 ghost use Rattle.std.specs.Prelude.{◌≤◌, ◌≡◌, length};
 
 use refusals::Answer;
+use std::io;
+use std::io::{BufReader, Read};
 use test_lines::{MARK, ending, put_name, size, spelt};
 
 // ---- whether cofactors combine
@@ -91,26 +93,28 @@ fn right(n: u32, f: &[u32], g: &[u32], u: &[u32], l: usize, v: &[u32], m: usize,
 // ---- the services
 
 // What was wrong, after a number.
-fn demand(holds: bool, what: &[u8]) {
+fn demand(rt: &impl Print, holds: bool, what: &[u8]) -> io::Result<()> {
     if !holds {
-        put_name(what);
+        put_name(rt, what)?;
     }
+    Ok(())
 }
 
 // What a service called `what` answered: the status is 0, the value is as it should be, the working words are zero.
-fn answered(status: u32, same: bool, work: &[u32], what: &[u8]) {
+fn answered(rt: &impl Print, status: u32, same: bool, work: &[u32], what: &[u8]) -> io::Result<()> {
     if status != 0 {
-        put_name(what);
-        put_name(b"-status");
+        put_name(rt, what)?;
+        put_name(rt, b"-status")?;
     }
     if !same {
-        put_name(what);
-        put_name(b"-value");
+        put_name(rt, what)?;
+        put_name(rt, b"-value")?;
     }
     if ending(work, 0) != work.len() {
-        put_name(what);
-        put_name(b"-working");
+        put_name(rt, what)?;
+        put_name(rt, b"-working")?;
     }
+    Ok(())
 }
 
 // Buffers as they are lent, each word marked, with words to spare. The contracts give only the lengths.
@@ -126,21 +130,21 @@ fn working_room() -> [u32; 8300]
     [MARK; 8300]
 }
 
-fn try_resultant(n: u32, f: &[u32], g: &[u32]) -> u32 {
+fn try_resultant(rt: &impl Print, n: u32, f: &[u32], g: &[u32]) -> io::Result<u32> {
     let mut work = working_room();
     let a: Answer = resultant_service::resultant(n, f, g, &mut work);
-    test_lines::put_hexadecimal(a.value as u64, 8);
-    answered(a.status, true, &work, b" resultant");
-    a.value
+    test_lines::put_hexadecimal(rt, a.value as u64, 8)?;
+    answered(rt, a.status, true, &work, b" resultant")?;
+    Ok(a.value)
 }
 
 // The plain evaluator serves d + e up to 8.
-fn try_evaluator(n: u32, f: &[u32], g: &[u32], r: u32) {
+fn try_evaluator(rt: &impl Print, n: u32, f: &[u32], g: &[u32], r: u32) -> io::Result<()> {
     if 10 < f.len() + g.len() {
-        return;
+        return Ok(());
     }
     let a: Answer = evaluator_service::evaluate(n, f, g);
-    answered(a.status, a.value == r, &[0], b" evaluator");
+    answered(rt, a.status, a.value == r, &[0], b" evaluator")
 }
 
 // The sent degree.
@@ -157,17 +161,26 @@ fn degree(f: &[u32]) -> usize
 }
 
 // The cofactors of the resultant r: u has e words, v has d.
-fn compare_cofactors(n: u32, f: &[u32], g: &[u32], u: &[u32], v: &[u32], r: u32)
+fn compare_cofactors(
+    rt: &impl Print,
+    n: u32,
+    f: &[u32],
+    g: &[u32],
+    u: &[u32],
+    v: &[u32],
+    r: u32,
+) -> io::Result<()>
     requires { 1 ≤ n }
 {
     demand(
+        rt,
         right(n, f, g, u, degree(g), v, degree(f), r),
         b" cofactors-combine",
-    );
+    )
 }
 
 // The resultant r with its cofactors; two constants are refused with 9.
-fn try_cofactors(n: u32, f: &[u32], g: &[u32], r: u32)
+fn try_cofactors(rt: &impl Print, n: u32, f: &[u32], g: &[u32], r: u32) -> io::Result<()>
     requires { 1 ≤ n }
 {
     let mut u = cofactor_room();
@@ -175,11 +188,10 @@ fn try_cofactors(n: u32, f: &[u32], g: &[u32], r: u32)
     let mut work = working_room();
     let a: Answer = cofactor_service::resultant_cofactors(n, f, g, &mut u, &mut v, &mut work);
     if f.len() + g.len() == 2 {
-        demand(a.status == 9, b" constants");
-        return;
+        return demand(rt, a.status == 9, b" constants");
     }
-    answered(a.status, a.value == r, &work, b" cofactors");
-    compare_cofactors(n, f, g, &u, &v, r);
+    answered(rt, a.status, a.value == r, &work, b" cofactors")?;
+    compare_cofactors(rt, n, f, g, &u, &v, r)
 }
 
 // L: the larger degree once for each halving of n, and 1.
@@ -208,82 +220,100 @@ fn larger_degree(f: &[u32], g: &[u32]) -> usize
     degree(f)
 }
 
-fn compare_reduced(n: u32, f: &[u32], g: &[u32], u: &[u32], v: &[u32], d: u32)
+fn compare_reduced(
+    rt: &impl Print,
+    n: u32,
+    f: &[u32],
+    g: &[u32],
+    u: &[u32],
+    v: &[u32],
+    d: u32,
+) -> io::Result<()>
     requires { 1 ≤ n }
 {
     let l = cofactor_words(n, larger_degree(f, g));
-    demand(right(n, f, g, u, l, v, l, d), b" reduced-combine");
+    demand(rt, right(n, f, g, u, l, v, l, d), b" reduced-combine")
 }
 
 // D with its cofactors.
-fn try_reduced(n: u32, f: &[u32], g: &[u32]) -> u32
+fn try_reduced(rt: &impl Print, n: u32, f: &[u32], g: &[u32]) -> io::Result<u32>
     requires { 1 ≤ n }
 {
     let mut u = cofactor_room();
     let mut v = cofactor_room();
     let mut work = working_room();
     let a: Answer = reduced_service::reduced_resultant(n, f, g, &mut u, &mut v, &mut work);
-    test_lines::put_hexadecimal(a.value as u64, 8);
-    answered(a.status, true, &work, b" reduced");
-    compare_reduced(n, f, g, &u, &v, a.value);
-    a.value
+    test_lines::put_hexadecimal(rt, a.value as u64, 8)?;
+    answered(rt, a.status, true, &work, b" reduced")?;
+    compare_reduced(rt, n, f, g, &u, &v, a.value)?;
+    Ok(a.value)
 }
 
 // D alone: the service without cofactors answers d too.
-fn try_divisor(n: u32, f: &[u32], g: &[u32], d: u32) {
+fn try_divisor(rt: &impl Print, n: u32, f: &[u32], g: &[u32], d: u32) -> io::Result<()> {
     let mut work = working_room();
     let a: Answer = divisor_service::divisor(n, f, g, &mut work);
-    answered(a.status, a.value == d, &work, b" divisor");
+    answered(rt, a.status, a.value == d, &work, b" divisor")
 }
 
 // ---- the run
 
-fn try_pair(n: u32, f: &[u32], g: &[u32])
+fn try_pair(rt: &impl Print, n: u32, f: &[u32], g: &[u32]) -> io::Result<()>
     requires { 1 ≤ n }
 {
-    let r = try_resultant(n, f, g);
-    try_evaluator(n, f, g, r);
-    try_cofactors(n, f, g, r);
-    put_name(b" ");
-    let d = try_reduced(n, f, g);
-    try_divisor(n, f, g, d);
-    test_lines::end_line();
+    let r = try_resultant(rt, n, f, g)?;
+    try_evaluator(rt, n, f, g, r)?;
+    try_cofactors(rt, n, f, g, r)?;
+    put_name(rt, b" ")?;
+    let d = try_reduced(rt, n, f, g)?;
+    try_divisor(rt, n, f, g, d)?;
+    test_lines::end_line(rt)
 }
 
 // The frame; whether it was one.
-fn try_frame(frame: &[u8], words: &mut [u32]) -> bool {
+fn try_frame(rt: &impl Print, frame: &[u8], words: &mut [u32]) -> io::Result<bool> {
     let n = spelt(frame, 2, 10);
     let d = size(spelt(frame, 10, 12), 48);
     let e = size(spelt(frame, 12, 14), 48);
     if n < 2 {
-        return false;
+        return Ok(false);
     }
     if test_lines::spelt_words(frame, 14, words) < d + e + 2 {
-        return false;
+        return Ok(false);
     }
-    try_pair(n, &words[0..d + 1], &words[d + 1..d + e + 2]);
-    true
+    try_pair(rt, n, &words[0..d + 1], &words[d + 1..d + e + 2])?;
+    Ok(true)
 }
 
 // The next line; whether it was a frame.
-fn try_line(line: &mut [u8], words: &mut [u32]) -> bool {
-    let l = test_lines::next_line(line);
-    try_frame(&line[0..l], words)
+fn try_line(
+    rt: &impl Print,
+    input: &mut impl Read,
+    line: &mut [u8],
+    words: &mut [u32],
+) -> io::Result<bool> {
+    let l = test_lines::next_line(input, line)?;
+    try_frame(rt, &line[0..l], words)
 }
 
-// A proved loop has to end, and nothing says that an input does: it counts its rounds down from a number that no run uses up.
-fn run(line: &mut [u8], words: &mut [u32]) {
-    let mut rounds = u64::MAX;
-    while rounds > 0 {
-        if !try_line(line, words) {
-            return;
+// A proved loop has to end, and nothing says that an input does: it ends after a number of rounds that no run uses up.
+fn run(
+    rt: &impl Print,
+    input: &mut impl Read,
+    line: &mut [u8],
+    words: &mut [u32],
+) -> io::Result<()> {
+    for _ in 0..u64::MAX {
+        if !try_line(rt, input, line, words)? {
+            break;
         }
-        rounds -= 1;
     }
+    Ok(())
 }
 
-fn main() {
-    let mut line = io::buffer();
+fn main(rt: HostRuntime) -> io::Result<()> {
+    let mut input = BufReader::new(rt.alloc(), rt.stdin())?;
+    let mut line = [0u8; 4096];
     let mut words = [0u32; 98];
-    run(&mut line, &mut words);
+    run(&rt, &mut input, &mut line, &mut words)
 }

@@ -8,6 +8,8 @@
 ghost use Rattle.std.specs.Prelude.{◌≤◌, ◌≡◌, length};
 
 use refusals64::Answer;
+use std::io;
+use std::io::{BufReader, Read};
 use test_lines::{WIDE_MARK, ending64, put_name, size, spelt};
 
 // ---- whether cofactors combine
@@ -89,15 +91,16 @@ fn right(n: u64, f: &[u64], g: &[u64], u: &[u64], v: &[u64], l: usize, c: u64) -
 // ---- the services
 
 // What a service called `what` answered: the status is 0, and the working words are zero.
-fn answered(status: u32, work: &[u64], what: &[u8]) {
+fn answered(rt: &impl Print, status: u32, work: &[u64], what: &[u8]) -> io::Result<()> {
     if status != 0 {
-        put_name(what);
-        put_name(b"-status");
+        put_name(rt, what)?;
+        put_name(rt, b"-status")?;
     }
     if ending64(work, 0) != work.len() {
-        put_name(what);
-        put_name(b"-working");
+        put_name(rt, what)?;
+        put_name(rt, b"-working")?;
     }
+    Ok(())
 }
 
 // Buffers as they are lent, each word marked, with words to spare. The contracts give only the lengths.
@@ -113,11 +116,11 @@ fn working_room() -> [u64; 16400]
     [WIDE_MARK; 16400]
 }
 
-fn try_resultant(n: u64, f: &[u64], g: &[u64]) {
+fn try_resultant(rt: &impl Print, n: u64, f: &[u64], g: &[u64]) -> io::Result<()> {
     let mut work = working_room();
     let a: Answer = resultant_service64::resultant(n, f, g, &mut work);
-    test_lines::put_hexadecimal(a.value, 16);
-    answered(a.status, &work, b" resultant");
+    test_lines::put_hexadecimal(rt, a.value, 16)?;
+    answered(rt, a.status, &work, b" resultant")
 }
 
 // L: the larger degree once for each halving of n, and 1.
@@ -159,67 +162,86 @@ fn degree(f: &[u64]) -> usize
     f.len() - 1
 }
 
-fn compare_reduced(n: u64, f: &[u64], g: &[u64], u: &[u64], v: &[u64], d: u64)
+fn compare_reduced(
+    rt: &impl Print,
+    n: u64,
+    f: &[u64],
+    g: &[u64],
+    u: &[u64],
+    v: &[u64],
+    d: u64,
+) -> io::Result<()>
     requires { 1 ≤ n }
 {
     let l = cofactor_words(n, larger_degree(f, g));
     if !right(n, f, g, u, v, l, d) {
-        put_name(b" reduced-combine");
+        put_name(rt, b" reduced-combine")?;
     }
+    Ok(())
 }
 
 // D with its cofactors.
-fn try_reduced(n: u64, f: &[u64], g: &[u64])
+fn try_reduced(rt: &impl Print, n: u64, f: &[u64], g: &[u64]) -> io::Result<()>
     requires { 1 ≤ n }
 {
     let mut u = cofactor_room();
     let mut v = cofactor_room();
     let mut work = working_room();
     let a: Answer = reduced_service64::reduced_resultant(n, f, g, &mut u, &mut v, &mut work);
-    test_lines::put_hexadecimal(a.value, 16);
-    answered(a.status, &work, b" reduced");
-    compare_reduced(n, f, g, &u, &v, a.value);
+    test_lines::put_hexadecimal(rt, a.value, 16)?;
+    answered(rt, a.status, &work, b" reduced")?;
+    compare_reduced(rt, n, f, g, &u, &v, a.value)
 }
 
 // ---- the run
 
 // The text of a pair; whether it was one.
-fn try_text(text: &[u8], words: &mut [u64]) -> bool {
+fn try_text(rt: &impl Print, text: &[u8], words: &mut [u64]) -> io::Result<bool> {
     let n = test_lines::spelt64(text, 0, 16);
     let d = size(spelt(text, 16, 18), 48);
     let e = size(spelt(text, 18, 20), 48);
     if n < 2 {
-        return false;
+        return Ok(false);
     }
     if test_lines::spelt_words64(text, 20, words) < d + e + 2 {
-        return false;
+        return Ok(false);
     }
-    try_resultant(n, &words[0..d + 1], &words[d + 1..d + e + 2]);
-    put_name(b" ");
-    try_reduced(n, &words[0..d + 1], &words[d + 1..d + e + 2]);
-    test_lines::end_line();
-    true
+    try_resultant(rt, n, &words[0..d + 1], &words[d + 1..d + e + 2])?;
+    put_name(rt, b" ")?;
+    try_reduced(rt, n, &words[0..d + 1], &words[d + 1..d + e + 2])?;
+    test_lines::end_line(rt)?;
+    Ok(true)
 }
 
 // The next line; whether it was a pair.
-fn try_line(line: &mut [u8], words: &mut [u64]) -> bool {
-    let l = test_lines::next_line(line);
-    try_text(&line[0..l], words)
+fn try_line(
+    rt: &impl Print,
+    input: &mut impl Read,
+    line: &mut [u8],
+    words: &mut [u64],
+) -> io::Result<bool> {
+    let l = test_lines::next_line(input, line)?;
+    try_text(rt, &line[0..l], words)
 }
 
-// A proved loop has to end, and nothing says that an input does: it counts its rounds down from a number that no run uses up.
-fn run(line: &mut [u8], words: &mut [u64]) {
-    let mut rounds = u64::MAX;
-    while rounds > 0 {
-        if !try_line(line, words) {
-            return;
+// A proved loop has to end, and nothing says that an input does: it ends after a number of rounds that no run uses up.
+fn run(
+    rt: &impl Print,
+    input: &mut impl Read,
+    line: &mut [u8],
+    words: &mut [u64],
+) -> io::Result<()> {
+    for _ in 0..u64::MAX {
+        if !try_line(rt, input, line, words)? {
+            break;
         }
-        rounds -= 1;
     }
+    Ok(())
 }
 
-fn main() {
-    let mut line = io::buffer();
+fn main(rt: HostRuntime) -> io::Result<()> {
+    let mut input = BufReader::new(rt.alloc(), rt.stdin())?;
+    let mut line = [0u8; 4096];
     let mut words = [0u64; 98];
-    run(&mut line, &mut words);
+    run(&rt, &mut input, &mut line, &mut words)
 }

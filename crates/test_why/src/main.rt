@@ -12,6 +12,8 @@
 ghost use Rattle.std.specs.Prelude.{◌≤◌};
 
 use refusals::Answer;
+use std::io;
+use std::io::{BufReader, Read};
 use test_lines::{MARK, ending, put, put_digit, put_name, size};
 use why_service::Reason;
 
@@ -135,135 +137,192 @@ fn true_ground(n: u32, f: &[u32], g: &[u32], r: Reason, w: &[u32]) -> bool {
 
 // ---- one pair
 
-fn put_reason(r: Reason) {
-    put_name(b"why");
-    put(r.status);
-    put(r.ground);
-    put(r.m);
-    put(r.degree);
+fn put_reason(rt: &impl Print, r: Reason) -> io::Result<()> {
+    put_name(rt, b"why")?;
+    put(rt, r.status)?;
+    put(rt, r.ground)?;
+    put(rt, r.m)?;
+    put(rt, r.degree)
 }
 
 // The divisor has 49 words, if it is long enough.
-fn put_holds(n: u32, f: &[u32], g: &[u32], r: Reason, w: &[u32]) {
+fn put_holds(
+    rt: &impl Print,
+    n: u32,
+    f: &[u32],
+    g: &[u32],
+    r: Reason,
+    w: &[u32],
+) -> io::Result<()> {
     if r.status != 0 {
-        return;
+        return Ok(());
     }
     if w.len() < 49 {
-        return;
+        return Ok(());
     }
     if true_ground(n, f, g, r, &w[0..49]) {
-        put_name(b" holds");
+        put_name(rt, b" holds")?;
     }
+    Ok(())
 }
 
 // The pair with marked words.
-fn pair(n: u32, f: &[u32], g: &[u32], w: &mut [u32], work: &mut [u32]) {
+fn pair(
+    rt: &impl Print,
+    n: u32,
+    f: &[u32],
+    g: &[u32],
+    w: &mut [u32],
+    work: &mut [u32],
+) -> io::Result<()> {
     test_lines::fill(w, MARK);
     test_lines::fill(work, MARK);
     let r = why_service::why(n, f, g, w, work);
-    put_reason(r);
-    test_lines::put_lent(w);
-    test_lines::put_working(work);
-    put_holds(n, f, g, r, w);
+    put_reason(rt, r)?;
+    test_lines::put_lent(rt, w)?;
+    test_lines::put_working(rt, work)?;
+    put_holds(rt, n, f, g, r, w)
 }
 
 // ---- rows
 
 // The first words of w, a character each.
-fn put_digits(w: &[u32]) {
+fn put_digits(rt: &impl Print, w: &[u32]) -> io::Result<()> {
     let mut i: usize = 0;
     while i < w.len() {
-        put_digit(w[i]);
+        put_digit(rt, w[i])?;
         i += 1;
     }
+    Ok(())
 }
 
-fn put_short(r: Reason, w: &[u32]) {
-    put_digit(r.ground);
+fn put_short(rt: &impl Print, r: Reason, w: &[u32]) -> io::Result<()> {
+    put_digit(rt, r.ground)?;
     if r.ground == 0 {
-        return;
+        return Ok(());
     }
-    put_digit(r.m);
+    put_digit(rt, r.m)?;
     if r.ground == 1 {
-        return;
+        return Ok(());
     }
-    put_digit(r.degree);
-    put_digits(&w[0..size(r.degree, w.len())]);
+    put_digit(rt, r.degree)?;
+    put_digits(rt, &w[0..size(r.degree, w.len())])
 }
 
-fn put_one(n: u32, f: &[u32], g: &[u32], w: &mut [u32], work: &mut [u32]) {
+fn put_one(
+    rt: &impl Print,
+    n: u32,
+    f: &[u32],
+    g: &[u32],
+    w: &mut [u32],
+    work: &mut [u32],
+) -> io::Result<()> {
     let r = why_service::why(n, f, g, w, work);
     if r.status != 0 {
-        put_name(b"!");
-        return;
+        return put_name(rt, b"!");
     }
     if !true_ground(n, f, g, r, w) {
-        put_name(b"?");
-        return;
+        return put_name(rt, b"?");
     }
-    put_short(r, w);
+    put_short(rt, r, w)
 }
 
 // f with polynomial t of those of m words, the constant as the last digit.
-fn put_counted(n: u32, f: &[u32], m: usize, t: u32, work: &mut [u32])
+fn put_counted(
+    rt: &impl Print,
+    n: u32,
+    f: &[u32],
+    m: usize,
+    t: u32,
+    work: &mut [u32],
+) -> io::Result<()>
     requires { (2 ≤ n) × (m ≤ 3) }
 {
     let mut w = [0u32; 49];
     let g = [t % n, t / n % n, t / n / n % n];
-    put_one(n, f, &g[0..m], &mut w, work);
+    put_one(rt, n, f, &g[0..m], &mut w, work)
 }
 
-fn put_row(n: u32, f: &[u32], m: usize, count: u32, first: u32, step: u32, work: &mut [u32])
+fn put_row(
+    rt: &impl Print,
+    n: u32,
+    f: &[u32],
+    m: usize,
+    count: u32,
+    first: u32,
+    step: u32,
+    work: &mut [u32],
+) -> io::Result<()>
     requires { (2 ≤ n) × (m ≤ 3) }
 {
     let mut t = first;
     let mut k: u32 = 0;
     while k < count {
-        put_counted(n, f, m, t, work);
+        put_counted(rt, n, f, m, t, work)?;
         t = arithmetic::mul_add_mod(4294967291, t, 1, step);
         k += 1;
     }
+    Ok(())
 }
 
-fn row(n: u32, f: &[u32], m: usize, count: u32, first: u32, step: u32, work: &mut [u32]) {
-    put_name(b"row ");
+fn row(
+    rt: &impl Print,
+    n: u32,
+    f: &[u32],
+    m: usize,
+    count: u32,
+    first: u32,
+    step: u32,
+    work: &mut [u32],
+) -> io::Result<()> {
+    put_name(rt, b"row ")?;
     if n < 2 {
-        return;
+        return Ok(());
     }
     if 3 < m {
-        return;
+        return Ok(());
     }
-    put_row(n, f, m, count, first, step, work);
+    put_row(rt, n, f, m, count, first, step, work)
 }
 
 // ---- the run
 
 // A pair with as much of each buffer as is lent.
-fn lend(n: u32, f: &[u32], g: &[u32], lw: u32, lent: u32, w: &mut [u32], work: &mut [u32]) {
+fn lend(
+    rt: &impl Print,
+    n: u32,
+    f: &[u32],
+    g: &[u32],
+    lw: u32,
+    lent: u32,
+    w: &mut [u32],
+    work: &mut [u32],
+) -> io::Result<()> {
     let a = size(lw, w.len());
     let b = size(lent, work.len());
-    pair(n, f, g, &mut w[0..a], &mut work[0..b]);
+    pair(rt, n, f, g, &mut w[0..a], &mut work[0..b])
 }
 
 // The words of a line; whether they were all there.
-fn try_words(words: &[u32], w: &mut [u32], work: &mut [u32]) -> bool {
+fn try_words(rt: &impl Print, words: &[u32], w: &mut [u32], work: &mut [u32]) -> io::Result<bool> {
     if words.len() < HEAD {
-        return false;
+        return Ok(false);
     }
     let l = size(words[2], 64);
     let m = size(words[3], 64);
     if words.len() < HEAD + l {
-        return false;
+        return Ok(false);
     }
     let f = &words[HEAD..HEAD + l];
     if words[0] != PAIR {
-        row(words[1], f, m, words[4], words[6], words[7], work);
-        return true;
+        row(rt, words[1], f, m, words[4], words[6], words[7], work)?;
+        return Ok(true);
     }
     if words.len() < HEAD + l + m {
-        return false;
+        return Ok(false);
     }
     lend(
+        rt,
         words[1],
         f,
         &words[HEAD + l..HEAD + l + m],
@@ -271,35 +330,49 @@ fn try_words(words: &[u32], w: &mut [u32], work: &mut [u32]) -> bool {
         words[5],
         w,
         work,
-    );
-    true
+    )?;
+    Ok(true)
 }
 
 // The next line; whether there was one.
-fn try_line(line: &mut [u8], words: &mut [u32], w: &mut [u32], work: &mut [u32]) -> bool {
-    let count = test_lines::read_line(line, words);
-    if !try_words(&words[0..count], w, work) {
-        return false;
+fn try_line(
+    rt: &impl Print,
+    input: &mut impl Read,
+    line: &mut [u8],
+    words: &mut [u32],
+    w: &mut [u32],
+    work: &mut [u32],
+) -> io::Result<bool> {
+    let count = test_lines::read_line(input, line, words)?;
+    if !try_words(rt, &words[0..count], w, work)? {
+        return Ok(false);
     }
-    test_lines::end_line();
-    true
+    test_lines::end_line(rt)?;
+    Ok(true)
 }
 
-// A proved loop has to end, and nothing says that an input does: it counts its rounds down from a number that no run uses up.
-fn run(line: &mut [u8], words: &mut [u32], w: &mut [u32], work: &mut [u32]) {
-    let mut rounds = u64::MAX;
-    while rounds > 0 {
-        if !try_line(line, words, w, work) {
-            return;
+// A proved loop has to end, and nothing says that an input does: it ends after a number of rounds that no run uses up.
+fn run(
+    rt: &impl Print,
+    input: &mut impl Read,
+    line: &mut [u8],
+    words: &mut [u32],
+    w: &mut [u32],
+    work: &mut [u32],
+) -> io::Result<()> {
+    for _ in 0..u64::MAX {
+        if !try_line(rt, input, line, words, w, work)? {
+            break;
         }
-        rounds -= 1;
     }
+    Ok(())
 }
 
-fn main() {
-    let mut line = io::buffer();
+fn main(rt: HostRuntime) -> io::Result<()> {
+    let mut input = BufReader::new(rt.alloc(), rt.stdin())?;
+    let mut line = [0u8; 4096];
     let mut words = [0u32; 128];
     let mut w = [0u32; 52];
     let mut work = [0u32; 8200];
-    run(&mut line, &mut words, &mut w, &mut work);
+    run(&rt, &mut input, &mut line, &mut words, &mut w, &mut work)
 }
