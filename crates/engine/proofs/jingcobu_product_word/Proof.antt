@@ -1,7 +1,0 @@
-use borrow.Author.Rules.{rules}
-use Rattle.engine.proofs.jingcobu_product_word.Statement.{statement}
-use Rattle.engine.proofs.jingcobu_product_word.Tie as tie
-
-pub jingcobu_product_word_spec : {M : Type 1} → statement M
-jingcobu_product_word_spec = tie.close (tie.spec (λ c κs. search rules) (λ c. search rules)
-    (λ c. c.before.before.product_word.ensures))
