@@ -188,10 +188,8 @@ fn pair(
 
 // The first words of w, a character each.
 fn put_digits(rt: &impl Print, w: &[u32]) -> io::Result<()> {
-    let mut i: usize = 0;
-    while i < w.len() {
-        put_digit(rt, w[i])?;
-        i += 1;
+    for x in w {
+        put_digit(rt, *x)?;
     }
     Ok(())
 }
