@@ -254,11 +254,9 @@ fn put_row(
     requires { (2 ≤ n) × (m ≤ 3) }
 {
     let mut t = first;
-    let mut k: u32 = 0;
-    while k < count {
+    for _ in 0..count {
         put_counted(rt, n, f, m, t, work)?;
         t = arithmetic::mul_add_mod(4294967291, t, 1, step);
-        k += 1;
     }
     Ok(())
 }
