@@ -128,10 +128,10 @@ fn run(
     Ok(())
 }
 
-fn answers_room(alloc: Global) -> Result<Vec<u8>, AllocError>
-    ensures { IfOk result (λ room. length room.items ≡ 851968) }
+fn answers_room() -> [u8; ROOM]
+    ensures { 851968 ≡ length result }
 {
-    vec![in alloc; 0; ROOM]
+    [0; ROOM]
 }
 
 // The reason alone, without its number.
@@ -153,10 +153,9 @@ fn complain(rt: &(impl Eprint + AllocGlobal), failure: &Failure) -> io::Result<(
 }
 
 fn main(rt: HostRuntime) -> io::Result<()> {
-    let alloc = rt.alloc();
-    let mut line = vec![in alloc; 0; LINE]?;
-    let mut piece = vec![in alloc; 0; PIECE]?;
-    let mut out = answers_room(alloc)?;
+    let mut line = [0; LINE];
+    let mut piece = [0; PIECE];
+    let mut out = answers_room();
     let mut input = rt.stdin();
     let mut to = rt.stdout();
     match run(&mut input, &mut to, &mut line, &mut piece, &mut out) {
