@@ -9,6 +9,7 @@ width only.
     tools/twins.py                 one line for each pair: lines of proof at both widths, and how many answers differ
     tools/twins.py CRATE...        the answers that differ in these pairs
     tools/twins.py --shared        fails if a pair of SHARED, whose proofs are by rules, differs in more answers than stand there
+    tools/twins.py --same          the pairs of SHARED that may differ in nothing
 """
 import difflib
 import pathlib
@@ -78,6 +79,9 @@ def main(words):
                 print("FAILED: the proofs of %s and %s64 differ in %d lines, not %d:" % (crate, crate, len(found), allowed), *found, sep="\n    ")
         print("twins: %d pairs by rules, %d wrong" % (len(SHARED), wrong))
         return wrong != 0
+    if words == ["--same"]:
+        print(*(crate for crate, allowed in SHARED.items() if allowed == 0), sep="\n")
+        return 0
     for crate in words or pairs():
         a, b, found = compare(crate)
         print("%-24s %5d %5d lines, %4d differ" % (crate, a, b, len(found)))
