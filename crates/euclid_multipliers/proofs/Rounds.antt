@@ -1,7 +1,7 @@
 -- The way back, over the trail that the log tells.
 --
 --   read_first, read_second, lift_asked     what a step backwards asks
---   raising_none, raising_next, raised      no step yet; one step more; the last one
+--   raising_next              one step more
 --   rounds                    the rules
 --   bottomed                  the end of the steps down is where the way back begins
 use mathlib.Core.Path.{◌≡◌, refl, sym, ◌∙◌, ap, ap₂, subst, fun_ext}
@@ -88,9 +88,6 @@ module _ {m : Modulus} {h : ℕ} {F₀ G₀ : ℕ → ℕ} {d₀ e₀ C j : ℕ}
 
 -- ---- with any trail
 
-pub raising_none : {m : Modulus} {h j : ℕ} {r : Found} {w : List ℕ} → Raising m h j r w j r w
-raising_none = record { same = refl; most = omega arith; rising = λ F₀ G₀ d₀ e₀ C k. k }
-
 module _ {m : Modulus} {h j : ℕ} {r : Found} {w : List ℕ} {i : ℕ} {o : Found} {v : List ℕ} (k : Rises m h j r w)
     (g : Raising m h j r w i o v) (more : 0 < i) where
   here : Rising m h k.F₀ k.G₀ k.d₀ k.e₀ k.C i o v
@@ -118,11 +115,7 @@ module _ {m : Modulus} {h j : ℕ} {r : Found} {w : List ℕ} {i : ℕ} {o : Fou
     rising = λ F₀ G₀ d₀ e₀ C q. rising_next (g.rising F₀ G₀ d₀ e₀ C q) i' next x rd o' v' (omega (arith, two)) l;
   }
 
-pub raised : {m : Modulus} {h j i : ℕ} {r o : Found} {w v : List ℕ} → Raising m h j r w i o v → i ≤ 0 → Raising m h j r w 0 o v
-raised {m} {h} {j} {i} {r} {o} {w} {v} g l =
-    let z : i ≡ 0 = omega arith in subst (λ (k : ℕ). Raising m h j r w k o v) z g
-
-pub ruleset rounds = (rules, raising_none, read_first, read_second, lift_asked)
+pub ruleset rounds = (rules, read_first, read_second, lift_asked)
 
 -- ---- the end of the steps down
 

@@ -7,7 +7,7 @@
 //
 //   Descent        where the steps down ended, and their number
 //
-//   flag_of, bit_of    what the log keeps of the degrees
+//   bit_of         what the log keeps of the degrees
 //   write, read    a step in the log
 //   descend        the steps down
 //   ascend         the steps back
@@ -18,7 +18,7 @@
 ghost use Rattle.std.specs.Prelude.{◌≡◌, ◌+◌, ◌≤◌, length};
 ghost use Rattle.windows.specs.Window.{Around, Scratch};
 ghost use Rattle.modulus.specs.Values.{Known};
-ghost use Rattle.euclid_steps.specs.Trails.{flag, bit, LoggedAt};
+ghost use Rattle.euclid_steps.specs.Trails.{bit, LoggedAt};
 ghost use Rattle.euclid_steps.specs.Multiplied.{Asked, Multiplied};
 ghost use Rattle.euclid_multipliers.specs.StepsInBuffer.{Reads, DescentAsked, Descended, Rises, Raised, Started};
 
@@ -38,29 +38,12 @@ pub struct Descent {
     steps: usize,
 }
 
-fn flag_of(step: Logged) -> u32
-    ensures { result ≡ flag step.swap }
-{
-    if step.swap {
-        return 1;
-    }
-    0
-}
-
 fn bit_of(step: Logged, e: usize) -> u32
     requires { bit step.d step.e e step.swap ≤ 1 }
     ensures { result ≡ bit step.d step.e e step.swap }
 {
-    if step.swap {
-        if step.e <= step.d {
-            return 0;
-        }
-        return 1;
-    }
-    if step.e <= e {
-        return 0;
-    }
-    1
+    let least = if step.swap { step.d } else { e };
+    u32::from(least < step.e)
 }
 
 // A step in the log; e is the degree of g after it.
@@ -69,10 +52,8 @@ fn write(w: &mut [u32], at: usize, step: Logged, e: usize)
     ensures around { Around at 5 w.old w.new }
     ensures logged_at { LoggedAt at e step w.new }
 {
-    let a = flag_of(step);
-    let b = bit_of(step, e);
-    w[at] = a;
-    w[at + 1] = b;
+    w[at] = u32::from(step.swap);
+    w[at + 1] = bit_of(step, e);
     w[at + 2] = step.y;
     w[at + 3] = step.c;
     w[at + 4] = step.k;
@@ -134,6 +115,7 @@ fn descend(w: &mut [u32], m: Modulus, h: usize, x: Stage) -> Descent
     ensures { Descended m h x w.old result w.new }
 {
     let mut y = x;
+    // Kept: the degree ends the loop, and j is the place in the log and part of the answer: a `for` would have no end of its own.
     let mut j: usize = 0;
     while 0 < y.d {
         let d = y.d;
@@ -173,9 +155,7 @@ fn ascend(w: &mut [u32], m: Modulus, h: usize, j: usize, r: Found) -> Found
     ensures { Raised m h j r w.old result w.new }
 {
     let mut o = r;
-    let mut i = j;
-    while 0 < i {
-        i -= 1;
+    for i in (0..j).rev() {
         let x = read(w, h + h + 5 * i, o.d, o.e);
         o = multiplier_steps::lift(w, m, h, x, o);
     }

@@ -7,7 +7,7 @@
 //
 //   Descent        where the steps down ended, and their number
 //
-//   flag_of, bit_of    what the log keeps of the degrees
+//   bit_of         what the log keeps of the degrees
 //   write, read    a step in the log
 //   descend        the steps down
 //   ascend         the steps back
@@ -18,7 +18,7 @@
 ghost use Rattle.std.specs.Prelude.{◌≡◌, ◌+◌, ◌≤◌, length};
 ghost use Rattle.windows.specs.Window.{Around, Scratch};
 ghost use Rattle.reduction64.specs.Moduli.{Ready};
-ghost use Rattle.euclid_steps.specs.Trails.{flag, bit};
+ghost use Rattle.euclid_steps.specs.Trails.{bit};
 ghost use Rattle.euclid_steps.specs.Multiplied.{Asked};
 ghost use Rattle.euclid_steps64.specs.Backs.{LoggedAt, Multiplied};
 ghost use Rattle.euclid_multipliers64.specs.StepsInBuffer.{Reads, DescentAsked, Descended, Rises, Raised, Started};
@@ -39,29 +39,12 @@ pub struct Descent {
     steps: usize,
 }
 
-fn flag_of(step: Logged) -> u64
-    ensures { result ≡ flag step.swap }
-{
-    if step.swap {
-        return 1;
-    }
-    0
-}
-
 fn bit_of(step: Logged, e: usize) -> u64
     requires { bit step.d step.e e step.swap ≤ 1 }
     ensures { result ≡ bit step.d step.e e step.swap }
 {
-    if step.swap {
-        if step.e <= step.d {
-            return 0;
-        }
-        return 1;
-    }
-    if step.e <= e {
-        return 0;
-    }
-    1
+    let least = if step.swap { step.d } else { e };
+    u64::from(least < step.e)
 }
 
 // A step in the log; e is the degree of g after it.
@@ -70,10 +53,8 @@ fn write(w: &mut [u64], at: usize, step: Logged, e: usize)
     ensures around { Around at 5 w.old w.new }
     ensures logged_at { LoggedAt at e step w.new }
 {
-    let a = flag_of(step);
-    let b = bit_of(step, e);
-    w[at] = a;
-    w[at + 1] = b;
+    w[at] = u64::from(step.swap);
+    w[at + 1] = bit_of(step, e);
     w[at + 2] = step.y;
     w[at + 3] = step.c;
     w[at + 4] = step.k;
@@ -135,6 +116,7 @@ fn descend(w: &mut [u64], m: Reciprocal, h: usize, x: Stage) -> Descent
     ensures { Descended m h x w.old result w.new }
 {
     let mut y = x;
+    // Kept: the degree ends the loop, and j is the place in the log and part of the answer: a `for` would have no end of its own.
     let mut j: usize = 0;
     while 0 < y.d {
         let d = y.d;
@@ -174,9 +156,7 @@ fn ascend(w: &mut [u64], m: Reciprocal, h: usize, j: usize, r: Found) -> Found
     ensures { Raised m h j r w.old result w.new }
 {
     let mut o = r;
-    let mut i = j;
-    while 0 < i {
-        i -= 1;
+    for i in (0..j).rev() {
         let x = read(w, h + h + 5 * i, o.d, o.e);
         o = multiplier_steps64::lift(w, m, h, x, o);
     }

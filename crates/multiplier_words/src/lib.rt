@@ -24,10 +24,8 @@ fn put(u: &mut [u32], w: &[u32], m: Modulus, c: u32, at: usize, len: usize)
     ensures { Put m.n c at len (values m w.now) u.old u.new }
 {
     windows::wipe(u);
-    let mut j: usize = 0;
-    while j < len {
+    for j in 0..len {
         u[j] = modulus::times(m, w[at + j], c);
-        j += 1;
     }
 }
 

@@ -27,10 +27,8 @@ fn put(u: &mut [u64], w: &[u64], m: Reciprocal, c: u64, at: usize, len: usize)
     ensures { Put m.n c at len (values (plain m) w.now) u.old u.new }
 {
     windows64::wipe(u);
-    let mut j: usize = 0;
-    while j < len {
+    for j in 0..len {
         u[j] = modulus64::times(m, w[at + j], c);
-        j += 1;
     }
 }
 
