@@ -15,6 +15,7 @@ use native.Mathlib.Omega.{arith}
 use native.Mathlib.Nat.{mod-lt, mul-zero, zero-mod, one-dvd, mul-le-mul, max_comm}
 use lib.ListN.{length}
 use borrow.Author.Rules.{rules}
+use Rattle.std.specs.Prelude.{Result}
 use Rattle.definitions.specs.Residues.{K}
 use Rattle.definitions.specs.Polynomials.{coef, L}
 use Rattle.definitions.specs.Resultants.{Combination}
@@ -29,7 +30,7 @@ use Rattle.euclid_steps.specs.declared.Ending.{Ending}
 use Rattle.euclid_steps.specs.Multiplied.{Asked, Multiplied}
 use Rattle.multiplier_words.specs.Words.{Put, HandAsked, Handed}
 use Rattle.multiplier_words.proofs.Scaling.{handed_combination}
-use Rattle.residue.specs.declared.Attempt.{Attempt}
+use Rattle.residue.specs.declared.Split.{Split}
 use Rattle.reduced_cofactors.specs.Cofactors.{Certified}
 use Rattle.reduced_attempt.specs.ReducedAttempts.{AttemptAsked, Attempted}
 use Rattle.reduced_attempt.proofs.Whole.{certified_flip}
@@ -156,7 +157,7 @@ pub attempted_true : (n : ℕ) (f g u v u' v' : List ℕ) (r : Bool) → r ≡ t
 attempted_true n f g u v u' v' r e t = subst (λ (x : Bool). QuickAttempted n f g u v u' v' x) e t
 
 -- the buffers are as found, and the general attempt has to try
-pub attempted_later : (n : ℕ) (f g u v u₁ v₁ u' v' : List ℕ) (r : Bool) (x : Attempt) → r ≡ false → QuickAttempted n f g u v u₁ v₁ r
+pub attempted_later : (n : ℕ) (f g u v u₁ v₁ u' v' : List ℕ) (r : Bool) (x : Result ℕ (Split ℕ)) → r ≡ false → QuickAttempted n f g u v u₁ v₁ r
     → Attempted n f g u₁ v₁ u' v' x → Attempted n f g u v u' v' x
 attempted_later n f g u v u₁ v₁ u' v' r x h t a =
     let e = subst (λ (b : Bool). QuickAttempted n f g u v u₁ v₁ b) h t in

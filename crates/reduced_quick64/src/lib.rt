@@ -15,12 +15,12 @@ ghost use Rattle.reduction64.specs.Moduli.{Ready};
 ghost use Rattle.modulus64.specs.Plain.{plain};
 ghost use Rattle.euclid_steps64.specs.EuclidStages.{ending_of};
 ghost use Rattle.multiplier_words64.specs.Words.{HandAsked};
-ghost use Rattle.reduced_attempt64.specs.ReducedAttempts.{AttemptAsked, Attempted};
+ghost use Rattle.reduced_attempt.specs.ReducedAttempts.{AttemptAsked, Attempted};
 ghost use Rattle.reduced_quick.specs.Quick.{QuickAsked, Settled, QuickAttempted};
 
 use euclid_steps64::Ending;
 use reduction64::Reciprocal;
-use residue64::Attempt;
+use residue::Split;
 
 // A last constant that is a unit gives the cofactors of 1 by one inverse: true, and they are in u and v. Otherwise false, and u and v are
 // as found. r is where Euclid ended, h the number of words of a multiplier.
@@ -70,14 +70,14 @@ pub fn attempt(
     m: Reciprocal,
     f: &[u64],
     g: &[u64],
-) -> Attempt
+) -> Result<u64, Split<u64>>
     requires { (Ready m) × (AttemptAsked m.n f.now g.now u.old v.old w.old) }
     ensures attempted { Attempted m.n f.now g.now u.old v.old
         u.new v.new result }
     ensures scratch { Scratch w.old w.new }
 {
     if quick(u, v, w, m, f, g) {
-        return Attempt::Value(1);
+        return Ok(1);
     }
     reduced_attempt64::attempt(u, v, w, m, f, g)
 }
