@@ -27,8 +27,9 @@ ghost use Rattle.resultant_pseudo.specs.StandingRuns.{Placed, EuclidAttempted};
 ghost use Rattle.euclid_steps.specs.EuclidStages.{Standing, Reaches, Stepped, Finished, Told};
 ghost use Rattle.resultant_euclid.specs.Running.{Answering};
 
-use euclid_steps::{EuclidAttempt, Stage};
+use euclid_steps::Stage;
 use reduction64::Reciprocal;
+use resultant_pseudo::NotUnit;
 
 // x with the sign (-1)^e.
 fn with_sign(m: Reciprocal, e: usize, y: u64) -> u64
