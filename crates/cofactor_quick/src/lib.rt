@@ -33,7 +33,15 @@ fn factor(m: Modulus, x: Ending<u32>, i: u32, c: u32) -> u32
 }
 
 // The resultant with the sign (-1)^k, and its cofactors with that sign; i is the inverse of s.
-fn scale(u: &mut [u32], v: &mut [u32], w: &[u32], m: Modulus, x: Ending<u32>, i: u32, k: usize) -> u32
+fn scale(
+    u: &mut [u32],
+    v: &mut [u32],
+    w: &[u32],
+    m: Modulus,
+    x: Ending<u32>,
+    i: u32,
+    k: usize,
+) -> u32
     requires { ScaleAsked m x w.now u.old v.old }
     ensures { Scales m x i k w.now u.old v.old u.new v.new result }
 {

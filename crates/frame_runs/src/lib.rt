@@ -49,11 +49,7 @@ fn either(w: &mut [u32], n: u32, f: &[u32], g: &[u32]) -> Result<u32, NotUnit<u3
         return ordered(w, n, f, g);
     }
     let v = ordered(w, n, g, f)?;
-    Ok(resultant_signs::with_sign(
-        n,
-        (f.len() - 1) * (g.len() - 1),
-        v,
-    ))
+    Ok(resultant_signs::with_sign(n, (f.len() - 1) * (g.len() - 1), v))
 }
 
 fn euclid(w: &mut [u32], n: u32, f: &[u32], g: &[u32]) -> Result<u32, NotUnit<u32>>

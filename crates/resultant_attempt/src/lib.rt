@@ -69,7 +69,15 @@ pub fn euclid(
 
 // The same, where the leading word of f is 0: it is dropped, which costs the leading word of g with the sign (-1)^e.
 #[cycle(by_content_dropped_euclid_factors_from_below_monic_part_primitive_reversed_step_unit_part)]
-fn dropped(w: &mut [u32], m: Modulus, a: usize, d: usize, b: usize, e: usize, s: usize) -> Result<u32, Split<u32>>
+fn dropped(
+    w: &mut [u32],
+    m: Modulus,
+    a: usize,
+    d: usize,
+    b: usize,
+    e: usize,
+    s: usize,
+) -> Result<u32, Split<u32>>
     requires known { Known m }
     requires placed { (Placed m.n a d b e s w.old) × ((1 ≤ d) × (get_or w.old (a + d) 0 ≡ 0)) }
     ensures { ValueOrSplit m.n (resultant m.n (piece w.old a (d + 1)) (piece w.old b (e + 1))) result }
@@ -175,7 +183,14 @@ fn primitive(w: &mut [u32], m: Modulus, d: usize, e: usize) -> Result<u32, Split
 // The same where coefficient t of f, below the leading one, has the inverse i and those above it are nilpotent: f is a unit
 // polynomial times a monic one of degree t, and the resultant is the product of theirs.
 #[cycle(by_content_dropped_euclid_factors_from_below_monic_part_primitive_reversed_step_unit_part)]
-fn factors(w: &mut [u32], m: Modulus, d: usize, e: usize, t: usize, i: u32) -> Result<u32, Split<u32>>
+fn factors(
+    w: &mut [u32],
+    m: Modulus,
+    d: usize,
+    e: usize,
+    t: usize,
+    i: u32,
+) -> Result<u32, Split<u32>>
     requires known { Known m }
     requires stacked { (Stacked m.n d e w.old) × (t < d) }
     requires leading_unit { LeadingUnit m.n t i (piece w.old (e + 1) (d + 1)) }
@@ -197,7 +212,14 @@ fn factors(w: &mut [u32], m: Modulus, d: usize, e: usize, t: usize, i: u32) -> R
 
 // The resultant of the monic polynomial of degree t at a and of g at 0, worked from x on.
 #[cycle(by_content_dropped_euclid_factors_from_below_monic_part_primitive_reversed_step_unit_part)]
-fn monic_part(w: &mut [u32], m: Modulus, a: usize, t: usize, e: usize, x: usize) -> Result<u32, Split<u32>>
+fn monic_part(
+    w: &mut [u32],
+    m: Modulus,
+    a: usize,
+    t: usize,
+    e: usize,
+    x: usize,
+) -> Result<u32, Split<u32>>
     requires known { Known m }
     requires part { (Part m.n a t 0 e x w.old) × (get_or w.old (a + t) 0 ≡ 1) }
     ensures value_or_split { ValueOrSplit m.n (resultant m.n (piece w.old a (t + 1)) (piece w.old 0 (e + 1))) result }
@@ -220,7 +242,14 @@ fn monic_part(w: &mut [u32], m: Modulus, a: usize, t: usize, e: usize, x: usize)
 
 // The same for a polynomial of degree k whose constant is a unit.
 #[cycle(by_content_dropped_euclid_factors_from_below_monic_part_primitive_reversed_step_unit_part)]
-fn unit_part(w: &mut [u32], m: Modulus, a: usize, k: usize, e: usize, x: usize) -> Result<u32, Split<u32>>
+fn unit_part(
+    w: &mut [u32],
+    m: Modulus,
+    a: usize,
+    k: usize,
+    e: usize,
+    x: usize,
+) -> Result<u32, Split<u32>>
     requires known { Known m }
     requires part { (Part m.n a k 0 e x w.old) × ((1 ≤ k) × (IsUnit m.n (get_or w.old a 0))) }
     ensures { ValueOrSplit m.n (resultant m.n (piece w.old a (k + 1)) (piece w.old 0 (e + 1))) result }

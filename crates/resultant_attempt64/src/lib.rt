@@ -184,7 +184,14 @@ fn primitive(w: &mut [u64], m: Reciprocal, d: usize, e: usize) -> Result<u64, Sp
 // The same where coefficient t of f, below the leading one, has the inverse i and those above it are nilpotent: f is a unit
 // polynomial times a monic one of degree t, and the resultant is the product of theirs.
 #[cycle(by_content_dropped_euclid_factors_from_below_monic_part_primitive_reversed_step_unit_part)]
-fn factors(w: &mut [u64], m: Reciprocal, d: usize, e: usize, t: usize, i: u64) -> Result<u64, Split<u64>>
+fn factors(
+    w: &mut [u64],
+    m: Reciprocal,
+    d: usize,
+    e: usize,
+    t: usize,
+    i: u64,
+) -> Result<u64, Split<u64>>
     requires ready { Ready m }
     requires stacked { (Stacked m.n d e w.old) × (t < d) }
     requires leading_unit { LeadingUnit m.n t i (piece w.old (e + 1) (d + 1)) }
@@ -206,7 +213,14 @@ fn factors(w: &mut [u64], m: Reciprocal, d: usize, e: usize, t: usize, i: u64) -
 
 // The resultant of the monic polynomial of degree t at a and of g at 0, worked from x on.
 #[cycle(by_content_dropped_euclid_factors_from_below_monic_part_primitive_reversed_step_unit_part)]
-fn monic_part(w: &mut [u64], m: Reciprocal, a: usize, t: usize, e: usize, x: usize) -> Result<u64, Split<u64>>
+fn monic_part(
+    w: &mut [u64],
+    m: Reciprocal,
+    a: usize,
+    t: usize,
+    e: usize,
+    x: usize,
+) -> Result<u64, Split<u64>>
     requires ready { Ready m }
     requires part { (Part m.n a t 0 e x w.old) × (get_or w.old (a + t) 0 ≡ 1) }
     ensures value_or_split { ValueOrSplit m.n (resultant m.n (piece w.old a (t + 1)) (piece w.old 0 (e + 1))) result }
@@ -229,7 +243,14 @@ fn monic_part(w: &mut [u64], m: Reciprocal, a: usize, t: usize, e: usize, x: usi
 
 // The same for a polynomial of degree k whose constant is a unit.
 #[cycle(by_content_dropped_euclid_factors_from_below_monic_part_primitive_reversed_step_unit_part)]
-fn unit_part(w: &mut [u64], m: Reciprocal, a: usize, k: usize, e: usize, x: usize) -> Result<u64, Split<u64>>
+fn unit_part(
+    w: &mut [u64],
+    m: Reciprocal,
+    a: usize,
+    k: usize,
+    e: usize,
+    x: usize,
+) -> Result<u64, Split<u64>>
     requires ready { Ready m }
     requires part { (Part m.n a k 0 e x w.old) × ((1 ≤ k) × (IsUnit m.n (get_or w.old a 0))) }
     ensures { ValueOrSplit m.n (resultant m.n (piece w.old a (k + 1)) (piece w.old 0 (e + 1))) result }

@@ -257,7 +257,14 @@ fn rest(w: &mut [u32], m: Modulus, x: Stage<u32>) -> Result<u32, NotUnit<u32>>
 
 // The resultant of what the words stand for: f of degree d at a and g of degree e at b; both are lost. Where a test after the second
 // step already shows a zero divisor, nothing more is tried; where few steps are left the test costs more than they do.
-pub fn attempt(w: &mut [u32], m: Modulus, a: usize, d: usize, b: usize, e: usize) -> Result<u32, NotUnit<u32>>
+pub fn attempt(
+    w: &mut [u32],
+    m: Modulus,
+    a: usize,
+    d: usize,
+    b: usize,
+    e: usize,
+) -> Result<u32, NotUnit<u32>>
     requires known { (Known m) × (2 ≤ m.n) }
     requires placed { Placed m.n a d b e w.old }
     ensures euclid_attempted { EuclidAttempted m.n (resultant m.n (piece (values m w.old) a (d + 1))
