@@ -23,7 +23,7 @@ use residue::Split;
 
 // A last constant that is a unit gives the cofactors of 1 by one inverse: true, and they are in u and v. Otherwise false, and u and v are
 // as found. r is where Euclid ended, h the number of words of a multiplier.
-fn settle(u: &mut [u32], v: &mut [u32], w: &[u32], m: Modulus, r: Ending, h: usize) -> bool
+fn settle(u: &mut [u32], v: &mut [u32], w: &[u32], m: Modulus, r: Ending<u32>, h: usize) -> bool
     requires { HandAsked m r h h w.now u.old v.old }
     ensures { Settled m r h w.now u.old v.old u.new v.new result }
 {
