@@ -132,11 +132,9 @@ pub struct Modulus {
 pub fn modulus_of(n: u32) -> Modulus
     ensures { (result.n ≡ n) × (result.k ≡ K n) }
 {
-    let mut m = n;
-    let mut k: u32 = 0;
-    while m >= 2 {
-        m = m / 2;
-        k += 1;
+    if n == 0 {
+        return Modulus { n: 0, k: 0 };
     }
+    let k = 31 - u32::leading_zeros(n);
     Modulus { n: n as u64, k }
 }

@@ -101,11 +101,9 @@ pub fn gcd_with_cofactors(n: u64, a: u64, b: u64) -> Cofactors<u64>
 pub fn modulus_of(n: u64) -> Modulus
     ensures { (result.n ≡ n) × (result.k ≡ K n) }
 {
-    let mut m = n;
-    let mut k: u32 = 0;
-    while m >= 2 {
-        m = m / 2;
-        k += 1;
+    if n == 0 {
+        return Modulus { n: 0, k: 0 };
     }
+    let k = 63 - u64::leading_zeros(n);
     Modulus { n, k }
 }
