@@ -87,13 +87,11 @@ pub fn unit_times_monic(w: &mut [u32], m: Modulus, d: usize, t: usize, i: u32)
     let h = d + 1;
     let v = h + (t + 1);
     modulus_windows::set_scaled(w, m, i, 0, h, t + 1);
-    let mut k: u32 = 0;
-    loop {
+    for _ in 0..m.n {
         if divide_round(w, m, d, t) == t {
             return;
         }
         modulus_windows::add_scaled(w, m, i, v, h, t);
-        k += 1;
     }
 }
 

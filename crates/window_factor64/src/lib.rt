@@ -79,13 +79,11 @@ pub fn unit_times_monic(w: &mut [u64], m: Reciprocal, d: usize, t: usize, i: u64
     let h = d + 1;
     let v = h + (t + 1);
     modulus_windows64::set_scaled(w, m, i, 0, h, t + 1);
-    let mut k: u64 = 0;
-    loop {
+    for _ in 0..m.n {
         if divide_round(w, m, d, t) == t {
             return;
         }
         modulus_windows64::add_scaled(w, m, i, v, h, t);
-        k += 1;
     }
 }
 
