@@ -48,8 +48,10 @@ fn either(w: &mut [u32], n: u32, f: &[u32], g: &[u32]) -> Result<u32, NotUnit<u3
     if f.len() <= g.len() {
         return ordered(w, n, f, g);
     }
-    let v = ordered(w, n, g, f)?;
-    Ok(resultant_signs::with_sign(n, (f.len() - 1) * (g.len() - 1), v))
+    match ordered(w, n, g, f) {
+        Ok(v) => Ok(resultant_signs::with_sign(n, (f.len() - 1) * (g.len() - 1), v)),
+        Err(x) => Err(x),
+    }
 }
 
 fn euclid(w: &mut [u32], n: u32, f: &[u32], g: &[u32]) -> Result<u32, NotUnit<u32>>

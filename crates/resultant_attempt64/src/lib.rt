@@ -205,8 +205,11 @@ fn factors(
     let u = v + t;
     let x = v + l;
     window_factor64::unit_times_monic(&mut w[a..], m, d, t, i);
-    let y = monic_part(w, m, h, t, e, x)?;
-    resultant_steps64::times(m, y, unit_part(w, m, u, d - t, e, x))
+    // Kept: a `match` where `?` would do; tried, and the proof of the ten functions that call one another did not close.
+    match monic_part(w, m, h, t, e, x) {
+        Ok(y) => resultant_steps64::times(m, y, unit_part(w, m, u, d - t, e, x)),
+        Err(s) => Err(s),
+    }
 }
 
 // The resultant of the monic polynomial of degree t at a and of g at 0, worked from x on.
