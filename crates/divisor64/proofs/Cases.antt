@@ -16,17 +16,17 @@ use mir.Val.{Fits}
 use borrow.Author.Rules.{rules}
 use Rattle.definitions.specs.Resultants.{Reduced}
 use Rattle.windows.specs.Window.{piece, Scratch}
-use Rattle.window_factor64.specs.Factors.{SplitOf}
+use Rattle.window_factor.specs.Factors.{SplitOf}
 use Rattle.reduced_units.specs.States.{Splitter}
 use Rattle.residue64.specs.declared.Attempt.{Attempt}
 use Rattle.residue64.specs.declared.Attempt.TheVariants.{Value, Splits}
 use Rattle.reduced_attempt.specs.ReducedAttempts.{NilpotentOver}
-use Rattle.window_factor64.specs.declared.Highest.{Highest}
-use Rattle.window_factor64.specs.declared.Highest.TheVariants.{UnitAt as UnitAt', Splits as SplitsAt}
+use Rattle.window_factor.specs.declared.Highest.{Highest}
+use Rattle.window_factor.specs.declared.Highest.TheVariants.{UnitAt as UnitAt', Splits as SplitsAt}
 use Rattle.reduced_attempt64.specs.declared.HalfAttempt.{HalfAttempt}
 use Rattle.reduced_attempt64.specs.declared.HalfAttempt.TheVariants.{Found, Divisors, Nilpotent}
 use Rattle.divisor64.specs.CoprimeAttempted.{DivisorAsked, CoprimeAttempted}
-use Rattle.divisor_stages64.specs.LeadingUnits.{Leading, LeadAnswer}
+use Rattle.divisor_stages.specs.LeadingUnits.{Leading, LeadAnswer}
 use Rattle.divisor_stages64.specs.DivisorStages.{DivisionAsked, DivisorOrSplit}
 use Rattle.divisor_stages64.proofs.Cases.{lead_at, lead_splits_at, lead_nilpotents_at}
 use Rattle.divisor64.specs.DivisorAttempts.{Padded, WindowsAsked, WindowsAnswer, HalfAsked, HalfAttempted, Attempted}

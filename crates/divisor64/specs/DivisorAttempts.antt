@@ -10,7 +10,7 @@ use Rattle.divisor.specs.DivisorAttempts.{Attempted as NarrowAttempted}
 use Rattle.residue64.specs.declared.Attempt.{Attempt}
 use Rattle.residue64.specs.Readings.{attempt_of}
 use Rattle.reduced_attempt64.specs.declared.HalfAttempt.{HalfAttempt}
-use Rattle.reduced_attempt64.specs.ReducedAttempts.{half_attempt_of}
+use Rattle.reduced_attempt.specs.ReducedAttempts.{half_attempt_of}
 
 abbrev pub WindowsAnswer : ℕ → ℕ → List ℕ → HalfAttempt → Type 0
 WindowsAnswer n m w r = NarrowWindowsAnswer n m w (half_attempt_of r)

@@ -18,12 +18,12 @@ use Rattle.reduction64.specs.Moduli.{Ready}
 use Rattle.reduced_units.specs.States.{Splitter}
 use Rattle.residue64.specs.declared.Attempt.{Attempt}
 use Rattle.residue64.specs.declared.Attempt.TheVariants.{Value, Splits}
-use Rattle.window_factor64.specs.declared.Highest.{Highest}
-use Rattle.window_factor64.specs.declared.Highest.TheVariants.{UnitAt as UnitAt', Splits as SplitsAt, AllNilpotent}
-use Rattle.window_factor64.specs.Factors.{HighestOf, LeadingUnit, SplitOf, AllNilpotents}
+use Rattle.window_factor.specs.declared.Highest.{Highest}
+use Rattle.window_factor.specs.declared.Highest.TheVariants.{UnitAt as UnitAt', Splits as SplitsAt, AllNilpotent}
+use Rattle.window_factor.specs.Factors.{HighestOf, LeadingUnit, SplitOf, AllNilpotents}
 use Rattle.divisor_stages64.specs.declared.Clearing.{Clearing}
 use Rattle.divisor_stages64.specs.declared.Clearing.TheVariants.{Done, Parts, Next}
-use Rattle.divisor_stages64.specs.LeadingUnits.{LeadAsked, Leading, LeadAnswer}
+use Rattle.divisor_stages.specs.LeadingUnits.{LeadAsked, Leading, LeadAnswer}
 use Rattle.divisor_stages.specs.DivisorStages.{Cleared}
 use Rattle.divisor_stages64.specs.DivisorStages.{ContentAsked, ContentTaken, DivisionAsked, Clears, DivisorOrSplit}
 use Rattle.divisor_stages.proofs.Factors.{part_of, place_fits, factors}

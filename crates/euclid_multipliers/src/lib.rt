@@ -38,7 +38,7 @@ pub struct Descent {
     steps: usize,
 }
 
-fn bit_of(step: Logged, e: usize) -> u32
+fn bit_of(step: Logged<u32>, e: usize) -> u32
     requires { bit step.d step.e e step.swap ≤ 1 }
     ensures { result ≡ bit step.d step.e e step.swap }
 {
@@ -47,7 +47,7 @@ fn bit_of(step: Logged, e: usize) -> u32
 }
 
 // A step in the log; e is the degree of g after it.
-fn write(w: &mut [u32], at: usize, step: Logged, e: usize)
+fn write(w: &mut [u32], at: usize, step: Logged<u32>, e: usize)
     requires { (at + 5 ≤ length w.old) × (bit step.d step.e e step.swap ≤ 1) }
     ensures around { Around at 5 w.old w.new }
     ensures logged_at { LoggedAt at e step w.new }
@@ -60,7 +60,7 @@ fn write(w: &mut [u32], at: usize, step: Logged, e: usize)
 }
 
 // The step in the log that led to the degrees d and e.
-fn read(w: &[u32], at: usize, d: usize, e: usize) -> Logged
+fn read(w: &[u32], at: usize, d: usize, e: usize) -> Logged<u32>
     requires { (at + 5 ≤ length w.now) × ((d + 2 ≤ length w.now) × (e + 1 ≤ length w.now)) }
     ensures { Reads at d e w.now result }
 {
@@ -109,7 +109,7 @@ fn read(w: &[u32], at: usize, d: usize, e: usize) -> Logged
 }
 
 // Steps down to degree 0, each in the log.
-fn descend(w: &mut [u32], m: Modulus, h: usize, x: Stage) -> Descent
+fn descend(w: &mut [u32], m: Modulus, h: usize, x: Stage<u32>) -> Descent
     requires known { (Known m) × (2 ≤ m.n) }
     requires descent_asked { DescentAsked m h x w.old }
     ensures { Descended m h x w.old result w.new }
@@ -149,7 +149,7 @@ fn descend(w: &mut [u32], m: Modulus, h: usize, x: Stage) -> Descent
 }
 
 // The j steps of the log backwards: of the multipliers of the last pair, those of the first.
-fn ascend(w: &mut [u32], m: Modulus, h: usize, j: usize, r: Found) -> Found
+fn ascend(w: &mut [u32], m: Modulus, h: usize, j: usize, r: Found<u32>) -> Found<u32>
     requires known { (Known m) × (2 ≤ m.n) }
     requires rises { Rises m h j r w.old }
     ensures { Raised m h j r w.old result w.new }
@@ -163,7 +163,7 @@ fn ascend(w: &mut [u32], m: Modulus, h: usize, j: usize, r: Found) -> Found
 }
 
 // f and g in the buffer.
-fn start(w: &mut [u32], m: Modulus, f: &[u32], g: &[u32]) -> Stage
+fn start(w: &mut [u32], m: Modulus, f: &[u32], g: &[u32]) -> Stage<u32>
     requires known { (Known m) × (2 ≤ m.n) }
     requires asked { Asked f.now g.now w.old }
     ensures { Started m f.now g.now w.old result w.new }
@@ -189,7 +189,7 @@ fn start(w: &mut [u32], m: Modulus, f: &[u32], g: &[u32]) -> Stage
 }
 
 // The constant that f and g come to, its multipliers, and the resultant's equation; f is not the longer.
-pub fn multipliers(w: &mut [u32], m: Modulus, f: &[u32], g: &[u32]) -> Ending
+pub fn multipliers(w: &mut [u32], m: Modulus, f: &[u32], g: &[u32]) -> Ending<u32>
     requires known { (Known m) × (2 ≤ m.n) }
     requires asked { Asked f.now g.now w.old }
     ensures multiplied { Multiplied m f.now g.now result w.new }

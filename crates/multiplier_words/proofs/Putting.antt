@@ -68,7 +68,7 @@ put_times {n} {y} {at} {len} {w} z K e p = record {
       ∙ (c_mul (c_trans (c_eq e) (c_trans (c_mod (K * z)) (c_eq (mul_comm K z)))) (c_refl {a = coef (piece w at len) k})).same;
 }
 
-pub handed_out : {m : Modulus} {r : Ending} {y z a b : ℕ} {w u v u' v' : List ℕ} → (y < m.n) × (y ≡ (value m r.k * z) % m.n)
+pub handed_out : {m : Modulus} {r : Ending ℕ} {y z a b : ℕ} {w u v u' v' : List ℕ} → (y < m.n) × (y ≡ (value m r.k * z) % m.n)
     → Put m.n z r.u a (values m w) u u' → Put m.n y r.v b (values m w) v v' → Handed m r z a b w u v u' v'
 handed_out {m} {r} {y} {z} e p q = record { first = p; second = put_times z (value m r.k) e.1 q }
 

@@ -35,7 +35,7 @@ pub fn hand_out(
     v: &mut [u32],
     w: &[u32],
     m: Modulus,
-    r: Ending,
+    r: Ending<u32>,
     z: u32,
     a: usize,
     b: usize,

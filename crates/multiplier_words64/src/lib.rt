@@ -17,7 +17,7 @@ ghost use Rattle.reduction64.specs.Moduli.{Ready};
 ghost use Rattle.modulus64.specs.Plain.{plain};
 ghost use Rattle.multiplier_words64.specs.Words.{HandAsked, Handed};
 
-use euclid_steps64::Ending;
+use euclid_steps::Ending;
 use reduction64::Reciprocal;
 
 // u[j] is c times what w[at + j] stands for, for j < len, and 0 above.
@@ -38,7 +38,7 @@ pub fn hand_out(
     v: &mut [u64],
     w: &[u64],
     m: Reciprocal,
-    r: Ending,
+    r: Ending<u64>,
     z: u64,
     a: usize,
     b: usize,

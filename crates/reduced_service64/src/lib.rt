@@ -8,7 +8,7 @@ ghost use Rattle.std.specs.Prelude.{◌-◌, ◌≤◌, length};
 ghost use Rattle.definitions.specs.Polynomials.{L};
 ghost use Rattle.windows.specs.Window.{Scratch};
 ghost use Rattle.refusals64.specs.Wide.{wide};
-ghost use Rattle.reduced_cofactors64.specs.Cofactors.{Certified};
+ghost use Rattle.reduced_cofactors.specs.Cofactors.{Certified};
 ghost use Rattle.reduced.specs.Runs.{RunAsked};
 ghost use Rattle.reduced_service.specs.ReducedService.{LeastConstants, ReducedAnswer};
 ghost use Rattle.reduced_service.specs.Asked.{ReducedAsked};

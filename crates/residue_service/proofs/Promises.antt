@@ -105,7 +105,7 @@ pub gcd_answered : (W : Width) (n a b r g s t : ℕ) → r ≡ first_refusal (re
 gcd_answered W n a b zero g s t e z h = record { status_is = e; values_are = h }
 gcd_answered W n a b (suc r) g s t e z h = absurd (omega arith)
 
-true_values : (n a : ℕ) (k : Kind) → KindOf n a k → TrueValues n a (kind_values k)
+true_values : (n a : ℕ) (k : Kind ℕ) → KindOf n a k → TrueValues n a (kind_values k)
 true_values n a (Unit' i) h = h
 true_values n a Nilpotent h = h
 true_values n a (Splits n₁ n₂) h = h
@@ -115,7 +115,7 @@ refused_kind W n a zero e f = absurd (f refl)
 refused_kind W n a (suc r) e f = record { status_is = e; values_are = refl }
 
 -- n' is the modulus of a record of n
-pub kind_answered : (W : Width) (n n' a r : ℕ) (k : Kind) → r ≡ first_refusal (refusals_residue W n a) → r ≡ 0 → KindOf n' a k → n' ≡ n
+pub kind_answered : (W : Width) (n n' a r : ℕ) (k : Kind ℕ) → r ≡ first_refusal (refusals_residue W n a) → r ≡ 0 → KindOf n' a k → n' ≡ n
     → KindAnswers W n a (Known k)
 kind_answered W n n' a r k e z h is =
     record { status_is = sym z ∙ e; values_are = true_values n a k (subst (λ (x : ℕ). KindOf x a k) is h) }

@@ -27,8 +27,8 @@ pub struct GcdAnswer {
 
 // The kind of a residue, or the number of the refusal.
 #[derive(Clone, Copy)]
-pub enum KindAnswer {
-    Known(Kind),
+pub enum KindAnswer<W> {
+    Known(Kind<W>),
     Refused(u32),
 }
 
@@ -137,7 +137,7 @@ pub fn gcd_with_cofactors(n: u32, a: u32, b: u32) -> GcdAnswer
 }
 
 // S13: "unit with its inverse, nilpotent, or splitting with two factors"
-pub fn classify(n: u32, a: u32) -> KindAnswer
+pub fn classify(n: u32, a: u32) -> KindAnswer<u32>
     ensures { KindAnswers narrow n a result }
 {
     let status = refusal_residue(n, a);

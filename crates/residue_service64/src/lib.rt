@@ -9,12 +9,12 @@
 ghost use Rattle.std.specs.Prelude.{◌≡◌};
 ghost use Rattle.refusals.specs.Refusals.{first_refusal};
 ghost use Rattle.refusals64.specs.Wide.{wide};
-ghost use Rattle.residue_service64.specs.Services.{refusals_residue, refusals_residues};
-ghost use Rattle.residue_service64.specs.Services.{SumAnswer, DifferenceAnswer, ResidueProductAnswer, PowerAnswer};
-ghost use Rattle.residue_service64.specs.Services.{GcdAnswers, KindAnswers};
+ghost use Rattle.residue_service.specs.Services.{refusals_residue, refusals_residues};
+ghost use Rattle.residue_service.specs.Services.{SumAnswer, DifferenceAnswer, ResidueProductAnswer, PowerAnswer};
+ghost use Rattle.residue_service.specs.Services.{GcdAnswers, KindAnswers};
 
 use refusals64::Answer;
-use residue64::Kind;
+use residue_service::KindAnswer;
 
 // A greatest common divisor with its cofactors, and 0 or the number of the refusal.
 #[repr(C)]
@@ -24,13 +24,6 @@ pub struct GcdAnswer {
     pub s: u64,
     pub t: u64,
     pub status: u32,
-}
-
-// The kind of a residue, or the number of the refusal.
-#[derive(Clone, Copy)]
-pub enum KindAnswer {
-    Known(Kind),
-    Refused(u32),
 }
 
 // Refusals 1 and 3 of one residue; 0 where neither applies.
@@ -138,7 +131,7 @@ pub fn gcd_with_cofactors(n: u64, a: u64, b: u64) -> GcdAnswer
 }
 
 // S13: "unit with its inverse, nilpotent, or splitting with two factors"
-pub fn classify(n: u64, a: u64) -> KindAnswer
+pub fn classify(n: u64, a: u64) -> KindAnswer<u64>
     ensures { KindAnswers wide n a result }
 {
     let status = refusal_residue(n, a);

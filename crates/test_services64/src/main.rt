@@ -10,8 +10,8 @@ ghost use Rattle.std.specs.Prelude.{◌+◌, ◌≤◌, ◌≡◌, length};
 
 use degree_service::Degree;
 use refusals64::Answer;
-use residue_service64::KindAnswer;
-use residue64::Kind;
+use residue::Kind;
+use residue_service::KindAnswer;
 use std::io;
 use std::io::{BufReader, Read};
 use test_lines::{

@@ -16,6 +16,7 @@ ghost use Rattle.unit_monic_service.specs.UnitMonicStages.{FactorsAsked};
 ghost use Rattle.unit_monic_service.specs.FactorsService.{UnitTimesMonicAnswer};
 
 use refusals::Answer;
+use residue::Kind;
 
 // ---- the leading coefficient
 
@@ -25,9 +26,9 @@ fn nilpotent(n: u32, a: u32) -> bool
     ensures { result ≡ is_nilpotent n a }
 {
     match residue::kind_of(n, a) {
-        residue::Kind::Unit(i) => false,
-        residue::Kind::Nilpotent => true,
-        residue::Kind::Splits(p, q) => false,
+        Kind::Unit(i) => false,
+        Kind::Nilpotent => true,
+        Kind::Splits(p, q) => false,
     }
 }
 
@@ -36,12 +37,10 @@ pub fn leading_place(n: u32, f: &[u32]) -> usize
     requires { 2 ≤ n }
     ensures { result ≡ lead_place n f.now }
 {
-    let mut t = f.len();
-    while 0 < t {
-        if !nilpotent(n, f[t - 1]) {
-            return t - 1;
+    for t in (0..f.len()).rev() {
+        if !nilpotent(n, f[t]) {
+            return t;
         }
-        t -= 1;
     }
     0
 }
@@ -64,10 +63,8 @@ pub fn hand_out(out: &mut [u32], w: &[u32], a: usize, len: usize)
     requires { a + len ≤ length w.now }
     ensures { out.new ≡ tabulate (length out.old) (coef (piece w.now a len)) }
 {
-    let mut k: usize = 0;
-    while k < out.len() {
+    for k in 0..out.len() {
         out[k] = coefficient_at(w, a, len, k);
-        k += 1;
     }
 }
 

@@ -11,13 +11,14 @@ ghost use Rattle.refusals.specs.Refusals.{short, first_refusal};
 ghost use Rattle.reduction64.specs.Moduli.{Ready};
 ghost use Rattle.refusals64.specs.Wide.{wide};
 ghost use Rattle.windows.specs.Window.{piece};
-ghost use Rattle.window_factor64.specs.Factors.{Given, Factored};
+ghost use Rattle.window_factor.specs.Factors.{Given, Factored};
 ghost use Rattle.law_polynomial_tests.specs.UnitTests.{is_nilpotent, lead_place};
 ghost use Rattle.unit_monic_service.specs.UnitMonicStages.{FactorsAsked};
 ghost use Rattle.unit_monic_service.specs.FactorsService.{UnitTimesMonicAnswer};
 
 use reduction64::Reciprocal;
 use refusals64::Answer;
+use residue::Kind;
 
 // ---- the leading coefficient
 
@@ -27,9 +28,9 @@ fn nilpotent(m: Reciprocal, a: u64) -> bool
     ensures { result ≡ is_nilpotent m.n a }
 {
     match residue64::kind_of(m, a) {
-        residue64::Kind::Unit(i) => false,
-        residue64::Kind::Nilpotent => true,
-        residue64::Kind::Splits(p, q) => false,
+        Kind::Unit(i) => false,
+        Kind::Nilpotent => true,
+        Kind::Splits(p, q) => false,
     }
 }
 
@@ -39,12 +40,10 @@ pub fn leading_place(n: u64, f: &[u64]) -> usize
     ensures { result ≡ lead_place n f.now }
 {
     let m = reduction64::modulus_of(n);
-    let mut t = f.len();
-    while 0 < t {
-        if !nilpotent(m, f[t - 1]) {
-            return t - 1;
+    for t in (0..f.len()).rev() {
+        if !nilpotent(m, f[t]) {
+            return t;
         }
-        t -= 1;
     }
     0
 }
@@ -67,10 +66,8 @@ pub fn hand_out(out: &mut [u64], w: &[u64], a: usize, len: usize)
     requires { a + len ≤ length w.now }
     ensures { out.new ≡ tabulate (length out.old) (coef (piece w.now a len)) }
 {
-    let mut k: usize = 0;
-    while k < out.len() {
+    for k in 0..out.len() {
         out[k] = coefficient_at(w, a, len, k);
-        k += 1;
     }
 }
 
