@@ -1,4 +1,4 @@
--- The answers of the enums of this width, taken apart by the arm that the code is in.
+-- The answers, taken apart by the arm that the code is in.
 --
 --   windows_splits_at, division_at, value_at, split_at        of the stages
 --   half-…-at                                                 of the two polynomials in the buffer

@@ -28,11 +28,11 @@ ghost use Rattle.windows.specs.Window.{Moved, quotient_by, Scratch};
 ghost use Rattle.reduced_attempt.specs.ReducedAttempts.{PairLoaded, NilpotentOver};
 ghost use Rattle.reduction64.specs.Moduli.{Ready};
 ghost use Rattle.divisor64.specs.CoprimeAttempted.{DivisorAsked, CoprimeAttempted};
-ghost use Rattle.divisor64.specs.DivisorAttempts.{ArrangeAsked, Padded, WindowsAsked, WindowsAnswer, HalfAsked, HalfAttempted};
-ghost use Rattle.divisor64.specs.DivisorAttempts.{Attempted};
+ghost use Rattle.divisor.specs.DivisorAttempts.{ArrangeAsked, Padded, WindowsAsked, WindowsAnswer, HalfAsked, HalfAttempted};
+ghost use Rattle.divisor.specs.DivisorAttempts.{Attempted};
 
 use divisor_stages::Windows;
-use reduced_attempt64::HalfAttempt;
+use reduced_attempt::HalfAttempt;
 use reduction64::Reciprocal;
 use residue::Split;
 

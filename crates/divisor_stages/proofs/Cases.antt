@@ -1,4 +1,4 @@
--- The answers of the enums of this width, taken apart by the arm that the code is in.
+-- The answers, taken apart by the arm that the code is in.
 --
 --   place_at                                              of the highest coefficient that is no nilpotent
 --   lead_at, lead_splits_at, lead_nilpotents_at, next_at  of a polynomial that gets a leading unit

@@ -20,9 +20,10 @@ ghost use Rattle.std.specs.Prelude.{◌≡◌, ◌+◌, ◌*◌, ◌/◌, ◌≤
 ghost use Rattle.windows.specs.Window.{piece, Scratch};
 ghost use Rattle.reduction64.specs.Moduli.{Ready};
 ghost use Rattle.divisor_stages.specs.LeadingUnits.{LeadAsked, FactorAsked, Leading, LeadAnswer};
-ghost use Rattle.divisor_stages64.specs.DivisorStages.{TakeAsked, ContentTaken, ContentAsked, DivisionAsked, DivisorOrSplit, Clears};
+ghost use Rattle.divisor_stages.specs.DivisorStages.{TakeAsked, ContentTaken, ContentAsked, DivisionAsked, DivisorOrSplit};
+ghost use Rattle.divisor_stages64.specs.DivisorStages.{Clears};
 
-use divisor_stages::Windows;
+use divisor_stages::{Clearing, Windows};
 use reduction64::Reciprocal;
 use residue::Split;
 use window_factor::Highest;

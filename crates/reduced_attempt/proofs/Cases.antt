@@ -1,4 +1,4 @@
--- The answers of the enums of this width, taken apart by the arm that the code is in.
+-- The answers, taken apart by the arm that the code is in.
 --
 --   lead_at, factors_at, nilpotents_at       of the highest coefficient that is not nilpotent
 --   value_at, splits_at, over_told           of the core
