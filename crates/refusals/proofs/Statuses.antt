@@ -4,7 +4,7 @@
 --   refused_early, passed_on      the same of a part of the list at the front
 --   front_passes                  no refusal of that part applies where none of the list does
 --   refused_value, left_refused, replaced_refused     the value and the lent words after a refusal
-use mathlib.Core.Path.{◌≡◌, refl, sym, ap, subst, ◌∙◌}
+use mathlib.Core.Path.{◌≡◌, refl, sym, ap, ◌∙◌}
 use mathlib.Core.Bool.{Bool, true, false, cond}
 use mathlib.Core.List.{List, [], ◌∷◌, ◌++◌}
 use Prim.Native.Nat.{ℕ, zero, suc, ◌≤◌, ◌<◌}
