@@ -56,12 +56,11 @@ fn serve(kind: FrameKind, n: u32, d: usize, words: &[u32], work: &mut [u32]) -> 
 {
     let f = &words[0..d + 1];
     let g = &words[d + 1..];
-    let status = frame_refusals::job_refusal(n, f, g);
-    if status != 0 {
-        return refused(status);
+    if let Err(refusal) = frame_refusals::job_refusal(n, f, g) {
+        return refused(refusal.number());
     }
     let value = run_job(kind, n, f, g, work);
-    Answer { value, status }
+    Answer { value, status: 0 }
 }
 
 // The words of a frame. Of zeros only the count is told: whoever has them need not look at 98 of them.

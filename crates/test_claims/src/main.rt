@@ -28,13 +28,13 @@ fn put_case(rt: &impl Print, c: Claim) -> io::Result<()> {
         Claim::Accepted => {
             put_name(rt, b" accepted")?;
         }
-        Claim::Fails(k) => {
+        Claim::Fails(failure) => {
             put_name(rt, b" fails")?;
-            put(rt, k)?;
+            put(rt, failure.number())?;
         }
-        Claim::Refused(s) => {
+        Claim::Refused(refusal) => {
             put_name(rt, b" refused")?;
-            put(rt, s)?;
+            put(rt, refusal.number())?;
         }
     }
     Ok(())
