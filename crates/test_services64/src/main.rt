@@ -11,7 +11,6 @@ ghost use Rattle.std.specs.Prelude.{◌+◌, ◌≤◌, ◌≡◌, length};
 use degree_service::Degree;
 use refusals64::Answer;
 use residue::Kind;
-use residue_service::KindAnswer;
 use std::io;
 use std::io::{BufReader, Read};
 use test_lines::{
@@ -61,7 +60,7 @@ fn gcd_line(rt: &impl Print, n: u64, a: u64, b: u64) -> io::Result<()> {
 
 fn kind_line(rt: &impl Print, n: u64, a: u64) -> io::Result<()> {
     match residue_service64::classify(n, a) {
-        KindAnswer::Known(k) => match k {
+        Ok(k) => match k {
             Kind::Unit(i) => {
                 put_name(rt, b"unit")?;
                 put64(rt, i)?;
@@ -75,9 +74,9 @@ fn kind_line(rt: &impl Print, n: u64, a: u64) -> io::Result<()> {
                 put64(rt, q)?;
             }
         },
-        KindAnswer::Refused(s) => {
+        Err(refusal) => {
             put_name(rt, b"no kind")?;
-            put(rt, s)?;
+            put(rt, refusal.number())?;
         }
     }
     Ok(())

@@ -7,6 +7,7 @@
 
 ghost use Rattle.std.specs.Prelude.{◌≡◌, not, [], ◌∷◌, ◌+◌, ◌≤◌, eqb, length, replicate};
 ghost use Rattle.definitions.specs.Polynomials.{coef, tabulate, UnitTimesMonic};
+ghost use Rattle.refusals.specs.Refusal.{status_of};
 ghost use Rattle.refusals.specs.Refusals.{short, first_refusal};
 ghost use Rattle.reduction64.specs.Moduli.{Ready};
 ghost use Rattle.refusals64.specs.Wide.{wide};
@@ -17,6 +18,7 @@ ghost use Rattle.unit_monic_service.specs.UnitMonicStages.{FactorsAsked};
 ghost use Rattle.unit_monic_service.specs.FactorsService.{UnitTimesMonicAnswer};
 
 use reduction64::Reciprocal;
+use refusals::Refusal;
 use refusals64::Answer;
 use residue::Kind;
 
@@ -99,22 +101,15 @@ fn factor_words(n: u64, f: &[u64], t: usize, i: u64, u: &mut [u64], h: &mut [u64
 
 // The refusals 5, 6 and 7 of unit times monic: g is what the leading coefficient has in common with n; the buffers have lu, lh and l
 // words, and the results need len each.
-fn refusal_factors(g: u64, lu: usize, lh: usize, len: usize, l: usize) -> u32
-    ensures { result ≡ first_refusal ((5, not (eqb g 1)) ∷ (6, short lu len) ∷ (6, short lh len) ∷ (7, short l 16384) ∷ []) }
+fn refusal_factors(g: u64, lu: usize, lh: usize, len: usize, l: usize) -> Result<(), Refusal>
+    ensures { status_of result ≡ first_refusal ((5, not (eqb g 1)) ∷ (6, short lu len) ∷ (6, short lh len) ∷ (7, short l 16384) ∷ []) }
 {
     if g != 1 {
-        return 5;
+        return Err(Refusal::NoUnitFactor);
     }
-    if lu < len {
-        return 6;
-    }
-    if lh < len {
-        return 6;
-    }
-    if l < refusals64::WORKING_WORDS {
-        return 7;
-    }
-    0
+    refusals::room(lu, len, Refusal::ShortResult)?;
+    refusals::room(lh, len, Refusal::ShortResult)?;
+    refusals::room(l, refusals64::WORKING_WORDS, Refusal::ShortWork)
 }
 
 // "Unit times monic: if some coefficient t is a unit and all above it are nilpotent, the polynomial is u times h, h monic of degree t,
@@ -123,22 +118,14 @@ pub fn unit_times_monic(n: u64, f: &[u64], u: &mut [u64], h: &mut [u64], work: &
     ensures { UnitTimesMonicAnswer wide n f.now u.old u.new h.old h.new
         work.old work.new result.value result.status }
 {
-    let s = refusals64::refusal_one(n, f);
-    if s != 0 {
-        return Answer {
-            value: 0,
-            status: s,
-        };
+    if let Err(refusal) = refusals64::refusal_one(n, f) {
+        return Answer::from(refusal);
     }
     let t = leading_place(n, f);
     let e = bezout64::cofactor(n, f[t]);
     let l = f.len();
-    let r = refusal_factors(e.g, u.len(), h.len(), l, work.len());
-    if r != 0 {
-        return Answer {
-            value: 0,
-            status: r,
-        };
+    if let Err(refusal) = refusal_factors(e.g, u.len(), h.len(), l, work.len()) {
+        return Answer::from(refusal);
     }
     factor_words(n, f, t, e.s, &mut u[0..l], &mut h[0..l], work);
     Answer {
