@@ -106,7 +106,14 @@ fn half(w: &mut [u32], m: Modulus, v: Modulus, c: u32, f: &[u32], g: &[u32]) -> 
 }
 
 // D of f and g, or n as a product of two coprime factors, where f over c has no coefficient that is more than nilpotent.
-fn swapped(w: &mut [u32], m: Modulus, v: Modulus, c: u32, f: &[u32], g: &[u32]) -> Result<u32, Split<u32>>
+fn swapped(
+    w: &mut [u32],
+    m: Modulus,
+    v: Modulus,
+    c: u32,
+    f: &[u32],
+    g: &[u32],
+) -> Result<u32, Split<u32>>
     requires { (Known m) × ((Known v) × ((HalfAsked m.n v.n c f.now g.now w.old) × (NilpotentOver m.n c f.now))) }
     ensures attempted { Attempted m.n f.now g.now result }
     ensures scratch { Scratch w.old w.new }
@@ -119,7 +126,14 @@ fn swapped(w: &mut [u32], m: Modulus, v: Modulus, c: u32, f: &[u32], g: &[u32]) 
 }
 
 // The same whatever f over c has: both halves in turn.
-fn both_halves(w: &mut [u32], m: Modulus, v: Modulus, c: u32, f: &[u32], g: &[u32]) -> Result<u32, Split<u32>>
+fn both_halves(
+    w: &mut [u32],
+    m: Modulus,
+    v: Modulus,
+    c: u32,
+    f: &[u32],
+    g: &[u32],
+) -> Result<u32, Split<u32>>
     requires { (Known m) × ((Known v) × (HalfAsked m.n v.n c f.now g.now w.old)) }
     ensures attempted { Attempted m.n f.now g.now result }
     ensures scratch { Scratch w.old w.new }

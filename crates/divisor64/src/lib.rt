@@ -116,7 +116,14 @@ fn divided(w: &mut [u64], m: Reciprocal, l: usize) -> HalfAttempt<u64>
 }
 
 // D of f and g, c their common content, if f over c has a coefficient that is not nilpotent.
-fn half(w: &mut [u64], m: Reciprocal, v: Reciprocal, c: u64, f: &[u64], g: &[u64]) -> HalfAttempt<u64>
+fn half(
+    w: &mut [u64],
+    m: Reciprocal,
+    v: Reciprocal,
+    c: u64,
+    f: &[u64],
+    g: &[u64],
+) -> HalfAttempt<u64>
     requires { (Ready m) × ((Ready v) × (HalfAsked m.n v.n c f.now g.now w.old)) }
     ensures half_attempted { HalfAttempted m.n c f.now g.now result }
     ensures scratch { Scratch w.old w.new }
@@ -130,7 +137,14 @@ fn half(w: &mut [u64], m: Reciprocal, v: Reciprocal, c: u64, f: &[u64], g: &[u64
 }
 
 // D of f and g, or n as a product of two coprime factors, where f over c has no coefficient that is more than nilpotent.
-fn swapped(w: &mut [u64], m: Reciprocal, v: Reciprocal, c: u64, f: &[u64], g: &[u64]) -> Result<u64, Split<u64>>
+fn swapped(
+    w: &mut [u64],
+    m: Reciprocal,
+    v: Reciprocal,
+    c: u64,
+    f: &[u64],
+    g: &[u64],
+) -> Result<u64, Split<u64>>
     requires { (Ready m) × ((Ready v) × ((HalfAsked m.n v.n c f.now g.now w.old) × (NilpotentOver m.n c f.now))) }
     ensures attempted { Attempted m.n f.now g.now result }
     ensures scratch { Scratch w.old w.new }
@@ -143,7 +157,14 @@ fn swapped(w: &mut [u64], m: Reciprocal, v: Reciprocal, c: u64, f: &[u64], g: &[
 }
 
 // The same whatever f over c has: both halves in turn.
-fn both_halves(w: &mut [u64], m: Reciprocal, v: Reciprocal, c: u64, f: &[u64], g: &[u64]) -> Result<u64, Split<u64>>
+fn both_halves(
+    w: &mut [u64],
+    m: Reciprocal,
+    v: Reciprocal,
+    c: u64,
+    f: &[u64],
+    g: &[u64],
+) -> Result<u64, Split<u64>>
     requires { (Ready m) × ((Ready v) × (HalfAsked m.n v.n c f.now g.now w.old)) }
     ensures attempted { Attempted m.n f.now g.now result }
     ensures scratch { Scratch w.old w.new }

@@ -98,7 +98,14 @@ fn take_content(w: &mut [u32], v: Modulus, c: u32, a: usize, d: usize, b: usize)
 }
 
 // The content of B is taken out of it and of the modulus, then the unit factor of B.
-fn clear_contents(w: &mut [u32], m: Modulus, a: usize, d: usize, b: usize, s: usize) -> Clearing<u32, Modulus>
+fn clear_contents(
+    w: &mut [u32],
+    m: Modulus,
+    a: usize,
+    d: usize,
+    b: usize,
+    s: usize,
+) -> Clearing<u32, Modulus>
     requires { (Known m) × (ContentAsked m.n a d b s w.old) }
     ensures clears { Clears m.n a d b s w.old w.new result }
     ensures scratch { Scratch w.old w.new }
@@ -127,7 +134,14 @@ fn times(n: u32, c: u32, y: u32) -> u32
 
 // D of A, of degree d with a leading unit, and B, of d words.
 #[cycle(content_stage_division_stage)]
-fn content_stage(w: &mut [u32], m: Modulus, a: usize, d: usize, b: usize, s: usize) -> Result<u32, Split<u32>>
+fn content_stage(
+    w: &mut [u32],
+    m: Modulus,
+    a: usize,
+    d: usize,
+    b: usize,
+    s: usize,
+) -> Result<u32, Split<u32>>
     requires { (Known m) × (ContentAsked m.n a d b s w.old) }
     ensures divisor_or_split { DivisorOrSplit m.n (piece w.old a (d + 1)) (piece w.old b d) result }
     ensures scratch { Scratch w.old w.new }
@@ -149,7 +163,13 @@ fn content_stage(w: &mut [u32], m: Modulus, a: usize, d: usize, b: usize, s: usi
 
 // D of A, of degree d, and B, of degree k at most d, whose leading word has the inverse i.
 #[cycle(content_stage_division_stage)]
-pub fn division_stage(w: &mut [u32], m: Modulus, p: Windows, i: u32, s: usize) -> Result<u32, Split<u32>>
+pub fn division_stage(
+    w: &mut [u32],
+    m: Modulus,
+    p: Windows,
+    i: u32,
+    s: usize,
+) -> Result<u32, Split<u32>>
     requires { (Known m) × (DivisionAsked m.n p.a p.d p.b p.k i s w.old) }
     ensures divisor_or_split { DivisorOrSplit m.n (piece w.old p.a (p.d + 1)) (piece w.old p.b (p.k + 1)) result }
     ensures scratch { Scratch w.old w.new }

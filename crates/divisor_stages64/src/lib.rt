@@ -81,7 +81,14 @@ fn take_content(w: &mut [u64], v: Reciprocal, c: u64, a: usize, d: usize, b: usi
 }
 
 // The content of B is taken out of it and of the modulus, then the unit factor of B.
-fn clear_contents(w: &mut [u64], m: Reciprocal, a: usize, d: usize, b: usize, s: usize) -> Clearing<u64, Reciprocal>
+fn clear_contents(
+    w: &mut [u64],
+    m: Reciprocal,
+    a: usize,
+    d: usize,
+    b: usize,
+    s: usize,
+) -> Clearing<u64, Reciprocal>
     requires { (Ready m) × (ContentAsked m.n a d b s w.old) }
     ensures clears { Clears m.n a d b s w.old w.new result }
     ensures scratch { Scratch w.old w.new }
@@ -110,7 +117,14 @@ fn times(n: u64, c: u64, y: u64) -> u64
 
 // D of A, of degree d with a leading unit, and B, of d words.
 #[cycle(content_stage_division_stage)]
-fn content_stage(w: &mut [u64], m: Reciprocal, a: usize, d: usize, b: usize, s: usize) -> Result<u64, Split<u64>>
+fn content_stage(
+    w: &mut [u64],
+    m: Reciprocal,
+    a: usize,
+    d: usize,
+    b: usize,
+    s: usize,
+) -> Result<u64, Split<u64>>
     requires { (Ready m) × (ContentAsked m.n a d b s w.old) }
     ensures divisor_or_split { DivisorOrSplit m.n (piece w.old a (d + 1)) (piece w.old b d) result }
     ensures scratch { Scratch w.old w.new }
@@ -132,7 +146,13 @@ fn content_stage(w: &mut [u64], m: Reciprocal, a: usize, d: usize, b: usize, s: 
 
 // D of A, of degree d, and B, of degree k at most d, whose leading word has the inverse i.
 #[cycle(content_stage_division_stage)]
-pub fn division_stage(w: &mut [u64], m: Reciprocal, p: Windows, i: u64, s: usize) -> Result<u64, Split<u64>>
+pub fn division_stage(
+    w: &mut [u64],
+    m: Reciprocal,
+    p: Windows,
+    i: u64,
+    s: usize,
+) -> Result<u64, Split<u64>>
     requires { (Ready m) × (DivisionAsked m.n p.a p.d p.b p.k i s w.old) }
     ensures divisor_or_split { DivisorOrSplit m.n (piece w.old p.a (p.d + 1)) (piece w.old p.b (p.k + 1)) result }
     ensures scratch { Scratch w.old w.new }

@@ -1,4 +1,4 @@
--- The answers of an attempt of this width, taken apart by the arm that the code is in.
+-- The answers of an attempt, taken apart by the arm that the code is in.
 --
 --   value_at, split_at    D with cofactors, or two coprime factors
 --   runs_of               the rules

@@ -187,7 +187,13 @@ fn attempt_over(
 }
 
 // What the core comes to there; coefficient t of the words of degree d has the inverse i, and those above are nilpotent.
-fn core_over(x: &mut [u32], y: &mut [u32], w: &mut [u32], m: Modulus, s: Factored<u32>) -> HalfAttempt<u32>
+fn core_over(
+    x: &mut [u32],
+    y: &mut [u32],
+    w: &mut [u32],
+    m: Modulus,
+    s: Factored<u32>,
+) -> HalfAttempt<u32>
     requires { (Known m) × (CoreAsked m.n s.d s.e s.t s.i w.old x.old y.old) }
     ensures over_attempted { OverAttempted m.n s.d s.e w.old x.old y.old x.new
         y.new result }

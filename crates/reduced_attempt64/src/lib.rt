@@ -126,7 +126,13 @@ fn attempt_over(
 }
 
 // What the core comes to there; coefficient t of the words of degree d has the inverse i, and those above are nilpotent.
-fn core_over(x: &mut [u64], y: &mut [u64], w: &mut [u64], m: Reciprocal, s: Factored<u64>) -> HalfAttempt<u64>
+fn core_over(
+    x: &mut [u64],
+    y: &mut [u64],
+    w: &mut [u64],
+    m: Reciprocal,
+    s: Factored<u64>,
+) -> HalfAttempt<u64>
     requires { (Ready m) × (CoreAsked m.n s.d s.e s.t s.i w.old x.old y.old) }
     ensures over_attempted { OverAttempted m.n s.d s.e w.old x.old y.old x.new
         y.new result }

@@ -80,7 +80,13 @@ fn find(w: &mut [u64], m: Reciprocal, d: usize, e: usize, t: usize) -> Result<u6
 }
 
 // H has degree t above 0: D is found, and the cofactors from the multiplier of G.
-fn solve(x: &mut [u64], y: &mut [u64], w: &mut [u64], m: Reciprocal, s: Factored<u64>) -> Result<u64, Split<u64>>
+fn solve(
+    x: &mut [u64],
+    y: &mut [u64],
+    w: &mut [u64],
+    m: Reciprocal,
+    s: Factored<u64>,
+) -> Result<u64, Split<u64>>
     requires ready { (Ready m) × (CoreLengthsAsked m.n s.d s.e w.old x.old y.old) }
     requires le_t { (1 ≤ s.t) × ((s.t ≤ s.d) × (FactoredAt m.n s.d s.e s.t w.old)) }
     ensures core_answer { CoreAnswer m.n s.d s.e w.old x.old y.old x.new
@@ -94,7 +100,13 @@ fn solve(x: &mut [u64], y: &mut [u64], w: &mut [u64], m: Reciprocal, s: Factored
 
 // The reduced resultant of F, of degree d at e + 1, and of G, of degree e at 0, with the cofactors x of F and y of G. The coefficient of F
 // at t has the inverse i, and those above it are nilpotent.
-pub fn core(x: &mut [u64], y: &mut [u64], w: &mut [u64], m: Reciprocal, s: Factored<u64>) -> Result<u64, Split<u64>>
+pub fn core(
+    x: &mut [u64],
+    y: &mut [u64],
+    w: &mut [u64],
+    m: Reciprocal,
+    s: Factored<u64>,
+) -> Result<u64, Split<u64>>
     requires { (Ready m) × (CoreAsked m.n s.d s.e s.t s.i w.old x.old y.old) }
     ensures core_answer { CoreAnswer m.n s.d s.e w.old x.old y.old x.new
         y.new result }

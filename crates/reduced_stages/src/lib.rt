@@ -64,7 +64,14 @@ pub fn content_stage(
 
 // The content and the unit factor of B are cleared, and the division stage goes on.
 #[cycle(cleared_stage_clearing_stage_content_stage_division_stage)]
-fn clearing_stage(w: &mut [u32], m: Modulus, v: Modulus, p: Places, a: usize, l: usize) -> Result<u32, Split<u32>>
+fn clearing_stage(
+    w: &mut [u32],
+    m: Modulus,
+    v: Modulus,
+    p: Places,
+    a: usize,
+    l: usize,
+) -> Result<u32, Split<u32>>
     requires { (Known m) × ((Known v) × (StageAt m.n v.n p a a l w.old)) }
     ensures stage_answer { StageAnswer m.n v.n p a a w.old w.new result }
     ensures kept { Kept (p.t + 1) w.old w.new }
@@ -89,7 +96,14 @@ pub struct Cleared<W> {
 
 // The division stage modulo v / c, after the clearing.
 #[cycle(cleared_stage_clearing_stage_content_stage_division_stage)]
-fn cleared_stage(w: &mut [u32], m: Modulus, v: Modulus, p: Places, x: Cleared<u32>, a: usize) -> Result<u32, Split<u32>>
+fn cleared_stage(
+    w: &mut [u32],
+    m: Modulus,
+    v: Modulus,
+    p: Places,
+    x: Cleared<u32>,
+    a: usize,
+) -> Result<u32, Split<u32>>
     requires known { (Known m) × ((Known v) × (1 ≤ x.c)) }
     requires division_asked { DivisionAsked m.n (v.n / x.c) p a x.b 1 x.l w.old }
     ensures stage_answer { StageAnswer m.n (v.n / x.c) p a (x.b + 1) w.old w.new result }

@@ -89,7 +89,14 @@ fn over_unit(w: &mut [u32], m: Modulus, t: usize, f: Span, g: Span, y: usize) ->
 
 // The unit factor of B is taken out of it and of its multiplier. The highest coefficient of B that is not nilpotent is u. Answers the
 // number of words of the multiplier.
-pub fn take_unit(w: &mut [u32], m: Modulus, v: Modulus, p: Places, z: Sizes, u: UnitAt<u32>) -> usize
+pub fn take_unit(
+    w: &mut [u32],
+    m: Modulus,
+    v: Modulus,
+    p: Places,
+    z: Sizes,
+    u: UnitAt<u32>,
+) -> usize
     requires known { (Known m) × (Known v) }
     requires stage_at { (StageAt m.n v.n p z.a z.a z.l w.old) × (u.s < z.a) }
     requires leading_unit { LeadingUnit v.n u.s u.i (piece w.old p.pb z.a) }

@@ -13,7 +13,7 @@ pub content_stage-returns-in_err-y-in-Next-clause-divisor_or_split :
     goal.content_stage-returns-in_err-y-in-Next-clause-divisor_or_split
 content_stage-returns-in_err-y-in-Next-clause-divisor_or_split t c =
     let x = split_at _ _ _ _ _ _ _ _ c.clear_contents.ensures.clears _ _ _ _ c.in-Next.is _
-        c.division_stage-in-Next.ensures.divisor_or_split _ c.in_err-y-in-Next.was in
+    c.division_stage-in-Next.ensures.divisor_or_split _ c.in_err-y-in-Next.was in
     search rules
 
 pub content_stage-returns-in_ok-y-in-Next-clause-divisor_or_split :
