@@ -16,6 +16,8 @@ use lib.Seq.{take_all}
 use mir.Syntax.{w32}
 use mir.Val.{Fits}
 use Rattle.definitions.specs.Polynomials.{TrueDegree, none, place, true_degree}
+use Rattle.refusals.specs.declared.Refusal.{Refusal}
+use Rattle.refusals.specs.Refusal.{number_of}
 use Rattle.refusals.specs.Refusals.{Tested, narrow, bad_modulus_of, bad_length_of, all_below_of, short, first_refusal, refusals_one}
 use Rattle.refusals.specs.Refusals.{answered, replaced}
 use Rattle.refusals.specs.Conditions.{accepted_one, modulus_fails, residues_below}
@@ -46,7 +48,7 @@ kept_told : (t : TrueDegree) → kept (told 0 t) ≡ suc (last_place t)
 kept_told none = refl
 kept_told (place k) = omega arith
 
-some_number : (k : ℕ) (t : TrueDegree) → Refused k ≡ told k t → k ≡ 0 → ⊥
+some_number : (x : ℕ) {k : Refusal} (t : TrueDegree) → Refused k ≡ told x t → x ≡ 0 → ⊥
 some_number zero none e z = omega (arith, ap kept e)
 some_number zero (place i) e z = omega (arith, ap kept e)
 some_number (suc k) t e z = omega arith
@@ -91,11 +93,11 @@ module _ {n : ℕ} {g : List ℕ} {r : Degree} (b : bad_modulus_of narrow n ≡ 
   count_fits {k} j e h =
       record { fits = omega (arith, kept_is (At k) e refl, dropped_within g (omega (arith, l)), l, ltb→lt j 49 h) }
 
-  pub word_refused : {k v st : ℕ} {w : List ℕ} → r ≡ Refused k → v ≡ 0 → st ≡ 17 → WordsAnswer n g w w v st
+  pub word_refused : {k : Refusal} {v st : ℕ} {w : List ℕ} → r ≡ Refused k → v ≡ 0 → st ≡ 17 → WordsAnswer n g w w v st
   word_refused {k} {v} {st} {w} e y z = go (all_below_of n g) refl
     where
       go : (x : Bool) → all_below_of n g ≡ x → WordsAnswer n g w w v st
-      go true h = absurd (some_number k (true_degree g) (case_told (Refused k) e) (number_is (Refused k) e ∙ sym (below_passes h)))
+      go true h = absurd (some_number (number_of k) (true_degree g) (case_told (Refused k) e) (number_is (Refused k) e ∙ sym (below_passes h)))
       go false h =
           subst (λ (x : ℕ). WordsAnswer n g w w x st) (sym y) (subst (λ (x : ℕ). WordsAnswer n g w w 0 x) (sym z) (record {
             status_is = row_applies 16 (not (all_below_of n g)) ((6, short (length w) 49) ∷ []) (ap not h);
