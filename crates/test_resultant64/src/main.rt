@@ -9,7 +9,7 @@
 
 ghost use Rattle.std.specs.Prelude.{◌+◌, ◌≤◌, ◌≡◌, length};
 
-use product_law_service64::Numbers;
+use product_law_service::Numbers;
 use refusals64::Answer;
 use std::io;
 use std::io::{BufReader, Read};
@@ -139,7 +139,7 @@ fn how_far_line(
     put_working64(rt, work)
 }
 
-fn put_numbers(rt: &impl Print, a: Numbers) -> io::Result<()> {
+fn put_numbers(rt: &impl Print, a: Numbers<u64>) -> io::Result<()> {
     put_answer64(rt, b"law", a.status, a.r)?;
     put64(rt, a.rf)?;
     put64(rt, a.rg)?;
