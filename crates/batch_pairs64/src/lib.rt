@@ -78,7 +78,14 @@ fn refusal_room(count: usize, l: usize, m: usize) -> Result<(), Refusal>
 }
 
 // Refusals 1, 2, 3, 6 and 7 of a batch, in this order.
-pub fn refusal_batch(n: u64, f: &[u64], g: &[u64], b: Batch, l: usize, m: usize) -> Result<(), Refusal>
+pub fn refusal_batch(
+    n: u64,
+    f: &[u64],
+    g: &[u64],
+    b: Batch,
+    l: usize,
+    m: usize,
+) -> Result<(), Refusal>
     ensures { status_of result ≡ batch_status wide n f.now b.d g.now b.e b.count l m }
 {
     if refusals64::bad_modulus(n) {
