@@ -85,9 +85,9 @@ fn degree_line(rt: &impl Print, n: u32, f: &[u32]) -> io::Result<()> {
             put_name(rt, b"degree")?;
             put(rt, k)?;
         }
-        Degree::Refused(s) => {
+        Degree::Refused(refusal) => {
             put_name(rt, b"degree refused")?;
-            put(rt, s)?;
+            put(rt, refusal.number())?;
         }
     }
     test_lines::put_words(rt, degree_service::leading(n, f))

@@ -130,9 +130,9 @@ fn degree_line(rt: &impl Print, n: u64, f: &[u64]) -> io::Result<()> {
             put_name(rt, b"degree")?;
             put(rt, k)?;
         }
-        Degree::Refused(s) => {
+        Degree::Refused(refusal) => {
             put_name(rt, b"no degree")?;
-            put(rt, s)?;
+            put(rt, refusal.number())?;
         }
     }
     Ok(())
