@@ -52,9 +52,7 @@ fn value_at(n: u64, f: &[u64], count: usize, x: u64) -> u64
     requires { (1 ≤ n) × (count ≤ length f.now) }
 {
     let mut s: u64 = 0;
-    let mut i = count;
-    while 0 < i {
-        i -= 1;
+    for i in (0..count).rev() {
         s = arithmetic64::mul_add_mod(n, f[i], s, x);
     }
     s
