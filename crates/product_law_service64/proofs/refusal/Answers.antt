@@ -6,8 +6,10 @@ use Rattle.product_law_service64.proofs.refusal.Goals as goal
 pub cofactor_length-l-requires : goal.cofactor_length-l-requires
 cofactor_length-l-requires c = let a = c.args in let e = c.in_ok-sent_refusal.ensures in (
   omega arith,
-  (third_some wide.bound a.n 0 a.f.now a.g.now a.h.now e refl refl,
-   cofactor_fits wide.bound a.n 0 a.f.now a.g.now a.h.now e refl _ _ tt refl refl),
+  (
+    third_some wide.bound a.n 0 a.f.now a.g.now a.h.now e refl refl,
+    cofactor_fits wide.bound a.n 0 a.f.now a.g.now a.h.now e refl _ _ tt refl refl,
+  ),
 )
 
 -- applied by hand: a search would compare the lists of refusals test by test
