@@ -9,6 +9,7 @@ width only.
     tools/twins.py                 one line for each pair: lines of proof at both widths, and how many answers differ
     tools/twins.py CRATE...        the answers that differ in these pairs
     tools/twins.py --shared        fails if a pair of SHARED, whose proofs are by rules, differs in more answers than stand there
+    tools/twins.py --same          the pairs of SHARED that may differ in nothing
 """
 import difflib
 import pathlib
@@ -18,14 +19,13 @@ import sys
 ROOT = pathlib.Path(__file__).resolve().parent.parent
 # pairs whose function proofs are written by rules that both widths share: how many answers and `use` lines may differ
 SHARED = {
-    "arithmetic": 36, "batch_pairs": 0, "bezout": 2, "convolution": 15, "degree_service": 0, "division_service": 3, "divisor": 12,
-    "divisor_service": 7, "divisor_stages": 0, "divisors_service": 2, "euclid_multipliers": 6, "evaluator_matrices": 0,
-    "evaluator_service": 0, "inverse_service": 0, "multiplier_steps": 0, "multiplier_words": 3, "product_law_refusals": 2,
-    "product_law_service": 4, "product_service": 0, "reduced": 2, "reduced_attempt": 12, "reduced_clearing": 0, "reduced_cofactors": 0,
-    "reduced_products": 0, "reduced_quick": 52, "reduced_quotients": 0, "reduced_service": 6, "reduced_stages": 0, "reduced_units": 0,
-    "refusals": 1, "residue": 8, "residue_service": 1, "resultant": 26, "resultant_attempt": 12, "resultant_euclid": 0,
-    "resultant_service": 2, "resultant_signs": 0, "resultant_steps": 2, "resultants_service": 2, "unit_monic_service": 17,
-    "window_division": 12, "window_factor": 5, "windows": 71,
+    "arithmetic": 36, "batch_pairs": 0, "bezout": 2, "convolution": 6, "degree_service": 4, "division_service": 2, "divisor": 18,
+    "divisor_stages": 0, "divisors_service": 0, "euclid_multipliers": 8, "evaluator_matrices": 0, "evaluator_service": 2,
+    "inverse_service": 4, "multiplier_steps": 0, "multiplier_words": 3, "product_law_service": 4, "product_service": 4, "reduced": 2,
+    "reduced_attempt": 18, "reduced_clearing": 0, "reduced_cofactors": 4, "reduced_products": 0, "reduced_quick": 52,
+    "reduced_quotients": 0, "reduced_service": 12, "reduced_stages": 0, "reduced_units": 0, "refusals": 0, "residue": 10, "resultant": 18,
+    "resultant_attempt": 8, "resultant_euclid": 3, "resultant_signs": 0, "resultant_steps": 2, "resultants_service": 0,
+    "unit_monic_service": 6, "window_division": 16, "window_factor": 5, "windows": 14,
 }
 
 
@@ -78,6 +78,9 @@ def main(words):
                 print("FAILED: the proofs of %s and %s64 differ in %d lines, not %d:" % (crate, crate, len(found), allowed), *found, sep="\n    ")
         print("twins: %d pairs by rules, %d wrong" % (len(SHARED), wrong))
         return wrong != 0
+    if words == ["--same"]:
+        print(*(crate for crate, allowed in SHARED.items() if allowed == 0), sep="\n")
+        return 0
     for crate in words or pairs():
         a, b, found = compare(crate)
         print("%-24s %5d %5d lines, %4d differ" % (crate, a, b, len(found)))

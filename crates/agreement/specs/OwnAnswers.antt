@@ -4,8 +4,8 @@
 --   own_length       a cofactor has 1 to 4096 words
 --   own_accepted     the answer of the reduced resultant, sent as a claim
 --   own_case         the same for the case told
-use Rattle.std.specs.Prelude.{◌≡◌, List, ℕ, suc, pred, max, ◌*◌, ◌^◌, ◌≤◌, ◌<◌, length, take}
-use Rattle.std.proofs.Common.{sym, ap₂, subst, ◌∙◌, arith, mul-le-mul, lt_of_lt_of_le, zero-lt-suc, length-take-le}
+use Rattle.std.specs.Prelude.{◌≡◌, refl, List, ℕ, suc, pred, max, ◌*◌, ◌^◌, ◌≤◌, ◌<◌, length, take}
+use Rattle.std.proofs.Common.{sym, subst, ◌∙◌, arith, mul-le-mul, lt_of_lt_of_le, zero-lt-suc, length-take-le}
 use Rattle.definitions.specs.Residues.{K}
 use Rattle.definitions.specs.Polynomials.{deg, L}
 use Rattle.law_numbers.specs.Logarithm.{K_below}
@@ -17,7 +17,7 @@ use Rattle.claims.specs.ClaimLaws.{judged_once}
 use Rattle.claim_service.specs.declared.Claim.{Claim}
 use Rattle.claim_service.specs.declared.Claim.TheVariants.{Accepted}
 use Rattle.claim_service.specs.ClaimService.{ServedMultiplier, claim_refusals, claim_conditions, claim_listed}
-use Rattle.claim_service.specs.ClaimService.{claim_number, claim_value, told}
+use Rattle.claim_service.specs.ClaimService.{claim_number, claim_value, same_case}
 use Rattle.claim_service.specs.ClaimService.{ClaimSaid, ClaimAnswer, ClaimCase}
 
 -- K is at most 63 and a degree at most 48
@@ -95,4 +95,4 @@ module _ (W : Width) (fits : W.bound ≤ 2 ^ 64) (n D : ℕ) (f g u u' v v' work
       → ClaimCase W n f g D (take (L n (deg f) (deg g)) u') (take (L n (deg f) (deg g)) v') lent lent' r → r ≡ Accepted
   own_case r c =
       let z = own_accepted (claim_value r) (claim_number r) c.answer in
-      c.case_is ∙ ap₂ told z.1 z.0
+      same_case r Accepted z.1 refl z.0

@@ -3,14 +3,14 @@
 --   window_at, window_over      the words of a window of a row
 --   moved_in, moved-out         a leaf that works from row i to row k, at the same places of both
 --   added_rows                  three of them make a row added to a row
-use mathlib.Core.Path.{◌≡◌, refl, sym, ap, ap₂, ◌∙◌, subst}
+use mathlib.Core.Path.{◌≡◌, refl, sym, ap, ap₂, ◌∙◌}
 use mathlib.Core.Logic.{◌≢◌}
 use mathlib.Core.List.{List}
-use Prim.Native.Nat.{ℕ, zero, suc, ◌+◌, ◌*◌, ◌-◌, ◌%◌, ◌<◌, ◌≤◌}
-use native.Mathlib.Decide.{dec_lt, ℕ_discrete}
+use Prim.Native.Nat.{ℕ, ◌+◌, ◌*◌, ◌%◌, ◌<◌, ◌≤◌}
+use native.Mathlib.Decide.{dec_lt}
 use native.Mathlib.Omega.{arith}
-use lib.ListN.{length, get_or}
-use Rattle.windows.specs.Window.{piece, Moved, addMul}
+use lib.ListN.{get_or}
+use Rattle.windows.specs.Window.{Moved, addMul}
 use Rattle.windows.proofs.Leaf.{piece_at, piece_over}
 use Rattle.band_clearing.specs.Bands.{cell, window, Shape, PairAsked, RowAdded}
 

@@ -7,19 +7,18 @@
 --   alternating_asked, half_asked, half_heads    what its two steps ask
 --   reductions, multiples, alternations          the rules
 use mathlib.Core.Path.{◌≡◌, refl, sym, ap, ap₂, ◌∙◌, subst}
-use mathlib.Core.Logic.{◌≢◌, ◌⊎◌, inl, inr}
+use mathlib.Core.Logic.{◌≢◌, inl, inr}
 use mathlib.Core.List.{List}
-use Prim.Native.Nat.{ℕ, zero, suc, pred, ◌+◌, ◌*◌, ◌-◌, ◌/◌, ◌%◌, ◌<◌, ◌≤◌, ◌∣◌}
+use Prim.Native.Nat.{ℕ, zero, suc, pred, ◌+◌, ◌*◌, ◌-◌, ◌/◌, ◌%◌, ◌<◌, ◌≤◌}
 use native.Mathlib.Decide.{dec_lt, ℕ_discrete}
-use native.Mathlib.Nat.{mod-lt, mod-mod, mod-eq_of_lt, zero-mod, div-add-mod, add-mul-mod_self_left, pos_of_dvd_of_pos}
+use native.Mathlib.Nat.{mod-lt, mod-mod, mod-eq_of_lt, div-add-mod, add-mul-mod_self_left, pos_of_dvd_of_pos}
 use native.Mathlib.Omega.{arith}
 use borrow.Author.Rules.{rules}
 use lib.ListN.{length, get_or}
-use Rattle.definitions.specs.Polynomials.{coef, deg}
 use Rattle.law_numbers.specs.Divisors.{GcdCofactor}
 use Rattle.law_rows.specs.LiveWords.{LiveWords}
 use Rattle.law_rows.specs.WordSteps.{AddedWords, words_add}
-use Rattle.band_clearing.specs.Bands.{cell, window, Shape, Band, HeadsBelow, PairAsked, RowAdded, KeepsTwo, RowReduced, RowCleared}
+use Rattle.band_clearing.specs.Bands.{cell, window, Shape, HeadsBelow, PairAsked, RowAdded, KeepsTwo, RowReduced, RowCleared}
 use Rattle.band_clearing.proofs.Cells.{window_at, window_over}
 
 -- the first word of a row, and word 0 of the row

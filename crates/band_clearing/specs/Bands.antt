@@ -23,7 +23,7 @@
 -- Letters: f, g are the polynomials, d, e their degrees; b is the breadth, the larger degree and 1; i, k, r are rows, t is the row with the
 -- pivot; l is the number of live rows, p and q those of the rows of f and g still to come in; w is the buffer before a step, w' after it.
 use Rattle.std.specs.Prelude.{◌≡◌, ◌⊎◌, ◌≢◌, List, ℕ, suc, pred, ◌+◌, ◌*◌, ◌-◌, ◌%◌, ◌<◌, ◌≤◌, length, get_or}
-use Rattle.definitions.specs.Polynomials.{coef, deg, Residues}
+use Rattle.definitions.specs.Polynomials.{coef, Residues}
 use Rattle.definitions.specs.Resultants.{resultant, Combination}
 use Rattle.windows.specs.Window.{piece}
 use Rattle.law_rows.specs.LiveWords.{LiveWords}

@@ -118,10 +118,8 @@ pub fn clear_column(w: &mut [u32], n: u32, t: usize, l: usize, s: Sizes) -> usiz
     ensures { ColumnCleared n s.b s.d s.e l l result w.old w.new }
 {
     let mut p = t;
-    let mut k: usize = 0;
-    while k < l {
+    for k in 0..l {
         p = clear_row(w, n, p, k, s);
-        k += 1;
     }
     p
 }
@@ -133,8 +131,7 @@ pub fn pivot(w: &[u32], n: u32, l: usize) -> usize
 {
     let mut best: usize = 0;
     let mut least = n;
-    let mut k: usize = 0;
-    while k < l {
+    for k in 0..l {
         let g = bezout::gcd(w[ROW * k], n);
         if g == 1 {
             return k;
@@ -143,7 +140,6 @@ pub fn pivot(w: &[u32], n: u32, l: usize) -> usize
             least = g;
             best = k;
         }
-        k += 1;
     }
     best
 }

@@ -1,26 +1,19 @@
 -- Rows that come in; rows one column on.
 --
 --   entered                                     the words of a row that comes in
---   row_shifted, shifted_none, shifted_next     what the loop over the rows to be shifted keeps
---   puts, entries, shifts                       the rules
-use mathlib.Core.Path.{◌≡◌, refl, sym, ap, ◌∙◌, subst}
+--   row_shifted                                 the words of a row one column on
+--   entries, shifts                             the rules
+use mathlib.Core.Path.{◌≡◌, sym, ap, ◌∙◌, subst}
 use mathlib.Core.Logic.{◌≢◌}
 use mathlib.Core.List.{List}
 use Prim.Native.Nat.{ℕ, suc, ◌+◌, ◌*◌, ◌-◌, ◌<◌, ◌≤◌}
-use native.Mathlib.Decide.{dec_lt, ℕ_discrete}
+use native.Mathlib.Decide.{dec_lt}
 use native.Mathlib.Omega.{arith}
 use borrow.Author.Rules.{rules}
 use lib.ListN.{length, get_or, set, length-set}
 use lib.Seq.{get_or-set_same, get_or-set_other}
 use Rattle.windows.specs.Window.{Moved, Written, zeroed, second}
-use Rattle.windows.proofs.WindowRounds.{Writing, writing_none, writing_next, writing_end}
-use Rattle.band_clearing.specs.Bands.{cell, from_top, EnterAsked, RowEntered, ShiftAsked, RowShifted, Shifted}
-
--- ---- the words of h, the top word first
-
-pub put_next : {F : ℕ → ℕ} {at len j j' : ℕ} {w₀ w w' : List ℕ} → Writing F at len w₀ w j → at + len ≤ length w₀ → j < len
-    → w' ≡ set w (at + j) (F j) → j' ≡ j + 1 → Writing F at len w₀ w' j'
-put_next m fit l ew ej = writing_next m fit l _ refl ew ej
+use Rattle.band_clearing.specs.Bands.{cell, from_top, EnterAsked, RowEntered, ShiftAsked, RowShifted}
 
 -- ---- a row that comes in: zeros, then the words, then the one word of the multiplier
 
@@ -85,49 +78,6 @@ module _ {i b : ℕ} {w₀ w₁ : List ℕ} (a : ShiftAsked (i + 1) b w₀) (c :
   pub row_shifted : {w' : List ℕ} → w' ≡ set w₁ (145 * i + (b - 1)) 0 → RowShifted i b w₀ w'
   row_shifted e = subst (RowShifted i b w₀) (sym e) shifted_set
 
-pub shifted_none : (b : ℕ) (w : List ℕ) → Shifted 0 b w w
-shifted_none b w = record {
-  same = refl;
-  at = λ i j h l. absurd (omega arith);
-  last = λ i h. absurd (omega arith);
-  upper = λ i j h l y. refl;
-  others = λ i j h y. refl;
-}
-
-pub shifted_next : {i l b : ℕ} {w₀ w w' : List ℕ} → ShiftAsked l b w₀ → Shifted i b w₀ w → RowShifted i b w w' → Shifted (i + 1) b w₀ w'
-shifted_next {i} {l} {b} {w₀} {w} {w'} a s r = record {
-  same = r.same ∙ s.same;
-  at = λ k j h l. at_row k j h l (ℕ_discrete k i);
-  last = λ k h. at_last k h (ℕ_discrete k i);
-  upper = λ k j h l y. at_upper k j h l y (ℕ_discrete k i);
-  others = λ k j h y. r.others k j y (λ z. omega arith) ∙ s.others k j (omega arith) y;
-}
-  where
-    most : b ≤ 49
-    most = a.most
-
-    at_row : (k j : ℕ) → k < i + 1 → suc j < b → Dec (k ≡ i) → cell w' k j ≡ cell w₀ k (suc j)
-    at_row k j h l (yes z) =
-        subst (λ (x : ℕ). cell w' x j ≡ cell w₀ x (suc j)) (sym z) (r.at j l ∙ s.others i (suc j) (omega arith) (omega arith))
-    at_row k j h l (no z) = r.others k j (omega arith) z ∙ s.at k j (omega arith) l
-
-    at_last : (k : ℕ) → k < i + 1 → Dec (k ≡ i) → cell w' k (b - 1) ≡ 0
-    at_last k h (yes z) = subst (λ (x : ℕ). cell w' x (b - 1) ≡ 0) (sym z) r.last
-    at_last k h (no z) = r.others k (b - 1) (omega arith) z ∙ s.last k (omega arith)
-
-    at_upper : (k j : ℕ) → k < i + 1 → b ≤ j → j < 145 → Dec (k ≡ i) → cell w' k j ≡ cell w₀ k j
-    at_upper k j h l y (yes z) =
-        subst (λ (x : ℕ). cell w' x j ≡ cell w₀ x j) (sym z) (r.upper j l y ∙ s.others i j (omega arith) y)
-    at_upper k j h l y (no z) = r.others k j y z ∙ s.upper k j (omega arith) l y
-
-pub shifted_end : {i l b : ℕ} {w₀ w : List ℕ} → Shifted i b w₀ w → i ≤ l → l ≤ i → Shifted l b w₀ w
-shifted_end {i} {l} {b} {w₀} {w} s p q = subst (λ (j : ℕ). Shifted j b w₀ w) (omega arith) s
-
-pub shift_asked : {i l b : ℕ} {w₀ w : List ℕ} → ShiftAsked l b w₀ → Shifted i b w₀ w → i < l → ShiftAsked (i + 1) b w
-shift_asked a s h = record { rows = omega (arith, a.rows); some = a.some; most = a.most; room = omega (arith, a.room, s.same) }
-
-pub ruleset puts = (rules, writing_none, put_next, writing_end)
-
 pub ruleset entries = (rules, entered, enter_same)
 
-pub ruleset shifts = (rules, row_shifted, shifted_none, shifted_next, shifted_end, shift_asked)
+pub ruleset shifts = (rules, row_shifted)

@@ -27,10 +27,8 @@ fn put_reversed(w: &mut [u32], at: usize, h: &[u32])
     requires { at + length h.now ≤ length w.old }
     ensures { Written (from_top h.now) at (length h.now) w.old w.new }
 {
-    let mut j: usize = 0;
-    while j < h.len() {
+    for j in 0..h.len() {
         w[at + j] = h[h.len() - 1 - j];
-        j += 1;
     }
 }
 
@@ -60,10 +58,8 @@ fn shift_rows(w: &mut [u32], l: usize, b: usize)
     requires { ShiftAsked l b w.old }
     ensures { Shifted l b w.old w.new }
 {
-    let mut i: usize = 0;
-    while i < l {
+    for i in 0..l {
         shift_row(w, i, b);
-        i += 1;
     }
 }
 

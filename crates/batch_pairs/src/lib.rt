@@ -11,8 +11,11 @@
 #![tactic(auto)]
 
 ghost use Rattle.std.specs.Prelude.{◌≡◌, not, [], ◌∷◌, length};
+ghost use Rattle.refusals.specs.Refusal.{status_of};
 ghost use Rattle.refusals.specs.Refusals.{narrow, all_below_of, short, first_refusal};
 ghost use Rattle.batch_pairs.specs.Batches.{bad_pieces_of, ServedPieces, batch_status};
+
+use refusals::Refusal;
 
 // count polynomials of sent degree d one after the other, and as many of sent degree e.
 #[derive(Clone, Copy)]
@@ -36,17 +39,17 @@ fn bad_pieces(length: usize, d: usize, count: usize) -> bool
     length % (d + 1) != 0
 }
 
-// Refusal 2 of a batch, f of lf words and g of lg; 0 where it does not apply.
-fn refusal_pieces(lf: usize, lg: usize, b: Batch) -> u32
-    ensures { result ≡ first_refusal ((2, bad_pieces_of b.d b.count lf) ∷ (2, bad_pieces_of b.e b.count lg) ∷ []) }
+// Refusal 2 of a batch, f of lf words and g of lg.
+fn refusal_pieces(lf: usize, lg: usize, b: Batch) -> Result<(), Refusal>
+    ensures { status_of result ≡ first_refusal ((2, bad_pieces_of b.d b.count lf) ∷ (2, bad_pieces_of b.e b.count lg) ∷ []) }
 {
     if bad_pieces(lf, b.d, b.count) {
-        return 2;
+        return Err(Refusal::BadLength);
     }
     if bad_pieces(lg, b.e, b.count) {
-        return 2;
+        return Err(Refusal::BadLength);
     }
-    0
+    Ok(())
 }
 
 // Whether every word of count polynomials of sent degree d is a residue.
@@ -58,47 +61,43 @@ fn pieces_below(n: u32, f: &[u32], d: usize, count: usize) -> bool
     refusals::all_below(n, &f[0..count * size])
 }
 
-// Refusal 3 of a batch; 0 where it does not apply. A word is read only where both lengths are served.
-fn refusal_words(n: u32, f: &[u32], g: &[u32], b: Batch) -> u32
+// Refusal 3 of a batch. A word is read only where both lengths are served.
+fn refusal_words(n: u32, f: &[u32], g: &[u32], b: Batch) -> Result<(), Refusal>
     requires { ServedPieces b.d b.count (length f.now) × ServedPieces b.e b.count (length g.now) }
-    ensures { result ≡ first_refusal ((3, not (all_below_of n f.now)) ∷ (3, not (all_below_of n g.now)) ∷ []) }
+    ensures { status_of result ≡ first_refusal ((3, not (all_below_of n f.now)) ∷ (3, not (all_below_of n g.now)) ∷ []) }
 {
     if !pieces_below(n, f, b.d, b.count) {
-        return 3;
+        return Err(Refusal::BadWord);
     }
     if !pieces_below(n, g, b.e, b.count) {
-        return 3;
+        return Err(Refusal::BadWord);
     }
-    0
+    Ok(())
 }
 
-// Refusals 6 and 7 of a batch; 0 where neither applies.
-fn refusal_room(count: usize, l: usize, m: usize) -> u32
-    ensures { result ≡ first_refusal ((6, short l count) ∷ (7, short m narrow.working) ∷ []) }
+// Refusals 6 and 7 of a batch.
+fn refusal_room(count: usize, l: usize, m: usize) -> Result<(), Refusal>
+    ensures { status_of result ≡ first_refusal ((6, short l count) ∷ (7, short m narrow.working) ∷ []) }
 {
-    if l < count {
-        return 6;
-    }
-    if m < refusals::WORKING_WORDS {
-        return 7;
-    }
-    0
+    refusals::room(l, count, Refusal::ShortResult)?;
+    refusals::room(m, refusals::WORKING_WORDS, Refusal::ShortWork)
 }
 
-// Refusals 1, 2, 3, 6 and 7 of a batch, in this order; 0 where none applies.
-pub fn refusal_batch(n: u32, f: &[u32], g: &[u32], b: Batch, l: usize, m: usize) -> u32
-    ensures { result ≡ batch_status narrow n f.now b.d g.now b.e b.count l m }
+// Refusals 1, 2, 3, 6 and 7 of a batch, in this order.
+pub fn refusal_batch(
+    n: u32,
+    f: &[u32],
+    g: &[u32],
+    b: Batch,
+    l: usize,
+    m: usize,
+) -> Result<(), Refusal>
+    ensures { status_of result ≡ batch_status narrow n f.now b.d g.now b.e b.count l m }
 {
     if refusals::bad_modulus(n) {
-        return 1;
+        return Err(Refusal::BadModulus);
     }
-    let two = refusal_pieces(f.len(), g.len(), b);
-    if two != 0 {
-        return two;
-    }
-    let three = refusal_words(n, f, g, b);
-    if three != 0 {
-        return three;
-    }
+    refusal_pieces(f.len(), g.len(), b)?;
+    refusal_words(n, f, g, b)?;
     refusal_room(b.count, l, m)
 }

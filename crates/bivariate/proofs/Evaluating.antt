@@ -1,8 +1,7 @@
 -- A polynomial in y and z at a point, word by word, and the run's laws for the evaluated pair.
 --
 --   tail_first, tail_next, tail_last    Horner's rule, from the last coefficient down
---   Groups               group after group, with its start, round and end
---   part_inside, part_fits, part_scaled    the place of a group
+--   Groups               group after group, with its round and end
 --   length_evaluated     the size of an evaluated polynomial
 --   run_is, run_value    what the run returns for the pair at z, as it stands in two buffers
 --   groups, evaluations  the rules
@@ -14,8 +13,6 @@ use mathlib.Core.List.{List}
 use Prim.Native.Nat.{ℕ, zero, suc, pred, ◌+◌, ◌-◌, ◌*◌, ◌^◌, ◌%◌, ◌<◌, ◌≤◌}
 use native.Mathlib.Nat.{mul-zero, mul-add, mul-one, mul_left_comm, pow-zero, pow-succ', zero-mod, mod-mod, mul-le-mul_right}
 use native.Mathlib.Omega.{arith}
-use mir.Syntax.{w64}
-use mir.Val.{Fits}
 use borrow.Author.Rules.{rules}
 use lib.ListN.{length, get_or, take, drop, set}
 use Rattle.definitions.specs.Polynomials.{coef, deg, total}
@@ -26,7 +23,7 @@ use Rattle.law_polynomials.specs.ResultantLaws.{resultant_cong}
 use Rattle.law_polynomials.specs.BivariateLaws.{group_value, evaluated}
 use Rattle.law_polynomials.specs.Words.{coef_tabulate, length_tabulate, total_cong}
 use Rattle.windows.specs.Window.{piece, Written, Loaded}
-use Rattle.windows.proofs.Leaf.{lt_or_le, piece_at, piece_length, written_none, written_step, written_loaded}
+use Rattle.windows.proofs.Leaf.{lt_or_le, piece_at, piece_length, written_step, written_loaded}
 use Rattle.bivariate.specs.PairLengthsAsked.{PairLengthsAsked, value_at}
 
 -- ---- one group
@@ -94,57 +91,51 @@ pub ruleset groups = (rules, tail_first, tail_next, tail_last)
 
 -- ---- all groups
 
--- the words of i groups stand in the window; group i begins at s
-pub record Groups (n at d a z : ℕ) (f w₀ w : List ℕ) (i s : ℕ) : Type 0 where
+-- the words of i groups stand in the window
+pub record Groups (n at d a z : ℕ) (f w₀ w : List ℕ) (i : ℕ) : Type 0 where
   pub most : i ≤ d + 1
-  pub place : s ≡ i * suc a
   pub done : Written (λ (k : ℕ). coef (evaluated d a f z) k % n) at i w₀ w
 
-pub groups_none : (n at d a z : ℕ) (f w : List ℕ) → Groups n at d a z f w w 0 0
-groups_none n at d a z f w = record { most = omega arith; place = omega arith; done = written_none _ _ _ }
-
-module _ {n at d a z : ℕ} {f w₀ w : List ℕ} {i s : ℕ} (h : Groups n at d a z f w₀ w i s) (e : length f ≡ (d + 1) * (a + 1))
-    (l : i < d + 1) where
-  -- the part ends within the words
-  pub part_inside : s + (a + 1) ≤ length f
+-- group i begins at i (a + 1)
+module _ {n at d a z i : ℕ} {f w₀ w : List ℕ} (h : Groups n at d a z f w₀ w i) (e : length f ≡ (d + 1) * (a + 1)) (l : i < d + 1) where
+  -- the group ends within the words
+  part_inside : i * (a + 1) + (a + 1) ≤ length f
   part_inside =
       let m : (i + 1) * (a + 1) ≤ (d + 1) * (a + 1) = mul-le-mul_right (a + 1) (more i d l) in
-      omega (arith, h.place)
+      omega arith
     where
       more : (i d : ℕ) → i < d + 1 → i + 1 ≤ d + 1
       more i d q = omega arith
 
-  pub part_fits : length f * 4 < 2 ^ 63 → Fits w64 (s + (a + 1))
-  part_fits r = record { fits = omega (arith, part_inside) }
-
-  pub part_scaled : length f * 4 < 2 ^ 63 → Fits w64 (s * 4)
-  part_scaled r = record { fits = omega (arith, part_inside) }
-
-  -- the words of the part
+  -- the words of the group
   part : ℕ → List ℕ
-  part k = take k (drop s f)
+  part k = take k (drop (i * (a + 1)) f)
 
-  pub groups_next : {v i' s' : ℕ} {w' : List ℕ} → at + (d + 1) ≤ length w₀
-      → v ≡ total (length (take (s + (a + 1) - s) (drop s f))) (λ j. get_or (take (s + (a + 1) - s) (drop s f)) j 0 * z ^ j) % n
-      → w' ≡ set w (at + i) v → i' ≡ i + 1 → s' ≡ s + (a + 1) → Groups n at d a z f w₀ w' i' s'
+  pub groups_next : {v i' : ℕ} {w' : List ℕ} → at + (d + 1) ≤ length w₀
+      → v ≡ total (length (take (i * (a + 1) + (a + 1) - i * (a + 1)) (drop (i * (a + 1)) f)))
+      (λ j. get_or (take (i * (a + 1) + (a + 1) - i * (a + 1)) (drop (i * (a + 1)) f)) j 0 * z ^ j) % n
+      → w' ≡ set w (at + i) v → i' ≡ i + 1 → Groups n at d a z f w₀ w' i'
   unfolding piece part
-  groups_next {v} fit ev ew ei es = rw (ew, ei, es) (record {
+  groups_next fit ev ew ei = rw (ew, ei) (record {
     most = omega arith;
-    place = omega (arith, h.place);
     done = written_step h.done (omega arith) (ev ∙ ap (λ (x : ℕ). x % n) word);
   })
     where
       r : ℕ
-      r = s + (a + 1) - s
+      r = i * (a + 1) + (a + 1) - i * (a + 1)
 
       long : r ≡ suc a
       long = omega arith
 
+      place : i * (a + 1) ≡ i * suc a
+      place = omega arith
+
       word : total (length (part r)) (λ j. get_or (part r) j 0 * z ^ j) ≡ coef (evaluated d a f z) i
       word =
-          ap (λ (k : ℕ). total k (λ j. get_or (part r) j 0 * z ^ j)) (piece_length f s r (omega (arith, part_inside)) ∙ long)
+          ap (λ (k : ℕ). total k (λ j. get_or (part r) j 0 * z ^ j)) (piece_length f (i * (a + 1)) r (omega (arith, part_inside)) ∙ long)
           ∙ total_cong (suc a) (λ j. get_or (part r) j 0 * z ^ j) (λ j. coef f (i * suc a + j) * z ^ j)
-          (λ j p. ap (λ (x : ℕ). x * z ^ j) (piece_at f s r j (omega arith) ∙ ap (λ (x : ℕ). get_or f (x + j) 0) h.place))
+          (λ j p. ap (λ (x : ℕ). x * z ^ j)
+          (piece_at f (i * (a + 1)) r j (omega arith) ∙ ap (λ (x : ℕ). get_or f (x + j) 0) place))
           ∙ sym (coef_tabulate (suc d) (group_value a f z) i (omega arith))
 
 pub length_evaluated : (d a : ℕ) (f : List ℕ) (z : ℕ) → length (evaluated d a f z) ≡ d + 1
@@ -153,14 +144,14 @@ length_evaluated d a f z = length_tabulate (suc d) (group_value a f z) ∙ more 
     more : (d : ℕ) → suc d ≡ d + 1
     more d = omega arith
 
-pub groups_end : {n at d a z i s : ℕ} {f w₀ w : List ℕ} → Groups n at d a z f w₀ w i s → d + 1 ≤ i → Loaded n at (evaluated d a f z) w₀ w
-groups_end {n} {at} {d} {a} {z} {i} {s} {f} {w₀} {w} h l = written_loaded n at (evaluated d a f z) w₀ w
+pub groups_end : {n at d a z i : ℕ} {f w₀ w : List ℕ} → Groups n at d a z f w₀ w i → d + 1 ≤ i → Loaded n at (evaluated d a f z) w₀ w
+groups_end {n} {at} {d} {a} {z} {i} {f} {w₀} {w} h l = written_loaded n at (evaluated d a f z) w₀ w
     (subst (λ (k : ℕ). Written (λ (k : ℕ). coef (evaluated d a f z) k % n) at k w₀ w) (all ∙ sym (length_evaluated d a f z)) h.done)
   where
     all : i ≡ d + 1
     all = omega (arith, h.most)
 
-pub ruleset evaluations = (rules, groups_none, part_inside, part_fits, part_scaled, groups_next, groups_end)
+pub ruleset evaluations = (rules, groups_next, groups_end)
 
 -- ---- the run
 

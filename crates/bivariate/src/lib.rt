@@ -55,10 +55,8 @@ fn group_value(m: Modulus, c: &[u32], z: u32) -> u32
     requires { Known m }
     ensures { result ≡ total (length c.now) (λ j. get_or c.now j 0 * z ^ j) % m.n }
 {
-    let mut j = c.len();
     let mut x: u32 = 0;
-    while 0 < j {
-        j -= 1;
+    for j in (0..c.len()).rev() {
         x = modulus::multiply_add(m, c[j], z, x);
     }
     x
@@ -69,13 +67,9 @@ fn evaluate(w: &mut [u32], at: usize, m: Modulus, f: &[u32], d: usize, a: usize,
     requires { (Known m) × ((length f.now ≡ (d + 1) * (a + 1)) × (at + (d + 1) ≤ length w.old)) }
     ensures { Loaded m.n at (evaluated d a f.now z) w.old w.new }
 {
-    let mut i: usize = 0;
-    let mut s: usize = 0;
-    while i < d + 1 {
-        let t = s + (a + 1);
-        w[at + i] = group_value(m, &f[s..t], z);
-        i += 1;
-        s = t;
+    for i in 0..d + 1 {
+        let s = i * (a + 1);
+        w[at + i] = group_value(m, &f[s..s + (a + 1)], z);
     }
 }
 
@@ -126,8 +120,7 @@ fn values(out: &mut [u32], w: &mut [u32], m: Modulus, f: &[u32], g: &[u32], s: D
         out.new }
     ensures scratch { Scratch w.old w.new }
 {
-    let mut z: usize = 0;
-    while z < last + 1 {
+    for z in 0..last + 1 {
         out[z] = at_point(
             w,
             m,
@@ -141,7 +134,6 @@ fn values(out: &mut [u32], w: &mut [u32], m: Modulus, f: &[u32], g: &[u32], s: D
                 z: z as u32,
             },
         );
-        z += 1;
     }
 }
 

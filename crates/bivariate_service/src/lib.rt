@@ -11,20 +11,17 @@
 ghost use Rattle.std.specs.Prelude.{◌≡◌, ◌+◌, ◌<◌, ◌≤◌, length, get_or, replicate};
 ghost use Rattle.definitions.specs.Bivariate.{bivariate_resultant_of, bivariate_degree};
 ghost use Rattle.law_numbers.specs.PrimeTable.{table};
+ghost use Rattle.refusals.specs.Refusal.{status_of};
 ghost use Rattle.refusals.specs.Refusals.{narrow};
 ghost use Rattle.windows.specs.Window.{Written};
 ghost use Rattle.bivariate.specs.PairLengthsAsked.{Prepared};
 ghost use Rattle.bivariate_service.specs.BivariateService.{bad_shape_of, small_factor, SentTold, RoomTold, BivariateAnswer};
 
 use bivariate::Degrees;
-use refusals::Answer;
+use refusals::{Answer, Refusal};
 
-// The largest degree in y or in z, the largest B, and the words of the working buffer.
-const DEGREE: usize = 48;
-
+// The largest B.
 const LAST: usize = 60;
-
-const WORKING: usize = 8192;
 
 // How many primes there are up to 59.
 const COUNT: usize = 17;
@@ -38,35 +35,43 @@ const PRIMES: [u32; COUNT] = [
 fn bad_shape(f: &[u32], d: usize, a: usize) -> bool
     ensures { result ≡ bad_shape_of d a f.now }
 {
-    if DEGREE < d {
+    if refusals::MAX_DEGREE < d {
         return true;
     }
-    if DEGREE < a {
+    if refusals::MAX_DEGREE < a {
         return true;
     }
     f.len() != (d + 1) * (a + 1)
 }
 
-// Refusals 1, 2 and 3; 0 where none applies.
-fn sent_refusal(n: u32, f: &[u32], d: usize, a: usize, g: &[u32], e: usize, b: usize) -> u32
-    ensures { SentTold narrow n f.now d a g.now e b result }
+// Refusals 1, 2 and 3.
+fn sent_refusal(
+    n: u32,
+    f: &[u32],
+    d: usize,
+    a: usize,
+    g: &[u32],
+    e: usize,
+    b: usize,
+) -> Result<(), Refusal>
+    ensures { SentTold narrow n f.now d a g.now e b (status_of result) }
 {
     if refusals::bad_modulus(n) {
-        return 1;
+        return Err(Refusal::BadModulus);
     }
     if bad_shape(f, d, a) {
-        return 2;
+        return Err(Refusal::BadLength);
     }
     if bad_shape(g, e, b) {
-        return 2;
+        return Err(Refusal::BadLength);
     }
     if !refusals::all_below(n, f) {
-        return 3;
+        return Err(Refusal::BadWord);
     }
     if !refusals::all_below(n, g) {
-        return 3;
+        return Err(Refusal::BadWord);
     }
-    0
+    Ok(())
 }
 
 // Prime i of the table.
@@ -82,8 +87,7 @@ fn prime_divides(n: u32, last: usize) -> bool
     requires { last ≤ 60 }
     ensures { result ≡ small_factor n last }
 {
-    let mut i: usize = 0;
-    while i < COUNT {
+    for i in 0..COUNT {
         let p = prime(i);
         if last < p as usize {
             return false;
@@ -91,28 +95,20 @@ fn prime_divides(n: u32, last: usize) -> bool
         if n % p == 0 {
             return true;
         }
-        i += 1;
     }
     false
 }
 
-// Refusals 12, 11, 6 and 7; 0 where none applies. l and m are the lengths of the result buffer and of the working buffer.
-fn room_refusal(n: u32, last: usize, l: usize, m: usize) -> u32
-    ensures { RoomTold narrow n last l m result }
+// Refusals 12, 11, 6 and 7. l and m are the lengths of the result buffer and of the working buffer.
+fn room_refusal(n: u32, last: usize, l: usize, m: usize) -> Result<(), Refusal>
+    ensures { RoomTold narrow n last l m (status_of result) }
 {
-    if LAST < last {
-        return 12;
-    }
+    refusals::room(LAST, last, Refusal::TooManyPoints)?;
     if prime_divides(n, last) {
-        return 11;
+        return Err(Refusal::PrimeDivides);
     }
-    if l < last + 1 {
-        return 6;
-    }
-    if m < WORKING {
-        return 7;
-    }
-    0
+    refusals::room(l, last + 1, Refusal::ShortResult)?;
+    refusals::room(m, refusals::WORKING_WORDS, Refusal::ShortWork)
 }
 
 // B, the degree in z of the resultant.
@@ -149,20 +145,12 @@ pub fn bivariate_resultant(
     ensures { BivariateAnswer narrow n f.now d a g.now e b out.old out.new
         work.old work.new result.value result.status }
 {
-    let s = sent_refusal(n, f, d, a, g, e, b);
-    if s != 0 {
-        return Answer {
-            value: 0,
-            status: s,
-        };
+    if let Err(refusal) = sent_refusal(n, f, d, a, g, e, b) {
+        return Answer::from(refusal);
     }
     let last = degree_in_z(d, a, e, b);
-    let t = room_refusal(n, last, out.len(), work.len());
-    if t != 0 {
-        return Answer {
-            value: 0,
-            status: t,
-        };
+    if let Err(refusal) = room_refusal(n, last, out.len(), work.len()) {
+        return Answer::from(refusal);
     }
     served(out, work, n, f, g, Degrees { d, a, e, b }, last);
     Answer {

@@ -8,14 +8,15 @@
 ghost use Rattle.refusals.specs.Refusals.{narrow};
 ghost use Rattle.claim_service.specs.ClaimService.{ClaimAnswer, ClaimCase};
 
-use refusals::Answer;
+use claims::Failure;
+use refusals::{Answer, Refusal};
 
-// Accepted; the number of the first of the three that fails; or the number of the refusal.
-#[derive(Clone, Copy)]
+// Accepted; the first of the three that fails; or the refusal.
+#[derive(Clone, Copy, Debug, PartialEq, Eq)]
 pub enum Claim {
     Accepted,
-    Fails(u32),
-    Refused(u32),
+    Fails(Failure),
+    Refused(Refusal),
 }
 
 // Whether d is the reduced resultant of f and g modulo n and u and v combine them to it, and else what fails first.
@@ -31,16 +32,15 @@ pub fn check_claim(
     ensures { ClaimCase narrow n f.now g.now d u.now v.now
         work.old work.new result }
 {
-    let refusal = claim_refusals::refusal_claim(n, f, g, u, v, work.len());
-    if refusal != 0 {
+    if let Err(refusal) = claim_refusals::refusal_claim(n, f, g, u, v, work.len()) {
         return Claim::Refused(refusal);
     }
-    let failing = claims::judge(work, n, f, g, d, u, v);
-    let answer = answers::answered(failing, work);
-    if answer.value == 0 {
-        return Claim::Accepted;
+    let judged = claims::judge(work, n, f, g, d, u, v);
+    windows::wipe(work);
+    match judged {
+        Ok(()) => Claim::Accepted,
+        Err(failure) => Claim::Fails(failure),
     }
-    Claim::Fails(answer.value)
 }
 
 // The case in words: an enum cannot be handed to a host.
@@ -61,13 +61,10 @@ pub fn check_claim_words(
             value: 0,
             status: 0,
         },
-        Claim::Fails(k) => Answer {
-            value: k,
+        Claim::Fails(failure) => Answer {
+            value: failure.number(),
             status: 0,
         },
-        Claim::Refused(s) => Answer {
-            value: 0,
-            status: s,
-        },
+        Claim::Refused(refusal) => Answer::from(refusal),
     }
 }

@@ -3,13 +3,11 @@
 --   tells_none, tells_rest       D divides n: of 0, and of any other D
 --   combined n f g u v k         word k of u f + v g; combined_sum is the same from words of the two products
 --   CombinedBelow k              the words of u f + v g before place k are right, and k is 1 or more
---   combined_first, combined_next, combined_end     the constant, one word more, and all words
---   wrong_first, wrong_word      a word that is not right
+--   combined_end                 all words are right
 --   reduced_told                 there is one reduced resultant
---   divides_holds, …, reduced_fails     what is said of a claim
---   tests, combinations, verdicts     the rules
+--   tests, combinations          the rules
 use mathlib.Core.Path.{◌≡◌, sym, ap₂, subst, ◌∙◌}
-use mathlib.Core.Bool.{Bool, true, false, not}
+use mathlib.Core.Bool.{true, false, not}
 use mathlib.Core.List.{List}
 use Prim.Native.Nat.{ℕ, zero, suc, max, ◌+◌, ◌-◌, ◌%◌, ◌<◌, ◌≤◌, ◌∣◌}
 use native.Mathlib.Nat.{zero-mod, mod-eq-zero_of_dvd, dvd_of_mod-eq-zero, pos_of_dvd_of_pos}
@@ -18,8 +16,7 @@ use native.Mathlib.Omega.{arith}
 use lib.Dec.{T, eqb}
 use lib.ListN.{length}
 use borrow.Author.Rules.{rules}
-use borrow.Author.Tests.{eqb-true, eqb-false, not-true, not-false}
-use borrow.Author.Count.{below_more}
+use borrow.Author.Tests.{eq-eqb, eqb-true, eqb-false}
 use Rattle.definitions.specs.Polynomials.{coef, convolve, constant}
 use Rattle.definitions.specs.Checks.{convolve_beyond}
 use Rattle.definitions.specs.Resultants.{Combination, Reduced}
@@ -38,8 +35,8 @@ no_told h = record { holds = λ e. true_false (sym e); fails = λ _. h }
 
 -- ---- the first
 
-pub tells_none : (d n : ℕ) → 1 ≤ n → d ≡ 0 → Tells false (d ∣ n)
-tells_none d n l z = no_told (λ h. let p = pos_of_dvd_of_pos h l in absurd (omega arith))
+pub tells_none : (d n : ℕ) → 1 ≤ n → d ≡ 0 → Tells (not (eqb d 0)) (d ∣ n)
+tells_none d n l z = rw (eq-eqb d 0 z) (no_told (λ h. let p = pos_of_dvd_of_pos h l in absurd (omega arith)))
 
 pub tells_rest : (d n : ℕ) → Tells (eqb (n % d) 0) (d ∣ n)
 tells_rest d n = record {
@@ -63,26 +60,11 @@ pub record CombinedBelow (k n : ℕ) (f g u v : List ℕ) (D : ℕ) : Type 0 whe
   pub at : (j : ℕ) → j < k → combined n f g u v j ≡ constant D j % n
 
 module _ (n : ℕ) (f g u v : List ℕ) (D x : ℕ) where
-  pub combined_first : x ≡ combined n f g u v 0 → x ≡ D % n → CombinedBelow 1 n f g u v D
-  combined_first e h = record { some = omega arith; at = below_more _ 0 (λ j l. absurd (omega arith)) (sym e ∙ h) }
-
-  pub wrong_first : x ≡ combined n f g u v 0 → (x ≡ D % n → ⊥) → Tells false (Combination n f g u v D)
-  wrong_first e h = no_told (λ c. h (e ∙ c.sum 0))
-
   above : (k : ℕ) → 1 ≤ k → constant D k % n ≡ 0
   above zero l = absurd (omega arith)
   above (suc k) l = zero-mod n
 
   module _ (k : ℕ) (c : CombinedBelow k n f g u v D) where
-    pub combined_next : {k' : ℕ} → x ≡ combined n f g u v k → x ≡ 0 → k' ≡ k + 1 → CombinedBelow k' n f g u v D
-    combined_next {k'} e z ek = subst (λ (i : ℕ). CombinedBelow i n f g u v D) (sym ek) (record {
-      some = omega arith;
-      at = below_more _ k c.at (sym e ∙ z ∙ sym (above k c.some));
-    })
-
-    pub wrong_word : x ≡ combined n f g u v k → (x ≡ 0 → ⊥) → Tells false (Combination n f g u v D)
-    wrong_word e h = no_told (λ t. h (e ∙ t.sum k ∙ above k c.some))
-
     -- x is the number of words of the longer product; above it every word is 0
     pub combined_end : x ≡ max (length u + length f - 1) (length v + length g - 1) → x ≤ k → Tells true (Combination n f g u v D)
     combined_end e l = yes_told (record { sum = λ j. go j (dec_lt j k) })
@@ -101,30 +83,6 @@ reduced_told n f g E D r l = record {
   fails = λ e s. eqb-false E D e (reduced_unique {n = n} (omega arith) r s);
 }
 
--- ---- the answer
-
-module _ (b : Bool) (n D : ℕ) where
-  pub divides_holds : Tells b (D ∣ n) → not b ≡ false → D ∣ n
-  divides_holds t e = t.holds (not-false b e)
-
-  pub divides_fails : Tells b (D ∣ n) → not b ≡ true → D ∣ n → ⊥
-  divides_fails t e = t.fails (not-true b e)
-
-  module _ {f g : List ℕ} where
-    pub gives_holds : {u v : List ℕ} → Tells b (Combination n f g u v D) → not b ≡ false → Combination n f g u v D
-    gives_holds t e = t.holds (not-false b e)
-
-    pub gives_fails : {u v : List ℕ} → Tells b (Combination n f g u v D) → not b ≡ true → Combination n f g u v D → ⊥
-    gives_fails t e = t.fails (not-true b e)
-
-    pub reduced_holds : Tells b (Reduced n f g D) → b ≡ true → Reduced n f g D
-    reduced_holds t e = t.holds e
-
-    pub reduced_fails : Tells b (Reduced n f g D) → b ≡ false → Reduced n f g D → ⊥
-    reduced_fails t e = t.fails e
-
 pub ruleset tests = (rules, tells_none, tells_rest, combined_sum, reduced_told)
 
-pub ruleset combinations = (rules, combined_first, combined_next, combined_end, wrong_first, wrong_word)
-
-pub ruleset verdicts = (rules, divides_holds, divides_fails, gives_holds, gives_fails, reduced_holds, reduced_fails)
+pub ruleset combinations = (rules, combined_end)

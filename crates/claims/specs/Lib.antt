@@ -1,2 +1,3 @@
 pub mod Claims
+pub mod Failures
 pub mod ClaimLaws

@@ -3,6 +3,7 @@
 //   divides                            the first: D divides n
 //   longest, combined_word, combines   the second: u f + v g is D modulo n, one coefficient at a time; nothing is stored
 //   is_reduced                         the third: D is the reduced resultant
+//   Failure, number                    one of the three that fails, and its number
 //   judge                              the first of the three that fails
 #![tactic(auto)]
 
@@ -13,13 +14,33 @@ ghost use Rattle.definitions.specs.Resultants.{Combination, Reduced};
 ghost use Rattle.windows.specs.Window.{Scratch};
 ghost use Rattle.divisor.specs.Sizes.{DivisorLengthsAsked};
 ghost use Rattle.claims.specs.Claims.{Judged, Tells, ClaimLengthsAsked, ClaimAsked};
+ghost use Rattle.claims.specs.Failures.{number_failing};
+
+// What a claim is refuted by, under its number: D does not divide n, the combination does not give D, D is not the reduced resultant.
+#[derive(Clone, Copy, Debug, PartialEq, Eq)]
+pub enum Failure {
+    Divisor = 1,
+    Combination = 2,
+    Reduced = 3,
+}
+
+impl Failure {
+    ghost use Rattle.claims.specs.Failures.{failure_number};
+
+    // Its number, which a host is told.
+    pub fn number(self) -> u32
+        ensures { result ≡ failure_number self }
+    {
+        self as u32
+    }
+}
 
 // S47: "0 divides no n"
 fn divides(n: u32, d: u32) -> bool
     requires { 1 ≤ n }
     ensures { Tells result (d ∣ n) }
 {
-    if d == 0 { false } else { n % d == 0 }
+    d != 0 && n % d == 0
 }
 
 // The words of the longer of the products u f and v g.
@@ -55,13 +76,10 @@ fn combines(n: u32, f: &[u32], g: &[u32], d: u32, u: &[u32], v: &[u32]) -> bool
     if combined_word(n, f, g, u, v, 0) != d % n {
         return false;
     }
-    let m = longest(f, g, u, v);
-    let mut k: usize = 1;
-    while k < m {
+    for k in 1..longest(f, g, u, v) {
         if combined_word(n, f, g, u, v, k) != 0 {
             return false;
         }
-        k += 1;
     }
     true
 }
@@ -76,22 +94,28 @@ fn is_reduced(work: &mut [u32], n: u32, f: &[u32], g: &[u32], d: u32) -> bool
     found == d
 }
 
-// 0 where D divides n, the combination gives D and D is the reduced resultant, else the number of the first of these that fails.
-pub fn judge(work: &mut [u32], n: u32, f: &[u32], g: &[u32], d: u32, u: &[u32], v: &[u32]) -> u32
+// Whether D divides n, the combination gives D and D is the reduced resultant, else the first of these that fails.
+pub fn judge(
+    work: &mut [u32],
+    n: u32,
+    f: &[u32],
+    g: &[u32],
+    d: u32,
+    u: &[u32],
+    v: &[u32],
+) -> Result<(), Failure>
     requires { ClaimAsked n f.now g.now u.now v.now × (8192 ≤ length work.old) }
-    ensures judged { Judged result n f.now g.now d u.now v.now }
+    ensures judged { Judged (number_failing result) n f.now g.now d u.now v.now }
     ensures scratch { Scratch work.old work.new }
 {
-    let divides_n = divides(n, d);
-    let gives_d = combines(n, f, g, d, u, v);
-    if !divides_n {
-        return 1;
+    if !divides(n, d) {
+        return Err(Failure::Divisor);
     }
-    if !gives_d {
-        return 2;
+    if !combines(n, f, g, d, u, v) {
+        return Err(Failure::Combination);
     }
-    if is_reduced(work, n, f, g, d) {
-        return 0;
+    if !is_reduced(work, n, f, g, d) {
+        return Err(Failure::Reduced);
     }
-    3
+    Ok(())
 }

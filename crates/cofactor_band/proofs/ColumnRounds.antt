@@ -12,11 +12,9 @@ use Prim.Native.Nat.{ℕ, zero, suc, pred, ◌+◌, ◌*◌, ◌-◌, ◌%◌, �
 use native.Mathlib.Decide.{dec_lt}
 use native.Mathlib.Nat.{mod-lt, mod-mod}
 use native.Mathlib.Omega.{arith}
-use lib.ListN.{length, get_or, set, replicate, length-set, get_or-eq_default}
-use lib.Seq.{get_or-set_same, get_or-set_other}
-use borrow.Author.Count.{below_more}
+use lib.ListN.{length, get_or, replicate, get_or-eq_default}
 use borrow.Author.Rules.{rules}
-use Rattle.definitions.specs.Polynomials.{coef, deg, Residues}
+use Rattle.definitions.specs.Polynomials.{coef, Residues}
 use Rattle.definitions.specs.Resultants.{resultant, Combination}
 use Rattle.resultant_signs.specs.Degrees.{deg_of}
 use Rattle.windows.specs.Window.{piece}
@@ -105,13 +103,9 @@ moment_start {n} {f} {g} {b} {d} {e} {w} k a h = record {
     none : (e : ℕ) → e ≡ e - 0
     none e = omega arith
 
-pub moment_end : {n : ℕ} {f g : List ℕ} {b d e j j' l x : ℕ} {w : List ℕ} → Moment n f g b d e j l x w → j < d + e → d + e ≤ j + 1
-    → j' ≡ d + e - 1 → Moment n f g b d e j' l x w
-moment_end {n} {f} {g} {b} {d} {e} {j} {j'} {l} {x} {w} m p q h =
-    subst (λ (y : ℕ). Moment n f g b d e y l x w) (the_last j j' (d + e) p q h) m
-  where
-    the_last : (j j' c : ℕ) → j < c → c ≤ j + 1 → j' ≡ c - 1 → j ≡ j'
-    the_last j j' c p q h = omega arith
+pub moment_end : {n : ℕ} {f g : List ℕ} {b d e j j' l x : ℕ} {w : List ℕ} → Moment n f g b d e j l x w → j ≤ j' → j' ≤ j
+    → Moment n f g b d e j' l x w
+moment_end {n} {f} {g} {b} {d} {e} {j} {j'} {l} {x} {w} m p q = subst (λ (y : ℕ). Moment n f g b d e y l x w) (omega arith) m
 
 pub ruleset rounds = (rules, column_asked, leave_asked, moment_next, moment_start, moment_end)
 
@@ -122,20 +116,6 @@ pub record Scaling (n x at k : ℕ) (w u u' : List ℕ) : Type 0 where
   pub most : k ≤ length u
   pub same : length u' ≡ length u
   pub word : (i : ℕ) → i < k → get_or u' i 0 ≡ (x * get_or w (at + i) 0) % n
-
-pub scaling_none : (n x at : ℕ) (w u : List ℕ) → Scaling n x at 0 w u u
-scaling_none n x at w u = record { most = omega arith; same = refl; word = λ i h. absurd (omega arith) }
-
-pub scaling_next : {n x at k k' y : ℕ} {w u u' u₁ : List ℕ} → Scaling n x at k w u u' → k < length u' → y ≡ (x * get_or w (at + k) 0) % n
-    → u₁ ≡ set u' k y → k' ≡ k + 1 → Scaling n x at k' w u u₁
-scaling_next {k = k} {y = y} {u' = u'} s l h eu ek = rw (eu, ek) (record {
-  most = omega (arith, s.same);
-  same = length-set u' k y ∙ s.same;
-  word = below_more _ k (λ i b. get_or-set_other u' k i y 0 (omega arith) ∙ s.word i b) (get_or-set_same u' k y 0 l ∙ h);
-})
-
-pub scaling_end : {n x at k : ℕ} {w u u' : List ℕ} → Scaling n x at k w u u' → length u' ≤ k → Scaled n x at w u u'
-scaling_end s h = record { same = s.same; word = λ i l. s.word i (omega (arith, s.same)) }
 
 -- ---- the end
 
@@ -218,4 +198,4 @@ pub finished : {n r : ℕ} {f g u' v' : List ℕ} (x : ℕ) (u v w w₁ : List �
     → Scaled n x 49 w₁ u u' → Scaled n x 97 w₁ v v' → r ≡ (x * get_or w₁ 0 0) % n → ResultantCofactors n f g u' v' r
 finished x u v w w₁ a k su sv hr = answered a.modulus k.shape k.band (omega (arith, a.first)) (omega (arith, a.second)) su sv hr
 
-pub ruleset ends = (rules, scaling_none, scaling_next, scaling_end, step_asked, last_row, finished)
+pub ruleset ends = (rules, step_asked, last_row, finished)

@@ -46,10 +46,8 @@ fn columns(w: &mut [u32], n: u32, f: &[u32], g: &[u32], s: Sizes) -> Stage
 {
     windows::wipe(w);
     let mut t = Stage { rows: 0, factor: 1 };
-    let mut j: usize = 0;
-    while j + 1 < s.d + s.e {
+    for j in 0..s.d + s.e - 1 {
         t = column(w, n, f, g, s, j, t);
-        j += 1;
     }
     t
 }
@@ -59,10 +57,8 @@ fn scale_into(u: &mut [u32], w: &[u32], n: u32, x: u32, at: usize)
     requires { (1 ≤ n) × (at + length u.old ≤ length w.now) }
     ensures { Scaled n x at w.now u.old u.new }
 {
-    let mut k: usize = 0;
-    while k < u.len() {
+    for k in 0..u.len() {
         u[k] = arithmetic::mul_mod(n, x, w[at + k]);
-        k += 1;
     }
 }
 

@@ -22,7 +22,7 @@ use euclid_steps::Ending;
 use modulus::Modulus;
 
 // i p t c^(e - 1); p and t leave as they are multiplied.
-fn factor(m: Modulus, x: Ending, i: u32, c: u32) -> u32
+fn factor(m: Modulus, x: Ending<u32>, i: u32, c: u32) -> u32
     requires { FactorAsked m x }
     ensures { result ≡ (i * value m x.p * value m x.t * c ^ (x.e - 1)) % m.n }
 {
@@ -33,7 +33,15 @@ fn factor(m: Modulus, x: Ending, i: u32, c: u32) -> u32
 }
 
 // The resultant with the sign (-1)^k, and its cofactors with that sign; i is the inverse of s.
-fn scale(u: &mut [u32], v: &mut [u32], w: &[u32], m: Modulus, x: Ending, i: u32, k: usize) -> u32
+fn scale(
+    u: &mut [u32],
+    v: &mut [u32],
+    w: &[u32],
+    m: Modulus,
+    x: Ending<u32>,
+    i: u32,
+    k: usize,
+) -> u32
     requires { ScaleAsked m x w.now u.old v.old }
     ensures { Scales m x i k w.now u.old v.old u.new v.new result }
 {
@@ -47,7 +55,7 @@ fn scale(u: &mut [u32], v: &mut [u32], w: &[u32], m: Modulus, x: Ending, i: u32,
 }
 
 // Where s is no unit nothing is known, and the answer is n: every resultant is below n, so n can stand for no.
-fn settle(u: &mut [u32], v: &mut [u32], w: &[u32], m: Modulus, x: Ending, k: usize) -> u32
+fn settle(u: &mut [u32], v: &mut [u32], w: &[u32], m: Modulus, x: Ending<u32>, k: usize) -> u32
     requires { ScaleAsked m x w.now u.old v.old }
     ensures { Settles m x k w.now u.old v.old u.new v.new result }
 {

@@ -2,6 +2,7 @@
 --
 --   refused_pair, later_told     the status, from the tests in their order
 --   some_first, …, few_second    what is known after 1, 2 and 3
+--   told_by                      the same of an equal status
 --   passed                       what is known once no refusal applies
 --   first_some, second_some, first_fits, second_fits, asked     what the run asks then
 --   refused, done                the answer
@@ -57,6 +58,9 @@ module _ (B n : ℕ) (f g : List ℕ) (s : ℕ) (e : s ≡ first_refusal (refusa
   few_second = omega (arith, (accepted_pair (below_bound B) n f g (sym e ∙ z)).1.few)
 
 -- ---- the answer
+
+pub told_by : {n : ℕ} {f g : List ℕ} {lu lv l s t : ℕ} → s ≡ t → CofactorTold narrow n f g lu lv l s → CofactorTold narrow n f g lu lv l t
+told_by e h = record { is = sym e ∙ h.is }
 
 left_alone : (s n : ℕ) (f g u v : List ℕ) → (s ≡ 0 → ⊥) → CofactorsLeft s n f g u u v v
 left_alone zero n f g u v z = absurd (z refl)

@@ -1,47 +1,45 @@
 // The cofactors of the resultant as a service: from any words and lengths an answer, or a numbered refusal.
 //
-//   room_refusal, refusal  the number of the first refusal that applies, 0 where none does
+//   room_refusal, refusal  the first refusal that applies
 //   resultant_cofactors    the service
 #![tactic(auto)]
 
 ghost use Rattle.std.specs.Prelude.{◌≡◌, ◌≤◌};
+ghost use Rattle.refusals.specs.Refusal.{status_of};
 ghost use Rattle.refusals.specs.Refusals.{narrow, first_refusal};
 ghost use Rattle.cofactor_service.specs.CofactorService.{room_refusals, CofactorTold, CofactorAnswer};
 
-use refusals::Answer;
-
-// The words of the working buffer.
-const WORKING: usize = 8192;
+use refusals::{Answer, Refusal};
 
 // "It refuses with 9 the pair d = e = 0, tested after 3 and before 6, and 7 comes last." The last three are the lengths of the buffers.
-fn room_refusal(d: usize, e: usize, first: usize, second: usize, working: usize) -> u32
+fn room_refusal(
+    d: usize,
+    e: usize,
+    first: usize,
+    second: usize,
+    working: usize,
+) -> Result<(), Refusal>
     requires { (d ≤ 48) × (e ≤ 48) }
-    ensures { result ≡ first_refusal (room_refusals narrow d e first second working) }
+    ensures { status_of result ≡ first_refusal (room_refusals narrow d e first second working) }
 {
-    let total = d + e;
-    if total < 1 {
-        return 9;
-    }
-    if first < e {
-        return 6;
-    }
-    if second < d {
-        return 6;
-    }
-    if working < WORKING {
-        return 7;
-    }
-    0
+    refusals::room(d + e, 1, Refusal::NoCofactors)?;
+    refusals::room(first, e, Refusal::ShortResult)?;
+    refusals::room(second, d, Refusal::ShortResult)?;
+    refusals::room(working, refusals::WORKING_WORDS, Refusal::ShortWork)
 }
 
 // The refusals 1, 2 and 3, and then these.
-fn refusal(n: u32, f: &[u32], g: &[u32], first: usize, second: usize, working: usize) -> u32
-    ensures { CofactorTold narrow n f.now g.now first second working result }
+fn refusal(
+    n: u32,
+    f: &[u32],
+    g: &[u32],
+    first: usize,
+    second: usize,
+    working: usize,
+) -> Result<(), Refusal>
+    ensures { CofactorTold narrow n f.now g.now first second working (status_of result) }
 {
-    let s = refusals::refusal_of_pair(n, f, g);
-    if s != 0 {
-        return s;
-    }
+    refusals::refusal_of_pair(n, f, g)?;
     room_refusal(f.len() - 1, g.len() - 1, first, second, working)
 }
 
@@ -57,9 +55,8 @@ pub fn resultant_cofactors(
     ensures { CofactorAnswer narrow n f.now g.now u.old u.new v.old
         v.new work.old work.new result.value result.status }
 {
-    let status = refusal(n, f, g, u.len(), v.len(), work.len());
-    if status != 0 {
-        return Answer { value: 0, status };
+    if let Err(refusal) = refusal(n, f, g, u.len(), v.len(), work.len()) {
+        return Answer::from(refusal);
     }
     let d = f.len() - 1;
     let e = g.len() - 1;

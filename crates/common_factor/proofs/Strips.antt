@@ -2,7 +2,7 @@
 --
 --   Left                      what holds at each round
 --   left_none, left_step      before the first round, and after one more
---   left_unit, left_end       a leading word that is a unit, and no word left
+--   left_unit                 a leading word that is a unit
 --   stripped_again            the same of the record of c
 --   strips                    the rules
 use mathlib.Core.Path.{◌≡◌, sym, ap, subst, ◌∙◌}
@@ -50,9 +50,9 @@ left_step {m} {a} {len} {c} {l} {g} {w} h p d n = record {
     at k e =
         subst (λ (x : ℕ). g ∣ x) (ap (λ (x : ℕ). get_or w (a + x) 0) (sym e) ∙ sym (piece_at w a len k (omega (arith, h.few)))) d.left
 
-pub left_unit : {m a len c l g : ℕ} {w : List ℕ} → Left m w a len c l → 0 < l → a + len ≤ length w → IsGcd (get_or w (a + (l - 1)) 0) c g
-    → g ≡ 1 → Stripped m (piece w a len) c l
-left_unit {m} {a} {len} {c} {l} {g} {w} h p b d e = record {
+pub left_unit : {m a len c l l' g : ℕ} {w : List ℕ} → Left m w a len c l → 0 < l → a + len ≤ length w
+    → IsGcd (get_or w (a + (l - 1)) 0) c g → g ≡ 1 → l' ≡ l → Stripped m (piece w a len) c l'
+left_unit {m} {a} {len} {c} {l} {l'} {g} {w} h p b d e el = rw el (record {
   divides = h.divides;
   two = h.two;
   few = subst (λ (x : ℕ). l ≤ x) (sym (piece_length w a len b)) h.few;
@@ -62,21 +62,12 @@ left_unit {m} {a} {len} {c} {l} {g} {w} h p b d e = record {
     right = subst (λ (x : ℕ). x ∣ coef (piece w a len) (l - 1)) e (subst (λ (x : ℕ). g ∣ x) (sym word) d.left);
     most = λ k x y. subst (λ (z : ℕ). k ∣ z) e (d.most k (subst (λ (z : ℕ). k ∣ z) word y) x);
   }));
-}
+})
   where
     word : coef (piece w a len) (l - 1) ≡ get_or w (a + (l - 1)) 0
     word = piece_at w a len (l - 1) (omega (arith, h.few))
 
-pub left_end : {m a len c l : ℕ} {w : List ℕ} → Left m w a len c l → l ≤ 0 → Stripped m (piece w a len) c 0
-left_end {m} {a} {len} {c} {l} {w} h n = record {
-  divides = h.divides;
-  two = h.two;
-  few = omega arith;
-  zero = λ k _. h.zero k (omega arith);
-  unit = λ p. absurd (omega arith);
-}
-
 pub stripped_again : {m c c' l : ℕ} {f : List ℕ} → Stripped m f c l → c' ≡ c → Stripped m f c' l
 stripped_again {m} {c} {c'} {l} {f} s e = subst (λ (x : ℕ). Stripped m f x l) (sym e) s
 
-pub ruleset strips = (rules, left_none, left_step, left_unit, left_end, stripped_again)
+pub ruleset strips = (rules, left_none, left_step, stripped_again)

@@ -58,14 +58,12 @@ fn unit_lead(w: &[u32], n: u32, a: usize, len: usize) -> Cut
     ensures { Stripped n (piece w.now a len) result.n result.len }
 {
     let mut c = n;
-    let mut l = len;
-    while 0 < l {
-        let g = bezout::gcd(w[a + (l - 1)], c);
+    for l in (0..len).rev() {
+        let g = bezout::gcd(w[a + l], c);
         if g == 1 {
-            return Cut { n: c, len: l };
+            return Cut { n: c, len: l + 1 };
         }
         c = g;
-        l -= 1;
     }
     Cut { n: c, len: 0 }
 }

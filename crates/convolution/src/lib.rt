@@ -61,17 +61,16 @@ pub fn product_word_by(m: Reciprocal, f: &[u32], g: &[u32], k: usize) -> u32
         return 0;
     }
     let last = end(k, f.len());
-    let mut i = first(k, g.len());
-    if i >= last {
+    let start = first(k, g.len());
+    if start >= last {
         return 0;
     }
     let mut x: u64 = 0;
     let mut h: u64 = 0;
-    while i < last {
+    for i in start..last {
         let p = times(f[i], g[k - i]);
         h += carries(x, p);
         x = std::num::wrapping_add_u64(x, p);
-        i += 1;
     }
     reduction::reduce_wide(m, h, x)
 }

@@ -19,14 +19,13 @@ pub fn product_word_by(m: Reciprocal, f: &[u64], g: &[u64], k: usize) -> u64
         return 0;
     }
     let last = convolution::end(k, f.len());
-    let mut i = convolution::first(k, g.len());
-    if i >= last {
+    let start = convolution::first(k, g.len());
+    if start >= last {
         return 0;
     }
     let mut x: u64 = 0;
-    while i < last {
+    for i in start..last {
         x = reduction64::add_product(m, x, f[i], g[k - i]);
-        i += 1;
     }
     x
 }

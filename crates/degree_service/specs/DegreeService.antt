@@ -2,12 +2,18 @@
 --
 --   degree_refusals, degree_status               the refusals in their order, and the number of the first that applies: of both services
 --   degree_number, degree_some, degree_value     the number and the values of each case of the answer (S79)
+--   refusal_at s                                 the refusal of the number s
 --   told s t                                     the case for the status s and the true degree t
 --   words_told, leading_part                     how many words the leading part has, and the part
 --   TrueDegreeAnswer, DegreeWordsAnswer, LeadingAnswer     all that is promised of a call
 --   degree_listed                                each refusal under its condition and no other
-use Rattle.std.specs.Prelude.{◌≡◌, List, [], ℕ, zero, suc, ◌+◌, take}
+use Rattle.std.specs.Prelude.{◌≡◌, cond, List, [], ℕ, zero, suc, ◌+◌, eqb, take}
 use Rattle.definitions.specs.Polynomials.{TrueDegree, none, place, true_degree}
+use Rattle.refusals.specs.declared.Refusal.{Refusal}
+use Rattle.refusals.specs.declared.Refusal.TheVariants.{BadModulus, BadLength, BadWord, LeadNoUnit, NoUnitFactor, ShortResult, ShortWork}
+use Rattle.refusals.specs.declared.Refusal.TheVariants.{NoFrame, NoCofactors, EmptyTop, PrimeDivides, TooManyPoints, FactorsFull, BadNumber}
+use Rattle.refusals.specs.declared.Refusal.TheVariants.{BadFrames, BadMultiplier, NoText}
+use Rattle.refusals.specs.Refusal.{number_of}
 use Rattle.refusals.specs.Refusals.{Width, Tested, first_refusal, refusals_one}
 use Rattle.refusals.specs.Conditions.{Listed, conditions_one, listed_one}
 use Rattle.degree_service.specs.declared.Degree.{Degree}
@@ -24,24 +30,28 @@ degree_status W n f = first_refusal (degree_refusals W n f)
 abbrev pub degree_number : Degree → ℕ
 degree_number None = 0
 degree_number (At k) = 0
-degree_number (Refused s) = s
+degree_number (Refused r) = number_of r
 
 -- the values of each case: 1 where there is a degree, else 0, and the degree; of a refusal, "Each returns its number and value 0"
 abbrev pub degree_some : Degree → ℕ
 degree_some None = 0
 degree_some (At k) = 1
-degree_some (Refused s) = 0
+degree_some (Refused r) = 0
 
 abbrev pub degree_value : Degree → ℕ
 degree_value None = 0
 degree_value (At k) = k
-degree_value (Refused s) = 0
+degree_value (Refused r) = 0
+
+-- the refusal of the number s
+abbrev pub refusal_at : ℕ → Refusal
+refusal_at s = cond (eqb s 1) BadModulus (cond (eqb s 2) BadLength (cond (eqb s 3) BadWord (cond (eqb s 4) LeadNoUnit (cond (eqb s 5) NoUnitFactor (cond (eqb s 6) ShortResult (cond (eqb s 7) ShortWork (cond (eqb s 8) NoFrame (cond (eqb s 9) NoCofactors (cond (eqb s 10) EmptyTop (cond (eqb s 11) PrimeDivides (cond (eqb s 12) TooManyPoints (cond (eqb s 13) FactorsFull (cond (eqb s 14) BadNumber (cond (eqb s 15) BadFrames (cond (eqb s 16) BadMultiplier (NoText))))))))))))))))
 
 -- the case for each status and true degree: so a refusal has a number that is not 0, and none and 0 are two answers
 abbrev pub told : ℕ → TrueDegree → Degree
 told zero none = None
 told zero (place k) = At k
-told (suc s) t = Refused (suc s)
+told (suc s) t = Refused (refusal_at (suc s))
 
 -- S39: "One service answers the degree."
 pub record TrueDegreeAnswer (W : Width) (n : ℕ) (f : List ℕ) (r : Degree) : Type 0 where
@@ -58,7 +68,7 @@ pub record DegreeWordsAnswer (W : Width) (n : ℕ) (f : List ℕ) (some degree s
 abbrev pub words_told : Degree → ℕ
 words_told None = 0
 words_told (At k) = k + 1
-words_told (Refused s) = 0
+words_told (Refused r) = 0
 
 -- S40: "the words up to that place"; of a zero polynomial "the part handed back is empty"; "Where the first refuses, the second
 -- hands back an empty part"

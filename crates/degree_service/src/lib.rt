@@ -12,12 +12,14 @@ ghost use Rattle.definitions.specs.Polynomials.{extent};
 ghost use Rattle.refusals.specs.Refusals.{narrow};
 ghost use Rattle.degree_service.specs.DegreeService.{words_told, TrueDegreeAnswer, DegreeWordsAnswer, LeadingAnswer};
 
-// None for the zero polynomial, the degree, or the number of the refusal.
+use refusals::Refusal;
+
+// None for the zero polynomial, the degree, or the refusal.
 #[derive(Clone, Copy)]
 pub enum Degree {
     None,
     At(u32),
-    Refused(u32),
+    Refused(Refusal),
 }
 
 // The same for a host: some is 1 where there is a degree, else 0; status is 0 or the number of the refusal.
@@ -33,12 +35,10 @@ pub struct DegreeAnswer {
 fn extent_of(f: &[u32]) -> usize
     ensures { result ≡ extent f.now }
 {
-    let mut k = f.len();
-    while 0 < k {
-        if f[k - 1] != 0 {
-            return k;
+    for j in (0..f.len()).rev() {
+        if f[j] != 0 {
+            return j + 1;
         }
-        k -= 1;
     }
     0
 }
@@ -47,9 +47,8 @@ fn extent_of(f: &[u32]) -> usize
 pub fn true_degree(n: u32, f: &[u32]) -> Degree
     ensures { TrueDegreeAnswer narrow n f.now result }
 {
-    let s = refusals::refusal_one(n, f);
-    if s != 0 {
-        return Degree::Refused(s);
+    if let Err(refusal) = refusals::refusal_one(n, f) {
+        return Degree::Refused(refusal);
     }
     let k = extent_of(f);
     if k == 0 {
@@ -73,10 +72,10 @@ pub fn true_degree_words(n: u32, f: &[u32]) -> DegreeAnswer
             degree: k,
             status: 0,
         },
-        Degree::Refused(s) => DegreeAnswer {
+        Degree::Refused(refusal) => DegreeAnswer {
             some: 0,
             degree: 0,
-            status: s,
+            status: refusal.number(),
         },
     }
 }

@@ -1,5 +1,5 @@
 // The true degree of a polynomial, and its words up to there, as services, words of 64 bits: `degree_service` has the description.
-// What is answered is its `Degree`: a degree and the number of a refusal are small at every width.
+// What is answered is its `Degree`: a degree is small, and a refusal the same, at every width.
 //
 //   true_degree          the place of the highest nonzero word, or none
 //   true_degree_words    the same in three words
@@ -17,12 +17,10 @@ use degree_service::{Degree, DegreeAnswer};
 fn extent_of(f: &[u64]) -> usize
     ensures { result ≡ extent f.now }
 {
-    let mut k = f.len();
-    while 0 < k {
-        if f[k - 1] != 0 {
-            return k;
+    for j in (0..f.len()).rev() {
+        if f[j] != 0 {
+            return j + 1;
         }
-        k -= 1;
     }
     0
 }
@@ -31,9 +29,8 @@ fn extent_of(f: &[u64]) -> usize
 pub fn true_degree(n: u64, f: &[u64]) -> Degree
     ensures { TrueDegreeAnswer wide n f.now result }
 {
-    let s = refusals64::refusal_one(n, f);
-    if s != 0 {
-        return Degree::Refused(s);
+    if let Err(refusal) = refusals64::refusal_one(n, f) {
+        return Degree::Refused(refusal);
     }
     let k = extent_of(f);
     if k == 0 {
@@ -57,10 +54,10 @@ pub fn true_degree_words(n: u64, f: &[u64]) -> DegreeAnswer
             degree: k,
             status: 0,
         },
-        Degree::Refused(s) => DegreeAnswer {
+        Degree::Refused(refusal) => DegreeAnswer {
             some: 0,
             degree: 0,
-            status: s,
+            status: refusal.number(),
         },
     }
 }

@@ -6,12 +6,12 @@
 
 ghost use Rattle.std.specs.Prelude.{◌≡◌, ◌*◌, ◌≤◌, length, IfOk};
 
-use frame_pieces::Input;
 use std::alloc::{AllocError, Global};
 use std::io::{ErrorKind, Read, Write};
 use std::{io, thread};
 
 // Room for an unfinished line, of which no more than 798 characters are kept.
+// Kept: a buffer with its count beside it, as `frame_reader::step` takes them: a promise that may not change.
 const LINE: usize = 4096;
 
 // What a read takes at most.
@@ -19,13 +19,6 @@ const PIECE: usize = 65536;
 
 // Room for the answers to 65536 lines, as many as can end in the characters of one read: 13 for each.
 const ROOM: usize = 851968;
-
-// What a read came to: an unfinished line is kept, or the input has ended.
-#[derive(Drop)]
-enum Next {
-    Pending(usize),
-    Ended,
-}
 
 // The call that has failed, and why.
 #[derive(Drop)]
@@ -67,8 +60,8 @@ fn put(to: &mut impl Write, answers: &[u8]) -> io::Result<()> {
     Err(io::Error::from(ErrorKind::TimedOut))
 }
 
-// Reads once, answers the lines that end in what came, and holds the rest; where the read is to be tried again, all stays as it
-// was. A character can end a line, and a line's answer has 13.
+// Reads once, answers the lines that end in what came, and holds the rest, whose count it answers, or nothing where the input has ended;
+// where the read is to be tried again, all stays as it was. A character can end a line, and a line's answer has 13.
 fn take_next(
     input: &mut impl Read,
     to: &mut impl Write,
@@ -76,24 +69,24 @@ fn take_next(
     line: &mut [u8],
     piece: &mut [u8],
     out: &mut [u8],
-) -> Result<Next, Failure>
+) -> Result<Option<usize>, Failure>
     requires { (798 ≤ length line.old) × (13 * length piece.old ≤ length out.old) }
 {
     let n = match input.read(piece) {
         Ok(n) => n,
         Err(error) => {
             if again(&error) {
-                return Ok(Next::Pending(pending));
+                return Ok(Some(pending));
             }
             return Err(Failure::Input(error));
         }
     };
-    let Input::Came(_) = frame_pieces::what_came(n) else {
-        return Ok(Next::Ended);
-    };
+    if frame_pieces::what_came(n).is_none() {
+        return Ok(None);
+    }
     let p = frame_reader::step(pending, line, &piece[0..n], out);
     put(to, &out[0..p.written]).map_err(Failure::Output)?;
-    Ok(Next::Pending(p.pending))
+    Ok(Some(p.pending))
 }
 
 // Answers the last line, if it has no newline.
@@ -116,14 +109,10 @@ fn run(
 {
     let mut pending: usize = 0;
     for _ in 0..u64::MAX {
-        match take_next(input, to, pending, line, piece, out)? {
-            Next::Pending(h) => {
-                pending = h;
-            }
-            Next::Ended => {
-                return end(to, pending, line, out);
-            }
-        }
+        let Some(h) = take_next(input, to, pending, line, piece, out)? else {
+            return end(to, pending, line, out);
+        };
+        pending = h;
     }
     Ok(())
 }

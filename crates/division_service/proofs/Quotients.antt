@@ -221,12 +221,9 @@ remainder_next {k} {k'} {r₀} {r} {r'} n a x y v f g q h l ea ex ey ev er ek =
 pub residue_within : {b y : ℕ} (a v x : ℕ) → v ≡ x % a → 1 ≤ a → y ≡ v → b ≡ a → y ≤ b
 residue_within a v x h l ey eb = omega (arith, within x l h)
 
-pub beyond_word : (f : List ℕ) (k : ℕ) → length f ≤ k → 0 ≡ coef f k
-beyond_word f k l = sym (coef_beyond f k l)
-
 pub ruleset rounds = (quotienting_start, quotienting_next, quotienting_end, quotient_word_is, residue_within)
 
-pub ruleset remains = (beyond_word, filled_none, remainder_next, filled_end)
+pub ruleset remains = (filled_none, remainder_next)
 
 pub ruleset quotients = (rules, rounds, remains)
 

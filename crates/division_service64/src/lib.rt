@@ -6,22 +6,21 @@
 ghost use Rattle.std.specs.Prelude.{◌≡◌, not, [], ◌∷◌, ℕ, ◌+◌, ◌-◌, ◌*◌, ◌%◌, ◌≤◌, eqb, length};
 ghost use Rattle.definitions.specs.Polynomials.{coef, deg, convolve, tabulate, Division};
 ghost use Rattle.reduction64.specs.Moduli.{Ready};
+ghost use Rattle.refusals.specs.Refusal.{status_of};
 ghost use Rattle.refusals.specs.Refusals.{short, first_refusal};
 ghost use Rattle.refusals64.specs.Wide.{wide};
 ghost use Rattle.division_service.specs.DivisionStages.{QuotientAsked, QuotientWords, difference};
 ghost use Rattle.division_service.specs.DivisionService.{DivisionAnswer};
 
 use reduction64::Reciprocal;
+use refusals::Refusal;
 use refusals64::Answer;
 
 // Coefficient k of f.
 fn coefficient(f: &[u64], k: usize) -> u64
     ensures { result ≡ coef f.now k }
 {
-    if k < f.len() {
-        return f[k];
-    }
-    0
+    f.get(k).copied().unwrap_or(0)
 }
 
 // i (a - x) modulo n, for x at most n, by one reduction.
@@ -42,9 +41,7 @@ fn quotient_words(m: Reciprocal, i: u64, f: &[u64], g: &[u64], q: &mut [u64])
     windows64::wipe(q);
     let e = g.len() - 1;
     let l = q.len();
-    let mut s = division_service::excess(f.len(), e);
-    while 0 < s {
-        s -= 1;
+    for s in (0..division_service::excess(f.len(), e)).rev() {
         let x = convolution64::product_word_by(m, &q[s..l], g, e);
         q[s] = quotient_word(m, i, f[e + s], x);
     }
@@ -56,11 +53,9 @@ fn remainder_words(m: Reciprocal, f: &[u64], g: &[u64], q: &[u64], r: &mut [u64]
     ensures { r.new ≡ tabulate (length r.old)
         (λ (k : ℕ). difference m.n (coef f.now k) (convolve (coef q.now) (coef g.now) k)) }
 {
-    let mut k: usize = 0;
-    while k < r.len() {
+    for k in 0..r.len() {
         let x = convolution64::product_word_by(m, q, g, k);
         r[k] = reduction64::difference(m, coefficient(f, k), x);
-        k += 1;
     }
 }
 
@@ -76,19 +71,14 @@ fn divide(n: u64, i: u64, f: &[u64], g: &[u64], q: &mut [u64], r: &mut [u64])
 
 // The refusals 4 and 6 of a division: u is what the divisor's top word has in common with n; the buffers have lq and lr words, and the
 // results need m and e.
-fn refusal_quotient(u: u64, lq: usize, m: usize, lr: usize, e: usize) -> u32
-    ensures { result ≡ first_refusal ((4, not (eqb u 1)) ∷ (6, short lq m) ∷ (6, short lr e) ∷ []) }
+fn refusal_quotient(u: u64, lq: usize, m: usize, lr: usize, e: usize) -> Result<(), Refusal>
+    ensures { status_of result ≡ first_refusal ((4, not (eqb u 1)) ∷ (6, short lq m) ∷ (6, short lr e) ∷ []) }
 {
     if u != 1 {
-        return 4;
+        return Err(Refusal::LeadNoUnit);
     }
-    if lq < m {
-        return 6;
-    }
-    if lr < e {
-        return 6;
-    }
-    0
+    refusals::room(lq, m, Refusal::ShortResult)?;
+    refusals::room(lr, e, Refusal::ShortResult)
 }
 
 // S15: "Division by a polynomial whose top word is a unit: f = qg + r, r of e words (none for e = 0), q of d - e + 1 words, or one zero
@@ -97,22 +87,14 @@ pub fn division(n: u64, f: &[u64], g: &[u64], q: &mut [u64], r: &mut [u64]) -> A
     ensures { DivisionAnswer wide n f.now g.now q.old q.new r.old
         r.new result.value result.status }
 {
-    let s = refusals64::refusal_of_pair(n, f, g);
-    if s != 0 {
-        return Answer {
-            value: 0,
-            status: s,
-        };
+    if let Err(refusal) = refusals64::refusal_of_pair(n, f, g) {
+        return Answer::from(refusal);
     }
     let e = g.len() - 1;
     let m = division_service::excess(f.len() - 1, e) + 1;
     let u = bezout64::cofactor(n, g[e]);
-    let t = refusal_quotient(u.g, q.len(), m, r.len(), e);
-    if t != 0 {
-        return Answer {
-            value: 0,
-            status: t,
-        };
+    if let Err(refusal) = refusal_quotient(u.g, q.len(), m, r.len(), e) {
+        return Answer::from(refusal);
     }
     divide(n, u.s, f, g, &mut q[0..m], &mut r[0..e]);
     Answer {

@@ -1,4 +1,4 @@
--- The answers of the enums of this width, taken apart by the arm that the code is in.
+-- The answers, taken apart by the arm that the code is in.
 --
 --   windows_splits_at, division_at, value_at, split_at        of the stages
 --   half-…-at                                                 of the two polynomials in the buffer
@@ -14,12 +14,12 @@ use native.Mathlib.Nat.{le_refl}
 use mir.Syntax.{Width}
 use mir.Val.{Fits}
 use borrow.Author.Rules.{rules}
+use Rattle.std.specs.Prelude.{Result, Ok, Err}
 use Rattle.definitions.specs.Resultants.{Reduced}
 use Rattle.windows.specs.Window.{piece}
 use Rattle.window_factor.specs.Factors.{SplitOf}
 use Rattle.reduced_units.specs.States.{Splitter}
-use Rattle.residue.specs.declared.Attempt.{Attempt}
-use Rattle.residue.specs.declared.Attempt.TheVariants.{Value, Splits}
+use Rattle.residue.specs.declared.Split.{Split}
 use Rattle.reduced_attempt.specs.ReducedAttempts.{NilpotentOver}
 use Rattle.window_factor.specs.declared.Highest.{Highest}
 use Rattle.window_factor.specs.declared.Highest.TheVariants.{UnitAt as UnitAt', Splits as SplitsAt}
@@ -36,7 +36,7 @@ use Rattle.divisor.proofs.Halves.{half_positive, half_reduced, half_fits, half_s
 use Rattle.divisor.proofs.Halves.{swapped_reduced, neither_reduced}
 use Rattle.divisor.proofs.Halves.{split_first, split_second, product_below, product_reduced}
 
-module _ {n m : ℕ} {w : List ℕ} (w₁ : List ℕ) (h : Highest) (wa : WindowsAsked n m w) (p : LeadAnswer n m m (2 * m) w w₁ h) where
+module _ {n m : ℕ} {w : List ℕ} (w₁ : List ℕ) (h : Highest ℕ) (wa : WindowsAsked n m w) (p : LeadAnswer n m m (2 * m) w w₁ h) where
   pub windows_splits_at : (x y : ℕ) → h ≡ SplitsAt x y → Splitter n x y
   windows_splits_at x y e = windows_splitter wa (lead_splits_at n m m (2 * m) w w₁ h p x y e)
 
@@ -47,16 +47,16 @@ module _ {n m : ℕ} {w : List ℕ} (w₁ : List ℕ) (h : Highest) (wa : Window
     pub division_at : DivisionAsked n 0 (m - 1) m t i (2 * m) w₁
     division_at = windows_division wa leading
 
-    module _ (r : Attempt) (q : DivisorOrSplit n (piece w₁ 0 (m - 1 + 1)) (piece w₁ m (t + 1)) r) where
-      pub value_at : (D : ℕ) → r ≡ Value D → Reduced n (piece w m m) (piece w 0 m) D
+    module _ (r : Result ℕ (Split ℕ)) (q : DivisorOrSplit n (piece w₁ 0 (m - 1 + 1)) (piece w₁ m (t + 1)) r) where
+      pub value_at : (D : ℕ) → r ≡ Ok D → Reduced n (piece w m m) (piece w 0 m) D
       value_at D o = windows_reduced wa leading (subst (DivisorOrSplit n (piece w₁ 0 (m - 1 + 1)) (piece w₁ m (t + 1))) o q)
 
-      pub split_at : (x y : ℕ) → r ≡ Splits x y → Splitter n x y
-      split_at x y o = subst (DivisorOrSplit n (piece w₁ 0 (m - 1 + 1)) (piece w₁ m (t + 1))) o q
+      pub split_at : (s : Split ℕ) → r ≡ Err s → Splitter n s.p s.q
+      split_at s o = subst (DivisorOrSplit n (piece w₁ 0 (m - 1 + 1)) (piece w₁ m (t + 1))) o q
 
-module _ {n v c m : ℕ} {f g w w₁ : List ℕ} (r : HalfAttempt) (ha : HalfAsked n v c f g w) (pd : Padded n c m f g w w₁)
+module _ {n v c m : ℕ} {f g w w₁ : List ℕ} (r : HalfAttempt ℕ) (ha : HalfAsked n v c f g w) (pd : Padded n c m f g w w₁)
     (p : WindowsAnswer v m w₁ r) where
-  answer : (z : HalfAttempt) → r ≡ z → WindowsAnswer v m w₁ z
+  answer : (z : HalfAttempt ℕ) → r ≡ z → WindowsAnswer v m w₁ z
   answer z e = subst (WindowsAnswer v m w₁) e p
 
   pub half_found_at : (D : ℕ) → r ≡ Found D → Reduced n f g (c * D)
@@ -71,7 +71,7 @@ module _ {n v c m : ℕ} {f g w w₁ : List ℕ} (r : HalfAttempt) (ha : HalfAsk
   pub half_nilpotent_at : r ≡ Nilpotent → NilpotentOver n c f
   half_nilpotent_at e = half_nilpotents ha pd (answer Nilpotent e)
 
-module _ (n c : ℕ) (f g : List ℕ) (r : HalfAttempt) (p : HalfAttempted n c f g r) where
+module _ (n c : ℕ) (f g : List ℕ) (r : HalfAttempt ℕ) (p : HalfAttempted n c f g r) where
   pub found_at : (D : ℕ) → r ≡ Found D → Reduced n f g D
   found_at D e = subst (HalfAttempted n c f g) e p
 
@@ -93,30 +93,30 @@ module _ (n c : ℕ) (f g : List ℕ) (r : HalfAttempt) (p : HalfAttempted n c f
 pub two_by : {n k : ℕ} → k ≡ n → 2 ≤ n → 2 ≤ k
 two_by is two = rw is two
 
-pub by_record : (n k : ℕ) (f g : List ℕ) (r : Attempt) → Attempted k f g r → k ≡ n → Attempted n f g r
+pub by_record : (n k : ℕ) (f g : List ℕ) (r : Result ℕ (Split ℕ)) → Attempted k f g r → k ≡ n → Attempted n f g r
 by_record n k f g r p is = subst (λ (x : ℕ). Attempted x f g r) is p
 
-module _ (n : ℕ) (f g : List ℕ) (r : Attempt) (p : Attempted n f g r) where
-  pub answer_at : (D : ℕ) → r ≡ Value D → Reduced n f g D
+module _ (n : ℕ) (f g : List ℕ) (r : Result ℕ (Split ℕ)) (p : Attempted n f g r) where
+  pub answer_at : (D : ℕ) → r ≡ Ok D → Reduced n f g D
   answer_at D e = subst (Attempted n f g) e p
 
-  module _ (x y : ℕ) (e : r ≡ Splits x y) where
-    pub factors_at : SplitOf n x y
+  module _ (s : Split ℕ) (e : r ≡ Err s) where
+    pub factors_at : SplitOf n s.p s.q
     factors_at = subst (Attempted n f g) e p
 
-    pub first_above_at : {x' : ℕ} → x' ≡ x → 2 ≤ x'
+    pub first_above_at : {x' : ℕ} → x' ≡ s.p → 2 ≤ x'
     first_above_at o = rw o factors_at.above₁
 
-    pub second_above_at : {y' : ℕ} → y' ≡ y → 2 ≤ y'
+    pub second_above_at : {y' : ℕ} → y' ≡ s.q → 2 ≤ y'
     second_above_at o = rw o factors_at.above₂
 
-    pub first_falls_at : (t : ℕ) → n ≡ t → x < t
+    pub first_falls_at : (t : ℕ) → n ≡ t → s.p < t
     first_falls_at = split_first factors_at
 
-    pub second_falls_at : (t : ℕ) → n ≡ t → y < t
+    pub second_falls_at : (t : ℕ) → n ≡ t → s.q < t
     second_falls_at = split_second factors_at
 
-    module _ {D₁ D₂ : ℕ} (u : Reduced x f g D₁) (v : Reduced y f g D₂) where
+    module _ {D₁ D₂ : ℕ} (u : Reduced s.p f g D₁) (v : Reduced s.q f g D₂) where
       pub product_below_at : (B : ℕ) → n < B → D₁ * D₂ < B
       product_below_at = product_below factors_at u v
 

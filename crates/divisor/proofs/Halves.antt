@@ -22,6 +22,7 @@ use borrow.Author.Rules.{rules}
 use mir.Syntax.{Width}
 use mir.Val.{Fits}
 use mir.Facts.{Fits-le}
+use Rattle.std.specs.Prelude.{Result, Ok, Err}
 use Rattle.definitions.specs.Residues.{IsNilpotent}
 use Rattle.definitions.specs.Polynomials.{coef}
 use Rattle.definitions.specs.Resultants.{Reduced}
@@ -37,8 +38,7 @@ use Rattle.reduced_attempt.proofs.Scalings.{scaled, scaled_at, scaled_times, red
 use Rattle.divisor_stages.specs.LeadingUnits.{Leading}
 use Rattle.divisor_stages.specs.DivisorStages.{DivisionAsked}
 use Rattle.divisor_stages.proofs.Contents.{splitter_dvd, split_splitter}
-use Rattle.residue.specs.declared.Attempt.{Attempt}
-use Rattle.residue.specs.declared.Attempt.TheVariants.{Value, Splits}
+use Rattle.residue.specs.declared.Split.{Split}
 use Rattle.divisor.specs.Sizes.{DivisorLengthsAsked, sizes_swapped, sizes_after}
 use Rattle.reduced_attempt.specs.declared.HalfAttempt.{HalfAttempt}
 use Rattle.divisor.specs.DivisorAttempts.{ArrangeAsked, Padded, WindowsAsked, WindowsAnswer, HalfAsked, Attempted}
@@ -301,9 +301,9 @@ content_positive {n} {c} {f} {g} cm two = common_positive n c f g two cm
 pub content_some : {n c : ℕ} {f g : List ℕ} → CommonContent n f g c → 2 ≤ n → (c ≡ n → ⊥) → 1 ≤ n / c
 content_some {n} {c} {f} {g} cm two proper = omega (arith, common_above n c f g two cm proper)
 
-pub parted_attempted : (n : ℕ) (f g : List ℕ) (r : Attempt) → Parted n r → Attempted n f g r
-parted_attempted n f g (Value D) x = absurd x
-parted_attempted n f g (Splits p q) x = x
+pub parted_attempted : (n : ℕ) (f g : List ℕ) (r : Result ℕ (Split ℕ)) → Parted n r → Attempted n f g r
+parted_attempted n f g (Ok D) x = absurd x
+parted_attempted n f g (Err p) x = x
 
 -- ---- two coprime factors
 

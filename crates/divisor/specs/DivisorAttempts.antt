@@ -6,15 +6,14 @@
 --   HalfAsked               of the half of an attempt that factors the first polynomial: what it asks
 --   HalfAttempted           what it promises
 --   Attempted               D, or n as a product of two coprime factors
-use Rattle.std.specs.Prelude.{◌≡◌, List, ℕ, max, ◌+◌, ◌*◌, ◌/◌, ◌%◌, ◌<◌, ◌≤◌, length, get_or}
+use Rattle.std.specs.Prelude.{◌≡◌, Result, Ok, Err, List, ℕ, max, ◌+◌, ◌*◌, ◌/◌, ◌%◌, ◌<◌, ◌≤◌, length, get_or}
 use Rattle.definitions.specs.Residues.{IsUnit}
 use Rattle.definitions.specs.Polynomials.{coef}
 use Rattle.definitions.specs.Resultants.{Reduced}
 use Rattle.windows.specs.Window.{piece, Below}
 use Rattle.window_factor.specs.Factors.{SplitOf, AllNilpotents}
 use Rattle.reduced_units.specs.States.{Splitter}
-use Rattle.residue.specs.declared.Attempt.{Attempt}
-use Rattle.residue.specs.declared.Attempt.TheVariants.{Value, Splits}
+use Rattle.residue.specs.declared.Split.{Split}
 use Rattle.reduced_attempt.specs.ReducedAttempts.{CommonContent, NilpotentOver}
 use Rattle.reduced_attempt.specs.declared.HalfAttempt.{HalfAttempt}
 use Rattle.reduced_attempt.specs.declared.HalfAttempt.TheVariants.{Found, Divisors, Nilpotent}
@@ -44,7 +43,7 @@ pub record WindowsAsked (n m : ℕ) (w : List ℕ) : Type 0 where
   pub first : Below n m m w
   pub second : Below n 0 m w
 
-abbrev pub WindowsAnswer : ℕ → ℕ → List ℕ → HalfAttempt → Type 0
+abbrev pub WindowsAnswer : ℕ → ℕ → List ℕ → HalfAttempt ℕ → Type 0
 WindowsAnswer n m w (Found D) = Reduced n (piece w m m) (piece w 0 m) D
 WindowsAnswer n m w (Divisors p q) = Splitter n p q
 WindowsAnswer n m w Nilpotent = AllNilpotents n (piece w m m)
@@ -58,12 +57,12 @@ pub record HalfAsked (n v c : ℕ) (f g w : List ℕ) : Type 0 where
   pub proper : c ≡ n → ⊥
 
 -- D; two coprime divisors of n; or no coefficient of f over c is more than nilpotent
-abbrev pub HalfAttempted : ℕ → ℕ → List ℕ → List ℕ → HalfAttempt → Type 0
+abbrev pub HalfAttempted : ℕ → ℕ → List ℕ → List ℕ → HalfAttempt ℕ → Type 0
 HalfAttempted n c f g (Found D) = Reduced n f g D
 HalfAttempted n c f g (Divisors p q) = Splitter n p q
 HalfAttempted n c f g Nilpotent = NilpotentOver n c f
 
 -- S80: "At a splitting coefficient, each of the two factors is worked as a modulus of its own": D, or the two factors
-abbrev pub Attempted : ℕ → List ℕ → List ℕ → Attempt → Type 0
-Attempted n f g (Value D) = Reduced n f g D
-Attempted n f g (Splits p q) = SplitOf n p q
+abbrev pub Attempted : ℕ → List ℕ → List ℕ → Result ℕ (Split ℕ) → Type 0
+Attempted n f g (Ok D) = Reduced n f g D
+Attempted n f g (Err s) = SplitOf n s.p s.q

@@ -31,7 +31,7 @@ ghost use Rattle.divisor.specs.DivisorAttempts.{Attempted};
 use divisor_stages::Windows;
 use modulus::Modulus;
 use reduced_attempt::HalfAttempt;
-use residue::Attempt;
+use residue::Split;
 
 // The larger of a and b.
 fn longer(a: usize, b: usize) -> usize
@@ -68,7 +68,7 @@ fn arrange(w: &mut [u32], m: Modulus, c: u32, f: &[u32], g: &[u32]) -> usize
 }
 
 // D of the l words at l and the l words at 0, if the polynomial at l has a coefficient that is not nilpotent.
-fn divided(w: &mut [u32], m: Modulus, l: usize) -> HalfAttempt
+fn divided(w: &mut [u32], m: Modulus, l: usize) -> HalfAttempt<u32>
     requires { (Known m) × (WindowsAsked m.n l w.old) }
     ensures windows_answer { WindowsAnswer m.n l w.old result }
     ensures scratch { Scratch w.old w.new }
@@ -82,8 +82,8 @@ fn divided(w: &mut [u32], m: Modulus, l: usize) -> HalfAttempt
                 k: t,
             };
             match divisor_stages::division_stage(w, m, p, i, 2 * l) {
-                Attempt::Value(d) => HalfAttempt::Found(d),
-                Attempt::Splits(p, q) => HalfAttempt::Divisors(p, q),
+                Ok(d) => HalfAttempt::Found(d),
+                Err(s) => HalfAttempt::Divisors(s.p, s.q),
             }
         }
         window_factor::Highest::Splits(p, q) => HalfAttempt::Divisors(p, q),
@@ -92,7 +92,7 @@ fn divided(w: &mut [u32], m: Modulus, l: usize) -> HalfAttempt
 }
 
 // D of f and g, c their common content, if f over c has a coefficient that is not nilpotent.
-fn half(w: &mut [u32], m: Modulus, v: Modulus, c: u32, f: &[u32], g: &[u32]) -> HalfAttempt
+fn half(w: &mut [u32], m: Modulus, v: Modulus, c: u32, f: &[u32], g: &[u32]) -> HalfAttempt<u32>
     requires { (Known m) × ((Known v) × (HalfAsked m.n v.n c f.now g.now w.old)) }
     ensures half_attempted { HalfAttempted m.n c f.now g.now result }
     ensures scratch { Scratch w.old w.new }
@@ -106,59 +106,73 @@ fn half(w: &mut [u32], m: Modulus, v: Modulus, c: u32, f: &[u32], g: &[u32]) -> 
 }
 
 // D of f and g, or n as a product of two coprime factors, where f over c has no coefficient that is more than nilpotent.
-fn swapped(w: &mut [u32], m: Modulus, v: Modulus, c: u32, f: &[u32], g: &[u32]) -> Attempt
+fn swapped(
+    w: &mut [u32],
+    m: Modulus,
+    v: Modulus,
+    c: u32,
+    f: &[u32],
+    g: &[u32],
+) -> Result<u32, Split<u32>>
     requires { (Known m) × ((Known v) × ((HalfAsked m.n v.n c f.now g.now w.old) × (NilpotentOver m.n c f.now))) }
     ensures attempted { Attempted m.n f.now g.now result }
     ensures scratch { Scratch w.old w.new }
 {
     match half(w, m, v, c, g, f) {
-        HalfAttempt::Found(d) => Attempt::Value(d),
+        HalfAttempt::Found(d) => Ok(d),
         HalfAttempt::Divisors(p, q) => reduced_attempt::split(m.n, p, q),
-        HalfAttempt::Nilpotent => Attempt::Value(m.n),
+        HalfAttempt::Nilpotent => Ok(m.n),
     }
 }
 
 // The same whatever f over c has: both halves in turn.
-fn both_halves(w: &mut [u32], m: Modulus, v: Modulus, c: u32, f: &[u32], g: &[u32]) -> Attempt
+fn both_halves(
+    w: &mut [u32],
+    m: Modulus,
+    v: Modulus,
+    c: u32,
+    f: &[u32],
+    g: &[u32],
+) -> Result<u32, Split<u32>>
     requires { (Known m) × ((Known v) × (HalfAsked m.n v.n c f.now g.now w.old)) }
     ensures attempted { Attempted m.n f.now g.now result }
     ensures scratch { Scratch w.old w.new }
 {
     match half(w, m, v, c, f, g) {
-        HalfAttempt::Found(d) => Attempt::Value(d),
+        HalfAttempt::Found(d) => Ok(d),
         HalfAttempt::Divisors(p, q) => reduced_attempt::split(m.n, p, q),
         HalfAttempt::Nilpotent => swapped(w, m, v, c, f, g),
     }
 }
 
 // D of f and g, or n as a product of two coprime factors, by contents, leading units and divisions.
-fn general(w: &mut [u32], m: Modulus, f: &[u32], g: &[u32]) -> Attempt
+fn general(w: &mut [u32], m: Modulus, f: &[u32], g: &[u32]) -> Result<u32, Split<u32>>
     requires { (Known m) × ((2 ≤ m.n) × DivisorLengthsAsked f.now g.now w.old) }
     ensures attempted { Attempted m.n f.now g.now result }
     ensures scratch { Scratch w.old w.new }
 {
     let c = reduced_attempt::common_content(w, m.n, f, g);
     if c == m.n {
-        return Attempt::Value(c);
+        return Ok(c);
     }
     let v = divisor_stages::modulus_over(m, c);
     both_halves(w, m, v, c, f, g)
 }
 
 // The same; where Euclid without inverses ends in a unit, D is 1 and nothing else is to know.
-fn attempt(w: &mut [u32], m: Modulus, f: &[u32], g: &[u32]) -> Attempt
+fn attempt(w: &mut [u32], m: Modulus, f: &[u32], g: &[u32]) -> Result<u32, Split<u32>>
     requires { (Known m) × ((2 ≤ m.n) × DivisorLengthsAsked f.now g.now w.old) }
     ensures attempted { Attempted m.n f.now g.now result }
     ensures scratch { Scratch w.old w.new }
 {
     if coprime_test::shows_coprime(w, m, f, g) {
-        return Attempt::Value(1);
+        return Ok(1);
     }
     general(w, m, f, g)
 }
 
 // The same by n, whose record is found here, once for the whole attempt.
-fn attempt_by(w: &mut [u32], n: u32, f: &[u32], g: &[u32]) -> Attempt
+fn attempt_by(w: &mut [u32], n: u32, f: &[u32], g: &[u32]) -> Result<u32, Split<u32>>
     requires { (2 ≤ n) × DivisorLengthsAsked f.now g.now w.old }
     ensures attempted { Attempted n f.now g.now result }
     ensures scratch { Scratch w.old w.new }
@@ -183,10 +197,10 @@ pub fn run(w: &mut [u32], n: u32, f: &[u32], g: &[u32]) -> u32
     ensures scratch { Scratch w.old w.new }
 {
     match attempt_by(w, n, f, g) {
-        Attempt::Value(d) => d,
-        Attempt::Splits(p, q) => {
-            let a = run(w, p, f, g);
-            let b = run(w, q, f, g);
+        Ok(d) => d,
+        Err(s) => {
+            let a = run(w, s.p, f, g);
+            let b = run(w, s.q, f, g);
             joined(a, b)
         }
     }

@@ -20,7 +20,7 @@ use Rattle.law_numbers.specs.Divisors.{IsGcd}
 use Rattle.law_numbers.specs.Units.{unit_of_coprime, coprime_of_gcd, inverse_times}
 use Rattle.law_polynomials.specs.ReachedLaws.{resultant_reached, reached_same, reached_multiple, reduced_from}
 use Rattle.windows.specs.Window.{Scratch, Loaded}
-use Rattle.window_factor64.specs.Factors.{SplitOf}
+use Rattle.window_factor.specs.Factors.{SplitOf}
 use Rattle.reduced_attempt.specs.ReducedAttempts.{PairLoaded, CommonContent}
 use Rattle.reduced_attempt.proofs.Scalings.{pair_plain}
 use Rattle.divisor.specs.Sizes.{DivisorLengthsAsked}

@@ -1,2 +1,1 @@
 pub mod CoprimeAttempted
-pub mod DivisorAttempts

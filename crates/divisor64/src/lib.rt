@@ -28,13 +28,13 @@ ghost use Rattle.windows.specs.Window.{Moved, quotient_by, Scratch};
 ghost use Rattle.reduced_attempt.specs.ReducedAttempts.{PairLoaded, NilpotentOver};
 ghost use Rattle.reduction64.specs.Moduli.{Ready};
 ghost use Rattle.divisor64.specs.CoprimeAttempted.{DivisorAsked, CoprimeAttempted};
-ghost use Rattle.divisor64.specs.DivisorAttempts.{ArrangeAsked, Padded, WindowsAsked, WindowsAnswer, HalfAsked, HalfAttempted};
-ghost use Rattle.divisor64.specs.DivisorAttempts.{Attempted};
+ghost use Rattle.divisor.specs.DivisorAttempts.{ArrangeAsked, Padded, WindowsAsked, WindowsAnswer, HalfAsked, HalfAttempted};
+ghost use Rattle.divisor.specs.DivisorAttempts.{Attempted};
 
 use divisor_stages::Windows;
-use reduced_attempt64::HalfAttempt;
+use reduced_attempt::HalfAttempt;
 use reduction64::Reciprocal;
-use residue64::Attempt;
+use residue::Split;
 
 // Whether it is shown that D of f and g modulo n is 1: two constants show nothing, their resultant is always 1.
 fn shows_coprime(w: &mut [u64], n: u64, f: &[u64], g: &[u64]) -> bool
@@ -92,13 +92,13 @@ fn arrange(w: &mut [u64], n: u64, c: u64, f: &[u64], g: &[u64]) -> usize
 }
 
 // D of the l words at l and the l words at 0, if the polynomial at l has a coefficient that is not nilpotent.
-fn divided(w: &mut [u64], m: Reciprocal, l: usize) -> HalfAttempt
+fn divided(w: &mut [u64], m: Reciprocal, l: usize) -> HalfAttempt<u64>
     requires { (Ready m) × (WindowsAsked m.n l w.old) }
     ensures windows_answer { WindowsAnswer m.n l w.old result }
     ensures scratch { Scratch w.old w.new }
 {
     match divisor_stages64::unit_lead(w, m, l, l, 2 * l) {
-        window_factor64::Highest::UnitAt(t, i) => {
+        window_factor::Highest::UnitAt(t, i) => {
             let p = Windows {
                 a: 0,
                 d: l - 1,
@@ -106,17 +106,24 @@ fn divided(w: &mut [u64], m: Reciprocal, l: usize) -> HalfAttempt
                 k: t,
             };
             match divisor_stages64::division_stage(w, m, p, i, 2 * l) {
-                Attempt::Value(d) => HalfAttempt::Found(d),
-                Attempt::Splits(p, q) => HalfAttempt::Divisors(p, q),
+                Ok(d) => HalfAttempt::Found(d),
+                Err(s) => HalfAttempt::Divisors(s.p, s.q),
             }
         }
-        window_factor64::Highest::Splits(p, q) => HalfAttempt::Divisors(p, q),
-        window_factor64::Highest::AllNilpotent => HalfAttempt::Nilpotent,
+        window_factor::Highest::Splits(p, q) => HalfAttempt::Divisors(p, q),
+        window_factor::Highest::AllNilpotent => HalfAttempt::Nilpotent,
     }
 }
 
 // D of f and g, c their common content, if f over c has a coefficient that is not nilpotent.
-fn half(w: &mut [u64], m: Reciprocal, v: Reciprocal, c: u64, f: &[u64], g: &[u64]) -> HalfAttempt
+fn half(
+    w: &mut [u64],
+    m: Reciprocal,
+    v: Reciprocal,
+    c: u64,
+    f: &[u64],
+    g: &[u64],
+) -> HalfAttempt<u64>
     requires { (Ready m) × ((Ready v) × (HalfAsked m.n v.n c f.now g.now w.old)) }
     ensures half_attempted { HalfAttempted m.n c f.now g.now result }
     ensures scratch { Scratch w.old w.new }
@@ -130,59 +137,73 @@ fn half(w: &mut [u64], m: Reciprocal, v: Reciprocal, c: u64, f: &[u64], g: &[u64
 }
 
 // D of f and g, or n as a product of two coprime factors, where f over c has no coefficient that is more than nilpotent.
-fn swapped(w: &mut [u64], m: Reciprocal, v: Reciprocal, c: u64, f: &[u64], g: &[u64]) -> Attempt
+fn swapped(
+    w: &mut [u64],
+    m: Reciprocal,
+    v: Reciprocal,
+    c: u64,
+    f: &[u64],
+    g: &[u64],
+) -> Result<u64, Split<u64>>
     requires { (Ready m) × ((Ready v) × ((HalfAsked m.n v.n c f.now g.now w.old) × (NilpotentOver m.n c f.now))) }
     ensures attempted { Attempted m.n f.now g.now result }
     ensures scratch { Scratch w.old w.new }
 {
     match half(w, m, v, c, g, f) {
-        HalfAttempt::Found(d) => Attempt::Value(d),
+        HalfAttempt::Found(d) => Ok(d),
         HalfAttempt::Divisors(p, q) => reduced_attempt64::split(m, p, q),
-        HalfAttempt::Nilpotent => Attempt::Value(m.n),
+        HalfAttempt::Nilpotent => Ok(m.n),
     }
 }
 
 // The same whatever f over c has: both halves in turn.
-fn both_halves(w: &mut [u64], m: Reciprocal, v: Reciprocal, c: u64, f: &[u64], g: &[u64]) -> Attempt
+fn both_halves(
+    w: &mut [u64],
+    m: Reciprocal,
+    v: Reciprocal,
+    c: u64,
+    f: &[u64],
+    g: &[u64],
+) -> Result<u64, Split<u64>>
     requires { (Ready m) × ((Ready v) × (HalfAsked m.n v.n c f.now g.now w.old)) }
     ensures attempted { Attempted m.n f.now g.now result }
     ensures scratch { Scratch w.old w.new }
 {
     match half(w, m, v, c, f, g) {
-        HalfAttempt::Found(d) => Attempt::Value(d),
+        HalfAttempt::Found(d) => Ok(d),
         HalfAttempt::Divisors(p, q) => reduced_attempt64::split(m, p, q),
         HalfAttempt::Nilpotent => swapped(w, m, v, c, f, g),
     }
 }
 
 // D of f and g, or n as a product of two coprime factors, by contents, leading units and divisions.
-fn general(w: &mut [u64], m: Reciprocal, f: &[u64], g: &[u64]) -> Attempt
+fn general(w: &mut [u64], m: Reciprocal, f: &[u64], g: &[u64]) -> Result<u64, Split<u64>>
     requires { (Ready m) × (DivisorAsked m.n f.now g.now w.old) }
     ensures attempted { Attempted m.n f.now g.now result }
     ensures scratch { Scratch w.old w.new }
 {
     let c = reduced_attempt64::common_content(w, m.n, f, g);
     if c == m.n {
-        return Attempt::Value(c);
+        return Ok(c);
     }
     let v = divisor_stages64::modulus_over(m, c);
     both_halves(w, m, v, c, f, g)
 }
 
 // The same; where the resultant is a unit, D is 1 and nothing else is to know.
-fn attempt(w: &mut [u64], m: Reciprocal, f: &[u64], g: &[u64]) -> Attempt
+fn attempt(w: &mut [u64], m: Reciprocal, f: &[u64], g: &[u64]) -> Result<u64, Split<u64>>
     requires { (Ready m) × (DivisorAsked m.n f.now g.now w.old) }
     ensures attempted { Attempted m.n f.now g.now result }
     ensures scratch { Scratch w.old w.new }
 {
     if shows_coprime(w, m.n, f, g) {
-        return Attempt::Value(1);
+        return Ok(1);
     }
     general(w, m, f, g)
 }
 
 // The same by n, whose record is found here, once for the whole attempt.
-fn attempt_by(w: &mut [u64], n: u64, f: &[u64], g: &[u64]) -> Attempt
+fn attempt_by(w: &mut [u64], n: u64, f: &[u64], g: &[u64]) -> Result<u64, Split<u64>>
     requires { DivisorAsked n f.now g.now w.old }
     ensures attempted { Attempted n f.now g.now result }
     ensures scratch { Scratch w.old w.new }
@@ -207,10 +228,10 @@ pub fn run(w: &mut [u64], n: u64, f: &[u64], g: &[u64]) -> u64
     ensures scratch { Scratch w.old w.new }
 {
     match attempt_by(w, n, f, g) {
-        Attempt::Value(d) => d,
-        Attempt::Splits(p, q) => {
-            let a = run(w, p, f, g);
-            let b = run(w, q, f, g);
+        Ok(d) => d,
+        Err(s) => {
+            let a = run(w, s.p, f, g);
+            let b = run(w, s.q, f, g);
             joined(a, b)
         }
     }

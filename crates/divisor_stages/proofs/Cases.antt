@@ -1,4 +1,4 @@
--- The answers of the enums of this width, taken apart by the arm that the code is in.
+-- The answers, taken apart by the arm that the code is in.
 --
 --   place_at                                              of the highest coefficient that is no nilpotent
 --   lead_at, lead_splits_at, lead_nilpotents_at, next_at  of a polynomial that gets a leading unit
@@ -11,13 +11,13 @@ use Prim.Native.Nat.{ℕ, ◌+◌, ◌*◌, ◌/◌, ◌≤◌, ◌<◌}
 use borrow.Author.Rules.{rules}
 use mir.Syntax.{Width}
 use mir.Val.{Fits}
+use Rattle.std.specs.Prelude.{Result, Ok, Err}
 use Rattle.definitions.specs.Resultants.{Reduced}
 use Rattle.windows.specs.Window.{piece, Content}
 use Rattle.modulus.specs.declared.Modulus.{Modulus}
 use Rattle.modulus.specs.Values.{Known}
 use Rattle.reduced_units.specs.States.{Splitter}
-use Rattle.residue.specs.declared.Attempt.{Attempt}
-use Rattle.residue.specs.declared.Attempt.TheVariants.{Value, Splits}
+use Rattle.residue.specs.declared.Split.{Split}
 use Rattle.window_factor.specs.declared.Highest.{Highest}
 use Rattle.window_factor.specs.declared.Highest.TheVariants.{UnitAt as UnitAt', Splits as SplitsAt, AllNilpotent}
 use Rattle.window_factor.specs.Factors.{HighestOf, SplitOf, AllNilpotents}
@@ -30,11 +30,11 @@ use Rattle.divisor_stages.proofs.Factors.{part_of, place_fits, factors}
 use Rattle.divisor_stages.proofs.Contents.{content_cleared, contents}
 use Rattle.divisor_stages.proofs.Divisions.{cleared_falls, cleared_within, cleared_splitter, divisions}
 
-pub place_at : {n b m s : ℕ} {w : List ℕ} {W : Width} (h : Highest) (t i : ℕ) → LeadAsked n b m s w → HighestOf n (part_of b m w) h
+pub place_at : {n b m s : ℕ} {w : List ℕ} {W : Width} (h : Highest ℕ) (t i : ℕ) → LeadAsked n b m s w → HighestOf n (part_of b m w) h
     → h ≡ UnitAt' t i → Fits W m → Fits W (t + 1)
 place_at {n} {b} {m} {s} {w} h t i a p e = place_fits a (unit_at n (part_of b m w) h p t i e)
 
-module _ (n b m s : ℕ) (w w' : List ℕ) (h : Highest) (p : LeadAnswer n b m s w w' h) where
+module _ (n b m s : ℕ) (w w' : List ℕ) (h : Highest ℕ) (p : LeadAnswer n b m s w w' h) where
   pub lead_at : (t i : ℕ) → h ≡ UnitAt' t i → Leading n b m t i s w w'
   lead_at t i e = subst (LeadAnswer n b m s w w') e p
 
@@ -44,12 +44,12 @@ module _ (n b m s : ℕ) (w w' : List ℕ) (h : Highest) (p : LeadAnswer n b m s
   pub lead_nilpotents_at : h ≡ AllNilpotent → AllNilpotents n (piece w b m)
   lead_nilpotents_at e = subst (LeadAnswer n b m s w w') e p
 
-module _ {n a d b s c : ℕ} {w w₁ w₂ : List ℕ} (h : Highest) (st : ContentAsked n a d b s w) (ct : Content n (part_of b d w) c)
+module _ {n a d b s c : ℕ} {w w₁ w₂ : List ℕ} (h : Highest ℕ) (st : ContentAsked n a d b s w) (ct : Content n (part_of b d w) c)
     (ne : c ≡ n → ⊥) (v : ℕ) (tk : ContentTaken v c a d b w w₁) (is : v ≡ n / c) (p : LeadAnswer v b d s w₁ w₂ h) where
   pub next_at : {c' v' : ℕ} {w₃ : List ℕ} (k i : ℕ) → h ≡ UnitAt' k i → c' ≡ c → v' ≡ v → w₃ ≡ w₂ → Cleared n a d b c' v' k i s w w₃
   next_at k i e o r q = rw (o, r, q) (content_cleared st ct ne tk is (lead_at v b d s w₁ w₂ h p k i e))
 
-module _ (n a d b s : ℕ) (w w' : List ℕ) (r : Clearing) (p : Clears n a d b s w w' r) where
+module _ (n a d b s : ℕ) (w w' : List ℕ) (r : Clearing ℕ Modulus) (p : Clears n a d b s w w' r) where
   pub done_at : (D : ℕ) → r ≡ Done D → Reduced n (piece w a (d + 1)) (piece w b d) D
   done_at D e = subst (Clears n a d b s w w') e p
 
@@ -70,18 +70,18 @@ module _ (n a d b s : ℕ) (w w' : List ℕ) (r : Clearing) (p : Clears n a d b 
         → DivisionAsked n' a' d' b' k' i' s' w₁
     asked_at e₁ e₂ e₃ e₄ e₅ e₆ e₇ e₈ = rw (e₁, e₂, e₃, e₄, e₅, e₆, e₇, e₈) next.1.asked
 
-    module _ (q : Attempt) (x : DivisorOrSplit v.n (piece w' a (d + 1)) (piece w' b (k + 1)) q) where
-      answer : (z : Attempt) → q ≡ z → DivisorOrSplit v.n (piece w' a (d + 1)) (piece w' b (k + 1)) z
+    module _ (q : Result ℕ (Split ℕ)) (x : DivisorOrSplit v.n (piece w' a (d + 1)) (piece w' b (k + 1)) q) where
+      answer : (z : Result ℕ (Split ℕ)) → q ≡ z → DivisorOrSplit v.n (piece w' a (d + 1)) (piece w' b (k + 1)) z
       answer z o = subst (DivisorOrSplit v.n (piece w' a (d + 1)) (piece w' b (k + 1))) o x
 
-      pub within_at : (D : ℕ) → q ≡ Value D → c * D ≤ n
-      within_at D o = cleared_within next.1 (answer (Value D) o)
+      pub within_at : (D : ℕ) → q ≡ Ok D → c * D ≤ n
+      within_at D o = cleared_within next.1 (answer (Ok D) o)
 
-      pub value_at : (D z : ℕ) → q ≡ Value D → z ≡ c * D → Reduced n (piece w a (d + 1)) (piece w b d) z
-      value_at D z o e = rw e (next.1.constants D (answer (Value D) o))
+      pub value_at : (D z : ℕ) → q ≡ Ok D → z ≡ c * D → Reduced n (piece w a (d + 1)) (piece w b d) z
+      value_at D z o e = rw e (next.1.constants D (answer (Ok D) o))
 
-      pub split_at : (x y : ℕ) → q ≡ Splits x y → Splitter n x y
-      split_at x y o = cleared_splitter next.1 (answer (Splits x y) o)
+      pub split_at : (s : Split ℕ) → q ≡ Err s → Splitter n s.p s.q
+      split_at s o = cleared_splitter next.1 (answer (Err s) o)
 
 pub ruleset leadings = (factors, highest, place_at)
 

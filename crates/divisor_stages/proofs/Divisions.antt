@@ -12,6 +12,7 @@ use Prim.Native.Nat.{ℕ, ◌+◌, ◌-◌, ◌*◌, ◌%◌, ◌≤◌, ◌<◌
 use native.Mathlib.Omega.{arith}
 use native.Mathlib.Nat.{mul-le-mul_left, dvd-mul_left, pos_of_ne-zero}
 use lib.ListN.{get_or}
+use Rattle.std.specs.Prelude.{Result, Ok, Err}
 use Rattle.definitions.specs.Residues.{IsUnit}
 use Rattle.definitions.specs.Polynomials.{coef, convolve, tabulate, Divided}
 use Rattle.definitions.specs.Resultants.{Reduced}
@@ -24,8 +25,7 @@ use Rattle.window_division.specs.Remainders.{DivisionLengthsAsked, Pair, Remaind
 use Rattle.law_multipliers.specs.Reductions.{reduced_step, reduced_unit_constant}
 use Rattle.reduced_units.specs.States.{Splitter}
 use Rattle.reduced_units.proofs.Regions.{apart_swap, below_apart, piece_apart}
-use Rattle.residue.specs.declared.Attempt.{Attempt}
-use Rattle.residue.specs.declared.Attempt.TheVariants.{Value, Splits}
+use Rattle.residue.specs.declared.Split.{Split}
 use Rattle.divisor_stages.specs.DivisorStages.{ContentAsked, DivisionAsked, DivisorOrSplit, Cleared}
 use Rattle.divisor_stages.proofs.Contents.{splitter_dvd}
 
@@ -87,11 +87,11 @@ module _ {n a d b k i s : ℕ} {w : List ℕ} (da : DivisionAsked n a d b k i s 
       at = λ j. ap (λ (F : ℕ → ℕ). (convolve F (coef (piece w b (k + 1))) j + coef (piece w₁ a k) j) % n) (fun_ext q_at) ∙ rm.at j;
     }
 
-    pub next_answer : (r : Attempt) → DivisorOrSplit n (piece w₁ b (k + 1)) (piece w₁ a k) r
+    pub next_answer : (r : Result ℕ (Split ℕ)) → DivisorOrSplit n (piece w₁ b (k + 1)) (piece w₁ a k) r
         → DivisorOrSplit n (piece w a (d + 1)) (piece w b (k + 1)) r
-    next_answer (Value D) x = reduced_step n positive (piece w a (d + 1)) (piece w b (k + 1)) q (piece w₁ a k) D divided
+    next_answer (Ok D) x = reduced_step n positive (piece w a (d + 1)) (piece w b (k + 1)) q (piece w₁ a k) D divided
         (subst (λ (f : List ℕ). Reduced n f (piece w₁ a k) D) same_b x)
-    next_answer (Splits p q) x = x
+    next_answer (Err p) x = x
 
 -- the leading word of B is a unit
 module _ {n a d b s : ℕ} {w : List ℕ} (st : ContentAsked n a d b s w) where
@@ -114,7 +114,7 @@ module _ {n a d b s : ℕ} {w : List ℕ} (st : ContentAsked n a d b s w) where
     inverse = gc.bezout ∙ ap (λ (y : ℕ). y % n) one;
   }
 
-  pub unit_answer : (r : Attempt) → DivisorOrSplit n (piece w a (d + 1)) (piece w b (d - 1 + 1)) r
+  pub unit_answer : (r : Result ℕ (Split ℕ)) → DivisorOrSplit n (piece w a (d + 1)) (piece w b (d - 1 + 1)) r
       → DivisorOrSplit n (piece w a (d + 1)) (piece w b d) r
   unit_answer r x = subst (λ (l : ℕ). DivisorOrSplit n (piece w a (d + 1)) (piece w b l) r) one_more x
 

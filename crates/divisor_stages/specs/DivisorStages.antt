@@ -4,15 +4,16 @@
 --   DivisionAsked      B has degree k, at most d, and the inverse of its leading word is i
 --   TakeAsked, ContentTaken    B over c, and A modulo v, which is n / c
 --   DivisorOrSplit     D, or two coprime divisors of n
---   Clears             D; two coprime divisors of n; or a content c and a B with a leading unit modulo n / c
-use Rattle.std.specs.Prelude.{◌≡◌, List, ℕ, ◌+◌, ◌*◌, ◌/◌, ◌%◌, ◌<◌, ◌≤◌, length, get_or}
+--   ClearsBy, Clears   D; two coprime divisors of n; or a content c and a B with a leading unit modulo n / c, by the record of that
+--                      modulus; the former for records of any kind
+use Rattle.std.specs.Prelude.{◌≡◌, Result, Ok, Err, List, ℕ, ◌+◌, ◌*◌, ◌/◌, ◌%◌, ◌<◌, ◌≤◌, length, get_or}
 use Rattle.definitions.specs.Residues.{IsUnit}
 use Rattle.definitions.specs.Resultants.{Reduced}
 use Rattle.windows.specs.Window.{piece, Below, Apart}
+use Rattle.modulus.specs.declared.Modulus.{Modulus}
 use Rattle.modulus.specs.Values.{Known}
 use Rattle.reduced_units.specs.States.{Splitter}
-use Rattle.residue.specs.declared.Attempt.{Attempt}
-use Rattle.residue.specs.declared.Attempt.TheVariants.{Value, Splits}
+use Rattle.residue.specs.declared.Split.{Split}
 use Rattle.divisor_stages.specs.declared.Clearing.{Clearing}
 use Rattle.divisor_stages.specs.declared.Clearing.TheVariants.{Done, Parts, Next}
 
@@ -53,9 +54,9 @@ pub record ContentTaken (v c a d b : ℕ) (w w' : List ℕ) : Type 0 where
   pub second : (k : ℕ) → k < d → get_or w' (b + k) 0 ≡ get_or w (b + k) 0 / c
 
 -- "it is reached exactly when D divides c": D of f and g; or two coprime divisors of n
-abbrev pub DivisorOrSplit : ℕ → List ℕ → List ℕ → Attempt → Type 0
-DivisorOrSplit n f g (Value D) = Reduced n f g D
-DivisorOrSplit n f g (Splits p q) = Splitter n p q
+abbrev pub DivisorOrSplit : ℕ → List ℕ → List ℕ → Result ℕ (Split ℕ) → Type 0
+DivisorOrSplit n f g (Ok D) = Reduced n f g D
+DivisorOrSplit n f g (Err s) = Splitter n s.p s.q
 
 -- n is c v, and D is c times what it is of A and of the B that stands there now, modulo v
 pub record Cleared (n a d b c v k i s : ℕ) (w w' : List ℕ) : Type 0 where
@@ -66,7 +67,11 @@ pub record Cleared (n a d b c v k i s : ℕ) (w w' : List ℕ) : Type 0 where
   pub constants : (D : ℕ) → Reduced v (piece w' a (d + 1)) (piece w' b (k + 1)) D
       → Reduced n (piece w a (d + 1)) (piece w b d) (c * D)
 
-abbrev pub Clears : ℕ → ℕ → ℕ → ℕ → ℕ → List ℕ → List ℕ → Clearing → Type 0
-Clears n a d b s w w' (Done D) = Reduced n (piece w a (d + 1)) (piece w b d) D
-Clears n a d b s w w' (Parts p q) = Splitter n p q
-Clears n a d b s w w' (Next c v k i) = (Known v) × (Cleared n a d b c v.n k i s w w')
+-- the records of a modulus are an M, those that are true are `known`, and the modulus of a record is its `of`
+abbrev pub ClearsBy : (M : Type 0) → (M → Type 0) → (M → ℕ) → ℕ → ℕ → ℕ → ℕ → ℕ → List ℕ → List ℕ → Clearing ℕ M → Type 0
+ClearsBy M known of n a d b s w w' (Done D) = Reduced n (piece w a (d + 1)) (piece w b d) D
+ClearsBy M known of n a d b s w w' (Parts p q) = Splitter n p q
+ClearsBy M known of n a d b s w w' (Next c v k i) = known v × (Cleared n a d b c (of v) k i s w w')
+
+abbrev pub Clears : ℕ → ℕ → ℕ → ℕ → ℕ → List ℕ → List ℕ → Clearing ℕ Modulus → Type 0
+Clears = ClearsBy Modulus Known (λ m. m.n)

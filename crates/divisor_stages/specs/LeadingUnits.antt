@@ -36,7 +36,7 @@ pub record Leading (n b m t i s : ℕ) (w w' : List ℕ) : Type 0 where
   pub inverse : (i * get_or w' (b + t) 0) % n ≡ 1 % n
   pub constants : (g : List ℕ) (D : ℕ) → Reduced n (piece w' b (t + 1)) g D → Reduced n (piece w b m) g D
 
-abbrev pub LeadAnswer : ℕ → ℕ → ℕ → ℕ → List ℕ → List ℕ → Highest → Type 0
+abbrev pub LeadAnswer : ℕ → ℕ → ℕ → ℕ → List ℕ → List ℕ → Highest ℕ → Type 0
 LeadAnswer n b m s w w' (UnitAt' t i) = Leading n b m t i s w w'
 LeadAnswer n b m s w w' (Splits p q) = SplitOf n p q
 LeadAnswer n b m s w w' AllNilpotent = AllNilpotents n (piece w b m)

@@ -24,7 +24,7 @@ ghost use Rattle.divisor_stages.specs.LeadingUnits.{LeadAsked, FactorAsked, Lead
 ghost use Rattle.divisor_stages.specs.DivisorStages.{TakeAsked, ContentTaken, ContentAsked, DivisionAsked, DivisorOrSplit, Clears};
 
 use modulus::Modulus;
-use residue::Attempt;
+use residue::Split;
 use window_factor::Highest;
 
 // The places and the degrees of A and B.
@@ -39,10 +39,10 @@ pub struct Windows {
 // What the clearing of a content comes to: D; two coprime divisors of the modulus; or the content c, the record of n / c, the degree of B,
 // whose leading word is a unit now, and the inverse of that word.
 #[derive(Clone, Copy)]
-pub enum Clearing {
-    Done(u32),
-    Parts(u32, u32),
-    Next(u32, Modulus, usize, u32),
+pub enum Clearing<W, M> {
+    Done(W),
+    Parts(W, W),
+    Next(W, M, usize, W),
 }
 
 // B of l words, whose coefficient t, below the leading one, has the inverse i and those above it are nilpotent: its monic factor.
@@ -56,7 +56,7 @@ fn monic_factor(w: &mut [u32], m: Modulus, b: usize, l: usize, t: usize, i: u32,
 }
 
 // B of l words, with a leading unit in place of the highest coefficient that is no nilpotent: its degree then, and the inverse.
-pub fn unit_lead(w: &mut [u32], m: Modulus, b: usize, l: usize, s: usize) -> Highest
+pub fn unit_lead(w: &mut [u32], m: Modulus, b: usize, l: usize, s: usize) -> Highest<u32>
     requires { (Known m) × (LeadAsked m.n b l s w.old) }
     ensures lead_answer { LeadAnswer m.n b l s w.old w.new result }
     ensures scratch { Scratch w.old w.new }
@@ -98,7 +98,14 @@ fn take_content(w: &mut [u32], v: Modulus, c: u32, a: usize, d: usize, b: usize)
 }
 
 // The content of B is taken out of it and of the modulus, then the unit factor of B.
-fn clear_contents(w: &mut [u32], m: Modulus, a: usize, d: usize, b: usize, s: usize) -> Clearing
+fn clear_contents(
+    w: &mut [u32],
+    m: Modulus,
+    a: usize,
+    d: usize,
+    b: usize,
+    s: usize,
+) -> Clearing<u32, Modulus>
     requires { (Known m) × (ContentAsked m.n a d b s w.old) }
     ensures clears { Clears m.n a d b s w.old w.new result }
     ensures scratch { Scratch w.old w.new }
@@ -127,7 +134,14 @@ fn times(n: u32, c: u32, y: u32) -> u32
 
 // D of A, of degree d with a leading unit, and B, of d words.
 #[cycle(content_stage_division_stage)]
-fn content_stage(w: &mut [u32], m: Modulus, a: usize, d: usize, b: usize, s: usize) -> Attempt
+fn content_stage(
+    w: &mut [u32],
+    m: Modulus,
+    a: usize,
+    d: usize,
+    b: usize,
+    s: usize,
+) -> Result<u32, Split<u32>>
     requires { (Known m) × (ContentAsked m.n a d b s w.old) }
     ensures divisor_or_split { DivisorOrSplit m.n (piece w.old a (d + 1)) (piece w.old b d) result }
     ensures scratch { Scratch w.old w.new }
@@ -138,24 +152,30 @@ fn content_stage(w: &mut [u32], m: Modulus, a: usize, d: usize, b: usize, s: usi
         return division_stage(w, m, p, x.s, s);
     }
     match clear_contents(w, m, a, d, b, s) {
-        Clearing::Done(y) => Attempt::Value(y),
-        Clearing::Parts(p, q) => Attempt::Splits(p, q),
-        Clearing::Next(c, v, k, i) => match division_stage(w, v, Windows { a, d, b, k }, i, s) {
-            Attempt::Value(y) => Attempt::Value(times(m.n, c, y)),
-            Attempt::Splits(p, q) => Attempt::Splits(p, q),
-        },
+        Clearing::Done(y) => Ok(y),
+        Clearing::Parts(p, q) => Err(Split { p, q }),
+        Clearing::Next(c, v, k, i) => {
+            let y = division_stage(w, v, Windows { a, d, b, k }, i, s)?;
+            Ok(times(m.n, c, y))
+        }
     }
 }
 
 // D of A, of degree d, and B, of degree k at most d, whose leading word has the inverse i.
 #[cycle(content_stage_division_stage)]
-pub fn division_stage(w: &mut [u32], m: Modulus, p: Windows, i: u32, s: usize) -> Attempt
+pub fn division_stage(
+    w: &mut [u32],
+    m: Modulus,
+    p: Windows,
+    i: u32,
+    s: usize,
+) -> Result<u32, Split<u32>>
     requires { (Known m) × (DivisionAsked m.n p.a p.d p.b p.k i s w.old) }
     ensures divisor_or_split { DivisorOrSplit m.n (piece w.old p.a (p.d + 1)) (piece w.old p.b (p.k + 1)) result }
     ensures scratch { Scratch w.old w.new }
 {
     if p.k == 0 {
-        return Attempt::Value(1);
+        return Ok(1);
     }
     window_division::divide(w, m, p.b, p.k, p.a, p.d, i);
     content_stage(w, m, p.b, p.k, p.a, s)

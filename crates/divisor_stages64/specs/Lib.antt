@@ -1,2 +1,1 @@
-pub mod LeadingUnits
 pub mod DivisorStages

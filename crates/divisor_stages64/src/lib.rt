@@ -19,22 +19,14 @@
 ghost use Rattle.std.specs.Prelude.{◌≡◌, ◌+◌, ◌*◌, ◌/◌, ◌≤◌};
 ghost use Rattle.windows.specs.Window.{piece, Scratch};
 ghost use Rattle.reduction64.specs.Moduli.{Ready};
-ghost use Rattle.divisor_stages64.specs.LeadingUnits.{LeadAsked, FactorAsked, Leading, LeadAnswer};
-ghost use Rattle.divisor_stages64.specs.DivisorStages.{TakeAsked, ContentTaken, ContentAsked, DivisionAsked, DivisorOrSplit, Clears};
+ghost use Rattle.divisor_stages.specs.LeadingUnits.{LeadAsked, FactorAsked, Leading, LeadAnswer};
+ghost use Rattle.divisor_stages.specs.DivisorStages.{TakeAsked, ContentTaken, ContentAsked, DivisionAsked, DivisorOrSplit};
+ghost use Rattle.divisor_stages64.specs.DivisorStages.{Clears};
 
-use divisor_stages::Windows;
+use divisor_stages::{Clearing, Windows};
 use reduction64::Reciprocal;
-use residue64::Attempt;
-use window_factor64::Highest;
-
-// What the clearing of a content comes to: D; two coprime divisors of the modulus; or the content c, the record of n / c, the degree of B,
-// whose leading word is a unit now, and the inverse of that word.
-#[derive(Clone, Copy)]
-pub enum Clearing {
-    Done(u64),
-    Parts(u64, u64),
-    Next(u64, Reciprocal, usize, u64),
-}
+use residue::Split;
+use window_factor::Highest;
 
 // B of l words, whose coefficient t, below the leading one, has the inverse i and those above it are nilpotent: its monic factor.
 fn monic_factor(w: &mut [u64], m: Reciprocal, b: usize, l: usize, t: usize, i: u64, s: usize)
@@ -47,7 +39,7 @@ fn monic_factor(w: &mut [u64], m: Reciprocal, b: usize, l: usize, t: usize, i: u
 }
 
 // B of l words, with a leading unit in place of the highest coefficient that is no nilpotent: its degree then, and the inverse.
-pub fn unit_lead(w: &mut [u64], m: Reciprocal, b: usize, l: usize, s: usize) -> Highest
+pub fn unit_lead(w: &mut [u64], m: Reciprocal, b: usize, l: usize, s: usize) -> Highest<u64>
     requires { (Ready m) × (LeadAsked m.n b l s w.old) }
     ensures lead_answer { LeadAnswer m.n b l s w.old w.new result }
     ensures scratch { Scratch w.old w.new }
@@ -89,7 +81,14 @@ fn take_content(w: &mut [u64], v: Reciprocal, c: u64, a: usize, d: usize, b: usi
 }
 
 // The content of B is taken out of it and of the modulus, then the unit factor of B.
-fn clear_contents(w: &mut [u64], m: Reciprocal, a: usize, d: usize, b: usize, s: usize) -> Clearing
+fn clear_contents(
+    w: &mut [u64],
+    m: Reciprocal,
+    a: usize,
+    d: usize,
+    b: usize,
+    s: usize,
+) -> Clearing<u64, Reciprocal>
     requires { (Ready m) × (ContentAsked m.n a d b s w.old) }
     ensures clears { Clears m.n a d b s w.old w.new result }
     ensures scratch { Scratch w.old w.new }
@@ -118,7 +117,14 @@ fn times(n: u64, c: u64, y: u64) -> u64
 
 // D of A, of degree d with a leading unit, and B, of d words.
 #[cycle(content_stage_division_stage)]
-fn content_stage(w: &mut [u64], m: Reciprocal, a: usize, d: usize, b: usize, s: usize) -> Attempt
+fn content_stage(
+    w: &mut [u64],
+    m: Reciprocal,
+    a: usize,
+    d: usize,
+    b: usize,
+    s: usize,
+) -> Result<u64, Split<u64>>
     requires { (Ready m) × (ContentAsked m.n a d b s w.old) }
     ensures divisor_or_split { DivisorOrSplit m.n (piece w.old a (d + 1)) (piece w.old b d) result }
     ensures scratch { Scratch w.old w.new }
@@ -129,24 +135,30 @@ fn content_stage(w: &mut [u64], m: Reciprocal, a: usize, d: usize, b: usize, s: 
         return division_stage(w, m, p, x.s, s);
     }
     match clear_contents(w, m, a, d, b, s) {
-        Clearing::Done(y) => Attempt::Value(y),
-        Clearing::Parts(p, q) => Attempt::Splits(p, q),
-        Clearing::Next(c, v, k, i) => match division_stage(w, v, Windows { a, d, b, k }, i, s) {
-            Attempt::Value(y) => Attempt::Value(times(m.n, c, y)),
-            Attempt::Splits(p, q) => Attempt::Splits(p, q),
-        },
+        Clearing::Done(y) => Ok(y),
+        Clearing::Parts(p, q) => Err(Split { p, q }),
+        Clearing::Next(c, v, k, i) => {
+            let y = division_stage(w, v, Windows { a, d, b, k }, i, s)?;
+            Ok(times(m.n, c, y))
+        }
     }
 }
 
 // D of A, of degree d, and B, of degree k at most d, whose leading word has the inverse i.
 #[cycle(content_stage_division_stage)]
-pub fn division_stage(w: &mut [u64], m: Reciprocal, p: Windows, i: u64, s: usize) -> Attempt
+pub fn division_stage(
+    w: &mut [u64],
+    m: Reciprocal,
+    p: Windows,
+    i: u64,
+    s: usize,
+) -> Result<u64, Split<u64>>
     requires { (Ready m) × (DivisionAsked m.n p.a p.d p.b p.k i s w.old) }
     ensures divisor_or_split { DivisorOrSplit m.n (piece w.old p.a (p.d + 1)) (piece w.old p.b (p.k + 1)) result }
     ensures scratch { Scratch w.old w.new }
 {
     if p.k == 0 {
-        return Attempt::Value(1);
+        return Ok(1);
     }
     window_division64::divide(w, m, p.b, p.k, p.a, p.d, i);
     content_stage(w, m, p.b, p.k, p.a, s)

@@ -32,19 +32,15 @@ fn pair(n: u64, f: &[u64], g: &[u64], b: Batch, i: usize, work: &mut [u64]) -> u
     divisor64::run(work, n, &f[x..x + k], &g[y..y + l])
 }
 
-// D of all pairs, in the first count words of out. The number after i is next.
+// D of all pairs, in the first count words of out.
 fn each_pair(n: u64, f: &[u64], g: &[u64], b: Batch, out: &mut [u64], work: &mut [u64])
     requires { BatchAsked wide n f.now b.d g.now b.e b.count out.old work.old }
     ensures pairs { Pairs (Reduced n) f.now b.d g.now b.e b.count
         out.old out.new }
     ensures scratch { Scratch work.old work.new }
 {
-    let mut i: usize = 0;
-    let mut next: usize = 1;
-    while next <= b.count {
+    for i in 0..b.count {
         out[i] = pair(n, f, g, b, i, work);
-        i = next;
-        next += 1;
     }
 }
 
@@ -63,9 +59,8 @@ pub fn divisors(
         work.old work.new result.value result.status }
 {
     let b = Batch { d, e, count };
-    let status = batch_pairs64::refusal_batch(n, f, g, b, out.len(), work.len());
-    if status != 0 {
-        return Answer { value: 0, status };
+    if let Err(refusal) = batch_pairs64::refusal_batch(n, f, g, b, out.len(), work.len()) {
+        return Answer::from(refusal);
     }
     each_pair(n, f, g, b, out, work);
     answers64::answered(0, work)

@@ -44,7 +44,7 @@ module _ (m : Modulus) (sound : Sound m) where
       (λ k p. values_at m sound v (a + k) ∙ ap (value m) (at k p) ∙ sym (values_at m sound w (a + k)))
 
   -- the words of the pair after a step stay
-  module _ (y z : Stage) (v v₁ v₂ : List ℕ) (same : length v₂ ≡ length v₁) (l : Reaches m y v z v₁)
+  module _ (y z : Stage ℕ) (v v₁ v₂ : List ℕ) (same : length v₂ ≡ length v₁) (l : Reaches m y v z v₁)
       (first : (k : ℕ) → k < z.d + 1 → get_or v₂ (z.a + k) 0 ≡ get_or v₁ (z.a + k) 0)
       (second : (k : ℕ) → k < z.e + 1 → get_or v₂ (z.b + k) 0 ≡ get_or v₁ (z.b + k) 0) where
     abbrev pl : Placed m.n z.a z.d z.b z.e v₁
@@ -93,7 +93,7 @@ module _ (m : Modulus) (sound : Sound m) where
       };
     }
 
-  pub descending_none : (h : ℕ) (x : Stage) (w : List ℕ) → DescentAsked m h x w → Descending m h x w 0 x w
+  pub descending_none : (h : ℕ) (x : Stage ℕ) (w : List ℕ) → DescentAsked m h x w → Descending m h x w 0 x w
   descending_none h x w k = record {
     same = refl;
     reaching = reaches_self m sound k.standing;
@@ -104,19 +104,19 @@ module _ (m : Modulus) (sound : Sound m) where
     room = omega (arith, k.room);
   }
 
-placing_next : (h : ℕ) (x z : Stage) (b : Bool) → x.a + h ≤ h + h → x.b + h ≤ h + h → Placing x z b
+placing_next : (h : ℕ) (x z : Stage ℕ) (b : Bool) → x.a + h ≤ h + h → x.b + h ≤ h + h → Placing x z b
     → (z.a + h ≤ h + h) × (z.b + h ≤ h + h)
 placing_next h x z true la lb p = (omega (arith, p.0), omega (arith, p.1))
 placing_next h x z false la lb p = (omega (arith, p.0), omega (arith, p.1))
 
 -- the step from y to z, as it is kept
-abbrev pub kept : Stage → Stage → Logged
+abbrev pub kept : Stage ℕ → Stage ℕ → Logged ℕ
 kept y z = record { d = y.d; e = y.e; y = z.y; c = z.c; k = z.k; swap = z.swap }
 
-pub bit_told : {m : Modulus} {y z : Stage} {v v₁ : List ℕ} → Told m y v z v₁ → bit y.d y.e z.e z.swap ≤ 1
+pub bit_told : {m : Modulus} {y z : Stage ℕ} {v v₁ : List ℕ} → Told m y v z v₁ → bit y.d y.e z.e z.swap ≤ 1
 bit_told {m} {y} {z} t = bit_small y.d y.e z.d z.e z.c z.swap t.falls
 
-module _ {m : Modulus} {h j : ℕ} {x y z : Stage} {w v v₁ v₂ : List ℕ} (sound : Sound m) (g : Descending m h x w j y v) (one : 1 ≤ y.d)
+module _ {m : Modulus} {h j : ℕ} {x y z : Stage ℕ} {w v v₁ v₂ : List ℕ} (sound : Sound m) (g : Descending m h x w j y v) (one : 1 ≤ y.d)
     (s : Stepped m y v z v₁) (t : Told m y v z v₁) (ar : Around (h + h + 5 * j) 5 v₁ v₂)
     (lg : LoggedAt (h + h + 5 * j) z.e (kept y z) v₂) where
   near : y.d ≤ y.e
@@ -172,7 +172,7 @@ module _ {m : Modulus} {h j : ℕ} {x y z : Stage} {w v v₁ v₂ : List ℕ} (s
     room = omega (arith, g.room, ar.same, t.around.same, s.1);
   }
 
-pub descended : {m : Modulus} {h j : ℕ} {x y : Stage} {w v : List ℕ} {r : Descent} → Descending m h x w j y v → y.d ≡ 0
+pub descended : {m : Modulus} {h j : ℕ} {x y : Stage ℕ} {w v : List ℕ} {r : Descent} → Descending m h x w j y v → y.d ≡ 0
     → record { a = y.a; d = y.d; b = y.b; e = y.e; s = y.s; p = y.p; t = y.t; steps = j } ≡ r → Descended m h x w r v
 descended {m} {h} {j} {x} {y} {w} {v} g z is = subst (λ (r : Descent). Descended m h x w r v) is (record {
   descending = record {

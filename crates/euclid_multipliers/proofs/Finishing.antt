@@ -38,7 +38,7 @@ at_first : (m : Modulus) (h : ℕ) (w : List ℕ) (F₀ G₀ : ℕ → ℕ) (d�
 unfolding Trail
 at_first m h w F₀ G₀ d₀ e₀ F G d e t = t
 
-module _ {m : Modulus} {f g w : List ℕ} {x : Stage} {w₁ : List ℕ} {y : Descent} {w₂ : List ℕ} {z : Found} {w₃ : List ℕ} {r : Found}
+module _ {m : Modulus} {f g w : List ℕ} {x : Stage ℕ} {w₁ : List ℕ} {y : Descent} {w₂ : List ℕ} {z : Found ℕ} {w₃ : List ℕ} {r : Found ℕ}
     {w₄ : List ℕ} (sound : Sound m) (two : 2 ≤ m.n) (k : Asked f g w) (st : Started m f g w x w₁) (ds : Descended m (length g) x w₁ y w₂)
     (bt : Ended m (length g) y.e w₂ z w₃) (rs : Raised m (length g) y.steps z w₃ r w₄) where
   abbrev C : ℕ
@@ -128,9 +128,9 @@ module _ {m : Modulus} {f g w : List ℕ} {x : Stage} {w₁ : List ℕ} {y : Des
         (g_at m (stage y) w₂) y.d y.e ds.descending.trail (omega (arith, q, deg_g));
   }
 
-  pub multiplied : {o : Ending} → record { u = r.u; v = r.v; k = r.k; c = get_or w₂ y.a 0; s = y.s; p = y.p; t = y.t; e = y.e } ≡ o
+  pub multiplied : {o : Ending ℕ} → record { u = r.u; v = r.v; k = r.k; c = get_or w₂ y.a 0; s = y.s; p = y.p; t = y.t; e = y.e } ≡ o
       → Multiplied m f g o w₄
-  multiplied e = subst (λ (o : Ending). Multiplied m f g o w₄) e (multiplied_at refl)
+  multiplied e = subst (λ (o : Ending ℕ). Multiplied m f g o w₄) e (multiplied_at refl)
 
   pub scratched : Scratch w w₄
   scratched = record { same = rs.same ∙ bt.around.same ∙ ds.descending.same ∙ st.same }

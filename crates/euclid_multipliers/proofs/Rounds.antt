@@ -1,7 +1,7 @@
 -- The way back, over the trail that the log tells.
 --
 --   read_first, read_second, lift_asked     what a step backwards asks
---   raising_none, raising_next, raised      no step yet; one step more; the last one
+--   raising_next              one step more
 --   rounds                    the rules
 --   bottomed                  the end of the steps down is where the way back begins
 use mathlib.Core.Path.{◌≡◌, refl, sym, ◌∙◌, ap, ap₂, subst, fun_ext}
@@ -33,7 +33,7 @@ passed : (m : Modulus) (h : ℕ) (w : List ℕ) (F₀ G₀ : ℕ → ℕ) (d₀ 
 unfolding Trail
 passed m h w F₀ G₀ d₀ e₀ i j F G d e is t = subst (λ (k : ℕ). Trail m h w F₀ G₀ d₀ e₀ k F G d e) is t
 
-module _ {m : Modulus} {h : ℕ} {F₀ G₀ : ℕ → ℕ} {d₀ e₀ C j : ℕ} {r : Found} {w : List ℕ} (k : Rising m h F₀ G₀ d₀ e₀ C j r w) (i : ℕ)
+module _ {m : Modulus} {h : ℕ} {F₀ G₀ : ℕ → ℕ} {d₀ e₀ C j : ℕ} {r : Found ℕ} {w : List ℕ} (k : Rising m h F₀ G₀ d₀ e₀ C j r w) (i : ℕ)
     (is : j ≡ suc i) where
   abbrev last : Passed m h (h + h + 5 * i) w (Trail m h w F₀ G₀ d₀ e₀ i) k.F k.G r.d r.e
   last = passed m h w F₀ G₀ d₀ e₀ i j k.F k.G r.d r.e is k.trail
@@ -44,12 +44,12 @@ module _ {m : Modulus} {h : ℕ} {F₀ G₀ : ℕ → ℕ} {d₀ e₀ C j : ℕ}
       let l = falls_least p.x.d p.x.e r.d r.e p.x.c p.x.swap p.near p.falls in
       (omega (arith, k.room, is, l.0, p.near, p.high), omega (arith, k.room, is, l.1, p.high))
 
-  module _ (x : Logged) (rd : Reads (h + h + 5 * i) r.d r.e w x) where
+  module _ (x : Logged ℕ) (rd : Reads (h + h + 5 * i) r.d r.e w x) where
     is_last : x ≡ last.x
     is_last = rd.is last.x last.logged last.falls
 
     rising_asked : LiftAsked m h x r w
-    rising_asked = subst (λ (z : Logged). LiftAsked m h z r w) (sym is_last) (record {
+    rising_asked = subst (λ (z : Logged ℕ). LiftAsked m h z r w) (sym is_last) (record {
       held = k.held;
       falls = last.falls;
       one = last.one;
@@ -61,9 +61,9 @@ module _ {m : Modulus} {h : ℕ} {F₀ G₀ : ℕ → ℕ} {d₀ e₀ C j : ℕ}
       k_below = k.k_below;
     })
 
-    module _ (o : Found) (v : List ℕ) (pos : 1 ≤ m.n) (lx : Lifted m h x r w o v) where
+    module _ (o : Found ℕ) (v : List ℕ) (pos : 1 ≤ m.n) (lx : Lifted m h x r w o v) where
       lifted : Lifted m h last.x r w o v
-      lifted = subst (λ (z : Logged). Lifted m h z r w o v) is_last lx
+      lifted = subst (λ (z : Logged ℕ). Lifted m h z r w o v) is_last lx
 
       rising_next : Rising m h F₀ G₀ d₀ e₀ C i o v
       rising_next =
@@ -88,10 +88,7 @@ module _ {m : Modulus} {h : ℕ} {F₀ G₀ : ℕ → ℕ} {d₀ e₀ C j : ℕ}
 
 -- ---- with any trail
 
-pub raising_none : {m : Modulus} {h j : ℕ} {r : Found} {w : List ℕ} → Raising m h j r w j r w
-raising_none = record { same = refl; most = omega arith; rising = λ F₀ G₀ d₀ e₀ C k. k }
-
-module _ {m : Modulus} {h j : ℕ} {r : Found} {w : List ℕ} {i : ℕ} {o : Found} {v : List ℕ} (k : Rises m h j r w)
+module _ {m : Modulus} {h j : ℕ} {r : Found ℕ} {w : List ℕ} {i : ℕ} {o : Found ℕ} {v : List ℕ} (k : Rises m h j r w)
     (g : Raising m h j r w i o v) (more : 0 < i) where
   here : Rising m h k.F₀ k.G₀ k.d₀ k.e₀ k.C i o v
   here = g.rising k.F₀ k.G₀ k.d₀ k.e₀ k.C k.rising
@@ -102,15 +99,15 @@ module _ {m : Modulus} {h j : ℕ} {r : Found} {w : List ℕ} {i : ℕ} {o : Fou
   pub read_second : {e l : ℕ} → e ≡ o.e → l ≡ length v → e + 1 ≤ l
   read_second ee el = omega (arith, (rising_read here (i - 1) (omega arith)).1)
 
-module _ {m : Modulus} {h j : ℕ} {r : Found} {w : List ℕ} {i : ℕ} {o : Found} {v : List ℕ} (k : Rises m h j r w)
+module _ {m : Modulus} {h j : ℕ} {r : Found ℕ} {w : List ℕ} {i : ℕ} {o : Found ℕ} {v : List ℕ} (k : Rises m h j r w)
     (g : Raising m h j r w i o v) (i' : ℕ) (is : i' ≡ i - 1) (more : 0 < i) where
   next : i ≡ suc i'
   next = omega arith
 
-  pub lift_asked : {x : Logged} → Reads (h + h + 5 * i') o.d o.e v x → LiftAsked m h x o v
+  pub lift_asked : {x : Logged ℕ} → Reads (h + h + 5 * i') o.d o.e v x → LiftAsked m h x o v
   lift_asked {x} rd = rising_asked (here k g more) i' next x rd
 
-  pub raising_next : {x : Logged} {o' : Found} {v' : List ℕ} → 2 ≤ m.n → Reads (h + h + 5 * i') o.d o.e v x → Lifted m h x o v o' v'
+  pub raising_next : {x : Logged ℕ} {o' : Found ℕ} {v' : List ℕ} → 2 ≤ m.n → Reads (h + h + 5 * i') o.d o.e v x → Lifted m h x o v o' v'
       → Raising m h j r w i' o' v'
   raising_next {x} {o'} {v'} two rd l = record {
     same = l.around.same ∙ g.same;
@@ -118,15 +115,11 @@ module _ {m : Modulus} {h j : ℕ} {r : Found} {w : List ℕ} {i : ℕ} {o : Fou
     rising = λ F₀ G₀ d₀ e₀ C q. rising_next (g.rising F₀ G₀ d₀ e₀ C q) i' next x rd o' v' (omega (arith, two)) l;
   }
 
-pub raised : {m : Modulus} {h j i : ℕ} {r o : Found} {w v : List ℕ} → Raising m h j r w i o v → i ≤ 0 → Raising m h j r w 0 o v
-raised {m} {h} {j} {i} {r} {o} {w} {v} g l =
-    let z : i ≡ 0 = omega arith in subst (λ (k : ℕ). Raising m h j r w k o v) z g
-
-pub ruleset rounds = (rules, raising_none, read_first, read_second, lift_asked)
+pub ruleset rounds = (rules, read_first, read_second, lift_asked)
 
 -- ---- the end of the steps down
 
-module _ {m : Modulus} {h : ℕ} {x : Stage} {w : List ℕ} {y : Descent} {v : List ℕ} {r : Found} {v' : List ℕ} (sound : Sound m)
+module _ {m : Modulus} {h : ℕ} {x : Stage ℕ} {w : List ℕ} {y : Descent} {v : List ℕ} {r : Found ℕ} {v' : List ℕ} (sound : Sound m)
     (g : Descended m h x w y v) (b : Ended m h y.e v r v') where
   abbrev constant_at : ℕ
   constant_at = value m (get_or v y.a 0)

@@ -35,7 +35,7 @@ bit_small d e d' e' c false f = ⊎_elim (λ p. omega (arith, p.1)) (λ p. omega
 
 -- ---- trails
 
-logged_kept : {at e : ℕ} {x : Logged} {w v : List ℕ} → ((k : ℕ) → at ≤ k → k < at + 5 → get_or v k 0 ≡ get_or w k 0) → LoggedAt at e x w
+logged_kept : {at e : ℕ} {x : Logged ℕ} {w v : List ℕ} → ((k : ℕ) → at ≤ k → k < at + 5 → get_or v k 0 ≡ get_or w k 0) → LoggedAt at e x w
     → LoggedAt at e x v
 logged_kept {at} h l = record {
   swap_is = h at (omega arith) (omega arith) ∙ l.swap_is;
@@ -66,7 +66,7 @@ trail_kept m h w v F₀ G₀ d₀ e₀ (suc j) F G d e k t = record {
   moves = t.moves;
 }
 
-trail_more : (m : Modulus) (h : ℕ) (w : List ℕ) (F₀ G₀ : ℕ → ℕ) (d₀ e₀ j : ℕ) (F G F₁ G₁ : ℕ → ℕ) (d e : ℕ) (x : Logged)
+trail_more : (m : Modulus) (h : ℕ) (w : List ℕ) (F₀ G₀ : ℕ → ℕ) (d₀ e₀ j : ℕ) (F G F₁ G₁ : ℕ → ℕ) (d e : ℕ) (x : Logged ℕ)
     → Trail m h w F₀ G₀ d₀ e₀ j F G x.d x.e → LoggedAt (h + h + 5 * j) e x w → (1 ≤ x.d) × ((x.d ≤ x.e) × (x.e < h))
     → (x.y < m.n) × ((x.c < m.n) × (x.k < m.n)) → Falls x.d x.e d e x.c x.swap
     → Moves m.n (x.e - x.d) F G F₁ G₁ (value m x.y) (m.n - value m x.c) (m.n - value m x.k) x.swap
@@ -88,7 +88,7 @@ trail_more m h w F₀ G₀ d₀ e₀ j F G F₁ G₁ d e x t l a b f mv = record
   moves = mv;
 }
 
-pub trail_next : (m : Modulus) (h : ℕ) (w : List ℕ) (F₀ G₀ : ℕ → ℕ) (d₀ e₀ j j' : ℕ) (F G F₁ G₁ : ℕ → ℕ) (d e : ℕ) (x : Logged)
+pub trail_next : (m : Modulus) (h : ℕ) (w : List ℕ) (F₀ G₀ : ℕ → ℕ) (d₀ e₀ j j' : ℕ) (F G F₁ G₁ : ℕ → ℕ) (d e : ℕ) (x : Logged ℕ)
     → Trail m h w F₀ G₀ d₀ e₀ j F G x.d x.e → LoggedAt (h + h + 5 * j) e x w → (1 ≤ x.d) × ((x.d ≤ x.e) × (x.e < h))
     → (x.y < m.n) × ((x.c < m.n) × (x.k < m.n)) → Falls x.d x.e d e x.c x.swap
     → Moves m.n (x.e - x.d) F G F₁ G₁ (value m x.y) (m.n - value m x.c) (m.n - value m x.k) x.swap → j' ≡ j + 1

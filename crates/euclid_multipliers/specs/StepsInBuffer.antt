@@ -29,29 +29,29 @@ use Rattle.euclid_steps.specs.Backs.{Held}
 use Rattle.euclid_steps.specs.Trails.{LoggedAt, Trail}
 use Rattle.euclid_multipliers.specs.declared.Descent.{Descent}
 
-pub record Reads (at d e : ℕ) (w : List ℕ) (r : Logged) : Type 0 where
-  pub is : (x : Logged) → LoggedAt at e x w → Falls x.d x.e d e x.c x.swap → r ≡ x
+pub record Reads (at d e : ℕ) (w : List ℕ) (r : Logged ℕ) : Type 0 where
+  pub is : (x : Logged ℕ) → LoggedAt at e x w → Falls x.d x.e d e x.c x.swap → r ≡ x
 
-pub record DescentAsked (m : Modulus) (h : ℕ) (x : Stage) (w : List ℕ) : Type 0 where
+pub record DescentAsked (m : Modulus) (h : ℕ) (x : Stage ℕ) (w : List ℕ) : Type 0 where
   pub standing : Standing m x w
   pub under_a : x.a + h ≤ h + h
   pub under_b : x.b + h ≤ h + h
   pub high : x.e < h
   pub room : h + h + 5 * (x.d + x.e) ≤ length w
 
-abbrev pub stage : Descent → Stage
+abbrev pub stage : Descent → Stage ℕ
 stage r = record { a = r.a; d = r.d; b = r.b; e = r.e; s = r.s; p = r.p; t = r.t; y = 0; c = 0; k = 0; swap = false }
 
-abbrev pub f_at : Modulus → Stage → List ℕ → ℕ → ℕ
+abbrev pub f_at : Modulus → Stage ℕ → List ℕ → ℕ → ℕ
 f_at m x w = polynomial m w x.a (x.d + 1)
 
-abbrev pub g_at : Modulus → Stage → List ℕ → ℕ → ℕ
+abbrev pub g_at : Modulus → Stage ℕ → List ℕ → ℕ → ℕ
 g_at m x w = polynomial m w x.b (x.e + 1)
 
-abbrev pub TrailTo : Modulus → ℕ → Stage → List ℕ → ℕ → Stage → List ℕ → Type 0
+abbrev pub TrailTo : Modulus → ℕ → Stage ℕ → List ℕ → ℕ → Stage ℕ → List ℕ → Type 0
 TrailTo m h x w j y v = Trail m h v (f_at m x w) (g_at m x w) x.d x.e j (f_at m y v) (g_at m y v) y.d y.e
 
-pub record Descending (m : Modulus) (h : ℕ) (x : Stage) (w : List ℕ) (j : ℕ) (y : Stage) (v : List ℕ) : Type 0 where
+pub record Descending (m : Modulus) (h : ℕ) (x : Stage ℕ) (w : List ℕ) (j : ℕ) (y : Stage ℕ) (v : List ℕ) : Type 0 where
   pub same : length v ≡ length w
   pub reaching : Reaches m x w y v
   pub trail : TrailTo m h x w j y v
@@ -60,11 +60,11 @@ pub record Descending (m : Modulus) (h : ℕ) (x : Stage) (w : List ℕ) (j : �
   pub high : y.e < h
   pub room : h + h + 5 * j + 5 * (y.d + y.e) ≤ length v
 
-pub record Descended (m : Modulus) (h : ℕ) (x : Stage) (w : List ℕ) (r : Descent) (v : List ℕ) : Type 0 where
+pub record Descended (m : Modulus) (h : ℕ) (x : Stage ℕ) (w : List ℕ) (r : Descent) (v : List ℕ) : Type 0 where
   pub descending : Descending m h x w r.steps (stage r) v
   pub none : r.d ≡ 0
 
-pub record Rising (m : Modulus) (h : ℕ) (F₀ G₀ : ℕ → ℕ) (d₀ e₀ C i : ℕ) (o : Found) (w : List ℕ) : Type 0 where
+pub record Rising (m : Modulus) (h : ℕ) (F₀ G₀ : ℕ → ℕ) (d₀ e₀ C i : ℕ) (o : Found ℕ) (w : List ℕ) : Type 0 where
   pub F : ℕ → ℕ
   pub G : ℕ → ℕ
   pub trail : Trail m h w F₀ G₀ d₀ e₀ i F G o.d o.e
@@ -73,7 +73,7 @@ pub record Rising (m : Modulus) (h : ℕ) (F₀ G₀ : ℕ → ℕ) (d₀ e₀ C
   pub k_below : o.k < m.n
   pub bound : Bound m.n F G (value m o.k) (polynomial m w o.u h) (polynomial m w o.v h) C
 
-pub record Rises (m : Modulus) (h j : ℕ) (r : Found) (w : List ℕ) : Type 0 where
+pub record Rises (m : Modulus) (h j : ℕ) (r : Found ℕ) (w : List ℕ) : Type 0 where
   pub F₀ : ℕ → ℕ
   pub G₀ : ℕ → ℕ
   pub d₀ : ℕ
@@ -81,15 +81,15 @@ pub record Rises (m : Modulus) (h j : ℕ) (r : Found) (w : List ℕ) : Type 0 w
   pub C : ℕ
   pub rising : Rising m h F₀ G₀ d₀ e₀ C j r w
 
-pub record Raising (m : Modulus) (h j : ℕ) (r : Found) (w : List ℕ) (i : ℕ) (o : Found) (v : List ℕ) : Type 0 where
+pub record Raising (m : Modulus) (h j : ℕ) (r : Found ℕ) (w : List ℕ) (i : ℕ) (o : Found ℕ) (v : List ℕ) : Type 0 where
   pub same : length v ≡ length w
   pub most : i ≤ j
   pub rising : (F₀ G₀ : ℕ → ℕ) (d₀ e₀ C : ℕ) → Rising m h F₀ G₀ d₀ e₀ C j r w → Rising m h F₀ G₀ d₀ e₀ C i o v
 
-abbrev pub Raised : Modulus → ℕ → ℕ → Found → List ℕ → Found → List ℕ → Type 0
+abbrev pub Raised : Modulus → ℕ → ℕ → Found ℕ → List ℕ → Found ℕ → List ℕ → Type 0
 Raised m h j r w o v = Raising m h j r w 0 o v
 
-pub record Started (m : Modulus) (f g w : List ℕ) (x : Stage) (v : List ℕ) : Type 0 where
+pub record Started (m : Modulus) (f g w : List ℕ) (x : Stage ℕ) (v : List ℕ) : Type 0 where
   pub same : length v ≡ length w
   pub asked : DescentAsked m (length g) x v
   pub d_is : x.d ≡ length f - 1

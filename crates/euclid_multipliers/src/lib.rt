@@ -7,7 +7,7 @@
 //
 //   Descent        where the steps down ended, and their number
 //
-//   flag_of, bit_of    what the log keeps of the degrees
+//   bit_of         what the log keeps of the degrees
 //   write, read    a step in the log
 //   descend        the steps down
 //   ascend         the steps back
@@ -18,7 +18,7 @@
 ghost use Rattle.std.specs.Prelude.{◌≡◌, ◌+◌, ◌≤◌, length};
 ghost use Rattle.windows.specs.Window.{Around, Scratch};
 ghost use Rattle.modulus.specs.Values.{Known};
-ghost use Rattle.euclid_steps.specs.Trails.{flag, bit, LoggedAt};
+ghost use Rattle.euclid_steps.specs.Trails.{bit, LoggedAt};
 ghost use Rattle.euclid_steps.specs.Multiplied.{Asked, Multiplied};
 ghost use Rattle.euclid_multipliers.specs.StepsInBuffer.{Reads, DescentAsked, Descended, Rises, Raised, Started};
 
@@ -38,48 +38,29 @@ pub struct Descent {
     steps: usize,
 }
 
-fn flag_of(step: Logged) -> u32
-    ensures { result ≡ flag step.swap }
-{
-    if step.swap {
-        return 1;
-    }
-    0
-}
-
-fn bit_of(step: Logged, e: usize) -> u32
+fn bit_of(step: Logged<u32>, e: usize) -> u32
     requires { bit step.d step.e e step.swap ≤ 1 }
     ensures { result ≡ bit step.d step.e e step.swap }
 {
-    if step.swap {
-        if step.e <= step.d {
-            return 0;
-        }
-        return 1;
-    }
-    if step.e <= e {
-        return 0;
-    }
-    1
+    let least = if step.swap { step.d } else { e };
+    u32::from(least < step.e)
 }
 
 // A step in the log; e is the degree of g after it.
-fn write(w: &mut [u32], at: usize, step: Logged, e: usize)
+fn write(w: &mut [u32], at: usize, step: Logged<u32>, e: usize)
     requires { (at + 5 ≤ length w.old) × (bit step.d step.e e step.swap ≤ 1) }
     ensures around { Around at 5 w.old w.new }
     ensures logged_at { LoggedAt at e step w.new }
 {
-    let a = flag_of(step);
-    let b = bit_of(step, e);
-    w[at] = a;
-    w[at + 1] = b;
+    w[at] = u32::from(step.swap);
+    w[at + 1] = bit_of(step, e);
     w[at + 2] = step.y;
     w[at + 3] = step.c;
     w[at + 4] = step.k;
 }
 
 // The step in the log that led to the degrees d and e.
-fn read(w: &[u32], at: usize, d: usize, e: usize) -> Logged
+fn read(w: &[u32], at: usize, d: usize, e: usize) -> Logged<u32>
     requires { (at + 5 ≤ length w.now) × ((d + 2 ≤ length w.now) × (e + 1 ≤ length w.now)) }
     ensures { Reads at d e w.now result }
 {
@@ -128,12 +109,13 @@ fn read(w: &[u32], at: usize, d: usize, e: usize) -> Logged
 }
 
 // Steps down to degree 0, each in the log.
-fn descend(w: &mut [u32], m: Modulus, h: usize, x: Stage) -> Descent
+fn descend(w: &mut [u32], m: Modulus, h: usize, x: Stage<u32>) -> Descent
     requires known { (Known m) × (2 ≤ m.n) }
     requires descent_asked { DescentAsked m h x w.old }
     ensures { Descended m h x w.old result w.new }
 {
     let mut y = x;
+    // Kept: the degree ends the loop, and j is the place in the log and part of the answer: a `for` would have no end of its own.
     let mut j: usize = 0;
     while 0 < y.d {
         let d = y.d;
@@ -167,15 +149,13 @@ fn descend(w: &mut [u32], m: Modulus, h: usize, x: Stage) -> Descent
 }
 
 // The j steps of the log backwards: of the multipliers of the last pair, those of the first.
-fn ascend(w: &mut [u32], m: Modulus, h: usize, j: usize, r: Found) -> Found
+fn ascend(w: &mut [u32], m: Modulus, h: usize, j: usize, r: Found<u32>) -> Found<u32>
     requires known { (Known m) × (2 ≤ m.n) }
     requires rises { Rises m h j r w.old }
     ensures { Raised m h j r w.old result w.new }
 {
     let mut o = r;
-    let mut i = j;
-    while 0 < i {
-        i -= 1;
+    for i in (0..j).rev() {
         let x = read(w, h + h + 5 * i, o.d, o.e);
         o = multiplier_steps::lift(w, m, h, x, o);
     }
@@ -183,7 +163,7 @@ fn ascend(w: &mut [u32], m: Modulus, h: usize, j: usize, r: Found) -> Found
 }
 
 // f and g in the buffer.
-fn start(w: &mut [u32], m: Modulus, f: &[u32], g: &[u32]) -> Stage
+fn start(w: &mut [u32], m: Modulus, f: &[u32], g: &[u32]) -> Stage<u32>
     requires known { (Known m) × (2 ≤ m.n) }
     requires asked { Asked f.now g.now w.old }
     ensures { Started m f.now g.now w.old result w.new }
@@ -209,7 +189,7 @@ fn start(w: &mut [u32], m: Modulus, f: &[u32], g: &[u32]) -> Stage
 }
 
 // The constant that f and g come to, its multipliers, and the resultant's equation; f is not the longer.
-pub fn multipliers(w: &mut [u32], m: Modulus, f: &[u32], g: &[u32]) -> Ending
+pub fn multipliers(w: &mut [u32], m: Modulus, f: &[u32], g: &[u32]) -> Ending<u32>
     requires known { (Known m) × (2 ≤ m.n) }
     requires asked { Asked f.now g.now w.old }
     ensures multiplied { Multiplied m f.now g.now result w.new }

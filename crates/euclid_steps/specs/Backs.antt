@@ -27,7 +27,7 @@ pub record Held (m : Modulus) (h d e u v : ℕ) (w : List ℕ) : Type 0 where
   pub first_ends : 1 ≤ e → (j : ℕ) → e ≤ j → polynomial m w u h j ≡ 0
   pub second_ends : (j : ℕ) → d ≤ j → polynomial m w v h j ≡ 0
 
-pub record Ended (m : Modulus) (h e : ℕ) (w : List ℕ) (r : Found) (w' : List ℕ) : Type 0 where
+pub record Ended (m : Modulus) (h e : ℕ) (w : List ℕ) (r : Found ℕ) (w' : List ℕ) : Type 0 where
   pub around : Around 0 (h + h) w w'
   pub held : Held m h 0 e r.u r.v w'
   pub d_is : r.d ≡ 0
@@ -35,7 +35,7 @@ pub record Ended (m : Modulus) (h e : ℕ) (w : List ℕ) (r : Found) (w' : List
   pub k_below : r.k < m.n
   pub one : (j : ℕ) → polynomial m w' r.u h j ≡ constant 1 j
 
-pub record LiftAsked (m : Modulus) (h : ℕ) (x : Logged) (r : Found) (w : List ℕ) : Type 0 where
+pub record LiftAsked (m : Modulus) (h : ℕ) (x : Logged ℕ) (r : Found ℕ) (w : List ℕ) : Type 0 where
   pub held : Held m h r.d r.e r.u r.v w
   pub falls : Falls x.d x.e r.d r.e x.c x.swap
   pub one : 1 ≤ x.d
@@ -46,7 +46,7 @@ pub record LiftAsked (m : Modulus) (h : ℕ) (x : Logged) (r : Found) (w : List 
   pub q_below : x.k < m.n
   pub k_below : r.k < m.n
 
-pub record Lifted (m : Modulus) (h : ℕ) (x : Logged) (r : Found) (w : List ℕ) (o : Found) (w' : List ℕ) : Type 0 where
+pub record Lifted (m : Modulus) (h : ℕ) (x : Logged ℕ) (r : Found ℕ) (w : List ℕ) (o : Found ℕ) (w' : List ℕ) : Type 0 where
   pub around : Around 0 (h + h) w w'
   pub held : Held m h x.d x.e o.u o.v w'
   pub d_is : o.d ≡ x.d

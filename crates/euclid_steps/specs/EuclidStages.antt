@@ -19,34 +19,34 @@ use Rattle.resultant_pseudo.specs.declared.State.{State}
 use Rattle.euclid_steps.specs.Steps.{Falls, Moves}
 use Rattle.euclid_steps.specs.declared.Stage.{Stage}
 
-pub record Standing (m : Modulus) (x : Stage) (w : List ℕ) : Type 0 where
+pub record Standing (m : Modulus) (x : Stage ℕ) (w : List ℕ) : Type 0 where
   pub placed : Placed m.n x.a x.d x.b x.e w
   pub s_below : x.s < m.n
   pub p_below : x.p < m.n
   pub t_below : x.t < m.n
 
-abbrev pub meant : Modulus → Stage → State
+abbrev pub meant : Modulus → Stage ℕ → State
 meant m x = record { a = x.a; d = x.d; b = x.b; e = x.e; s = value m x.s; p = value m x.p; t = value m x.t }
 
-pub record Reaches (m : Modulus) (x : Stage) (w : List ℕ) (y : Stage) (v : List ℕ) : Type 0 where
+pub record Reaches (m : Modulus) (x : Stage ℕ) (w : List ℕ) (y : Stage ℕ) (v : List ℕ) : Type 0 where
   pub standing : Standing m y v
   pub state_reached : StateReachedAt m.n (meant m x) (values m w) (meant m y) (values m v)
 
-abbrev pub Stepped : Modulus → Stage → List ℕ → Stage → List ℕ → Type 0
+abbrev pub Stepped : Modulus → Stage ℕ → List ℕ → Stage ℕ → List ℕ → Type 0
 Stepped m x w y v = (Reaches m x w y v) × (y.d + y.e < x.d + x.e)
 
-abbrev pub Finished : Modulus → Stage → List ℕ → Stage → List ℕ → Type 0
+abbrev pub Finished : Modulus → Stage ℕ → List ℕ → Stage ℕ → List ℕ → Type 0
 Finished m x w y v = (Reaches m x w y v) × (y.d ≡ 0)
 
 abbrev pub polynomial : Modulus → List ℕ → ℕ → ℕ → ℕ → ℕ
 polynomial m w a l = coef (piece (values m w) a l)
 
 -- where the two polynomials stand after the step
-abbrev pub Placing : Stage → Stage → Bool → Type 0
+abbrev pub Placing : Stage ℕ → Stage ℕ → Bool → Type 0
 Placing x z true = (z.a ≡ x.b) × (z.b ≡ x.a)
 Placing x z false = (z.a ≡ x.a) × (z.b ≡ x.b)
 
-pub record Told (m : Modulus) (x : Stage) (w : List ℕ) (z : Stage) (v : List ℕ) : Type 0 where
+pub record Told (m : Modulus) (x : Stage ℕ) (w : List ℕ) (z : Stage ℕ) (v : List ℕ) : Type 0 where
   pub around : Around x.b (x.e + 1) w v
   pub y_below : z.y < m.n
   pub c_below : z.c < m.n

@@ -20,7 +20,7 @@ pub record Asked (f g w : List ℕ) : Type 0 where
   pub room : 12 * (length g - 1) + 2 ≤ length w
 
 -- Unless f and g are two constants, beta has no more than deg g words; gamma has no more than deg f ("u of e words and v of d words").
-pub record Multiplied (m : Modulus) (f g : List ℕ) (r : Ending) (w : List ℕ) : Type 0 where
+pub record Multiplied (m : Modulus) (f g : List ℕ) (r : Ending ℕ) (w : List ℕ) : Type 0 where
   pub inside_u : r.u + length g ≤ length w
   pub inside_v : r.v + length g ≤ length w
   pub below_u : Below m.n r.u (length g) w

@@ -21,7 +21,7 @@ abbrev pub bit : ℕ → ℕ → ℕ → Bool → ℕ
 bit d e e' true = e - d
 bit d e e' false = e - e'
 
-pub record LoggedAt (at e : ℕ) (x : Logged) (w : List ℕ) : Type 0 where
+pub record LoggedAt (at e : ℕ) (x : Logged ℕ) (w : List ℕ) : Type 0 where
   pub swap_is : get_or w at 0 ≡ flag x.swap
   pub bit_is : get_or w (at + 1) 0 ≡ bit x.d x.e e x.swap
   pub y_is : get_or w (at + 2) 0 ≡ x.y
@@ -30,7 +30,7 @@ pub record LoggedAt (at e : ℕ) (x : Logged) (w : List ℕ) : Type 0 where
 
 -- T is the trail before the step x
 pub record Passed (m : Modulus) (h at : ℕ) (w : List ℕ) (T : (ℕ → ℕ) → (ℕ → ℕ) → ℕ → ℕ → Type 0) (F G : ℕ → ℕ) (d e : ℕ) : Type 0 where
-  pub x : Logged
+  pub x : Logged ℕ
   pub F' : ℕ → ℕ
   pub G' : ℕ → ℕ
   pub logged : LoggedAt at e x w

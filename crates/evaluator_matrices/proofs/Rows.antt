@@ -1,12 +1,12 @@
 -- The steps of the elimination on two rows, between the matrix before and the one after.
 --
---   less, less_next, less_end    a row less a multiple of a row, word by word
+--   less                         a row less a multiple of a row, word by word
 --   quotient_fits                a quotient of residues is no larger than n
 --   row_reduced, exchanged       the two row operations, as the code writes them, keep the leading minors
 --   combined_none                nothing is done
 --   divisor_first, divisor_second, exchange_asked     what the steps of Euclid's algorithm ask for
 --   round, falls, swapped, all_cleared                a round of it; the word that falls; its two ends
---   words, rows                  the rules
+--   rows                         the rules
 use mathlib.Core.Path.{◌≡◌, refl, sym, ◌∙◌, ap, subst}
 use mathlib.Core.Logic.{◌≢◌}
 use mathlib.Core.List.{List, []}
@@ -21,18 +21,10 @@ use Rattle.law_numbers.specs.Congruence.{Cong, c_eq, c_mod, c_trans, c_add, c_re
 use Rattle.evaluator_matrices.specs.LeadingMinors.{minor_add_row, minor_exchange}
 use Rattle.evaluator_matrices.specs.Elimination.{cell, ResidueCells, LessMultiple, Combined, RowReduced, Exchanged, EntryCleared}
 use Rattle.evaluator_matrices.specs.Elimination.{Reducible, Exchangeable, BelowDiagonal}
-use Rattle.evaluator_matrices.proofs.Arrays.{ArrayWritten, array_none, array_next}
 
 -- a row less a multiple of a row
 abbrev pub less : ℕ → ℕ → List ℕ → List ℕ → ℕ → ℕ → Type 0
 less n q x y i w = w ≡ (get_or x i 0 + (n - q) * get_or y i 0) % n
-
-pub less_next : {k k' : ℕ} {z z' : List ℕ} (n q v : ℕ) (x y : List ℕ) → ArrayWritten 0 (less n q x y) 8 k z
-    → v ≡ (get_or x k 0 + (n - q) * get_or y k 0) % n → k < 8 → z' ≡ set z k v → k' ≡ k + 1 → ArrayWritten 0 (less n q x y) 8 k' z'
-less_next n q v x y w ev l ez ek = array_next v w ev l ez ek
-
-pub less_end : {n q k : ℕ} {x y z : List ℕ} → ArrayWritten 0 (less n q x y) 8 k z → 8 ≤ k → LessMultiple n q x y z
-less_end w l = record { at = λ i h. w.at i (omega arith) }
 
 -- a row z put in at i
 module _ (m : List (List ℕ)) (i : ℕ) (z : List ℕ) where
@@ -237,8 +229,6 @@ falls {n} {i} {j} {r} {s} {t} first second p q =
 pub all_cleared : {n i j : ℕ} {m r : List (List ℕ)} → Combined n i j m r → cell r i j ≡ 0 → EntryCleared n i j m r
 all_cleared h z = record { combined = h; zero = z }
 
-pub ruleset words = (rules, array_none, less_next, less_end, quotient_fits)
-
 pub ruleset rounds = (combined_none, divisor_first, divisor_second, exchange_asked, round, falls, swapped, all_cleared)
 
-pub ruleset rows = (words, row_reduced, exchanged, rounds)
+pub ruleset rows = (rules, quotient_fits, row_reduced, exchanged, rounds)

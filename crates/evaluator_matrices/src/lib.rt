@@ -24,10 +24,8 @@ fn subtract_multiple(x: [u32; 8], y: [u32; 8], m: Reciprocal, q: u32) -> [u32; 8
     ensures { LessMultiple m.n q x y result }
 {
     let mut z = x;
-    let mut c: usize = 0;
-    while c < 8 {
+    for c in 0..8 {
         z[c] = reduction::add_product(m, x[c], m.n - q, y[c]);
-        c += 1;
     }
     z
 }
@@ -78,11 +76,9 @@ fn clear_column(a: [[u32; 8]; 8], m: Reciprocal, size: usize, j: usize) -> [[u32
     ensures { MinorKept m.n size a result × Triangular size (j + 1) result }
 {
     let mut r = a;
-    let mut i = j + 1;
-    while i < size {
+    for i in j + 1..size {
         let s = clear_entry(r, m, i, j);
         r = s;
-        i += 1;
     }
     r
 }
@@ -93,11 +89,9 @@ fn triangulate(a: [[u32; 8]; 8], m: Reciprocal, size: usize) -> [[u32; 8]; 8]
     ensures { MinorKept m.n size a result × Triangular size size result }
 {
     let mut r = a;
-    let mut j: usize = 0;
-    while j < size {
+    for j in 0..size {
         let s = clear_column(r, m, size, j);
         r = s;
-        j += 1;
     }
     r
 }
@@ -108,10 +102,8 @@ fn diagonal(a: [[u32; 8]; 8], m: Reciprocal, size: usize) -> u32
     ensures { result ≡ leading_minor m.n size (cell a) }
 {
     let mut x = reduction::reduce(m, 1);
-    let mut k: usize = 0;
-    while k < size {
+    for k in 0..size {
         x = reduction::product(m, x, a[k][k]);
-        k += 1;
     }
     x
 }

@@ -25,10 +25,8 @@ fn subtract_multiple(x: [u64; 8], y: [u64; 8], m: Reciprocal, q: u64) -> [u64; 8
     ensures { LessMultiple m.n q x y result }
 {
     let mut z = x;
-    let mut c: usize = 0;
-    while c < 8 {
+    for c in 0..8 {
         z[c] = reduction64::add_product(m, x[c], m.n - q, y[c]);
-        c += 1;
     }
     z
 }
@@ -79,11 +77,9 @@ fn clear_column(a: [[u64; 8]; 8], m: Reciprocal, size: usize, j: usize) -> [[u64
     ensures { MinorKept m.n size a result × Triangular size (j + 1) result }
 {
     let mut r = a;
-    let mut i = j + 1;
-    while i < size {
+    for i in j + 1..size {
         let s = clear_entry(r, m, i, j);
         r = s;
-        i += 1;
     }
     r
 }
@@ -94,11 +90,9 @@ fn triangulate(a: [[u64; 8]; 8], m: Reciprocal, size: usize) -> [[u64; 8]; 8]
     ensures { MinorKept m.n size a result × Triangular size size result }
 {
     let mut r = a;
-    let mut j: usize = 0;
-    while j < size {
+    for j in 0..size {
         let s = clear_column(r, m, size, j);
         r = s;
-        j += 1;
     }
     r
 }
@@ -109,10 +103,8 @@ fn diagonal(a: [[u64; 8]; 8], m: Reciprocal, size: usize) -> u64
     ensures { result ≡ leading_minor m.n size (cell a) }
 {
     let mut x = reduction64::residue(m.n, 1);
-    let mut k: usize = 0;
-    while k < size {
+    for k in 0..size {
         x = reduction64::product(m, x, a[k][k]);
-        k += 1;
     }
     x
 }

@@ -1,11 +1,8 @@
 -- The words of Sylvester's matrix, and the resultant as its determinant.
 --
---   entry_before, entry_after, entry_within     a row of f: before its words, after them, and within them
---   sylvester_first, sylvester_second           the rows of f and the rows of g
---   row_word, row_end, matrix_end               a row and the matrix, once all of their words are written
---   filled_residues                             the words are residues where those of f and g are
---   evaluated                                   the determinant of the matrix is the resultant
---   filling                                     the rules
+--   row_word               what is written of a word of a row
+--   filled_residues        the words are residues where those of f and g are
+--   evaluated              the determinant of the matrix is the resultant
 use mathlib.Core.Path.{◌≡◌, sym, ◌∙◌, ap, ap₂, subst}
 use mathlib.Core.Bool.{Bool, true, false, cond}
 use mathlib.Core.List.{List, []}
@@ -28,45 +25,10 @@ use Rattle.evaluator_matrices.specs.LeadingMinors.{leading_minor, minor_sylveste
 use Rattle.evaluator_matrices.proofs.Arrays.{ArrayWritten, array_none, array_next}
 use Rattle.evaluator_service.specs.Sylvester.{HoldsSylvester, HoldsSylvesterRow}
 
--- the three places of a column against row i of f, of sent degree d
-pub entry_before : (f : List ℕ) (i j : ℕ) → j < i → pos 0 ≡ entry (deg f) f i j
-entry_before f i j l =
-    sym (ap (λ (t : Bool). cond t (cond (leb j (i + deg f)) (pos (coef f (i + deg f - j))) (pos 0)) (pos 0)) (lt-leb i j l))
-
-pub entry_after : (f : List ℕ) (d i j : ℕ) → d ≡ length f - 1 → i ≤ j → i + d < j → pos 0 ≡ entry (deg f) f i j
-entry_after f d i j e l h =
-    sym (ap₂ (λ (s t : Bool). cond s (cond t (pos (coef f (i + deg f - j))) (pos 0)) (pos 0)) (le-leb i j l)
-    (lt-leb j (i + deg f) (subst (λ (x : ℕ). i + x < j) (e ∙ sub-one (length f)) h)))
-
-pub entry_within : (f : List ℕ) (d i j : ℕ) → d ≡ length f - 1 → i ≤ j → j ≤ i + d → pos (coef f (i + d - j)) ≡ entry (deg f) f i j
-entry_within f d i j e l h =
-    ap (λ (x : ℕ). pos (coef f (i + x - j))) (e ∙ sub-one (length f))
-    ∙ sym (ap₂ (λ (s t : Bool). cond s (cond t (pos (coef f (i + deg f - j))) (pos 0)) (pos 0)) (le-leb i j l)
-    (le-leb j (i + deg f) (subst (λ (x : ℕ). j ≤ i + x) (e ∙ sub-one (length f)) h)))
-
--- the two blocks of rows, e the sent degree of g
-pub sylvester_first : (f g : List ℕ) (e r c x : ℕ) → pos x ≡ entry (deg f) f r c → e ≡ length g - 1 → r < e → pos x ≡ sylvester f g r c
-sylvester_first f g e r c x p h l =
-    p ∙ sym (ap (λ (t : Bool). cond t (entry (deg f) f r c) (entry (deg g) g (r - deg g) c))
-    (lt-ltb r (deg g) (subst (λ (x : ℕ). r < x) (h ∙ sub-one (length g)) l)))
-
-pub sylvester_second : (f g : List ℕ) (e r c x : ℕ) → pos x ≡ entry (deg g) g (r - e) c → e ≡ length g - 1 → e ≤ r
-    → pos x ≡ sylvester f g r c
-sylvester_second f g e r c x p h l =
-    p ∙ ap (λ (x : ℕ). entry (deg g) g (r - x) c) (h ∙ sub-one (length g))
-    ∙ sym (ap (λ (t : Bool). cond t (entry (deg f) f r c) (entry (deg g) g (r - deg g) c))
-    (le-ltb r (deg g) (subst (λ (x : ℕ). x ≤ r) (h ∙ sub-one (length g)) l)))
-
 -- ---- the matrix, word by word and row by row
 
 abbrev pub row_word : List ℕ → List ℕ → ℕ → ℕ → ℕ → Type 0
 row_word f g r c w = pos w ≡ sylvester f g r c
-
-pub row_end : (f g : List ℕ) (r k : ℕ) (x : List ℕ) → ArrayWritten 0 (row_word f g r) 8 k x → 8 ≤ k → HoldsSylvesterRow f g r x
-row_end f g r k x w l = record { at = λ c h. w.at c (omega arith) }
-
-pub matrix_end : (f g : List ℕ) (k : ℕ) (m : List (List ℕ)) → ArrayWritten [] (HoldsSylvesterRow f g) 8 k m → 8 ≤ k → HoldsSylvester f g m
-matrix_end f g k m w l = record { at = λ r c p q. (w.at r (omega arith)).at c q }
 
 pub filled_residues : (n : ℕ) (f g : List ℕ) (m : List (List ℕ)) → 1 ≤ n → Residues n f → Residues n g → HoldsSylvester f g m
     → ResidueCells n m
@@ -98,7 +60,3 @@ evaluated n f g m l h =
   where
     inside : (x : ℕ) → x < deg f + deg g → x < 8
     inside x u = lt_of_lt_of_le u (subst (λ (k : ℕ). k ≤ 8) (degrees_are f g) l)
-
-pub ruleset entries = (entry_before, entry_after, entry_within, sylvester_first, sylvester_second)
-
-pub ruleset filling = (rules, entries, array_none, array_next, row_end, matrix_end)

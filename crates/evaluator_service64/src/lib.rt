@@ -4,7 +4,7 @@
 //
 //   sent_degree                     the words of a polynomial less 1
 //   shifted, sylvester_word, sylvester_row, sylvester_matrix
-//   bad_lengths, bad_words, refusal the tests, and the status
+//   bad_lengths, bad_words, refusal the tests, and the refusal
 //   evaluate                        the service
 #![tactic(auto)]
 
@@ -13,9 +13,11 @@ ghost use Rattle.definitions.specs.Polynomials.{deg};
 ghost use Rattle.definitions.specs.Resultants.{sylvester};
 ghost use Rattle.evaluator_service.specs.SylvesterRows.{entry};
 ghost use Rattle.refusals64.specs.Wide.{wide};
+ghost use Rattle.refusals.specs.Refusal.{status_of};
 ghost use Rattle.evaluator_service.specs.EvaluatorService.{bad_lengths_of, bad_words_of, evaluator_status, EvaluatorAnswer};
 ghost use Rattle.evaluator_service.specs.Sylvester.{RowWords, ServedRows, HoldsSylvester, HoldsSylvesterRow};
 
+use refusals::Refusal;
 use refusals64::Answer;
 
 // Zero top words count (S7): "the top word may be zero".
@@ -58,10 +60,8 @@ fn sylvester_row(f: &[u64], g: &[u64], r: usize) -> [u64; 8]
     ensures { HoldsSylvesterRow f.now g.now r result }
 {
     let mut x: [u64; 8] = [0; 8];
-    let mut c: usize = 0;
-    while c < 8 {
+    for c in 0..8 {
         x[c] = sylvester_word(f, g, r, c);
-        c += 1;
     }
     x
 }
@@ -72,10 +72,8 @@ fn sylvester_matrix(f: &[u64], g: &[u64]) -> [[u64; 8]; 8]
     ensures { HoldsSylvester f.now g.now result }
 {
     let mut m: [[u64; 8]; 8] = [[0; 8]; 8];
-    let mut r: usize = 0;
-    while r < 8 {
+    for r in 0..8 {
         m[r] = sylvester_row(f, g, r);
-        r += 1;
     }
     m
 }
@@ -84,10 +82,10 @@ fn sylvester_matrix(f: &[u64], g: &[u64]) -> [[u64; 8]; 8]
 fn bad_lengths(f: &[u64], g: &[u64]) -> bool
     ensures { result ≡ bad_lengths_of f.now g.now }
 {
-    if refusals64::bad_length(f) {
+    if refusals::bad_length(f) {
         return true;
     }
-    if refusals64::bad_length(g) {
+    if refusals::bad_length(g) {
         return true;
     }
     8 < f.len() - 1 + (g.len() - 1)
@@ -104,29 +102,28 @@ fn bad_words(n: u64, f: &[u64], g: &[u64]) -> bool
     !refusals64::all_below(n, g)
 }
 
-// The first of the refusals that applies, or 0.
-fn refusal(n: u64, f: &[u64], g: &[u64]) -> u32
-    ensures { result ≡ evaluator_status wide n f.now g.now }
+// The first of the refusals that applies.
+fn refusal(n: u64, f: &[u64], g: &[u64]) -> Result<(), Refusal>
+    ensures { status_of result ≡ evaluator_status wide n f.now g.now }
 {
     if refusals64::bad_modulus(n) {
-        return 1;
+        return Err(Refusal::BadModulus);
     }
     if bad_lengths(f, g) {
-        return 2;
+        return Err(Refusal::BadLength);
     }
     if bad_words(n, f, g) {
-        return 3;
+        return Err(Refusal::BadWord);
     }
-    0
+    Ok(())
 }
 
 // The determinant of Sylvester's matrix of f and g modulo n. S8: "With d = e = 0 the determinant is 1."
 pub fn evaluate(n: u64, f: &[u64], g: &[u64]) -> Answer
     ensures { EvaluatorAnswer wide n f.now g.now result.value result.status }
 {
-    let status = refusal(n, f, g);
-    if status != 0 {
-        return Answer { value: 0, status };
+    if let Err(refusal) = refusal(n, f, g) {
+        return Answer::from(refusal);
     }
     let size = f.len() - 1 + (g.len() - 1);
     let m = sylvester_matrix(f, g);

@@ -8,27 +8,23 @@
 #![tactic(auto)]
 
 ghost use Rattle.std.specs.Prelude.{◌≡◌, ◌≤◌};
+ghost use Rattle.refusals.specs.Refusal.{status_of};
 ghost use Rattle.refusals.specs.Refusals.{narrow, first_refusal};
 ghost use Rattle.factor_places.specs.Places.{first_place_of, sum, multiplied, taken, absent, full, arrival_tests, leaving_tests};
 
+use refusals::Refusal;
+
 // The places of factors.
 pub const PLACES: usize = 16;
-
-// The refusals of a number, and of a factor for which there is no room.
-const BAD_NUMBER: u32 = 14;
-
-const NO_ROOM: u32 = 13;
 
 // The first place that has the number k, or 16 where none has.
 pub fn place_of(number: [u16; PLACES], k: u16) -> usize
     ensures { result ≡ first_place_of k number }
 {
-    let mut i: usize = 0;
-    while i < PLACES {
+    for i in 0..PLACES {
         if number[i] == k {
             return i;
         }
-        i += 1;
     }
     PLACES
 }
@@ -43,9 +39,7 @@ fn degree_sum(degree: [u32; PLACES]) -> u64
     ensures { (result ≡ sum degree) × (result ≤ 68719476720) }
 {
     let mut s: u64 = 0;
-    let mut i: usize = PLACES;
-    while 0 < i {
-        i -= 1;
+    for i in (0..PLACES).rev() {
         s += wide(degree[i]);
     }
     s
@@ -57,9 +51,7 @@ pub fn multiplied(n: u32, resultant: [u32; PLACES]) -> u32
     ensures { result ≡ multiplied n resultant }
 {
     let mut p: u32 = 1;
-    let mut i: usize = PLACES;
-    while 0 < i {
-        i -= 1;
+    for i in (0..PLACES).rev() {
         p = arithmetic::mul_mod(n, resultant[i], p);
     }
     p
@@ -69,22 +61,14 @@ pub fn multiplied(n: u32, resultant: [u32; PLACES]) -> u32
 fn taken(number: [u16; PLACES], k: u16) -> bool
     ensures { result ≡ taken k number }
 {
-    let i = place_of(number, k);
-    if k != 0 {
-        return i < PLACES;
-    }
-    true
+    k == 0 || place_of(number, k) < PLACES
 }
 
 // "a number 0 or … one not held on leaving"
 fn absent(number: [u16; PLACES], k: u16) -> bool
     ensures { result ≡ absent k number }
 {
-    let i = place_of(number, k);
-    if k != 0 {
-        return PLACES <= i;
-    }
-    true
+    k == 0 || PLACES <= place_of(number, k)
 }
 
 // "a seventeenth factor or a summed degree above 48"
@@ -99,7 +83,7 @@ fn full(number: [u16; PLACES], degree: [u32; PLACES], d: usize) -> bool
     (refusals::MAX_DEGREE as u64) < sum
 }
 
-// The refusals of an arrival beside h, where room is the number of working words; 0 where none applies.
+// The refusals of an arrival beside h, where room is the number of working words.
 pub fn arrival_refusal(
     n: u32,
     number: [u16; PLACES],
@@ -108,32 +92,29 @@ pub fn arrival_refusal(
     f: &[u32],
     h: &[u32],
     room: usize,
-) -> u32
-    ensures { result ≡ first_refusal (arrival_tests narrow n number degree k f.now h.now room) }
+) -> Result<(), Refusal>
+    ensures { status_of result ≡ first_refusal (arrival_tests narrow n number degree k f.now h.now room) }
 {
-    let status = refusals::refusal_of_pair(n, f, h);
-    if status != 0 {
-        return status;
-    }
-    let d = f.len() - 1;
+    refusals::refusal_of_pair(n, f, h)?;
     if taken(number, k) {
-        return BAD_NUMBER;
+        return Err(Refusal::BadNumber);
     }
-    if full(number, degree, d) {
-        return NO_ROOM;
+    if full(number, degree, f.len() - 1) {
+        return Err(Refusal::FactorsFull);
     }
-    if room < refusals::WORKING_WORDS {
-        return 7;
-    }
-    0
+    refusals::room(room, refusals::WORKING_WORDS, Refusal::ShortWork)
 }
 
-// The refusals of a leaving; 0 where none applies.
-pub fn leaving_refusal(n: u32, number: [u16; PLACES], k: u16) -> u32
-    ensures { result ≡ first_refusal (leaving_tests narrow n number k) }
+// The refusals of a leaving.
+pub fn leaving_refusal(n: u32, number: [u16; PLACES], k: u16) -> Result<(), Refusal>
+    ensures { status_of result ≡ first_refusal (leaving_tests narrow n number k) }
 {
     if refusals::bad_modulus(n) {
-        return 1;
+        return Err(Refusal::BadModulus);
     }
-    if absent(number, k) { BAD_NUMBER } else { 0 }
+    if absent(number, k) {
+        Err(Refusal::BadNumber)
+    } else {
+        Ok(())
+    }
 }

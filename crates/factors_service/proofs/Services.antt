@@ -1,85 +1,29 @@
--- The promise of each call at each place where it returns, from what the code hands over there.
+-- The promise of an arrival at each place where it returns, from what the code hands over there.
 --
 --   arriving     the rules of `arrive_beside` and `arrive`
 --   serving      those of `arrive_served`
---   calling      the rules of the other calls
 use mathlib.Core.Path.{◌≡◌, refl, sym, ap, subst, ◌∙◌}
-use mathlib.Core.Bool.{Bool, true, false}
-use mathlib.Core.List.{List, [], ◌∷◌, ◌++◌}
+use mathlib.Core.List.{List, [], ◌∷◌}
 use Prim.Native.Nat.{ℕ, zero, suc, ◌-◌, ◌≤◌, ◌<◌}
 use native.Mathlib.Numerals.{sub-one}
 use native.Mathlib.Omega.{arith}
-use lib.ListN.{length, take, replicate}
+use lib.ListN.{length, take}
 use borrow.Author.Rules.{rules}
 use mir.Syntax.{w32}
 use mir.Val.{Fits}
 use Rattle.definitions.specs.Polynomials.{deg}
 use Rattle.definitions.specs.Resultants.{resultant}
-use Rattle.refusals.specs.Refusals.{narrow, bad_modulus_of, short, first_refusal, refusals_one, refusals_of_pair, left}
-use Rattle.refusals.specs.Conditions.{ServedModulus, Passed, modulus_fails, accepted_one, status_zero}
-use Rattle.refusals.proofs.Statuses.{row_applies, row_passes, passed_on, front_passes, long_enough, left_refused}
+use Rattle.refusals.specs.Refusals.{narrow, short, first_refusal, refusals_of_pair, left}
+use Rattle.refusals.specs.Conditions.{Passed, status_zero}
+use Rattle.refusals.proofs.Statuses.{passed_on, front_passes, long_enough, left_refused}
 use Rattle.resultant_service.specs.ResultantService.{ResultantAnswer}
-use Rattle.factor_places.specs.Places.{first_place_of, multiplied, taken, full, arrival_tests, leaving_tests}
+use Rattle.factor_places.specs.Places.{first_place_of, taken, full, arrival_tests}
 use Rattle.factors_service.specs.declared.Factors.{Factors}
 use Rattle.factors_service.specs.FactorsService.{served_length_of, state_h}
-use Rattle.factors_service.specs.FactorsService.{arrive_refusals, leave_refusals}
-use Rattle.factors_service.specs.FactorsService.{started, replaced_at_of, arrived, left_by}
-use Rattle.factors_service.specs.FactorsService.{StartAnswer, ArriveAsked, ArriveAnswer, LeaveAnswer, ReadingAnswer}
-use Rattle.factors_service.specs.FactorsListed.{ListedNumber, arrive_conditions, arrive_listed, leave_listed}
-
--- ---- reading
-
-module _ (s : Factors) (b : Bool) (m : b ≡ bad_modulus_of narrow s.n) where
-  pub read_refused : b ≡ true → ReadingAnswer narrow s 0 1
-  read_refused e = record { status_is = row_applies 0 (bad_modulus_of narrow s.n) [] (sym m ∙ e); value_is = refl }
-
-  module _ (e : b ≡ false) where
-    pub read_modulus : 2 ≤ s.n
-    read_modulus = ((modulus_fails narrow s.n).passed (sym m ∙ e)).least
-
-    pub read_answered : (x : ℕ) → x ≡ multiplied s.n s.resultant → ReadingAnswer narrow s x 0
-    read_answered x h = record { status_is = row_passes 1 (bad_modulus_of narrow s.n) [] 0 (sym m ∙ e) refl; value_is = h }
-
--- ---- leaving
-
-module _ (s : Factors) (k t : ℕ) (e : t ≡ first_refusal (leaving_tests narrow s.n s.number k)) where
-  left_unchanged : (x : ℕ) → (x ≡ 0 → ⊥) → s ≡ left_by x s k
-  left_unchanged zero z = absurd (z refl)
-  left_unchanged (suc x) z = refl
-
-  pub leave_refused : (t ≡ 0 → ⊥) → LeaveAnswer narrow s k s t
-  leave_refused z = record { status_is = e; factors_is = left_unchanged t z }
-
-  pub leave_answered : {r : Factors} (i : ℕ) → t ≡ 0 → i ≡ first_place_of k s.number → r ≡ replaced_at_of s i 0 0 1 → LeaveAnswer narrow s k r 0
-  leave_answered i z h p = record { status_is = sym z ∙ e; factors_is = p ∙ ap (λ (j : ℕ). replaced_at_of s j 0 0 1) h }
-
-pub place_present : (s : Factors) (k t i : ℕ) → t ≡ first_refusal (leaving_tests narrow s.n s.number k) → t ≡ 0
-    → i ≡ first_place_of k s.number → i < 16
-place_present s k t i e z p =
-    let passed = (status_zero (leave_refusals narrow s k) (ServedModulus narrow s.n ∷ ListedNumber k s.number ∷ [])
-    (leave_listed narrow s k)).0 (sym e ∙ z) in
-    omega (arith, p, passed.1.0.used)
-
--- ---- the start
-
-module _ (n : ℕ) (h : List ℕ) (t : ℕ) (e : t ≡ first_refusal (refusals_one narrow n h)) where
-  zeros : (x : ℕ) → (x ≡ 0 → ⊥) → started 1 n h ≡ started x n h
-  zeros zero z = absurd (z refl)
-  zeros (suc x) z = refl
-
-  pub start_refused : (t ≡ 0 → ⊥) → StartAnswer narrow n h (started 1 n h) t
-  start_refused z = record { status_is = e; factors_is = zeros t z }
-
-  pub start_answered : t ≡ 0 → (w : List ℕ) → w ≡ h ++ replicate (49 - length h) 0
-      → StartAnswer narrow n h
-      (record { n = n; len = length h; h = w; number = replicate 16 0; degree = replicate 16 0; resultant = replicate 16 1 }) 0
-  start_answered z w p = record { status_is = sym z ∙ e; factors_is = rw p }
-
-  pub start_length : t ≡ 0 → length h ≤ 49
-  start_length z = (accepted_one narrow n h (sym e ∙ z)).few
-
-  pub start_fits : t ≡ 0 → Fits w32 (length h)
-  start_fits z = record { fits = omega (arith, start_length z) }
+use Rattle.factors_service.specs.FactorsService.{arrive_refusals}
+use Rattle.factors_service.specs.FactorsService.{replaced_at_of, arrived}
+use Rattle.factors_service.specs.FactorsService.{ArriveAsked, ArriveAnswer}
+use Rattle.factors_service.specs.FactorsListed.{arrive_conditions, arrive_listed}
 
 -- ---- arrival
 
@@ -146,9 +90,3 @@ part_present s l e = let z : l - 0 ≡ l = omega arith in ap (λ (j : ℕ). take
 pub ruleset arriving = (rules, arrive_refused, arrive_asked, state_room, part_present)
 
 pub ruleset serving = (rules, arrive_some, arrive_fits, arrive_free, arrive_answered)
-
-pub ruleset reads = (read_refused, read_modulus, read_answered)
-
-pub ruleset leaves = (leave_refused, leave_answered, place_present)
-
-pub ruleset calling = (rules, reads, leaves, start_refused, start_answered, start_length, start_fits)

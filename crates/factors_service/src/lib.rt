@@ -16,7 +16,7 @@ ghost use Rattle.factors_service.specs.FactorsService.{served_length_of, state_h
 ghost use Rattle.factors_service.specs.FactorsService.{StartAnswer, ArriveAsked, ArriveAnswer, LeaveAnswer, ReadingAnswer};
 
 use factor_places::PLACES;
-use refusals::{Answer, MAX_LENGTH};
+use refusals::{Answer, MAX_LENGTH, Refusal};
 
 // A place is free where its number is 0; degree 0 and resultant 1 stand there. h has len words, zeros above.
 #[repr(C)]
@@ -42,10 +42,8 @@ fn padded(h: &[u32]) -> [u32; MAX_LENGTH]
     ensures { result ≡ h.now ++ replicate (49 - length h.now) 0 }
 {
     let mut words = [0u32; MAX_LENGTH];
-    let mut i: usize = 0;
-    while i < h.len() {
+    for i in 0..h.len() {
         words[i] = h[i];
-        i += 1;
     }
     words
 }
@@ -65,8 +63,7 @@ fn served_length(len: u32) -> usize
 pub fn start(n: u32, h: &[u32]) -> FactorsAnswer
     ensures { StartAnswer narrow n h.now result.factors result.status }
 {
-    let status = refusals::refusal_one(n, h);
-    if status != 0 {
+    if let Err(refusal) = refusals::refusal_one(n, h) {
         let factors = Factors {
             n: 0,
             len: 0,
@@ -75,7 +72,10 @@ pub fn start(n: u32, h: &[u32]) -> FactorsAnswer
             degree: [0; PLACES],
             resultant: [0; PLACES],
         };
-        return FactorsAnswer { factors, status };
+        return FactorsAnswer {
+            factors,
+            status: refusal.number(),
+        };
     }
     let words = padded(h);
     let factors = Factors {
@@ -130,9 +130,11 @@ fn arrive_beside(s: Factors, k: u16, f: &[u32], h: &[u32], work: &mut [u32]) -> 
 {
     let number = s.number;
     let degree = s.degree;
-    let status = factor_places::arrival_refusal(s.n, number, degree, k, f, h, work.len());
-    if status != 0 {
-        return FactorsAnswer { factors: s, status };
+    if let Err(refusal) = factor_places::arrival_refusal(s.n, number, degree, k, f, h, work.len()) {
+        return FactorsAnswer {
+            factors: s,
+            status: refusal.number(),
+        };
     }
     let factors = arrive_served(s, k, f, h, work);
     FactorsAnswer { factors, status: 0 }
@@ -152,9 +154,11 @@ pub fn leave(s: Factors, k: u16) -> FactorsAnswer
     ensures { LeaveAnswer narrow s k result.factors result.status }
 {
     let number = s.number;
-    let status = factor_places::leaving_refusal(s.n, number, k);
-    if status != 0 {
-        return FactorsAnswer { factors: s, status };
+    if let Err(refusal) = factor_places::leaving_refusal(s.n, number, k) {
+        return FactorsAnswer {
+            factors: s,
+            status: refusal.number(),
+        };
     }
     let i = factor_places::place_of(number, k);
     let factors = replaced_at(s, i, 0, 0, 1);
@@ -166,10 +170,7 @@ pub fn read(s: Factors) -> Answer
     ensures { ReadingAnswer narrow s result.value result.status }
 {
     if refusals::bad_modulus(s.n) {
-        return Answer {
-            value: 0,
-            status: 1,
-        };
+        return Answer::from(Refusal::BadModulus);
     }
     let resultant = s.resultant;
     let value = factor_places::multiplied(s.n, resultant);

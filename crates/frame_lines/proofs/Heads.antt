@@ -3,39 +3,54 @@
 --   number_read, other_read    what a reading says of the characters read
 --   heads                      the rules
 use mathlib.Core.Path.{◌≡◌, refl, sym, ap, ap₂, ◌∙◌}
-use mathlib.Core.Bool.{Bool, true, false, ◌&&◌, ◌||◌, and-true, and-false}
+use mathlib.Core.Bool.{Bool, true, false, ◌||◌, and-true, and-false}
 use mathlib.Core.List.{List}
-use Prim.Native.Nat.{ℕ, zero, suc, ◌+◌, ◌-◌, ◌*◌, ◌<◌, ◌≤◌}
+use Prim.Native.Nat.{ℕ, zero, suc, ◌+◌, ◌*◌, ◌<◌, ◌≤◌}
 use native.Mathlib.Omega.{arith}
-use native.Mathlib.Nat.{pos_of_ne-zero}
 use lib.ListN.{length, take, drop}
 use lib.Dec.{eqb}
 use lib.Seq.{drop-drop}
 use borrow.Author.Rules.{rules}
 use borrow.Author.Tests.{le-leb, lt-leb, ne_eqb, eq-eqb}
-use Rattle.hexadecimal.specs.declared.Reading.{Reading}
-use Rattle.hexadecimal.specs.declared.Reading.TheVariants.{Number, Other}
+use Rattle.std.specs.Prelude.{Some, None}
 use Rattle.hexadecimal.specs.Hexadecimal.{all_digits, number_of}
 use Rattle.hexadecimal.specs.Readings.{if_digits, reading_of}
 use Rattle.hexadecimal.specs.DigitLaws.{all_digits_part, all_digits_after}
-use Rattle.frame_lines.specs.FrameLines.{kind_of, modulus_of, first_degree, second_degree, count_of, is_frame}
+use Rattle.frame_lines.specs.FrameLines.{kind_of, count_of, is_frame}
+use Rattle.frame_lines.specs.declared.FrameKind.{FrameKind}
+use Rattle.frame_lines.specs.declared.FrameKind.TheVariants.{Resultant, Reduced}
+use Rattle.frame_lines.specs.Kinds.{kind_number, kind_of_number}
 use Rattle.frame_lines.specs.Heads.{KindRead, Fields}
 
 -- ---- what a reading says
 
-digits_known : (b : Bool) (x y : ℕ) → Number x ≡ if_digits b y → (b ≡ true) × (x ≡ y)
+digits_known : (b : Bool) (x y : ℕ) → Some x ≡ if_digits b y → (b ≡ true) × (x ≡ y)
 digits_known true x y h = (refl, cc)
 digits_known false x y h = let z : ◌≡◌ {A = ℕ} 0 1 = cc in absurd (omega arith)
 
-other_known : (b : Bool) (y : ℕ) → Other ≡ if_digits b y → b ≡ false
+other_known : (b : Bool) (y : ℕ) → None ≡ if_digits b y → b ≡ false
 other_known true y h = let z : ◌≡◌ {A = ℕ} 0 1 = cc in absurd (omega arith)
 other_known false y h = refl
 
-pub number_read : {r : Reading} (t : List ℕ) (x : ℕ) → r ≡ reading_of t → r ≡ Number x → (all_digits t ≡ true) × (x ≡ number_of t)
-number_read t x h e = digits_known (all_digits t) x (number_of t) (sym e ∙ h)
+pub number_read : (t : List ℕ) (x : ℕ) → Some x ≡ reading_of t → (all_digits t ≡ true) × (x ≡ number_of t)
+number_read t x h = digits_known (all_digits t) x (number_of t) h
 
-pub other_read : {r : Reading} (t : List ℕ) → r ≡ reading_of t → r ≡ Other → all_digits t ≡ false
-other_read t h e = other_known (all_digits t) (number_of t) (sym e ∙ h)
+pub other_read : (t : List ℕ) → None ≡ reading_of t → all_digits t ≡ false
+other_read t h = other_known (all_digits t) (number_of t) h
+
+-- ---- what a number says of the kind
+
+unknown : (k : ℕ) → None ≡ kind_of_number k → (k ≡ 1 → ⊥) × (k ≡ 2 → ⊥)
+unknown zero h = (λ e. omega arith, λ e. omega arith)
+unknown (suc zero) h = absurd cc
+unknown (suc (suc zero)) h = absurd cc
+unknown (suc (suc (suc k))) h = (λ e. omega arith, λ e. omega arith)
+
+numbered : (k : ℕ) (f : FrameKind) → Some f ≡ kind_of_number k → (kind_number f ≡ k) × ((1 ≤ kind_number f) × (kind_number f ≤ 2))
+numbered zero f h = absurd cc
+numbered (suc zero) f h = let e : f ≡ Resultant = cc in rw e (refl, (omega arith, omega arith))
+numbered (suc (suc zero)) f h = let e : f ≡ Reduced = cc in rw e (refl, (omega arith, omega arith))
+numbered (suc (suc (suc k))) f h = absurd cc
 
 -- ---- why a line is no frame
 
@@ -59,24 +74,24 @@ module _ (s : List ℕ) where
   pub too_short : length s < 14 → is_frame s ≡ false
   too_short h = other_length (λ e. omega arith)
 
-  module _ {r : Reading} where
-    pub part_other : (a k : ℕ) → r ≡ reading_of (take k (drop a s)) → r ≡ Other → is_frame s ≡ false
-    part_other a k h e = not_digits (all_digits_part a k s (other_read (take k (drop a s)) h e))
+  pub part_other : (a k : ℕ) → None ≡ reading_of (take k (drop a s)) → is_frame s ≡ false
+  part_other a k h = not_digits (all_digits_part a k s (other_read (take k (drop a s)) h))
 
-    pub kind_other : r ≡ reading_of (take 2 s) → r ≡ Other → is_frame s ≡ false
-    kind_other h e = part_other 0 2 h e
+  pub kind_other : None ≡ reading_of (take 2 s) → is_frame s ≡ false
+  kind_other h = part_other 0 2 h
 
-    pub kind_zero : (k : ℕ) → r ≡ reading_of (take 2 s) → r ≡ Number k → k ≡ 0 → is_frame s ≡ false
-    kind_zero k h e z = let x = number_read (take 2 s) k h e in other_kind (λ y. omega (arith, x.1)) (λ y. omega (arith, x.1))
+  pub kind_unknown : (k : ℕ) → Some k ≡ reading_of (take 2 s) → None ≡ kind_of_number k → is_frame s ≡ false
+  kind_unknown k h z =
+      let x = number_read (take 2 s) k h in
+      let n = unknown k z in
+      other_kind (λ y. n.0 (x.1 ∙ y)) (λ y. n.1 (x.1 ∙ y))
 
-    pub kind_large : (k : ℕ) → r ≡ reading_of (take 2 s) → r ≡ Number k → 2 < k → is_frame s ≡ false
-    kind_large k h e z = let x = number_read (take 2 s) k h e in other_kind (λ y. omega (arith, x.1)) (λ y. omega (arith, x.1))
-
-    pub kind_read : (k : ℕ) → r ≡ reading_of (take 2 s) → r ≡ Number k → (k ≡ 0 → ⊥) → k ≤ 2 → 14 ≤ length s → length s ≤ 798
-        → KindRead s k
-    kind_read k h e one two long short =
-        let x = number_read (take 2 s) k h e in
-        record { digits = x.0; is = x.1; known = (pos_of_ne-zero one, two); long = long; short = short }
+  pub kind_read : (k : ℕ) {f : FrameKind} → Some k ≡ reading_of (take 2 s) → Some f ≡ kind_of_number k → 14 ≤ length s → length s ≤ 798
+      → KindRead s (kind_number f)
+  kind_read k {f} h e long short =
+      let x = number_read (take 2 s) k h in
+      let n = numbered k f e in
+      record { digits = x.0; is = n.0 ∙ x.1; known = n.1; long = long; short = short }
 
 -- ---- a head that is right
 
@@ -89,21 +104,20 @@ known_kind (suc zero) h l = refl
 known_kind (suc (suc zero)) h l = refl
 known_kind (suc (suc (suc k))) h l = absurd (omega arith)
 
-module _ {s : List ℕ} {k : ℕ} {dr er : Reading} (kr : KindRead s k) (hd : dr ≡ reading_of (take 2 (drop 10 s)))
-    (he : er ≡ reading_of (take 2 (drop 12 s))) where
-  pub length_other : (d e : ℕ) → dr ≡ Number d → er ≡ Number e → (length s ≡ 14 + 8 * (d + 1 + (e + 1)) → ⊥) → is_frame s ≡ false
-  length_other d e ed ee n =
-      let x = number_read (take 2 (drop 10 s)) d hd ed in
-      let y = number_read (take 2 (drop 12 s)) e he ee in
+module _ {s : List ℕ} {k : ℕ} (kr : KindRead s k) (d e : ℕ) (hd : Some d ≡ reading_of (take 2 (drop 10 s)))
+    (he : Some e ≡ reading_of (take 2 (drop 12 s))) where
+  pub length_other : (length s ≡ 14 + 8 * (d + 1 + (e + 1)) → ⊥) → is_frame s ≡ false
+  length_other n =
+      let x = number_read (take 2 (drop 10 s)) d hd in
+      let y = number_read (take 2 (drop 12 s)) e he in
       other_length s (λ h. n (omega (arith, x.1, y.1)))
 
-  pub fields_read : {nr : Reading} (n d e : ℕ) → nr ≡ reading_of (take 8 (drop 2 s)) → nr ≡ Number n → dr ≡ Number d → er ≡ Number e
-      → length s ≡ 14 + 8 * (d + 1 + (e + 1)) → Fields s k n d e
+  pub fields_read : (n : ℕ) → Some n ≡ reading_of (take 8 (drop 2 s)) → length s ≡ 14 + 8 * (d + 1 + (e + 1)) → Fields s k n d e
   unfolding is_frame
-  fields_read n d e hn en ed ee fit =
-      let w = number_read (take 8 (drop 2 s)) n hn en in
-      let x = number_read (take 2 (drop 10 s)) d hd ed in
-      let y = number_read (take 2 (drop 12 s)) e he ee in
+  fields_read n hn fit =
+      let w = number_read (take 8 (drop 2 s)) n hn in
+      let x = number_read (take 2 (drop 10 s)) d hd in
+      let y = number_read (take 2 (drop 12 s)) e he in
       record {
         kind = kr.is;
         known = kr.known;
@@ -125,4 +139,4 @@ module _ {s : List ℕ} {k : ℕ} {dr er : Reading} (kr : KindRead s k) (hd : dr
             ∙ after_digits 12 2 14 s (omega arith) y.0);
       }
 
-pub ruleset heads = (rules, too_short, too_long, part_other, kind_other, kind_zero, kind_large, kind_read, length_other, fields_read)
+pub ruleset heads = (rules, too_short, too_long, part_other, kind_other, kind_unknown, kind_read, length_other, fields_read)

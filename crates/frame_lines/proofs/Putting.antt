@@ -2,14 +2,12 @@
 --
 --   put_front, put_rest, put_after, put_next    what stands where, once a text is written
 --   short_put, line_put                         the kind and the status; an answer line
---   puts                                        the rules
 use mathlib.Core.Path.{◌≡◌, sym, ap, ap₂, ◌∙◌}
 use mathlib.Core.List.{List, [], ◌∷◌, ◌++◌, append_assoc}
 use Prim.Native.Nat.{ℕ, suc, ◌+◌, ◌≤◌}
 use native.Mathlib.Omega.{arith}
 use lib.ListN.{length, take, drop, set, length-append}
 use lib.Seq.{length-take-le, take_at, drop_at, drop-drop, set_split}
-use borrow.Author.Rules.{rules}
 use Rattle.hexadecimal.specs.Hexadecimal.{digits_of}
 use Rattle.hexadecimal.specs.DigitLaws.{digits_length}
 use Rattle.frame_lines.specs.FrameLines.{answer_line}
@@ -64,5 +62,3 @@ line_put o w₂ w₃ w' at k r v h₂ h₃ is fits s₂ s₃ ev =
     ∙ ap (λ (x : ℕ). take (at + 12) w₃ ++ 10 ∷ drop x w₃) e
     ∙ put_next o w₃ ((a ++ b) ++ c) at 12 (omega arith) lc p₃ (10 ∷ []) 1
     ∙ ap (λ (x : List ℕ). take at o ++ (x ++ drop (at + 13) o)) (append_assoc (a ++ b) c (10 ∷ []) ∙ append_assoc a b (c ++ 10 ∷ [])))
-
-pub ruleset puts = (rules, short_put, line_put)

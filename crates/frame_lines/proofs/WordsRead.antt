@@ -11,8 +11,7 @@ use native.Mathlib.Numerals.{add-one}
 use lib.ListN.{length, take, drop, set, length-set, length-drop}
 use lib.Seq.{take-add, take_all, take-suc-set, drop-drop}
 use borrow.Author.Rules.{rules}
-use Rattle.hexadecimal.specs.declared.Reading.{Reading}
-use Rattle.hexadecimal.specs.declared.Reading.TheVariants.{Number, Other}
+use Rattle.std.specs.Prelude.{Some, None}
 use Rattle.hexadecimal.specs.Readings.{reading_of}
 use Rattle.hexadecimal.specs.Hexadecimal.{all_digits, number_of}
 use Rattle.hexadecimal.specs.DigitLaws.{all_digits_append, all_digits_part}
@@ -43,11 +42,11 @@ words_none s count w = record { most = omega arith; same = refl; good = refl; wo
 shifted : (s : List ℕ) (i : ℕ) → drop (8 * i) (drop 14 s) ≡ drop (14 + 8 * i) s
 shifted s i = drop-drop (8 * i) 14 s
 
-pub words_next : {s : List ℕ} {count i i' : ℕ} {w₀ w w' : List ℕ} {r : Reading} (x : ℕ) → Words s count i w₀ w → count ≤ length w₀
-    → i < count → r ≡ reading_of (take 8 (drop (14 + 8 * i) s)) → r ≡ Number x → w' ≡ set w i x → i' ≡ i + 1 → Words s count i' w₀ w'
-words_next {s} {count} {i} {w = w} x p room l hr er ew ei =
+pub words_next : {s : List ℕ} {count i i' : ℕ} {w₀ w w' : List ℕ} (x : ℕ) → Words s count i w₀ w → count ≤ length w₀
+    → i < count → Some x ≡ reading_of (take 8 (drop (14 + 8 * i) s)) → w' ≡ set w i x → i' ≡ i + 1 → Words s count i' w₀ w'
+words_next {s} {count} {i} {w = w} x p room l hr ew ei =
     let t = drop 14 s in
-    let h = number_read (take 8 (drop (14 + 8 * i) s)) x hr er in
+    let h = number_read (take 8 (drop (14 + 8 * i) s)) x hr in
     let e : 8 * (i + 1) ≡ 8 * i + 8 = omega arith in
     rw (ew, ei) (record {
       most = omega arith;
@@ -65,10 +64,10 @@ words_next {s} {count} {i} {w = w} x p room l hr er ew ei =
           ∙ ap (λ (y : ℕ). words_of y t) (sym (add-one i));
     })
 
-pub words_stop : {s : List ℕ} {count i : ℕ} {w₀ w : List ℕ} {r : Reading} → Words s count i w₀ w
-    → r ≡ reading_of (take 8 (drop (14 + 8 * i) s)) → r ≡ Other → WordsRead s count w false
-words_stop {s} {count} {i} p hr er =
-    let h = other_read (take 8 (drop (14 + 8 * i) s)) hr er in
+pub words_stop : {s : List ℕ} {count i : ℕ} {w₀ w : List ℕ} → Words s count i w₀ w
+    → None ≡ reading_of (take 8 (drop (14 + 8 * i) s)) → WordsRead s count w false
+words_stop {s} {count} {i} p hr =
+    let h = other_read (take 8 (drop (14 + 8 * i) s)) hr in
     record {
       digits = sym (all_digits_part (8 * i) 8 (drop 14 s) (ap (λ (y : List ℕ). all_digits (take 8 y)) (shifted s i) ∙ h));
       words = λ e. absurd (false≢true e);

@@ -2,12 +2,12 @@
 --
 --   KindRead s k          s can be a frame by its length and its first two characters, which say the kind k
 --   Fields s k n d e      s is a frame if the characters after the first 14 are digits, with these numbers at its head
---   HeadOf s h            h is what the head of s says
+--   HeadOf s h            h is what the head of s says: that of a frame, or nothing where s is none
 --   WordsRead             what reading the words comes to
-use Rattle.std.specs.Prelude.{◌≡◌, Bool, true, false, List, ℕ, ◌+◌, ◌*◌, ◌≤◌, length, take, drop}
+use Rattle.std.specs.Prelude.{◌≡◌, Bool, true, false, List, ℕ, Option, Some, None, ◌+◌, ◌*◌, ◌≤◌, length, take, drop}
 use Rattle.hexadecimal.specs.Hexadecimal.{all_digits}
-use Rattle.frame_lines.specs.declared.Head.{Head}
-use Rattle.frame_lines.specs.declared.Head.TheVariants.{Frame, Other}
+use Rattle.frame_lines.specs.declared.Frame.{Frame}
+use Rattle.frame_lines.specs.Kinds.{kind_number}
 use Rattle.frame_lines.specs.FrameLines.{kind_of, modulus_of, first_degree, second_degree, words_of, is_frame}
 
 pub record Fields (s : List ℕ) (k n d e : ℕ) : Type 0 where
@@ -27,9 +27,9 @@ pub record KindRead (s : List ℕ) (k : ℕ) : Type 0 where
   pub long : 14 ≤ length s
   pub short : length s ≤ 798
 
-abbrev pub HeadOf : List ℕ → Head → Type 0
-HeadOf s (Frame k n d e) = Fields s k n d e
-HeadOf s Other = is_frame s ≡ false
+abbrev pub HeadOf : List ℕ → Option Frame → Type 0
+HeadOf s (Some f) = Fields s (kind_number f.kind) f.n f.d f.e
+HeadOf s None = is_frame s ≡ false
 
 -- what reading count words comes to: whether they are digits, and the words w if they are
 pub record WordsRead (s : List ℕ) (count : ℕ) (w : List ℕ) (r : Bool) : Type 0 where

@@ -1,2 +1,3 @@
 pub mod FrameLines
+pub mod Kinds
 pub mod Heads

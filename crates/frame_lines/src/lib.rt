@@ -1,6 +1,8 @@
 // The lines of the frame program (S65 to S67): what a line's characters say, and an answer line's characters.
 //
-//   Head          what the head of a line says
+//   FrameKind     the kind of a frame
+//   Frame         what the head of a frame says
+//   kind_numbered the kind that a number stands for, if any
 //   read_fields   the modulus and the degrees
 //   read_head     the head of a line
 //   read_words    the words after it
@@ -12,9 +14,8 @@
 ghost use Rattle.std.specs.Prelude.{◌≡◌, ◌++◌, ◌+◌, ◌*◌, ◌≤◌, ◌<◌, length, take, drop, set};
 ghost use Rattle.hexadecimal.specs.Hexadecimal.{digits_of};
 ghost use Rattle.frame_lines.specs.FrameLines.{answer_line};
+ghost use Rattle.frame_lines.specs.Kinds.{kind_number, kind_of_number};
 ghost use Rattle.frame_lines.specs.Heads.{KindRead, HeadOf, WordsRead};
-
-use hexadecimal::Reading;
 
 // S65: the characters of a frame's head, the places of its modulus and its degrees, and the digits of a kind, a degree and a status.
 pub const HEAD_LENGTH: usize = 14;
@@ -26,11 +27,6 @@ const FIRST_DEGREE: usize = 10;
 const SECOND_DEGREE: usize = 12;
 
 const SHORT: usize = 2;
-
-// S65: the kinds.
-pub const RESULTANT: u32 = 1;
-
-pub const REDUCED: u32 = 2;
 
 // S66: the most characters of a frame.
 pub const LONGEST: usize = 798;
@@ -51,62 +47,69 @@ pub const NO_FRAME: u32 = 8;
 
 pub const LINE_END: u8 = 10;
 
-// The head of a line: kind, modulus and degrees, where the line can be a frame by its length and its first 14 characters.
+// S65: the kinds, each with its number.
 #[derive(Clone, Copy)]
-pub enum Head {
-    Frame {
-        kind: u32,
-        n: u32,
-        d: usize,
-        e: usize,
-    },
-    Other,
+pub enum FrameKind {
+    Resultant = 1,
+    Reduced = 2,
+}
+
+// The head of a frame: kind, modulus and degrees.
+#[derive(Clone, Copy)]
+pub struct Frame {
+    pub kind: FrameKind,
+    pub n: u32,
+    pub d: usize,
+    pub e: usize,
+}
+
+impl FrameKind {
+    // The number that stands for it in a line.
+    pub fn number(self) -> u32
+        ensures { result ≡ kind_number self }
+    {
+        self as u32
+    }
+}
+
+// The kind that a number stands for.
+fn kind_numbered(number: u32) -> Option<FrameKind>
+    ensures { result ≡ kind_of_number number }
+{
+    match number {
+        1 => Some(FrameKind::Resultant),
+        2 => Some(FrameKind::Reduced),
+        _ => None,
+    }
 }
 
 // What the rest of the head says, once the length and the kind are known.
-fn read_fields(s: &[u8], kind: u32) -> Head
-    requires { KindRead s.now kind }
+fn read_fields(s: &[u8], kind: FrameKind) -> Option<Frame>
+    requires { KindRead s.now (kind_number kind) }
     ensures { HeadOf s.now result }
 {
-    let Reading::Number(n) = hexadecimal::word(s, MODULUS) else {
-        return Head::Other;
-    };
-    let Reading::Number(d) = hexadecimal::number(s, FIRST_DEGREE, SHORT) else {
-        return Head::Other;
-    };
-    let Reading::Number(e) = hexadecimal::number(s, SECOND_DEGREE, SHORT) else {
-        return Head::Other;
-    };
-    let count = (d as usize) + 1 + ((e as usize) + 1);
+    let n = hexadecimal::word(s, MODULUS)?;
+    let d = hexadecimal::number(s, FIRST_DEGREE, SHORT)? as usize;
+    let e = hexadecimal::number(s, SECOND_DEGREE, SHORT)? as usize;
+    let count = d + 1 + (e + 1);
     if s.len() != HEAD_LENGTH + hexadecimal::DIGITS * count {
-        return Head::Other;
+        return None;
     }
-    Head::Frame {
-        kind,
-        n,
-        d: d as usize,
-        e: e as usize,
-    }
+    Some(Frame { kind, n, d, e })
 }
 
-pub fn read_head(s: &[u8]) -> Head
+// The head of a line that can be a frame by its length and its first 14 characters.
+pub fn read_head(s: &[u8]) -> Option<Frame>
     ensures { HeadOf s.now result }
 {
     if s.len() < HEAD_LENGTH {
-        return Head::Other;
+        return None;
     }
     if s.len() > LONGEST {
-        return Head::Other;
+        return None;
     }
-    let Reading::Number(kind) = hexadecimal::number(s, 0, SHORT) else {
-        return Head::Other;
-    };
-    if kind == 0 {
-        return Head::Other;
-    }
-    if kind > REDUCED {
-        return Head::Other;
-    }
+    let number = hexadecimal::number(s, 0, SHORT)?;
+    let kind = kind_numbered(number)?;
     read_fields(s, kind)
 }
 
@@ -115,13 +118,11 @@ pub fn read_words(s: &[u8], words: &mut [u32], count: usize) -> bool
     requires { (length s.now ≡ 14 + 8 * count) × (count ≤ length words.old) }
     ensures { WordsRead s.now count words.new result }
 {
-    let mut i: usize = 0;
-    while i < count {
-        let Reading::Number(x) = hexadecimal::word(s, HEAD_LENGTH + hexadecimal::DIGITS * i) else {
+    for i in 0..count {
+        let Some(x) = hexadecimal::word(s, HEAD_LENGTH + hexadecimal::DIGITS * i) else {
             return false;
         };
         words[i] = x;
-        i += 1;
     }
     true
 }

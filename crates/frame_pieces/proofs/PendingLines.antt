@@ -1,23 +1,23 @@
 -- Looking for a newline, and keeping a pending line.
 --
---   KeepingPending h b₀ p i b        the first i characters of p stand in b after the first h of b₀
+--   part_kept, line_put              an unfinished line, once a part is written after it
 --   clear-...                        how far there is no newline
---   pieces                           the rules
+--   scans, holds                     the rules
 use mathlib.Core.Path.{◌≡◌, refl, sym, ap, ap₂, ◌∙◌, subst}
 use mathlib.Core.Bool.{Bool, false, ◌||◌}
-use mathlib.Core.List.{List, [], ◌∷◌, ◌++◌, append_assoc, append-nil}
-use Prim.Native.Nat.{ℕ, suc, ◌+◌, ◌-◌, ◌<◌, ◌≤◌}
+use mathlib.Core.List.{List, [], ◌∷◌, ◌++◌}
+use Prim.Native.Nat.{ℕ, ◌+◌, ◌-◌, ◌<◌, ◌≤◌}
 use native.Mathlib.Omega.{arith}
-use native.Mathlib.Numerals.{add-one}
-use lib.ListN.{length, get_or, take, drop, set, length-append, length-set, length-drop}
-use lib.Seq.{take-suc, take-add, take_all, take-suc-set, drop-cons, drop-drop, drop-set-lt, length-take-le}
+use lib.ListN.{length, get_or, take, drop, length-append, length-drop}
+use lib.Seq.{take-add, drop-cons, drop-drop, length-take-le}
 use lib.Bits.{bit_and, and_le_r}
 use borrow.Author.Rules.{rules}
+use borrow.Rule.Slice.PartMut.{put_mid}
+use Rattle.std.proofs.lemmas.Slice.{take-put_mid, drop-put_mid, overwrites}
 use borrow.Author.Tests.{ne_eqb}
 use Rattle.hexadecimal.specs.Joining.{Bytes, Joined}
 use Rattle.hexadecimal.proofs.Eights.{each, mask, masked}
-use Rattle.frame_pieces.specs.Inputs.{came_some}
-use Rattle.frame_pieces.specs.Newlines.{has_newline, none_in_either, Clear, NewlineAt, Pending, LineAfter}
+use Rattle.frame_pieces.specs.Newlines.{has_newline, none_in_either, Clear, Pending, KeepsPending, LineAfter}
 
 -- ---- looking for a newline
 
@@ -67,60 +67,29 @@ clear_eight {p} {a} {j} x q l w h e =
     subst (Clear p a) (sym e) (clear_more 8 q (omega arith)
     (bit_clear t w.bytes (sym (masked len w 32 (omega arith)) ∙ h ∙ sym (mask 32 t len))))
 
-pub newline_found : {p : List ℕ} {a j : ℕ} → Clear p a j → j < length p → get_or p j 0 ≡ 10 → NewlineAt p a j
-newline_found q l h = record { least = q.least; most = q.most; before = q.before; at = λ _. h }
-
-pub newline_none : {p : List ℕ} {a j : ℕ} → Clear p a j → length p ≤ j → NewlineAt p a j
-newline_none q l = record { least = q.least; most = q.most; before = q.before; at = λ h. absurd (omega arith) }
-
-pub eight_asked : (p : List ℕ) (j : ℕ) → 8 ≤ length p - j → j + 8 ≤ length p
-eight_asked p j h = omega arith
-
-pub clear_most : {p : List ℕ} {a j : ℕ} → Clear p a j → j ≤ length p
-clear_most q = q.most
-
 -- ---- holding
 
-pub record KeepingPending (h : ℕ) (b₀ p : List ℕ) (i : ℕ) (b : List ℕ) : Type 0 where
-  pub within : i ≤ length p
-  pub same : length b ≡ length b₀
-  pub beyond : drop 798 b ≡ drop 798 b₀
-  pub front : take (h + i) b ≡ take h b₀ ++ take i p
+put_length : (h : ℕ) {p y : List ℕ} → y ≡ p → length y ≡ h + length p - h
+put_length h same = ap length same ∙ omega arith
 
-pub keeping_none : (h : ℕ) (b₀ p : List ℕ) → KeepingPending h b₀ p 0 b₀
-keeping_none h b₀ p =
-    let e : h + 0 ≡ h = omega arith in
-    record { within = omega arith; same = refl; beyond = refl; front = ap (λ (x : ℕ). take x b₀) e ∙ sym (append-nil (take h b₀)) }
-
-pub keeping_next : {h i i' : ℕ} {b₀ p b b' : List ℕ} → KeepingPending h b₀ p i b → 798 ≤ length b₀ → length p ≤ 798 - h → i < length p
-    → b' ≡ set b (h + i) (get_or p i 0) → i' ≡ i + 1 → KeepingPending h b₀ p i' b'
-keeping_next {h} {i} {i'} {b₀} {p} {b} {b'} q room fit m eb ei =
-    let c = get_or p i 0 in
-    let e : h + (i + 1) ≡ suc (h + i) = omega arith in
-    let low : h + i < 798 = omega arith in
-    rw (eb, ei) (record {
-      within = omega arith;
-      same = length-set b (h + i) c ∙ q.same;
-      beyond = drop-set-lt 798 b (h + i) c low ∙ q.beyond;
-      front =
-          ap (λ (x : ℕ). take x (set b (h + i) c)) e
-          ∙ take-suc-set b (h + i) c (omega (arith, q.same))
-          ∙ ap (λ (x : List ℕ). x ++ c ∷ []) q.front
-          ∙ append_assoc (take h b₀) (take i p) (c ∷ [])
-          ∙ ap (λ (x : List ℕ). take h b₀ ++ x) (sym (take-suc p i 0 m))
-          ∙ ap (λ (x : ℕ). take h b₀ ++ take x p) (sym (add-one i));
-    })
-
-pub keeping_end : {h i r : ℕ} {b₀ p b : List ℕ} (s : List ℕ) → KeepingPending h b₀ p i b → length p ≤ i → h ≤ 798 → length p ≤ 798 - h
-    → Pending s h b₀ → has_newline p ≡ false → r ≡ h + length p → Pending (s ++ p) r b
-keeping_end {h} {i} {r} {b₀} {p} {b} s q z l m k n er =
-    let e : i ≡ length p = omega (arith, q.within) in
-    rw er (record {
+-- the part p, or y that is p, written from place h on, in the first 798 words of b₀
+module _ {h : ℕ} {b₀ p : List ℕ} (l : h ≤ 798) (fit : length p ≤ 798 - h) (room : 798 ≤ length b₀) (y : List ℕ) (same : y ≡ p) where
+  pub part_kept : KeepsPending h b₀ p (h + length p) (put_mid h (h + length p - h) b₀ y)
+  part_kept = record {
+    pending = λ s k n. record {
       single = none_in_either s p k.single n;
       count = omega (arith, k.count, length-append s p);
-      kept = λ _. ap (λ (x : ℕ). take (h + x) b) (sym e) ∙ q.front ∙ ap₂ ◌++◌ (k.kept l)
-          (ap (λ (x : ℕ). take x p) e ∙ take_all (length p) p (omega arith));
-    })
+      kept = λ _. take-put_mid h (h + length p - h) b₀ y (h + length p) (ap (λ (x : List ℕ). h + length x) (sym same)) (omega arith)
+          ∙ ap₂ ◌++◌ (k.kept l) same;
+    };
+  }
+
+  pub line_put : LineAfter (h + length p) b₀ (put_mid h (h + length p - h) b₀ y)
+  line_put = record {
+    most = omega arith;
+    same = let z : length y ≡ h + length p - h = put_length h same in search (rules, overwrites);
+    beyond = drop-put_mid h (h + length p - h) b₀ y 798 (omega arith) (omega arith) (put_length h same);
+  }
 
 long_pending : {h : ℕ} {b₀ : List ℕ} (b p s : List ℕ) → 798 < h + length p → Pending s h b₀ → has_newline p ≡ false → Pending (s ++ p) 799 b
 long_pending b p s l k n = record {
@@ -139,17 +108,11 @@ keeping_longer b p s k n l m = long_pending b p s (omega arith) k n
 pub line_long : (b : List ℕ) → LineAfter 799 b b
 line_long b = record { most = omega arith; same = refl; beyond = refl }
 
-pub line_after : {h i r : ℕ} {b₀ p b : List ℕ} → KeepingPending h b₀ p i b → h ≤ 798 → length p ≤ 798 - h → r ≡ h + length p
-    → LineAfter r b₀ b
-line_after q l m e = record { most = omega arith; same = q.same; beyond = q.beyond }
-
 -- ---- the rules
 
-pub ruleset scans = (clear_none, clear_next, clear_eight, clear_most, eight_asked, newline_found, newline_none)
+pub ruleset scans = (rules, clear_none, clear_next, clear_eight)
 
-pub ruleset holds = (keeping_none, keeping_next, keeping_end, keeping_long, keeping_longer, line_long, line_after)
-
-pub ruleset pieces = (rules, came_some, scans, holds)
+pub ruleset holds = (rules, part_kept, line_put, keeping_long, keeping_longer, line_long)
 
 -- ---- what callers need
 

@@ -1,6 +1,6 @@
 // What an input's pieces are made of (S64): what a read's count means, where a line ends, and how an unfinished line is kept.
 //
-//   Input, what_came      what the count of a read means
+//   what_came             what the count of a read means
 //   skip                  how far there is no newline, at least
 //   find_newline          the end of a line
 //   keep                  an unfinished line
@@ -16,21 +16,14 @@ pub const TOO_LONG: usize = 799;
 // The bit 32 of eight characters.
 const DIGIT_BIT: u64 = 0x2020202020202020;
 
-// What the count of a read means: that many characters came, or the input has ended.
-#[derive(Clone, Copy)]
-pub enum Input {
-    Ended,
-    Came(usize),
-}
-
-// A read that takes none has come to the end of the input.
-pub fn what_came(count: usize) -> Input
+// What the count of a read means: that many characters came. A read that takes none has come to the end of the input.
+pub fn what_came(count: usize) -> Option<usize>
     ensures { result ≡ input_of count }
 {
     if count == 0 {
-        return Input::Ended;
+        return None;
     }
-    Input::Came(count)
+    Some(count)
 }
 
 // From place `from` on, eight characters at a time, as far as each of them has the bit 32: all digits have it, and a newline has not.
@@ -38,6 +31,7 @@ fn skip(piece: &[u8], from: usize) -> usize
     requires { from ≤ length piece.now }
     ensures { Clear piece.now from result }
 {
+    // Kept: what it answers is the place of the first eight that fail, and a `for` with `step_by(8)` needs that place of the end worked out once more.
     let mut j = from;
     while 8 <= piece.len() - j {
         if hexadecimal::eight(piece, j) & DIGIT_BIT != DIGIT_BIT {
@@ -53,14 +47,12 @@ pub fn find_newline(piece: &[u8], from: usize) -> usize
     requires { from ≤ length piece.now }
     ensures { NewlineAt piece.now from result }
 {
-    let mut j = skip(piece, from);
-    while j < piece.len() {
+    for j in skip(piece, from)..piece.len() {
         if piece[j] == frame_lines::LINE_END {
             return j;
         }
-        j += 1;
     }
-    j
+    piece.len()
 }
 
 // Keeps part after what is kept of an unfinished line. No more than the first 798 words of the buffer are used.
@@ -75,10 +67,6 @@ pub fn keep(pending: usize, line: &mut [u8], part: &[u8]) -> usize
     if part.len() > frame_lines::LONGEST - pending {
         return TOO_LONG;
     }
-    let mut i: usize = 0;
-    while i < part.len() {
-        line[pending + i] = part[i];
-        i += 1;
-    }
+    line[pending..pending + part.len()].copy_from_slice(part);
     pending + part.len()
 }

@@ -64,6 +64,7 @@ fn close(pending: usize, line: &mut [u8], part: &[u8], work: &mut [u32], out: &m
     answer_pending(h, line, work, out, at);
 }
 
+// Kept: a count, of which 799 and more stand for a line that is too long: a promise that may not change.
 // Answers the lines that end in the piece and keeps the unfinished one. pending and line are what the step before left; before the
 // first, pending is 0. Any pending is taken: 799 and more stand for a line that is too long for a frame.
 pub fn step(pending: usize, line: &mut [u8], piece: &[u8], out: &mut [u8]) -> Progress

@@ -5,43 +5,36 @@
 #![tactic(auto)]
 
 ghost use Rattle.std.specs.Prelude.{◌≡◌};
+ghost use Rattle.refusals.specs.Refusal.{status_of};
 ghost use Rattle.refusals.specs.Refusals.{first_refusal};
 ghost use Rattle.frame_refusals.specs.FrameRefusals.{zero_top_of, top_refusals, job_refusals};
 
-// The refusal of a zero on top.
-const ZERO_TOP: u32 = 10;
+use refusals::Refusal;
 
 // Whether the top word of f is 0. Where there is none, refusal 2 has come before.
 fn zero_top(f: &[u32]) -> bool
     ensures { result ≡ zero_top_of f.now }
 {
-    if f.len() == 0 {
+    if f.is_empty() {
         return true;
     }
-    let top = f.len() - 1;
-    f[top] == 0
+    f[f.len() - 1] == 0
 }
 
-// Refusal 10 of two polynomials; 0 where it does not apply.
-fn top_refusal(f: &[u32], g: &[u32]) -> u32
-    ensures { result ≡ first_refusal (top_refusals f.now g.now) }
+// Refusal 10 of two polynomials.
+fn top_refusal(f: &[u32], g: &[u32]) -> Result<(), Refusal>
+    ensures { status_of result ≡ first_refusal (top_refusals f.now g.now) }
 {
-    if zero_top(f) {
-        return ZERO_TOP;
+    if zero_top(f) || zero_top(g) {
+        return Err(Refusal::EmptyTop);
     }
-    if zero_top(g) {
-        return ZERO_TOP;
-    }
-    0
+    Ok(())
 }
 
-// Refusals 1, 2, 3 and 10 of a job, in this order; 0 where none applies.
-pub fn job_refusal(n: u32, f: &[u32], g: &[u32]) -> u32
-    ensures { result ≡ first_refusal (job_refusals n f.now g.now) }
+// Refusals 1, 2, 3 and 10 of a job, in this order.
+pub fn job_refusal(n: u32, f: &[u32], g: &[u32]) -> Result<(), Refusal>
+    ensures { status_of result ≡ first_refusal (job_refusals n f.now g.now) }
 {
-    let early = refusals::refusal_of_pair(n, f, g);
-    if early != 0 {
-        return early;
-    }
+    refusals::refusal_of_pair(n, f, g)?;
     top_refusal(f, g)
 }

@@ -12,6 +12,7 @@ use Prim.Native.Nat.{ℕ, zero, suc, pred, ◌+◌, ◌-◌, ◌*◌, ◌%◌, �
 use native.Mathlib.Omega.{arith}
 use native.Mathlib.Nat.{mod-mod, mul-le-mul}
 use lib.ListN.{length, get_or}
+use Rattle.std.specs.Prelude.{Result, Ok}
 use Rattle.definitions.specs.Polynomials.{coef}
 use Rattle.definitions.specs.Resultants.{resultant}
 use Rattle.law_polynomials.specs.ReachedSteps.{coef_beyond}
@@ -26,8 +27,7 @@ use Rattle.coprime_test.specs.CoprimeAttempted.{TestLengthsAsked}
 use Rattle.resultant_signs.specs.Degrees.{deg_of, resultant_lt}
 use Rattle.coprime_test.proofs.Descents.{descent_placed}
 use Rattle.resultant_pseudo.specs.StandingRuns.{Placed, EuclidAttempted}
-use Rattle.resultant_pseudo.specs.declared.EuclidAttempt.{EuclidAttempt}
-use Rattle.resultant_pseudo.specs.declared.EuclidAttempt.TheVariants.{Value, NotUnit}
+use Rattle.resultant_pseudo.specs.declared.NotUnit.{NotUnit}
 use Rattle.frame_runs.specs.Jobs.{EuclidAsked}
 
 -- words that were loaded from a on are the polynomial, modulo n
@@ -60,7 +60,7 @@ loaded_same (suc m) f g w w₁ w₂ two s lf lg =
 pub found_two : {n : ℕ} {m : Modulus} → ModulusOf n m → 2 ≤ n → 2 ≤ m.n
 found_two found two = subst (λ (z : ℕ). 2 ≤ z) (sym found.is) two
 
-pub entered_answer : {n : ℕ} {m : Modulus} {f g w w₁ w₂ : List ℕ} (r : EuclidAttempt) → ModulusOf n m → 2 ≤ n → TestLengthsAsked f g w
+pub entered_answer : {n : ℕ} {m : Modulus} {f g w w₁ w₂ : List ℕ} (r : Result ℕ (NotUnit ℕ)) → ModulusOf n m → 2 ≤ n → TestLengthsAsked f g w
     → Entered m 0 f w w₁ → Entered m (length f) g w₁ w₂
     → EuclidAttempted m.n (resultant m.n (piece (values m w₂) 0 (length f - 1 + 1))
     (piece (values m w₂) (length f) (length g - 1 + 1))) r
@@ -86,19 +86,19 @@ swapped_sign (suc m) f g two a b =
     ap (λ (x : ℕ). signed (suc m) x (resultant (suc m) g f))
     (sym (ap₂ (λ (x y : ℕ). x * y) (deg_of f (length f - 1) lf) (deg_of g (length g - 1) lg))) ∙ sym (resultant_swap m f g)
 
-pub swapped_value : {n : ℕ} {f g w : List ℕ} {r : EuclidAttempt} (v x : ℕ) → EuclidAsked n f g w → r ≡ Value v
+pub swapped_value : {n : ℕ} {f g w : List ℕ} {r : Result ℕ (NotUnit ℕ)} (v x : ℕ) → EuclidAsked n f g w → r ≡ Ok v
     → EuclidAttempted n (resultant n g f) r
-    → x ≡ signed n ((length f - 1) * (length g - 1)) v → EuclidAttempted n (resultant n f g) (Value x)
+    → x ≡ signed n ((length f - 1) * (length g - 1)) v → EuclidAttempted n (resultant n f g) (Ok x)
 swapped_value {n} {f} {g} v x s e h i =
-    let k : EuclidAttempted n (resultant n g f) (Value v) = subst (EuclidAttempted n (resultant n g f)) e h in
+    let k : EuclidAttempted n (resultant n g f) (Ok v) = subst (EuclidAttempted n (resultant n g f)) e h in
     let is : x ≡ resultant n f g =
     i ∙ ap (signed n ((length f - 1) * (length g - 1))) k.0 ∙ swapped_sign n f g s.modulus s.least_f s.least_g in
     (is, subst (λ (z : ℕ). z < n) (sym is) (resultant_lt n (omega (arith, s.modulus)) f g))
 
-pub swapped_below : (n x : ℕ) {r : EuclidAttempt} (v : ℕ) → r ≡ Value v → EuclidAttempted n x r → v < n
+pub swapped_below : (n x : ℕ) {r : Result ℕ (NotUnit ℕ)} (v : ℕ) → r ≡ Ok v → EuclidAttempted n x r → v < n
 swapped_below n x v e h = (subst (EuclidAttempted n x) e h).1
 
-pub value_found : (n x : ℕ) {r : EuclidAttempt} (v : ℕ) → r ≡ Value v → EuclidAttempted n x r → v ≡ x
+pub value_found : (n x : ℕ) {r : Result ℕ (NotUnit ℕ)} (v : ℕ) → r ≡ Ok v → EuclidAttempted n x r → v ≡ x
 value_found n x v e h = (subst (EuclidAttempted n x) e h).0
 
 pub swapped_fits : {n : ℕ} {f g w : List ℕ} → EuclidAsked n f g w → (length f - 1) * (length g - 1) < 18446744073709551616

@@ -23,10 +23,10 @@ ghost use Rattle.resultant_pseudo.specs.StandingRuns.{EuclidAttempted};
 ghost use Rattle.divisor.specs.Sizes.{DivisorLengthsAsked};
 ghost use Rattle.frame_runs.specs.Jobs.{EuclidAsked, JobAsked};
 
-use resultant_pseudo::EuclidAttempt;
+use resultant_pseudo::NotUnit;
 
 // Euclid without inverses: the value, or nothing where some leading word is no unit.
-fn ordered(w: &mut [u32], n: u32, f: &[u32], g: &[u32]) -> EuclidAttempt
+fn ordered(w: &mut [u32], n: u32, f: &[u32], g: &[u32]) -> Result<u32, NotUnit<u32>>
     requires { (2 ≤ n) × (TestLengthsAsked f.now g.now w.old × (length f.now ≤ length g.now)) }
     ensures euclid_attempted { EuclidAttempted n (resultant n f.now g.now) result }
     ensures scratch { Scratch w.old w.new }
@@ -40,7 +40,7 @@ fn ordered(w: &mut [u32], n: u32, f: &[u32], g: &[u32]) -> EuclidAttempt
 }
 
 // A swap costs the sign (-1)^(d e).
-fn either(w: &mut [u32], n: u32, f: &[u32], g: &[u32]) -> EuclidAttempt
+fn either(w: &mut [u32], n: u32, f: &[u32], g: &[u32]) -> Result<u32, NotUnit<u32>>
     requires { EuclidAsked n f.now g.now w.old }
     ensures euclid_attempted { EuclidAttempted n (resultant n f.now g.now) result }
     ensures scratch { Scratch w.old w.new }
@@ -49,16 +49,12 @@ fn either(w: &mut [u32], n: u32, f: &[u32], g: &[u32]) -> EuclidAttempt
         return ordered(w, n, f, g);
     }
     match ordered(w, n, g, f) {
-        EuclidAttempt::Value(v) => EuclidAttempt::Value(resultant_signs::with_sign(
-            n,
-            (f.len() - 1) * (g.len() - 1),
-            v,
-        )),
-        EuclidAttempt::NotUnit(x) => EuclidAttempt::NotUnit(x),
+        Ok(v) => Ok(resultant_signs::with_sign(n, (f.len() - 1) * (g.len() - 1), v)),
+        Err(x) => Err(x),
     }
 }
 
-fn euclid(w: &mut [u32], n: u32, f: &[u32], g: &[u32]) -> EuclidAttempt
+fn euclid(w: &mut [u32], n: u32, f: &[u32], g: &[u32]) -> Result<u32, NotUnit<u32>>
     requires { EuclidAsked n f.now g.now w.old }
     ensures euclid_attempted { EuclidAttempted n (resultant n f.now g.now) result }
     ensures w_after { w.new ≡ replicate (length w.old) 0 }
@@ -85,8 +81,8 @@ fn euclid_first(n: u32, f: &[u32], g: &[u32], work: &mut [u32]) -> u32
 {
     let room = f.len() + g.len();
     match euclid(&mut work[0..room], n, f, g) {
-        EuclidAttempt::Value(v) => v,
-        EuclidAttempt::NotUnit(_) => general(n, f, g, work),
+        Ok(v) => v,
+        Err(_) => general(n, f, g, work),
     }
 }
 

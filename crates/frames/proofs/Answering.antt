@@ -1,46 +1,29 @@
 -- From the parts of a line, its words and its job's outcome to what its answer says.
 --
---   telling, writing     the rules of what is told of a line, and of the answer line
+--   telling     the rules of what is told of a line
 use mathlib.Core.Path.{◌≡◌, refl, sym, ap, ap₂, ◌∙◌, subst}
 use mathlib.Core.Bool.{Bool, true, false, cond, not}
 use mathlib.Core.List.{List, ◌++◌}
-use Prim.Native.Nat.{ℕ, zero, suc, ◌+◌, ◌-◌, ◌≤◌}
+use Prim.Native.Nat.{ℕ, zero, suc, ◌+◌, ◌-◌}
 use native.Mathlib.Omega.{arith}
-use lib.ListN.{length, take, drop, replicate, length-drop}
-use lib.Seq.{take_all}
-use borrow.Author.Rules.{rules}
+use lib.ListN.{take, drop}
 use borrow.Author.Tests.{not-true, not-false}
 use Rattle.refusals.specs.Refusals.{left}
-use Rattle.frame_lines.specs.declared.Head.{Head}
-use Rattle.frame_lines.specs.declared.Head.TheVariants.{Frame, Other}
 use Rattle.frame_lines.specs.FrameLines.{kind_of, modulus_of, first_degree, count_of, words_of, frame_words}
 use Rattle.frame_lines.specs.FrameLines.{first_polynomial, second_polynomial, is_frame, answer_line}
-use Rattle.frame_lines.specs.Heads.{Fields, HeadOf, WordsRead}
+use Rattle.frame_lines.specs.Heads.{Fields, WordsRead}
 use Rattle.frame_runs.specs.Working.{Working}
 use Rattle.frames.specs.Frames.{AnswerOf, refusal_of, Outcome, Served, refused, answered, Told, Wrote}
 use Rattle.frames.specs.Lending.{Lent}
 
--- the two polynomials: the first k words, and the part from place k onward
+-- the first k words
 pub first_handed : (k : ℕ) (w : List ℕ) → take (k - 0) w ≡ take k w
 first_handed k w = let e : k - 0 ≡ k = omega arith in ap (λ (x : ℕ). take x w) e
-
-pub second_handed : (k : ℕ) (w : List ℕ) → take (length w - k) (drop k w) ≡ drop k w
-second_handed k w = take_all (length w - k) (drop k w) (omega (arith, length-drop k w))
-
--- no more words than there is room for
-pub count_most : {s : List ℕ} {k n d e : ℕ} → Fields s k n d e → d + 1 + (e + 1) ≤ 98
-count_most h = omega (arith, h.short, h.fits)
-
-pub head_fields : {r : Head} {s : List ℕ} (k n d e : ℕ) → r ≡ Frame k n d e → HeadOf s r → Fields s k n d e
-head_fields {s = s} k n d e h p = subst (HeadOf s) h p
 
 -- ---- no frame
 
 pub told_refused : {s w : List ℕ} → is_frame s ≡ false → Told s 255 8 0 w w
 told_refused {s} {w} h = record { is = refused h; work = ap (λ (b : Bool). cond b (left (refusal_of s) w) w) (sym h) }
-
-pub told_other : {r : Head} {s w : List ℕ} → r ≡ Other → HeadOf s r → Told s 255 8 0 w w
-told_other {s = s} h p = told_refused (subst (HeadOf s) h p)
 
 pub told_words : {s m₀ m w : List ℕ} {k n d e count : ℕ} {b : Bool} → Lent s k n d e m₀ w → WordsRead s count m b → not b ≡ true
     → Told s 255 8 0 w w
@@ -97,9 +80,4 @@ after_zeros false r w h = refl
 pub still_working : {s o o' w w' : List ℕ} {at : ℕ} → Wrote s at o o' w w' → Working w → Working w'
 still_working {s} {w = w} p h = subst Working (sym (p.work ∙ after_zeros (is_frame s) (refusal_of s) w h)) h
 
-pub wiped : (w w₁ w' : List ℕ) → length w₁ ≡ length w → w' ≡ replicate (length w₁) 0 → w' ≡ replicate (length w) 0
-wiped w w₁ w' h e = e ∙ ap (λ (k : ℕ). replicate k 0) h
-
-pub ruleset telling = (told_other, told_words, told_served)
-
-pub ruleset writing = (rules, wrote_told)
+pub ruleset telling = (told_words, told_served)

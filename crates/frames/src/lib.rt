@@ -9,12 +9,13 @@
 
 ghost use Rattle.std.specs.Prelude.{◌≡◌, ◌+◌, ◌≤◌, length, take, drop, replicate, ◌++◌};
 ghost use Rattle.frame_lines.specs.FrameLines.{answer_line};
+ghost use Rattle.frame_lines.specs.Kinds.{kind_number};
 ghost use Rattle.frames.specs.Frames.{Value, Served, Told, Wrote};
 ghost use Rattle.frames.specs.Lending.{Lent};
 ghost use Rattle.frame_runs.specs.Jobs.{JobAsked};
 ghost use Rattle.frame_runs.specs.Working.{Working};
 
-use frame_lines::Head;
+use frame_lines::{Frame, FrameKind};
 use refusals::Answer;
 
 // The most words of a frame: two polynomials of 49 words.
@@ -29,15 +30,15 @@ struct Line {
 }
 
 // The value of a job that nothing refuses.
-fn run_job(kind: u32, n: u32, f: &[u32], g: &[u32], work: &mut [u32]) -> u32
-    requires { (1 ≤ kind) × JobAsked n f.now g.now work.old }
-    ensures value { Value kind n f.now g.now result }
+fn run_job(kind: FrameKind, n: u32, f: &[u32], g: &[u32], work: &mut [u32]) -> u32
+    requires { JobAsked n f.now g.now work.old }
+    ensures value { Value (kind_number kind) n f.now g.now result }
     ensures work_after { work.new ≡ replicate (length work.old) 0 }
 {
-    if kind == frame_lines::RESULTANT {
-        return frame_runs::resultant(n, f, g, work);
+    match kind {
+        FrameKind::Resultant => frame_runs::resultant(n, f, g, work),
+        FrameKind::Reduced => frame_runs::reduced(n, f, g, work),
     }
-    frame_runs::reduced(n, f, g, work)
 }
 
 fn refused(status: u32) -> Answer
@@ -48,19 +49,18 @@ fn refused(status: u32) -> Answer
 
 // Serves the job of a frame's words: the first polynomial is the first d + 1 of them, the second is the part from place d + 1
 // onward.
-fn serve(kind: u32, n: u32, d: usize, words: &[u32], work: &mut [u32]) -> Answer
-    requires { (1 ≤ kind) × ((d + 1 ≤ length words.now) × Working work.old) }
-    ensures { Served kind n (take (d + 1) words.now) (drop (d + 1) words.now)
+fn serve(kind: FrameKind, n: u32, d: usize, words: &[u32], work: &mut [u32]) -> Answer
+    requires { (d + 1 ≤ length words.now) × Working work.old }
+    ensures { Served (kind_number kind) n (take (d + 1) words.now) (drop (d + 1) words.now)
         result.status result.value work.old work.new }
 {
     let f = &words[0..d + 1];
     let g = &words[d + 1..];
-    let status = frame_refusals::job_refusal(n, f, g);
-    if status != 0 {
-        return refused(status);
+    if let Err(refusal) = frame_refusals::job_refusal(n, f, g) {
+        return refused(refusal.number());
     }
     let value = run_job(kind, n, f, g, work);
-    Answer { value, status }
+    Answer { value, status: 0 }
 }
 
 // The words of a frame. Of zeros only the count is told: whoever has them need not look at 98 of them.
@@ -71,19 +71,11 @@ fn frame_words() -> [u32; WORDS]
 }
 
 // Reads the words of the line s, whose head is known, and serves their job. Where a character is no digit, it is no frame.
-fn read_and_serve(
-    s: &[u8],
-    kind: u32,
-    n: u32,
-    d: usize,
-    e: usize,
-    words: &mut [u32],
-    work: &mut [u32],
-) -> Line
-    requires { Lent s.now kind n d e words.old work.old }
+fn read_and_serve(s: &[u8], frame: Frame, words: &mut [u32], work: &mut [u32]) -> Line
+    requires { Lent s.now (kind_number frame.kind) frame.n frame.d frame.e words.old work.old }
     ensures { Told s.now result.kind result.status result.value work.old work.new }
 {
-    let count = d + 1 + (e + 1);
+    let count = frame.d + 1 + (frame.e + 1);
     if !frame_lines::read_words(s, words, count) {
         return Line {
             kind: frame_lines::NO_KIND,
@@ -91,29 +83,21 @@ fn read_and_serve(
             value: 0,
         };
     }
-    let a = serve(kind, n, d, &words[0..count], work);
+    let a = serve(frame.kind, frame.n, frame.d, &words[0..count], work);
     Line {
-        kind,
+        kind: frame.kind.number(),
         status: a.status,
         value: a.value,
     }
 }
 
 // The same, and whatever the line is, all words that were lent are zeros again.
-fn serve_line(
-    s: &[u8],
-    kind: u32,
-    n: u32,
-    d: usize,
-    e: usize,
-    words: &mut [u32],
-    work: &mut [u32],
-) -> Line
-    requires { Lent s.now kind n d e words.old work.old }
+fn serve_line(s: &[u8], frame: Frame, words: &mut [u32], work: &mut [u32]) -> Line
+    requires { Lent s.now (kind_number frame.kind) frame.n frame.d frame.e words.old work.old }
     ensures told { Told s.now result.kind result.status result.value work.old work.new }
     ensures words_after { words.new ≡ replicate (length words.old) 0 }
 {
-    let line = read_and_serve(s, kind, n, d, e, words, work);
+    let line = read_and_serve(s, frame, words, work);
     windows::wipe(words);
     line
 }
@@ -123,7 +107,7 @@ fn tell(s: &[u8], work: &mut [u32]) -> Line
     requires { Working work.old }
     ensures { Told s.now result.kind result.status result.value work.old work.new }
 {
-    let Head::Frame { kind, n, d, e } = frame_lines::read_head(s) else {
+    let Some(frame) = frame_lines::read_head(s) else {
         return Line {
             kind: frame_lines::NO_KIND,
             status: frame_lines::NO_FRAME,
@@ -131,7 +115,7 @@ fn tell(s: &[u8], work: &mut [u32]) -> Line
         };
     };
     let mut words = frame_words();
-    serve_line(s, kind, n, d, e, &mut words[0..WORDS], work)
+    serve_line(s, frame, &mut words[0..WORDS], work)
 }
 
 fn write_told(line: Line, out: &mut [u8], at: usize)

@@ -9,51 +9,26 @@
 --   digits_all, digits_not    the test tells digits from other characters, and then the values are theirs
 --   byte_at, packed_eight     a byte of a number; eight values as one number
 --   eights                    the rules
-use mir.Syntax.{w64}
-use mir.Val.{Fits}
 use mathlib.Core.Path.{◌≡◌, refl, sym, ap, ap₂, ◌∙◌, subst}
 use mathlib.Core.Bool.{Bool, true, false, cond, not, ◌&&◌, and-false}
 use mathlib.Core.List.{List, [], ◌∷◌, ◌++◌}
-use Prim.Native.Nat.{ℕ, zero, suc, ◌+◌, ◌-◌, ◌*◌, ◌/◌, ◌%◌, ◌^◌, ◌<◌, ◌≤◌}
+use Prim.Native.Nat.{ℕ, zero, suc, ◌+◌, ◌*◌, ◌/◌, ◌%◌, ◌<◌, ◌≤◌}
 use native.Mathlib.Omega.{arith}
-use native.Mathlib.Nat.{mul-le-mul}
 use native.Mathlib.Decide.{ℕ_discrete}
 use lib.Arith.{digits_div, digits_mod}
-use lib.ListN.{length, get_or, take, drop, length-drop}
-use lib.Seq.{drop-cons, drop-drop, take-add, length-take-le}
+use lib.ListN.{length, take, drop, length-drop}
+use lib.Seq.{drop-drop, take-add, length-take-le}
 use lib.Dec.{ltb, eqb}
 use lib.Bits.{bit_and, and_block, and_le_r}
 use borrow.Author.Rules.{rules}
 use borrow.Author.Tests.{eqb-true, eq-eqb, ne_eqb, ltb-true, not-true}
 use Rattle.hexadecimal.specs.Hexadecimal.{digit_of, all_digits, spelled, number_of}
-use Rattle.hexadecimal.specs.Joining.{Code, joined, Bytes, Joined, packed_of}
-use Rattle.hexadecimal.specs.declared.Reading.TheVariants.{Number, Other}
+use Rattle.hexadecimal.specs.Joining.{joined, Bytes, Joined, packed_of}
+use Rattle.std.specs.Prelude.{Some, None}
 use Rattle.hexadecimal.specs.Readings.{if_digits, reading_of}
 use Rattle.hexadecimal.specs.DigitLaws.{and_both}
 
 -- ---- characters joined
-
-pub code_told : (s : List ℕ) (i : ℕ) → get_or s i 0 < 256 → Code s i (get_or s i 0)
-code_told s i h = record { is = refl; below = h }
-
--- the character at place i, and those from place j on after it
-joined_cons : {s : List ℕ} {c y : ℕ} (i j k : ℕ) → i < length s → i + 1 ≡ j → Code s i c → Joined (take k (drop j s)) y
-    → Joined (take (suc k) (drop i s)) (y * 256 + c)
-joined_cons {s} {c} {y} i j k h e p q =
-    let z : suc i ≡ j = omega arith in
-    subst (λ (t : List ℕ). Joined (take (suc k) t) (y * 256 + c))
-    (sym (drop-cons s i 0 h ∙ ap (λ (x : ℕ). get_or s i 0 ∷ drop x s) z))
-    (record { is = omega (arith, p.is, q.is); bytes = (omega (arith, p.is, p.below), q.bytes) })
-
-pub four_joined : {s : List ℕ} {at : ℕ} (a b c d r : ℕ) → at + 4 ≤ length s → Code s at a → Code s (at + 1) b → Code s (at + 2) c
-    → Code s (at + 3) d → r ≡ a + b * 256 + c * 65536 + d * 16777216 → Joined (take 4 (drop at s)) r
-four_joined {s} {at} a b c d r h ka kb kc kd e =
-    let none : Joined (take 0 (drop (at + 4) s)) 0 = record { is = refl; bytes = tt } in
-    subst (Joined (take 4 (drop at s))) (omega arith)
-    (joined_cons at (at + 1) 3 (omega arith) refl ka
-    (joined_cons (at + 1) (at + 2) 2 (omega arith) (omega arith) kb
-    (joined_cons (at + 2) (at + 3) 1 (omega arith) (omega arith) kc
-    (joined_cons (at + 3) (at + 4) 0 (omega arith) (omega arith) kd none))))
 
 -- x, that many bytes higher
 abbrev higher : ℕ → ℕ → ℕ
@@ -321,54 +296,28 @@ module _ {t : List ℕ} {x : ℕ} (l : length t ≡ 8) (j : Joined t x) where
   wanted_are : 0x3030303030303030 + letters_of x * 49 ≡ each wanted t
   wanted_are = ap₂ (λ (y z : ℕ). y + z * 49) (sym (mask 48 t l)) letters_are ∙ add_each (λ (c : ℕ). 48) letter 49 t
 
-  other_read : (bit_and x 0xf0f0f0f0f0f0f0f0 + tens_of x ≡ 0x3030303030303030 + letters_of x * 49 → ⊥) → Other ≡ reading_of t
+  other_read : (bit_and x 0xf0f0f0f0f0f0f0f0 + tens_of x ≡ 0x3030303030303030 + letters_of x * 49 → ⊥) → None ≡ reading_of t
   other_read n =
       ap (λ (b : Bool). if_digits b (number_of t)) (sym (digits_not t j.bytes (λ e. n (tested_are ∙ e ∙ sym wanted_are))))
 
   number_read : (r : ℕ) → bit_and x 0xf0f0f0f0f0f0f0f0 + tens_of x ≡ 0x3030303030303030 + letters_of x * 49 → r ≡ packed_of (values_of x)
-      → Number r ≡ reading_of t
+      → Some r ≡ reading_of t
   number_read r e h =
       let k = digits_all t j.bytes (sym tested_are ∙ e ∙ wanted_are) in
       ap₂ if_digits (sym k.0) (h ∙ ap packed_of (values_are ∙ k.1) ∙ packed_digits t l (digits_below t k.0))
 
 -- ---- the rules
 
-letters_most : (x k : ℕ) → k ≤ 49 → letters_of x * k ≤ 72340172838076673 * 49
-letters_most x k h =
-    mul-le-mul {n₁ = letters_of x} {m₁ = k} {n₂ = 72340172838076673} {m₂ = 49} (omega (arith, and_le_r x 0x4040404040404040)) h
-
-pub letters_fit : (x k : ℕ) → k ≤ 49 → Fits w64 (letters_of x * k)
-letters_fit x k h = record { fits = omega (arith, letters_most x k h) }
-
-pub units_fit : (x k : ℕ) → k ≤ 49 → Fits w64 (bit_and x 0x0f0f0f0f0f0f0f0f + letters_of x * k)
-units_fit x k h = record { fits = omega (arith, letters_most x k h, and_le_r x 0x0f0f0f0f0f0f0f0f) }
-
-pub raised_fit : (y m : ℕ) → m ≤ 0x0606060606060606 → Fits w64 (bit_and y 0x0f0f0f0f0f0f0f0f + m)
-raised_fit y m h = record { fits = omega (arith, and_le_r y 0x0f0f0f0f0f0f0f0f) }
-
-pub tested_fit : (x y m : ℕ) → m ≤ 0xf0f0f0f0f0f0f0f0 → Fits w64 (bit_and x m + bit_and y 0x1010101010101010 / 16)
-tested_fit x y m h = record { fits = omega (arith, and_le_r x m, and_le_r y 0x1010101010101010) }
-
-pub wanted_fit : (x m k : ℕ) → m ≤ 0x3030303030303030 → k ≤ 49 → Fits w64 (m + letters_of x * k)
-wanted_fit x m k h l = record { fits = omega (arith, letters_most x k l) }
-
-pub values_asked : (y : ℕ) → bit_and y 0x0f0f0f0f0f0f0f0f ≤ 1085102592571150095
-values_asked y = and_le_r y 0x0f0f0f0f0f0f0f0f
-
 part_length : (s : List ℕ) (at : ℕ) → at + 8 ≤ length s → length (take 8 (drop at s)) ≡ 8
 part_length s at h = length-take-le 8 (drop at s) (omega (arith, length-drop at s))
 
 pub word_other : (s : List ℕ) (at x : ℕ) → at + 8 ≤ length s → Joined (take 8 (drop at s)) x
-    → (bit_and x 0xf0f0f0f0f0f0f0f0 + tens_of x ≡ 0x3030303030303030 + letters_of x * 49 → ⊥) → Other ≡ reading_of (take 8 (drop at s))
+    → (bit_and x 0xf0f0f0f0f0f0f0f0 + tens_of x ≡ 0x3030303030303030 + letters_of x * 49 → ⊥) → None ≡ reading_of (take 8 (drop at s))
 word_other s at x h j n = other_read (part_length s at h) j n
 
 pub word_number : (s : List ℕ) (at x r : ℕ) → at + 8 ≤ length s → Joined (take 8 (drop at s)) x
     → bit_and x 0xf0f0f0f0f0f0f0f0 + tens_of x ≡ 0x3030303030303030 + letters_of x * 49 → r ≡ packed_of (values_of x)
-    → Number r ≡ reading_of (take 8 (drop at s))
+    → Some r ≡ reading_of (take 8 (drop at s))
 word_number s at x r h j e k = number_read (part_length s at h) j r e k
 
-pub ruleset joins = (four_joined, eight_joined)
-
-pub ruleset words = (letters_fit, units_fit, raised_fit, tested_fit, wanted_fit, values_asked, word_other, word_number)
-
-pub ruleset eights = (rules, joins, words)
+pub ruleset eights = (rules, eight_joined, word_other, word_number)

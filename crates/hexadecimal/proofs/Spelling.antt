@@ -20,7 +20,7 @@ use lib.Seq.{take-suc, take_all, split_at, length-take-le, get_or-take, get_or-d
 use lib.Seq.{take-take}
 use borrow.Author.Tests.{lt-ltb, le-ltb}
 use Rattle.hexadecimal.specs.Hexadecimal.{digit_of, all_digits, spelled, number_of, character_of, digits_of}
-use Rattle.hexadecimal.specs.declared.Reading.TheVariants.{Number, Other}
+use Rattle.std.specs.Prelude.{Some, None}
 use Rattle.hexadecimal.specs.Readings.{if_digits, reading_of}
 use Rattle.hexadecimal.specs.DigitLaws.{all_digits_append, number_snoc, number_below}
 use Rattle.hexadecimal.proofs.Values.{values, digit_low, digit_high, value_at, value_is}
@@ -77,20 +77,20 @@ pub spelled_none : (s : List ℕ) (at count : ℕ) → Spelled s at count 0 0
 spelled_none s at count = record { most = omega arith; is = spelling_none (take count (drop at s)) }
 
 module _ (s : List ℕ) (at count : ℕ) (fits : at + count ≤ length s) where
-  part_stop : (i v : ℕ) → i < count → v ≡ digit_of (get_or s (at + i) 0) → 15 < v → Other ≡ reading_of (take count (drop at s))
+  part_stop : (i v : ℕ) → i < count → v ≡ digit_of (get_or s (at + i) 0) → 15 < v → None ≡ reading_of (take count (drop at s))
   part_stop i v h e l =
       ap (λ (b : Bool). if_digits b (number_of (take count (drop at s))))
       (sym (spelling_stop (take count (drop at s)) i v (omega (arith, part_length s at count fits))
       (ap digit_of (part_at s at count i h) ∙ sym e) l))
 
-  pub stop_low : (i : ℕ) → i < count → get_or s (at + i) 0 < 48 → Other ≡ reading_of (take count (drop at s))
+  pub stop_low : (i : ℕ) → i < count → get_or s (at + i) 0 < 48 → None ≡ reading_of (take count (drop at s))
   stop_low i h l = part_stop i 16 h (digit_low (get_or s (at + i) 0) l) (omega arith)
 
-  pub stop_high : (i : ℕ) → i < count → 102 < get_or s (at + i) 0 → Other ≡ reading_of (take count (drop at s))
+  pub stop_high : (i : ℕ) → i < count → 102 < get_or s (at + i) 0 → None ≡ reading_of (take count (drop at s))
   stop_high i h l = part_stop i 16 h (digit_high (get_or s (at + i) 0) l) (omega arith)
 
   pub stop_between : (i : ℕ) → i < count → 48 ≤ get_or s (at + i) 0 → get_or s (at + i) 0 ≤ 102
-      → 15 < get_or values (get_or s (at + i) 0 - 48) 0 - 48 → Other ≡ reading_of (take count (drop at s))
+      → 15 < get_or values (get_or s (at + i) 0 - 48) 0 - 48 → None ≡ reading_of (take count (drop at s))
   stop_between i h l m k = part_stop i _ h (value_is (get_or s (at + i) 0) l m) k
 
   pub spelled_next : {i i' x x' : ℕ} → Spelled s at count i x → i < count → 48 ≤ get_or s (at + i) 0 → get_or s (at + i) 0 ≤ 102
@@ -103,7 +103,7 @@ module _ (s : List ℕ) (at count : ℕ) (fits : at + count ≤ length s) where
             (ap digit_of (part_at s at count i h) ∙ sym (value_is (get_or s (at + i) 0) l m)) (omega arith) p.is;
       })
 
-  pub spelled_end : {i x : ℕ} → Spelled s at count i x → count ≤ i → Number x ≡ reading_of (take count (drop at s))
+  pub spelled_end : {i x : ℕ} → Spelled s at count i x → count ≤ i → Some x ≡ reading_of (take count (drop at s))
   spelled_end p h =
       let e = spelling_end (omega (arith, part_length s at count fits)) p.is in
       ap₂ if_digits (sym e.0) (sym e.1)
@@ -169,10 +169,4 @@ writing_end {k} {x} {at} {i} {y} {w₀} {w} q h =
     sym (take-append-drop at w)
     ∙ ap₂ ◌++◌ (ap (λ (a : ℕ). take a w) (sym e) ∙ p.low ∙ ap (λ (a : ℕ). take a w₀) e) (ap (λ (a : ℕ). drop a w) (sym e) ∙ p.high)
 
-pub character_low : (x : ℕ) → x < 10 → 48 + x ≡ character_of x
-character_low x h = simp (lt-ltb x 10 h)
-
-pub character_high : (x : ℕ) → 10 ≤ x → 87 + x ≡ character_of x
-character_high x h = simp (le-ltb x 10 h)
-
-pub ruleset writes = (rules, writing_none, writing_next, writing_end, character_low, character_high)
+pub ruleset writes = (rules, writing_none, writing_next, writing_end)

@@ -1,8 +1,7 @@
 // Lower-case hexadecimal: from characters to numbers and back. What the contracts cite is in specs/Hexadecimal.antt and
 // specs/Readings.antt.
 //
-//   Reading      a number, or something else
-//   number       what characters spell
+//   number       what characters spell: a number, or nothing
 //   code         a character as a number
 //   four, eight  characters as one number
 //   packed       eight values as one number
@@ -41,15 +40,8 @@ const SIX: u64 = 0x0606060606060606;
 
 const OVER: u64 = 0x1010101010101010;
 
-// What characters come to: a number, or something else.
-#[derive(Clone, Copy)]
-pub enum Reading {
-    Number(u32),
-    Other,
-}
-
-// What the count characters of s from place `at` on spell: at most 8 digits, so that the number fits.
-pub fn number(s: &[u8], at: usize, count: usize) -> Reading
+// What the count characters of s from place `at` on spell, if they are digits: at most 8, so that the number fits.
+pub fn number(s: &[u8], at: usize, count: usize) -> Option<u32>
     requires { (at + count ≤ length s.now) × (count ≤ 8) }
     ensures { result ≡ reading_of (take count (drop at s.now)) }
 {
@@ -57,24 +49,22 @@ pub fn number(s: &[u8], at: usize, count: usize) -> Reading
     // between 9 and a would be a branch that is often foreseen wrongly.
     let values = b"0123456789@@@@@@@@@@@@@@@@@@@@@@@@@@@@@@@@@@@@@@@:;<=>?";
     let mut x: u32 = 0;
-    let mut i: usize = 0;
-    while i < count {
+    for i in 0..count {
         let c = s[at + i];
         if c < b'0' {
-            return Reading::Other;
+            return None;
         }
         if c > b'f' {
-            return Reading::Other;
+            return None;
         }
         let place = (c - b'0') as usize;
         let v = values[place] - b'0';
         if v > 15 {
-            return Reading::Other;
+            return None;
         }
         x = x * BASE + (v as u32);
-        i += 1;
     }
-    Reading::Number(x)
+    Some(x)
 }
 
 // The code of the character at place `at`.
@@ -113,10 +103,10 @@ fn packed(x: u64) -> u32
         + p / 0x1000000000000 % 0x100) as u32
 }
 
-// What the eight characters of s from place `at` on spell, all at once: a byte of `letters` is 1 where the character has the bit 64,
+// What the eight characters of s from place `at` on spell, if they are digits, all at once: a byte of `letters` is 1 where the character has the bit 64,
 // which letters have; a byte of `values` is the value if the character is a digit, and one of `tens` is 1 where that is 10 or more. A
 // character is a digit if its upper half is 3, or 6 for a letter, and its value is 10 or more for a letter alone: 49 is 3 * 16 + 1.
-pub fn word(s: &[u8], at: usize) -> Reading
+pub fn word(s: &[u8], at: usize) -> Option<u32>
     requires { at + 8 ≤ length s.now }
     ensures { result ≡ reading_of (take 8 (drop at s.now)) }
 {
@@ -125,9 +115,9 @@ pub fn word(s: &[u8], at: usize) -> Reading
     let values = ((x & LOWER) + letters * 9) & LOWER;
     let tens = ((values + SIX) & OVER) / 16;
     if (x & UPPER) + tens != DECIMAL + letters * 49 {
-        return Reading::Other;
+        return None;
     }
-    Reading::Number(packed(values))
+    Some(packed(values))
 }
 
 // The digit whose value is x.
@@ -147,9 +137,7 @@ pub fn write(out: &mut [u8], at: usize, count: usize, x: u32)
     ensures { out.new ≡ take at out.old ++ (digits_of count x ++ drop (at + count) out.old) }
 {
     let mut y = x;
-    let mut i = count;
-    while 0 < i {
-        i -= 1;
+    for i in (0..count).rev() {
         out[at + i] = character(y % BASE);
         y = y / BASE;
     }

@@ -1,11 +1,11 @@
 -- Newton's differences and Horner's rule in place: each pass, each term, and what they end with.
 --
---   Sweep, sweep_first, sweep_down, swept     a pass place by place, from b down
+--   Sweep, sweep_down         a pass place by place, from b down
 --   inverse_is                the code's inverse of k + 1 is the one of the passes
---   passes_first, passes_next, passes_last     before the first pass; one pass; after the last
---   grown_first, grown_down, grown_last        before the last term but one; one term more; after the last
+--   passes_next               one pass
+--   grown_first, grown_down   before the last term but one; one term more
 --   interpolated              after the last pass and the last term the words are the polynomial with the values
---   sweeps, passings, expansions, interpolations    the rules
+--   passings, expansions, interpolations    the rules
 --
 -- Letters: n is the modulus, m is n less 1; b is the last point, k a pass, i the inverse of k + 1; j a term; w are words.
 use mathlib.Core.Path.{◌≡◌, refl, sym, ◌∙◌, ap, ap₂, subst}
@@ -14,6 +14,7 @@ use Prim.Native.Nat.{ℕ, zero, suc, ◌<◌, ◌≤◌, ◌%◌, ◌^◌, ◌+�
 use native.Mathlib.Fin
 use native.Mathlib.Decide.{ℕ_discrete, dec_lt}
 use native.Mathlib.Nat.{mod-mod, mod-lt, mod-eq_of_lt, mul-one, zero-lt-suc}
+use native.Mathlib.Numerals.{add-one}
 use native.Mathlib.Omega.{arith}
 use mir.Syntax.{w32}
 use mir.Val.{Fits}
@@ -26,7 +27,7 @@ use Rattle.definitions.specs.Polynomials.{total}
 use Rattle.definitions.specs.Residues.{Inverse, IsUnit}
 use Rattle.law_algebra.specs.Evaluation.{ev, ev_cong}
 use Rattle.law_algebra.specs.Newton.{num, nest, nest_cong, nest_out, nest_step, grow, diff}
-use Rattle.law_algebra.specs.Newton.{Stage, stage_first, stage_next, stage_last, newton_values}
+use Rattle.law_algebra.specs.Newton.{Stage, stage_next, stage_last, newton_values}
 use Rattle.law_algebra.specs.Reduction.{reduce_hom}
 use Rattle.law_algebra.specs.Residues.{Res, toRes, Res_ring, mul_mod, mul_mod_r}
 use Rattle.law_algebra.specs.Ring.{neg_mul, mul_zero, add_zero, neg_zero}
@@ -34,7 +35,6 @@ use Rattle.law_numbers.specs.Divisors.{GcdCofactor, bezout_exists}
 use Rattle.law_numbers.specs.PrimeTable.{differences_above}
 use Rattle.law_numbers.specs.Units.{cofactor_inverse, inverse_unique, gcd_of_coprime, coprime_of_unit}
 use Rattle.law_polynomials.specs.BivariateLaws.{ev_total, num_is}
-use Rattle.modulus.proofs.Valuing.{ready_of}
 use Rattle.windows.specs.Window.{Moved, addMul}
 use Rattle.interpolation.specs.Interpolated.{Valued, Interpolated, Differenced}
 use Rattle.interpolation.specs.NewtonWords.{Row, Passes, Grown, cofactor_of}
@@ -48,16 +48,6 @@ pub record Sweep (n i k b s : ℕ) (w w' : List ℕ) : Type 0 where
   pub low : (j : ℕ) → j ≤ s → get_or w' j 0 ≡ get_or w j 0
   pub new : (j : ℕ) → s ≤ j → j < b → get_or w' (suc j) 0 ≡ (i * (get_or w (suc j) 0 + (n - get_or w j 0))) % n
   pub high : (j : ℕ) → b < j → get_or w' j 0 ≡ get_or w j 0
-
-pub sweep_first : (n i k b : ℕ) (w : List ℕ) → k ≤ b → Sweep n i k b b w w
-sweep_first n i k b w h = record {
-  least = h;
-  most = omega arith;
-  same = refl;
-  low = λ j l. refl;
-  new = λ j l h. absurd (omega arith);
-  high = λ j l. refl;
-}
 
 -- the word s + 1
 sweep_next : {n i k b s x v : ℕ} {w w' : List ℕ} → Sweep n i k b (suc s) w w' → k < suc s → b < length w
@@ -84,30 +74,12 @@ sweep_next {n} {i} {k} {b} {s} {x} {v} {w} {w'} h z r e f = record {
     go j p q (no z) = get_or-set_other w' (suc s) (suc j) v 0 (λ y. z (omega arith)) ∙ h.new j (omega arith) q
 
 -- the same, as the loop counts
-pub sweep_down : {n i k b x v : ℕ} {w w' w'' : List ℕ} (s : ℕ) → Sweep n i k b s w w' → k < s → Row n b w
-    → x ≡ (get_or w' s 0 + (n - get_or w' (s - 1) 0) * 1) % n → v ≡ (i * x) % n → w'' ≡ set w' s v → Sweep n i k b (s - 1) w w''
-sweep_down zero h z r e f ew = absurd (omega arith)
-sweep_down {n} {i} {k} {b} {x} {v} {w} {w'} (suc s) h z r e f ew =
-    subst (Sweep n i k b (suc s - 1) w) (sym ew) (subst (λ (t : ℕ). Sweep n i k b t w (set w' (suc s) v)) (sym back)
-    (sweep_next h z r.inside (e ∙ ap (λ (t : ℕ). (get_or w' (suc s) 0 + t) % n)
-    (mul-one (n - get_or w' (suc s - 1) 0) ∙ ap (λ (t : ℕ). n - get_or w' t 0) back)) f))
-  where
-    back : suc s - 1 ≡ s
-    back = omega arith
-
-pub swept : {n i k b s : ℕ} {w w' : List ℕ} → Sweep n i k b s w w' → s ≤ k → Differenced n i k b w w'
-swept h l = record {
-  same = h.same;
-  low = λ j q. h.low j (omega (arith, h.least));
-  new = λ j p q. h.new j (omega arith) q;
-  high = h.high;
-}
-
--- the word before the one that is changed is as it was
-pub sweep_below : {n i k b s : ℕ} {w w' : List ℕ} → Sweep n i k b s w w' → Row n b w → get_or w' (s - 1) 0 ≤ n
-sweep_below {s = s} h r = omega (arith, h.low (s - 1) (omega arith), r.below (s - 1) (omega (arith, h.most)))
-
-pub ruleset sweeps = (rules, sweep_first, sweep_down, swept, sweep_below)
+pub sweep_down : {n i k b s x v : ℕ} {w w' w'' : List ℕ} (t : ℕ) → Sweep n i k b s w w' → k < s → s ≡ suc t → Row n b w
+    → x ≡ (get_or w' (t + 1) 0 + (n - get_or w' t 0) * 1) % n → v ≡ (i * x) % n → w'' ≡ set w' (t + 1) v → Sweep n i k b t w w''
+sweep_down {n} {i} {k} {b} {s} {x} {v} {w} {w'} t h z es r e f ew =
+    subst (Sweep n i k b t w) (sym ew) (subst (λ (y : ℕ). Sweep n i k b t w (set w' y v)) (sym (add-one t))
+    (sweep_next (subst (λ (y : ℕ). Sweep n i k b y w w') es h) (omega arith) r.inside
+    (e ∙ ap₂ (λ (y u : ℕ). (get_or w' y 0 + u) % n) (add-one t) (mul-one (n - get_or w' t 0))) f))
 
 -- ---- the passes
 
@@ -121,14 +93,6 @@ inverse_is {n} {k} {g} {s} {m} l u c e =
 
 pub valued_row : {n b : ℕ} {w : List ℕ} → Valued n b w → Row n b w
 valued_row v = record { one = omega (arith, v.two); inside = v.inside; below = v.below }
-
-pub passes_first : {n b : ℕ} {w : List ℕ} → Valued n b w → Passes n b 0 w w
-passes_first {n} {b} {w} v = record {
-  same = refl;
-  row = valued_row v;
-  high = λ i l. refl;
-  held = λ m e. stage_first (Res_ring m) b _ _ _ (λ i l. refl);
-}
 
 -- the difference of two words, times i, in the ring
 taken : (m i x y : ℕ) → y < suc m → toRes m ((i * (x + (suc m - y))) % suc m)
@@ -175,17 +139,11 @@ passes_next {n} {b} {k} {g} {s} {w} {w'} {w''} v h l c d = record {
         ((Res_ring m).add (toRes m (get_or w' (suc i) 0)) ((Res_ring m).neg (toRes m (get_or w' i 0)))))
         (inverse_is v.two unit (subst (λ (x : ℕ). GcdCofactor n x g s) more c) e)
 
-pub passes_last : {n b k : ℕ} {w w' : List ℕ} → Passes n b k w w' → k ≤ b → b ≤ k → Passes n b b w w'
-passes_last {n} {b} {k} {w} {w'} h p q = subst (λ (x : ℕ). Passes n b x w w') (omega arith) h
-
 -- the numbers up to b + 1 are words
 pub point_fits : {n b k : ℕ} {w : List ℕ} (j : ℕ) → Valued n b w → Fits w32 n → k < b → T (leb j 2) → Fits w32 (k + j)
 point_fits j v f l t = record { fits = omega (arith, differences_above v.two v.apart, f.fits, leb→le j 2 t) }
 
-pub valued_one : {n b : ℕ} {w : List ℕ} → Valued n b w → 1 ≤ n
-valued_one v = omega (arith, v.two)
-
-pub ruleset passings = (rules, passes_first, passes_next, passes_last, point_fits, valued_one)
+pub ruleset passings = (rules, passes_next, point_fits)
 
 -- ---- the terms
 
@@ -302,17 +260,7 @@ grown_down {n} {b} {w} {w'} {w''} (suc j) h z l small v =
     back : suc j - 1 ≡ j
     back = omega arith
 
-pub grown_last : {n b j : ℕ} {w w' : List ℕ} → Grown n b j w w' → j ≤ 0 → Grown n b 0 w w'
-grown_last {n} {b} {j} {w} {w'} h l = subst (λ (x : ℕ). Grown n b x w w') (omega arith) h
-
-module _ {n b j : ℕ} {w w' : List ℕ} (h : Grown n b j w w') (l : j ≤ b) (z : 0 < j) where
-  pub source_fits : j - 1 + 1 + (b - (j - 1)) ≤ length w'
-  source_fits = omega (arith, h.row.inside)
-
-  pub target_fits : j - 1 + (b - (j - 1)) ≤ length w'
-  target_fits = omega (arith, h.row.inside)
-
-pub ruleset expansions = (rules, grown_first, grown_down, grown_last, source_fits, target_fits, ready_of)
+pub ruleset expansions = (rules, grown_first, grown_down)
 
 -- ---- the end
 

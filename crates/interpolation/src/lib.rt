@@ -24,11 +24,9 @@ fn pass(w: &mut [u32], m: Modulus, k: usize, b: usize, i: u32)
     ensures { Differenced m.n i k b w.old w.new }
 {
     let n = m.n;
-    let mut s = b;
-    while k < s {
-        let x = modulus::multiply_add(m, w[s], n - w[s - 1], 1);
-        w[s] = modulus::multiply(m, i, x);
-        s -= 1;
+    for s in (k..b).rev() {
+        let x = modulus::multiply_add(m, w[s + 1], n - w[s], 1);
+        w[s + 1] = modulus::multiply(m, i, x);
     }
 }
 
@@ -37,11 +35,9 @@ fn differences(w: &mut [u32], m: Modulus, b: usize)
     requires { (Known m) × Valued m.n b w.old }
     ensures { Passes m.n b b w.old w.new }
 {
-    let mut k: usize = 0;
-    while k < b {
+    for k in 0..b {
         let x = bezout::cofactor(m.n, (k + 1) as u32);
         pass(w, m, k, b, x.s);
-        k += 1;
     }
 }
 
@@ -57,9 +53,7 @@ fn expand(w: &mut [u32], m: Modulus, b: usize)
         v: m.v,
         c: m.c as u64,
     };
-    let mut j = b;
-    while 0 < j {
-        j -= 1;
+    for j in (0..b).rev() {
         windows::add_scaled(w, n, r, n - (j as u32), j + 1, j, b - j);
     }
 }

@@ -6,11 +6,12 @@
 
 ghost use Rattle.std.specs.Prelude.{◌≡◌, not, cond, false, [], ◌∷◌, eqb, length, replicate};
 ghost use Rattle.definitions.specs.Polynomials.{InverseOf};
+ghost use Rattle.refusals.specs.Refusal.{status_of};
 ghost use Rattle.refusals.specs.Refusals.{narrow, short, first_refusal};
 ghost use Rattle.inverse_service.specs.InverseStages.{InverseAsked};
 ghost use Rattle.inverse_service.specs.InverseService.{InverseAnswer};
 
-use refusals::Answer;
+use refusals::{Answer, Refusal};
 
 // The inverse of the unit polynomial f, the inverse of whose constant is i, in the K d + 1 words of out.
 fn inverse_words(n: u32, f: &[u32], i: u32, out: &mut [u32], work: &mut [u32])
@@ -28,22 +29,17 @@ fn inverse_words(n: u32, f: &[u32], i: u32, out: &mut [u32], work: &mut [u32])
 
 // The refusals 5, 6 and 7 of an inverse: g is what the leading coefficient, at t, has in common with n; the buffers have lo and l
 // words, and the result needs m.
-fn refusal_inverse(g: u32, t: usize, lo: usize, m: usize, l: usize) -> u32
-    ensures { result ≡ first_refusal ((5, not (cond (eqb g 1) (eqb t 0) false)) ∷ (6, short lo m) ∷ (7, short l 8192) ∷ []) }
+fn refusal_inverse(g: u32, t: usize, lo: usize, m: usize, l: usize) -> Result<(), Refusal>
+    ensures { status_of result ≡ first_refusal ((5, not (cond (eqb g 1) (eqb t 0) false)) ∷ (6, short lo m) ∷ (7, short l 8192) ∷ []) }
 {
     if g != 1 {
-        return 5;
+        return Err(Refusal::NoUnitFactor);
     }
     if t != 0 {
-        return 5;
+        return Err(Refusal::NoUnitFactor);
     }
-    if lo < m {
-        return 6;
-    }
-    if l < refusals::WORKING_WORDS {
-        return 7;
-    }
-    0
+    refusals::room(lo, m, Refusal::ShortResult)?;
+    refusals::room(l, refusals::WORKING_WORDS, Refusal::ShortWork)
 }
 
 // S16: "Unit polynomial: constant a unit, all other coefficients nilpotent. Its inverse fits in K times d, plus 1, words."
@@ -51,23 +47,15 @@ pub fn inverse(n: u32, f: &[u32], out: &mut [u32], work: &mut [u32]) -> Answer
     ensures { InverseAnswer narrow n f.now out.old out.new work.old work.new
         result.value result.status }
 {
-    let s = refusals::refusal_one(n, f);
-    if s != 0 {
-        return Answer {
-            value: 0,
-            status: s,
-        };
+    if let Err(refusal) = refusals::refusal_one(n, f) {
+        return Answer::from(refusal);
     }
     let t = unit_monic_service::leading_place(n, f);
     let e = bezout::cofactor(n, f[t]);
     let m = residue::modulus_of(n);
     let l = (m.k as usize) * (f.len() - 1) + 1;
-    let r = refusal_inverse(e.g, t, out.len(), l, work.len());
-    if r != 0 {
-        return Answer {
-            value: 0,
-            status: r,
-        };
+    if let Err(refusal) = refusal_inverse(e.g, t, out.len(), l, work.len()) {
+        return Answer::from(refusal);
     }
     inverse_words(n, f, e.s, &mut out[0..l], work);
     Answer {

@@ -11,7 +11,6 @@ use native.Mathlib.Omega.{arith}
 use lib.ListN.{length, get_or}
 use Rattle.law_numbers.specs.Congruence.{Cong, c_refl, c_trans, c_eq, c_mod, c_add, c_mul}
 use Rattle.windows.specs.Window.{Clear, Apart, Below, PairAsked, Paired, Moved, Written, addMul, mulBy, behind}
-use Rattle.windows.proofs.WindowRounds.{power_told}
 use Rattle.window_combining.specs.Combined.{combination}
 use Rattle.montgomery.specs.Held.{plain}
 use Rattle.montgomery.specs.Decoding.{plain_none}
@@ -61,8 +60,4 @@ module _ (m : Modulus) (known : Known m) (held : m.held ≡ 0 → ⊥) {src dst 
 pub clear_of : {n e src dst len : ℕ} {w : List ℕ} → PairAsked n e src dst len w → Clear src dst len
 clear_of a = record { ok = λ i j p q h. a.apart.ok i j q (omega arith) h }
 
-pub none_most : (n : ℕ) → 0 ≤ n
-none_most n = omega arith
-
--- `additions` at the returns and the calls; the rest are `needs`
-pub ruleset additions = (tt, refl, le_of_lt, none_most, power_told, formed_of, ready_of, clear_of, paired_held, moved_held, scaled_entered)
+pub ruleset additions = (clear_of, paired_held, moved_held, scaled_entered)

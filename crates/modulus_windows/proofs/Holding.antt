@@ -8,10 +8,11 @@ use mathlib.Core.List.{List}
 use Prim.Native.Nat.{ℕ, ◌+◌, ◌*◌, ◌%◌, ◌≤◌, ◌<◌}
 use native.Mathlib.Nat.{mod-eq_of_lt}
 use native.Mathlib.Omega.{arith}
+use borrow.Author.Rules.{rules}
 use lib.ListN.{length, get_or, set}
 use Rattle.windows.specs.Window.{Below, Clear, mulBy}
-use Rattle.windows.proofs.WindowRounds.{Moving, moving_by, writing_end, leaves}
-use Rattle.window_combining.proofs.Steps.{Combining, before_below, source_below, target_below, combinations}
+use Rattle.windows.proofs.WindowRounds.{Moving, moving_by}
+use Rattle.window_combining.proofs.Steps.{Combining, before_below, source_below, target_below}
 use Rattle.montgomery.specs.Held.{plain, Formed}
 use Rattle.montgomery.specs.Decoding.{plain_below, plain_mul}
 use Rattle.montgomery.specs.declared.Form.{Form}
@@ -30,6 +31,6 @@ module _ (form : Form) (f : Formed form) {src dst len j : ℕ} {w₀ w : List �
   pub before_held : {l c e y : ℕ} → Combining form.n l c e src dst len w₀ w j y → Below form.n src len w₀ → y < form.n
   before_held p b = before_below p b (omega (arith, f.fits.least))
 
-pub ruleset holding = (leaves, writing_end, combinations, scaling_held)
+pub ruleset holding = (rules, scaling_held)
 
 pub ruleset residues = (before_held, source_below, target_below)

@@ -48,13 +48,11 @@ pub fn combine_pair_held(
     ensures { Written (combination form.n (plain form.n l) (plain form.n c) (plain form.n e) src dst w.old)
         dst len w.old w.new }
 {
-    let mut j: usize = 0;
     let mut y: u32 = 0;
-    while j < len {
+    for j in 0..len {
         let z = w[src + j];
         w[dst + j] = montgomery::sum_three(form, l, w[dst + j], c, y, e, z);
         y = z;
-        j += 1;
     }
 }
 
@@ -65,10 +63,8 @@ pub fn scale_held(w: &mut [u32], form: Form, c: u32, src: usize, dst: usize, len
     requires clear { Clear src dst len }
     ensures { Moved (mulBy form.n (plain form.n c)) src dst len w.old w.new }
 {
-    let mut j: usize = 0;
-    while j < len {
+    for j in 0..len {
         w[dst + j] = montgomery::product(form, c, w[src + j]);
-        j += 1;
     }
 }
 
@@ -105,10 +101,8 @@ pub fn load_held(w: &mut [u32], at: usize, f: &[u32], form: Form)
     ensures { Written (λ (k : ℕ). held form.n (get_or f.now k 0)) at (length f.now)
         w.old w.new }
 {
-    let mut j: usize = 0;
-    while j < f.len() {
-        w[at + j] = montgomery::enter(form, f[j]);
-        j += 1;
+    for (j, &x) in f.iter().enumerate() {
+        w[at + j] = montgomery::enter(form, x);
     }
 }
 

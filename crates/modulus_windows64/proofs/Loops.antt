@@ -9,7 +9,7 @@ use Prim.Native.Nat.{ℕ, ◌+◌, ◌-◌, ◌*◌, ◌%◌, ◌≤◌, ◌<◌
 use lib.ListN.{length, get_or, set}
 use borrow.Author.Rules.{rules}
 use Rattle.windows.specs.Window.{Clear, Written, Moved, mulBy, Loaded}
-use Rattle.windows.proofs.WindowRounds.{Moving, moving_none, moving_by, moving_end}
+use Rattle.windows.proofs.WindowRounds.{Moving, moving_by}
 use Rattle.window_combining.specs.Combined.{combination}
 use Rattle.modulus.specs.Values.{value, values}
 use Rattle.modulus_windows.specs.LoopPromises.{Wrote, Scaled, Entered}
@@ -48,4 +48,4 @@ pub scaling : {n c src dst len j j' : ℕ} {w₀ w w' : List ℕ} (c' f r : ℕ)
     → Moving (mulBy n c) src dst len w₀ w' j'
 scaling c' f r m free fit l i er ew ej = moving_by m free fit l _ _ r _ er refl ew (times_multiplier _ i refl) ej
 
-pub ruleset loops = (rules, wrote, wrote_one, scaled, entered, clear_of, scaling, moving_none, moving_end)
+pub ruleset loops = (rules, wrote, wrote_one, scaled, entered, clear_of, scaling)

@@ -99,9 +99,7 @@ pub fn set_scaled(w: &mut [u64], m: Reciprocal, c: u64, src: usize, dst: usize, 
     ensures { Moved (mulBy m.n c) src dst len w.old w.new }
 {
     let f = multipliers64::multiplier_of(m, c);
-    let mut j: usize = 0;
-    while j < len {
+    for j in 0..len {
         w[dst + j] = multipliers64::times(m, f, w[src + j]);
-        j += 1;
     }
 }

@@ -43,7 +43,7 @@ words_of e = ap (λ (z : List ℕ). coef z) e
 -- ---- what the word loop asks
 
 -- with the places and the degrees as equations
-module _ {m : Modulus} {h : ℕ} {x : Logged} {r : Found} {w : List ℕ} (k : LiftAsked m h x r w) where
+module _ {m : Modulus} {h : ℕ} {x : Logged ℕ} {r : Found ℕ} {w : List ℕ} (k : LiftAsked m h x r w) where
   pub exchange_apart : {u v e : ℕ} → r.u ≡ u → r.v ≡ v → x.e ≡ e → Apart u e v e
   exchange_apart hu hv he = rw (← hu, ← hv, ← he) (record { ok = λ i j p q g. k.held.apart.ok i j (omega arith) (omega arith) g })
 
@@ -99,7 +99,7 @@ less_times n a b c pos la e = c_cancel (a * b) pos (c_trans left (c_sym (c_trans
     sums : (a' : ℕ) → a' + a ≡ n → b * a' + a * b ≡ b * n
     sums a' g = omega (arith, ap (λ (z : ℕ). b * z) g)
 
-module _ {m : Modulus} {h : ℕ} {x : Logged} {r : Found} {w : List ℕ} (sound : Sound m) (k : LiftAsked m h x r w) where
+module _ {m : Modulus} {h : ℕ} {x : Logged ℕ} {r : Found ℕ} {w : List ℕ} (sound : Sound m) (k : LiftAsked m h x r w) where
   size : length (values m w) ≡ length w
   size = values_length m w
 

@@ -26,7 +26,7 @@ use montgomery::Form;
 use reduction::Reciprocal;
 
 // The constant of degree 0 is 1 times itself.
-pub fn bottom(w: &mut [u32], m: Modulus, h: usize, e: usize) -> Found
+pub fn bottom(w: &mut [u32], m: Modulus, h: usize, e: usize) -> Found<u32>
     requires known { (Known m) × (2 ≤ m.n) }
     requires e_lt_h { (e < h) × (h + h ≤ length w.old) }
     ensures { Ended m h e w.old result w.new }
@@ -97,7 +97,7 @@ fn combine_back(
 }
 
 // beta goes to the place of gamma: f times it, and g times beta as it was.
-fn exchange(w: &mut [u32], m: Modulus, h: usize, x: Logged, r: Found) -> Found
+fn exchange(w: &mut [u32], m: Modulus, h: usize, x: Logged<u32>, r: Found<u32>) -> Found<u32>
     requires known { (Known m) × (2 ≤ m.n) }
     requires lift_asked { (LiftAsked m h x r w.old) × (x.swap ≡ true) }
     ensures { Lifted m h x r w.old result w.new }
@@ -117,7 +117,7 @@ fn exchange(w: &mut [u32], m: Modulus, h: usize, x: Logged, r: Found) -> Found
 }
 
 // beta loses k times gamma, e - d places higher.
-fn raise(w: &mut [u32], m: Modulus, h: usize, x: Logged, r: Found) -> Found
+fn raise(w: &mut [u32], m: Modulus, h: usize, x: Logged<u32>, r: Found<u32>) -> Found<u32>
     requires known { (Known m) × (2 ≤ m.n) }
     requires lift_asked { (LiftAsked m h x r w.old) × (x.swap ≡ false) }
     ensures { Lifted m h x r w.old result w.new }
@@ -134,7 +134,7 @@ fn raise(w: &mut [u32], m: Modulus, h: usize, x: Logged, r: Found) -> Found
 }
 
 // A step backwards.
-pub fn lift(w: &mut [u32], m: Modulus, h: usize, x: Logged, r: Found) -> Found
+pub fn lift(w: &mut [u32], m: Modulus, h: usize, x: Logged<u32>, r: Found<u32>) -> Found<u32>
     requires known { (Known m) × (2 ≤ m.n) }
     requires lift_asked { LiftAsked m h x r w.old }
     ensures { Lifted m h x r w.old result w.new }

@@ -13,16 +13,17 @@
 
 ghost use Rattle.std.specs.Prelude.{◌≡◌, true, false, ◌+◌, ◌<◌, ◌≤◌, length};
 ghost use Rattle.reduction64.specs.Moduli.{Ready};
-ghost use Rattle.euclid_steps64.specs.Backs.{Ended, LiftAsked, Lifted};
+ghost use Rattle.euclid_steps.specs.Backs.{Ended, LiftAsked, Lifted};
+ghost use Rattle.modulus64.specs.Plain.{plain};
 
-use euclid_steps64::{Found, Logged};
+use euclid_steps::{Found, Logged};
 use reduction64::Reciprocal;
 
 // The constant of degree 0 is 1 times itself.
-pub fn bottom(w: &mut [u64], m: Reciprocal, h: usize, e: usize) -> Found
+pub fn bottom(w: &mut [u64], m: Reciprocal, h: usize, e: usize) -> Found<u64>
     requires ready { (Ready m) × (2 ≤ m.n) }
     requires e_lt_h { (e < h) × (h + h ≤ length w.old) }
-    ensures { Ended m h e w.old result w.new }
+    ensures { Ended (plain m) h e w.old result w.new }
 {
     let one = modulus64::enter(m, 1);
     windows64::clear(w, 0, h + h);
@@ -37,10 +38,10 @@ pub fn bottom(w: &mut [u64], m: Reciprocal, h: usize, e: usize) -> Found
 }
 
 // beta goes to the place of gamma: f times it, and g times beta as it was.
-fn exchange(w: &mut [u64], m: Reciprocal, h: usize, x: Logged, r: Found) -> Found
+fn exchange(w: &mut [u64], m: Reciprocal, h: usize, x: Logged<u64>, r: Found<u64>) -> Found<u64>
     requires ready { (Ready m) × (2 ≤ m.n) }
-    requires lift_asked { (LiftAsked m h x r w.old) × (x.swap ≡ true) }
-    ensures { Lifted m h x r w.old result w.new }
+    requires lift_asked { (LiftAsked (plain m) h x r w.old) × (x.swap ≡ true) }
+    ensures { Lifted (plain m) h x r w.old result w.new }
 {
     let u = r.u;
     let v = r.v;
@@ -57,10 +58,10 @@ fn exchange(w: &mut [u64], m: Reciprocal, h: usize, x: Logged, r: Found) -> Foun
 }
 
 // beta loses k times gamma, e - d places higher.
-fn raise(w: &mut [u64], m: Reciprocal, h: usize, x: Logged, r: Found) -> Found
+fn raise(w: &mut [u64], m: Reciprocal, h: usize, x: Logged<u64>, r: Found<u64>) -> Found<u64>
     requires ready { (Ready m) × (2 ≤ m.n) }
-    requires lift_asked { (LiftAsked m h x r w.old) × (x.swap ≡ false) }
-    ensures { Lifted m h x r w.old result w.new }
+    requires lift_asked { (LiftAsked (plain m) h x r w.old) × (x.swap ≡ false) }
+    ensures { Lifted (plain m) h x r w.old result w.new }
 {
     let u = r.u;
     let v = r.v;
@@ -74,10 +75,10 @@ fn raise(w: &mut [u64], m: Reciprocal, h: usize, x: Logged, r: Found) -> Found
 }
 
 // A step backwards.
-pub fn lift(w: &mut [u64], m: Reciprocal, h: usize, x: Logged, r: Found) -> Found
+pub fn lift(w: &mut [u64], m: Reciprocal, h: usize, x: Logged<u64>, r: Found<u64>) -> Found<u64>
     requires ready { (Ready m) × (2 ≤ m.n) }
-    requires lift_asked { LiftAsked m h x r w.old }
-    ensures { Lifted m h x r w.old result w.new }
+    requires lift_asked { LiftAsked (plain m) h x r w.old }
+    ensures { Lifted (plain m) h x r w.old result w.new }
 {
     if x.swap {
         return exchange(w, m, h, x, r);

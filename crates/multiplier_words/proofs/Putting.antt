@@ -2,10 +2,10 @@
 --
 --   Putting     j words are written, and zeros stand above
 --   puts        the rules
-use mathlib.Core.Path.{◌≡◌, refl, sym, ap, subst, ◌∙◌}
+use mathlib.Core.Path.{◌≡◌, sym, ap, subst, ◌∙◌}
 use mathlib.Core.List.{List}
 use mathlib.Core.Logic.{⊎_elim}
-use Prim.Native.Nat.{ℕ, zero, suc, ◌+◌, ◌-◌, ◌*◌, ◌%◌, ◌≤◌, ◌<◌}
+use Prim.Native.Nat.{ℕ, ◌+◌, ◌-◌, ◌*◌, ◌%◌, ◌≤◌, ◌<◌}
 use native.Mathlib.Omega.{arith}
 use native.Mathlib.Nat.{mul-zero, mul_comm, zero-mod}
 use lib.ListN.{length, get_or, set, replicate, length-set, length-replicate}
@@ -13,14 +13,13 @@ use lib.Seq.{get_or-set_same, get_or-set_other}
 use borrow.Author.Rules.{rules}
 use Rattle.definitions.specs.Polynomials.{coef}
 use Rattle.law_numbers.specs.Congruence.{c_refl, c_eq, c_trans, c_mod, c_mul}
-use Rattle.convolution.specs.Sums.{zeros_at}
-use Rattle.windows.specs.Window.{piece, Below}
+use Rattle.windows.specs.Window.{piece}
 use Rattle.windows.proofs.Leaf.{lt_or_le, piece_at, piece_over}
 use Rattle.modulus.specs.declared.Modulus.{Modulus}
 use Rattle.modulus.specs.Values.{value, values}
 use Rattle.euclid_steps.specs.Plain.{Sound, known_sound, plain_sound, values_at}
 use Rattle.euclid_steps.specs.declared.Ending.{Ending}
-use Rattle.multiplier_words.specs.Words.{Put, HandAsked, Handed}
+use Rattle.multiplier_words.specs.Words.{Put, Handed}
 
 pub record Putting (n c at len : ℕ) (w u₀ u : List ℕ) (j : ℕ) : Type 0 where
   pub most : j ≤ len
@@ -28,15 +27,6 @@ pub record Putting (n c at len : ℕ) (w u₀ u : List ℕ) (j : ℕ) : Type 0 w
   pub same : length u ≡ length u₀
   pub low : (k : ℕ) → k < j → get_or u k 0 ≡ (c * get_or w (at + k) 0) % n
   pub high : (k : ℕ) → j ≤ k → get_or u k 0 ≡ 0
-
-pub putting_none : {n c at len : ℕ} {w u : List ℕ} (x : List ℕ) → u ≡ replicate (length x) 0 → len ≤ length x → Putting n c at len w u u 0
-putting_none {len = len} {u = u} x e l = record {
-  most = omega arith;
-  room = omega (arith, l, ap length e, length-replicate {A = ℕ} (length x) 0);
-  same = refl;
-  low = λ k l. absurd (omega arith);
-  high = λ k l. ap (λ (y : List ℕ). get_or y k 0) e ∙ zeros_at (length x) k;
-}
 
 pub putting_next : {n c at len j j' : ℕ} {w u₀ u u' : List ℕ} {x : ℕ} → Putting n c at len w u₀ u j → j < len
     → x ≡ (c * get_or w (at + j) 0) % n → u' ≡ set u j x → j' ≡ j + 1 → Putting n c at len w u₀ u' j'
@@ -59,13 +49,6 @@ pub putting_times : {m : Modulus} {n c at len j j' : ℕ} (w : List ℕ) {u₀ u
 putting_times {m} {n} {c} {at} {len} {j} {j'} w k p l e eu ej = putting_next p l
     (e ∙ ap (λ (y : ℕ). y % n) (mul_comm (value m (get_or w (at + j) 0)) c ∙ ap (λ (y : ℕ). c * y) (sym (values_at m k w (at + j))))) eu ej
 
-pub putting_room : {n c at len j : ℕ} {w u₀ u : List ℕ} → Putting n c at len w u₀ u j → j < len → j < length u
-putting_room p l = omega (arith, p.room, p.same)
-
-pub putting_length : {n c at len j : ℕ} {w u₀ u : List ℕ} (x : List ℕ) → u₀ ≡ replicate (length x) 0 → Putting n c at len w u₀ u j
-    → length u ≡ length x
-putting_length x e p = p.same ∙ ap length e ∙ length-replicate (length x) 0
-
 pub putting_end : {n c at len j : ℕ} {w u₀ u : List ℕ} (x : List ℕ) → u₀ ≡ replicate (length x) 0 → Putting n c at len w u₀ u j → len ≤ j
     → Put n c at len w x u
 putting_end {n} {c} {at} {len} {j} {w} {u₀} {u} x h p e = record {
@@ -76,9 +59,6 @@ putting_end {n} {c} {at} {len} {j} {w} {u₀} {u} x h p e = record {
       (lt_or_le k len);
 }
 
-pub word_fits : {n at len j : ℕ} {w : List ℕ} → Below n at len w → j < len → get_or w (at + j) 0 ≤ n
-word_fits {j = j} b l = omega (arith, b.at j l)
-
 -- ---- both multipliers
 
 put_times : {n y at len : ℕ} {w v v' : List ℕ} (z K : ℕ) → y ≡ (K * z) % n → Put n y at len w v v' → Put n (z * K) at len w v v'
@@ -88,7 +68,7 @@ put_times {n} {y} {at} {len} {w} z K e p = record {
       ∙ (c_mul (c_trans (c_eq e) (c_trans (c_mod (K * z)) (c_eq (mul_comm K z)))) (c_refl {a = coef (piece w at len) k})).same;
 }
 
-pub handed_out : {m : Modulus} {r : Ending} {y z a b : ℕ} {w u v u' v' : List ℕ} → (y < m.n) × (y ≡ (value m r.k * z) % m.n)
+pub handed_out : {m : Modulus} {r : Ending ℕ} {y z a b : ℕ} {w u v u' v' : List ℕ} → (y < m.n) × (y ≡ (value m r.k * z) % m.n)
     → Put m.n z r.u a (values m w) u u' → Put m.n y r.v b (values m w) v v' → Handed m r z a b w u v u' v'
 handed_out {m} {r} {y} {z} e p q = record { first = p; second = put_times z (value m r.k) e.1 q }
 
@@ -96,12 +76,7 @@ pub ruleset puts = (
   rules,
   known_sound,
   plain_sound,
-  putting_none,
-  putting_next,
   putting_times,
-  putting_room,
-  putting_length,
   putting_end,
-  word_fits,
   handed_out,
 )

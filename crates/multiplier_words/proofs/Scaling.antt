@@ -54,7 +54,7 @@ put_all n c at l h w u u' le ends p k =
     same (inl q) = piece_at w at l k q ∙ sym (piece_at w at h k (omega arith))
     same (inr q) = piece_over w at l k q ∙ sym (ends k q)
 
-pub handed_combination : {m : Modulus} {f g : List ℕ} {r : Ending} {z a b x : ℕ} {w u v u' v' : List ℕ} → 1 ≤ m.n → Multiplied m f g r w
+pub handed_combination : {m : Modulus} {f g : List ℕ} {r : Ending ℕ} {z a b x : ℕ} {w u v u' v' : List ℕ} → 1 ≤ m.n → Multiplied m f g r w
     → Handed m r z a b w u v u' v' → a ≤ length g → b ≤ length g → ((j : ℕ) → a ≤ j → polynomial m w r.u (length g) j ≡ 0)
     → ((j : ℕ) → b ≤ j → polynomial m w r.v (length g) j ≡ 0) → x % m.n ≡ (z * value m r.c) % m.n
     → Combination m.n f g u' v' x

@@ -16,7 +16,7 @@ pub record Put (n c at len : ℕ) (w u u' : List ℕ) : Type 0 where
   pub same : length u' ≡ length u
   pub words : (k : ℕ) → coef u' k ≡ (c * coef (piece w at len) k) % n
 
-pub record HandAsked (m : Modulus) (r : Ending) (a b : ℕ) (w u v : List ℕ) : Type 0 where
+pub record HandAsked (m : Modulus) (r : Ending ℕ) (a b : ℕ) (w u v : List ℕ) : Type 0 where
   pub known : Known m
   pub factor : r.k ≤ m.n
   pub inside_u : r.u + a ≤ length w
@@ -27,6 +27,6 @@ pub record HandAsked (m : Modulus) (r : Ending) (a b : ℕ) (w u v : List ℕ) :
   pub room_v : b ≤ length v
 
 -- k is the factor that gamma is held without
-pub record Handed (m : Modulus) (r : Ending) (z a b : ℕ) (w u v u' v' : List ℕ) : Type 0 where
+pub record Handed (m : Modulus) (r : Ending ℕ) (z a b : ℕ) (w u v u' v' : List ℕ) : Type 0 where
   pub first : Put m.n z r.u a (values m w) u u'
   pub second : Put m.n (z * value m r.k) r.v b (values m w) v v'

@@ -24,10 +24,8 @@ fn put(u: &mut [u32], w: &[u32], m: Modulus, c: u32, at: usize, len: usize)
     ensures { Put m.n c at len (values m w.now) u.old u.new }
 {
     windows::wipe(u);
-    let mut j: usize = 0;
-    while j < len {
+    for j in 0..len {
         u[j] = modulus::times(m, w[at + j], c);
-        j += 1;
     }
 }
 
@@ -37,7 +35,7 @@ pub fn hand_out(
     v: &mut [u32],
     w: &[u32],
     m: Modulus,
-    r: Ending,
+    r: Ending<u32>,
     z: u32,
     a: usize,
     b: usize,

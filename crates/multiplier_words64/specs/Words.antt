@@ -8,10 +8,9 @@ use Rattle.multiplier_words.specs.Words as narrow
 use Rattle.reduction64.specs.declared.Reciprocal.{Reciprocal}
 use Rattle.reduction64.specs.Moduli.{Ready}
 use Rattle.modulus64.specs.Plain.{plain}
-use Rattle.euclid_steps64.specs.declared.Ending.{Ending}
-use Rattle.euclid_steps64.specs.EuclidStages.{ending_of}
+use Rattle.euclid_steps.specs.declared.Ending.{Ending}
 
-pub record HandAsked (m : Reciprocal) (r : Ending) (a b : ℕ) (w u v : List ℕ) : Type 0 where
+pub record HandAsked (m : Reciprocal) (r : Ending ℕ) (a b : ℕ) (w u v : List ℕ) : Type 0 where
   pub known : Ready m
   pub factor : r.k ≤ m.n
   pub inside_u : r.u + a ≤ length w
@@ -21,5 +20,5 @@ pub record HandAsked (m : Reciprocal) (r : Ending) (a b : ℕ) (w u v : List ℕ
   pub room_u : a ≤ length u
   pub room_v : b ≤ length v
 
-abbrev pub Handed : Reciprocal → Ending → ℕ → ℕ → ℕ → List ℕ → List ℕ → List ℕ → List ℕ → List ℕ → Type 0
-Handed m r z a b w u v u' v' = narrow.Handed (plain m) (ending_of r) z a b w u v u' v'
+abbrev pub Handed : Reciprocal → Ending ℕ → ℕ → ℕ → ℕ → List ℕ → List ℕ → List ℕ → List ℕ → List ℕ → Type 0
+Handed m r z a b w u v u' v' = narrow.Handed (plain m) r z a b w u v u' v'

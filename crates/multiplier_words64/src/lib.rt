@@ -17,7 +17,7 @@ ghost use Rattle.reduction64.specs.Moduli.{Ready};
 ghost use Rattle.modulus64.specs.Plain.{plain};
 ghost use Rattle.multiplier_words64.specs.Words.{HandAsked, Handed};
 
-use euclid_steps64::Ending;
+use euclid_steps::Ending;
 use reduction64::Reciprocal;
 
 // u[j] is c times what w[at + j] stands for, for j < len, and 0 above.
@@ -27,10 +27,8 @@ fn put(u: &mut [u64], w: &[u64], m: Reciprocal, c: u64, at: usize, len: usize)
     ensures { Put m.n c at len (values (plain m) w.now) u.old u.new }
 {
     windows64::wipe(u);
-    let mut j: usize = 0;
-    while j < len {
+    for j in 0..len {
         u[j] = modulus64::times(m, w[at + j], c);
-        j += 1;
     }
 }
 
@@ -40,7 +38,7 @@ pub fn hand_out(
     v: &mut [u64],
     w: &[u64],
     m: Reciprocal,
-    r: Ending,
+    r: Ending<u64>,
     z: u64,
     a: usize,
     b: usize,

@@ -6,71 +6,58 @@
 #![tactic(auto)]
 
 ghost use Rattle.std.specs.Prelude.{◌≡◌};
+ghost use Rattle.refusals.specs.Refusal.{status_of};
 ghost use Rattle.refusals.specs.Refusals.{narrow, first_refusal};
 ghost use Rattle.product_law_refusals.specs.LawRefusals.{law_sizes, law_words, law_sent, law_room};
 
-fn sizes_refusal(n: u32, f: &[u32], g: &[u32], h: &[u32]) -> u32
-    ensures { result ≡ first_refusal (law_sizes narrow n f.now g.now h.now) }
+use refusals::Refusal;
+
+fn sizes_refusal(n: u32, f: &[u32], g: &[u32], h: &[u32]) -> Result<(), Refusal>
+    ensures { status_of result ≡ first_refusal (law_sizes narrow n f.now g.now h.now) }
 {
     if refusals::bad_modulus(n) {
-        return 1;
+        return Err(Refusal::BadModulus);
     }
-    if refusals::bad_length(f) {
-        return 2;
-    }
-    if refusals::bad_length(g) {
-        return 2;
-    }
+    refusals::refusal_lengths(f, g)?;
     if refusals::MAX_DEGREE < (f.len() - 1) + (g.len() - 1) {
-        return 2;
+        return Err(Refusal::BadLength);
     }
     if refusals::bad_length(h) {
-        return 2;
+        return Err(Refusal::BadLength);
     }
-    0
+    Ok(())
 }
 
-fn words_refusal(n: u32, f: &[u32], g: &[u32], h: &[u32]) -> u32
-    ensures { result ≡ first_refusal (law_words n f.now g.now h.now) }
+fn words_refusal(n: u32, f: &[u32], g: &[u32], h: &[u32]) -> Result<(), Refusal>
+    ensures { status_of result ≡ first_refusal (law_words n f.now g.now h.now) }
 {
-    if !refusals::all_below(n, f) {
-        return 3;
+    if !refusals::all_below(n, f) || !refusals::all_below(n, g) || !refusals::all_below(n, h) {
+        return Err(Refusal::BadWord);
     }
-    if !refusals::all_below(n, g) {
-        return 3;
-    }
-    if !refusals::all_below(n, h) {
-        return 3;
-    }
-    0
+    Ok(())
 }
 
-// The refusals 1, 2 and 3 of n, f, g and h, or 0.
-pub fn sent_refusal(n: u32, f: &[u32], g: &[u32], h: &[u32]) -> u32
-    ensures { result ≡ first_refusal (law_sent narrow n f.now g.now h.now) }
+// The refusals 1, 2 and 3 of n, f, g and h.
+pub fn sent_refusal(n: u32, f: &[u32], g: &[u32], h: &[u32]) -> Result<(), Refusal>
+    ensures { status_of result ≡ first_refusal (law_sent narrow n f.now g.now h.now) }
 {
-    let sizes = sizes_refusal(n, f, g, h);
-    if sizes != 0 {
-        return sizes;
-    }
+    sizes_refusal(n, f, g, h)?;
     words_refusal(n, f, g, h)
 }
 
 // The buffers have lp, lu, lv and lw words; the product needs m, and a cofactor l.
-pub fn room_refusal(lp: usize, m: usize, lu: usize, lv: usize, l: usize, lw: usize) -> u32
-    ensures { result ≡ first_refusal (law_room narrow lp m lu lv l lw) }
+pub fn room_refusal(
+    lp: usize,
+    m: usize,
+    lu: usize,
+    lv: usize,
+    l: usize,
+    lw: usize,
+) -> Result<(), Refusal>
+    ensures { status_of result ≡ first_refusal (law_room narrow lp m lu lv l lw) }
 {
-    if lp < m {
-        return 6;
-    }
-    if lu < l {
-        return 6;
-    }
-    if lv < l {
-        return 6;
-    }
-    if lw < refusals::WORKING_WORDS {
-        return 7;
-    }
-    0
+    refusals::room(lp, m, Refusal::ShortResult)?;
+    refusals::room(lu, l, Refusal::ShortResult)?;
+    refusals::room(lv, l, Refusal::ShortResult)?;
+    refusals::room(lw, refusals::WORKING_WORDS, Refusal::ShortWork)
 }

@@ -9,15 +9,18 @@
 #![tactic(auto)]
 
 ghost use Rattle.std.specs.Prelude.{◌≡◌};
+ghost use Rattle.refusals.specs.Refusal.{status_of};
 ghost use Rattle.refusals.specs.Refusals.{narrow, first_refusal};
 ghost use Rattle.product_law_service.specs.HowFar.{HowFarAnswer};
 ghost use Rattle.product_law_service.specs.LawService.{law_refusals, FactorNumbers, LawAnswer};
 
-// The resultant, the reduced resultant D as `divisor`, and 0 or the number of the refusal.
+use refusals::Refusal;
+
+// The resultant, the reduced resultant D as `divisor`, in words of any width, and 0 or the number of the refusal.
 #[derive(Clone, Copy)]
-pub struct Differing {
-    pub resultant: u32,
-    pub divisor: u32,
+pub struct Differing<W> {
+    pub resultant: W,
+    pub divisor: W,
     pub status: u32,
 }
 
@@ -30,7 +33,7 @@ pub fn how_far(
     u: &mut [u32],
     v: &mut [u32],
     work: &mut [u32],
-) -> Differing
+) -> Differing<u32>
     ensures { HowFarAnswer narrow n f.now g.now u.old u.new v.old
         v.new work.old work.new result.resultant result.divisor result.status }
 {
@@ -52,43 +55,40 @@ pub fn how_far(
 
 // The resultants r, rf, rg of the product, of f and of g with h, their reduced resultants d, df, dg, and 0 or the number of the refusal.
 #[derive(Clone, Copy)]
-pub struct Numbers {
-    pub r: u32,
-    pub rf: u32,
-    pub rg: u32,
-    pub d: u32,
-    pub df: u32,
-    pub dg: u32,
+pub struct Numbers<W> {
+    pub r: W,
+    pub rf: W,
+    pub rg: W,
+    pub d: W,
+    pub df: W,
+    pub dg: W,
     pub status: u32,
 }
 
 // The resultants and the reduced resultants of f and of g, each with h.
 #[derive(Clone, Copy)]
-struct Factors {
-    rf: u32,
-    rg: u32,
-    df: u32,
-    dg: u32,
+pub struct Factors<W> {
+    pub rf: W,
+    pub rg: W,
+    pub df: W,
+    pub dg: W,
 }
 
 // The lengths of the buffers: of the product, of the two cofactors, and of the working words.
 #[derive(Clone, Copy)]
-struct Room {
-    product: usize,
-    first: usize,
-    second: usize,
-    work: usize,
+pub struct Room {
+    pub product: usize,
+    pub first: usize,
+    pub second: usize,
+    pub work: usize,
 }
 
-// The first refusal that applies to one of the seven calls, or 0.
-fn refusal(n: u32, f: &[u32], g: &[u32], h: &[u32], room: Room) -> u32
-    ensures { result ≡ first_refusal (law_refusals narrow n f.now g.now h.now
+// The first refusal that applies to one of the seven calls.
+fn refusal(n: u32, f: &[u32], g: &[u32], h: &[u32], room: Room) -> Result<(), Refusal>
+    ensures { status_of result ≡ first_refusal (law_refusals narrow n f.now g.now h.now
         room.product room.first room.second room.work) }
 {
-    let sent = product_law_refusals::sent_refusal(n, f, g, h);
-    if sent != 0 {
-        return sent;
-    }
+    product_law_refusals::sent_refusal(n, f, g, h)?;
     let m = (f.len() - 1) + (g.len() - 1) + 1;
     let l = reduced::cofactor_length(n, m, h.len());
     product_law_refusals::room_refusal(room.product, m, room.first, room.second, l, room.work)
@@ -103,7 +103,7 @@ fn factor_numbers(
     u: &mut [u32],
     v: &mut [u32],
     work: &mut [u32],
-) -> Factors
+) -> Factors<u32>
     ensures { FactorNumbers narrow n f.now g.now h.now u.old u.new
         v.old v.new work.old work.new result.rf result.rg result.df result.dg }
 {
@@ -127,7 +127,7 @@ pub fn law_of_products(
     u: &mut [u32],
     v: &mut [u32],
     work: &mut [u32],
-) -> Numbers
+) -> Numbers<u32>
     ensures { LawAnswer narrow n f.now g.now h.now p.old p.new
         u.old u.new v.old v.new work.old work.new
         result.r result.rf result.rg result.d result.df result.dg result.status }
@@ -138,8 +138,7 @@ pub fn law_of_products(
         second: v.len(),
         work: work.len(),
     };
-    let status = refusal(n, f, g, h, room);
-    if status != 0 {
+    if let Err(refusal) = refusal(n, f, g, h, room) {
         return Numbers {
             r: 0,
             rf: 0,
@@ -147,7 +146,7 @@ pub fn law_of_products(
             d: 0,
             df: 0,
             dg: 0,
-            status,
+            status: refusal.number(),
         };
     }
     let m = (f.len() - 1) + (g.len() - 1) + 1;

@@ -8,18 +8,14 @@
 #![tactic(auto)]
 
 ghost use Rattle.std.specs.Prelude.{◌≡◌};
+ghost use Rattle.refusals.specs.Refusal.{status_of};
 ghost use Rattle.refusals.specs.Refusals.{first_refusal};
 ghost use Rattle.refusals64.specs.Wide.{wide};
 ghost use Rattle.product_law_service.specs.HowFar.{HowFarAnswer};
 ghost use Rattle.product_law_service.specs.LawService.{law_refusals, FactorNumbers, LawAnswer};
 
-// The resultant, the reduced resultant D as `divisor`, and 0 or the number of the refusal.
-#[derive(Clone, Copy)]
-pub struct Differing {
-    pub resultant: u64,
-    pub divisor: u64,
-    pub status: u32,
-}
+use product_law_service::{Differing, Factors, Numbers, Room};
+use refusals::Refusal;
 
 // Both numbers of f and g; u and v take the cofactors of D. "When the top word of f is a unit, D divides the resultant, and
 // gcd(resultant, n) divides the d-th power of D"; so for g.
@@ -30,7 +26,7 @@ pub fn how_far(
     u: &mut [u64],
     v: &mut [u64],
     work: &mut [u64],
-) -> Differing
+) -> Differing<u64>
     ensures { HowFarAnswer wide n f.now g.now u.old u.new v.old
         v.new work.old work.new result.resultant result.divisor result.status }
 {
@@ -50,45 +46,12 @@ pub fn how_far(
     }
 }
 
-// The resultants r, rf, rg of the product, of f and of g with h, their reduced resultants d, df, dg, and 0 or the number of the refusal.
-#[derive(Clone, Copy)]
-pub struct Numbers {
-    pub r: u64,
-    pub rf: u64,
-    pub rg: u64,
-    pub d: u64,
-    pub df: u64,
-    pub dg: u64,
-    pub status: u32,
-}
-
-// The resultants and the reduced resultants of f and of g, each with h.
-#[derive(Clone, Copy)]
-struct Factors {
-    rf: u64,
-    rg: u64,
-    df: u64,
-    dg: u64,
-}
-
-// The lengths of the buffers: of the product, of the two cofactors, and of the working words.
-#[derive(Clone, Copy)]
-struct Room {
-    product: usize,
-    first: usize,
-    second: usize,
-    work: usize,
-}
-
-// The first refusal that applies to one of the seven calls, or 0.
-fn refusal(n: u64, f: &[u64], g: &[u64], h: &[u64], room: Room) -> u32
-    ensures { result ≡ first_refusal (law_refusals wide n f.now g.now h.now
+// The first refusal that applies to one of the seven calls.
+fn refusal(n: u64, f: &[u64], g: &[u64], h: &[u64], room: Room) -> Result<(), Refusal>
+    ensures { status_of result ≡ first_refusal (law_refusals wide n f.now g.now h.now
         room.product room.first room.second room.work) }
 {
-    let sent = product_law_refusals64::sent_refusal(n, f, g, h);
-    if sent != 0 {
-        return sent;
-    }
+    product_law_refusals64::sent_refusal(n, f, g, h)?;
     let m = (f.len() - 1) + (g.len() - 1) + 1;
     let l = reduced64::cofactor_length(n, m, h.len());
     product_law_refusals64::room_refusal(room.product, m, room.first, room.second, l, room.work)
@@ -103,7 +66,7 @@ fn factor_numbers(
     u: &mut [u64],
     v: &mut [u64],
     work: &mut [u64],
-) -> Factors
+) -> Factors<u64>
     ensures { FactorNumbers wide n f.now g.now h.now u.old u.new
         v.old v.new work.old work.new result.rf result.rg result.df result.dg }
 {
@@ -127,7 +90,7 @@ pub fn law_of_products(
     u: &mut [u64],
     v: &mut [u64],
     work: &mut [u64],
-) -> Numbers
+) -> Numbers<u64>
     ensures { LawAnswer wide n f.now g.now h.now p.old p.new
         u.old u.new v.old v.new work.old work.new
         result.r result.rf result.rg result.d result.df result.dg result.status }
@@ -138,8 +101,7 @@ pub fn law_of_products(
         second: v.len(),
         work: work.len(),
     };
-    let status = refusal(n, f, g, h, room);
-    if status != 0 {
+    if let Err(refusal) = refusal(n, f, g, h, room) {
         return Numbers {
             r: 0,
             rf: 0,
@@ -147,7 +109,7 @@ pub fn law_of_products(
             d: 0,
             df: 0,
             dg: 0,
-            status,
+            status: refusal.number(),
         };
     }
     let m = (f.len() - 1) + (g.len() - 1) + 1;

@@ -16,12 +16,8 @@ pub fn product_word(n: u32, f: &[u32], g: &[u32], out: &mut [u32], k: usize) -> 
         result.value result.status }
 {
     let l = out.len();
-    let s = product_service::refusal_product(n, f, g, l);
-    if s != 0 {
-        return Answer {
-            value: 0,
-            status: s,
-        };
+    if let Err(refusal) = product_service::refusal_product(n, f, g, l) {
+        return Answer::from(refusal);
     }
     let m = (f.len() - 1) + (g.len() - 1) + 1;
     if m <= k {

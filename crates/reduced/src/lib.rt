@@ -16,7 +16,6 @@ ghost use Rattle.reduced_cofactors.specs.Cofactors.{Certified};
 ghost use Rattle.reduced.specs.Runs.{MixedWords, SaveAsked, Saved, MergeAsked, Merged, RunAsked, FactorsAsked, SecondAsked};
 
 use modulus::Modulus;
-use residue::Attempt;
 
 // u[j] = a * s[j] + b * u[j]; s ends before u does, or with it. The test of a residue against n fails always: it keeps the back end
 // from vector code, which has no upper half of a product.
@@ -26,14 +25,12 @@ fn mix(u: &mut [u32], s: &[u32], m: Modulus, a: u32, b: u32)
 {
     let z = u.len();
     modulus_windows::set_scaled(u, m, b, 0, 0, z);
-    let mut j: usize = 0;
-    while j < s.len() {
+    for j in 0..s.len() {
         let r = modulus::multiply_add(m, u[j], a, s[j]);
         if r >= m.n {
             return;
         }
         u[j] = r;
-        j += 1;
     }
 }
 
@@ -84,8 +81,8 @@ pub fn run(u: &mut [u32], v: &mut [u32], w: &mut [u32], n: u32, f: &[u32], g: &[
 {
     let m = modulus::modulus_of(n);
     match reduced_quick::attempt(u, v, w, m, f, g) {
-        Attempt::Value(d) => d,
-        Attempt::Splits(p, q) => by_factors(u, v, w, p, q, f, g),
+        Ok(d) => d,
+        Err(s) => by_factors(u, v, w, s.p, s.q, f, g),
     }
 }
 

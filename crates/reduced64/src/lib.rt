@@ -11,11 +11,10 @@ ghost use Rattle.std.specs.Prelude.{◌≡◌, ◌+◌, ◌-◌, ◌*◌, ◌<�
 ghost use Rattle.definitions.specs.Polynomials.{L};
 ghost use Rattle.windows.specs.Window.{Scratch};
 ghost use Rattle.reduction64.specs.Moduli.{Ready};
-ghost use Rattle.reduced_cofactors64.specs.Cofactors.{Certified};
+ghost use Rattle.reduced_cofactors.specs.Cofactors.{Certified};
 ghost use Rattle.reduced.specs.Runs.{MixedWords, SaveAsked, Saved, MergeAsked, Merged, RunAsked, FactorsAsked, SecondAsked};
 
 use reduction64::Reciprocal;
-use residue64::Attempt;
 
 // u[j] = a * s[j] + b * u[j]; s ends before u does, or with it. The test of a residue against n fails always: it keeps the back end
 // from vector code, which has no upper half of a product.
@@ -25,14 +24,12 @@ fn mix(u: &mut [u64], s: &[u64], m: Reciprocal, a: u64, b: u64)
 {
     let z = u.len();
     modulus_windows64::set_scaled(u, m, b, 0, 0, z);
-    let mut j: usize = 0;
-    while j < s.len() {
+    for j in 0..s.len() {
         let r = reduction64::add_product(m, u[j], a, s[j]);
         if r >= m.n {
             return;
         }
         u[j] = r;
-        j += 1;
     }
 }
 
@@ -83,8 +80,8 @@ pub fn run(u: &mut [u64], v: &mut [u64], w: &mut [u64], n: u64, f: &[u64], g: &[
 {
     let m = reduction64::modulus_of(n);
     match reduced_quick64::attempt(u, v, w, m, f, g) {
-        Attempt::Value(d) => d,
-        Attempt::Splits(p, q) => by_factors(u, v, w, p, q, f, g),
+        Ok(d) => d,
+        Err(s) => by_factors(u, v, w, s.p, s.q, f, g),
     }
 }
 

@@ -1,4 +1,4 @@
--- The answers of the enums of this width, taken apart by the arm that the code is in.
+-- The answers, taken apart by the arm that the code is in.
 --
 --   lead_at, factors_at, nilpotents_at       of the highest coefficient that is not nilpotent
 --   value_at, splits_at, over_told           of the core
@@ -11,9 +11,9 @@ use mathlib.Core.List.{List}
 use Prim.Native.Nat.{ℕ, ◌+◌, ◌-◌, ◌*◌, ◌/◌, ◌<◌}
 use lib.ListN.{length}
 use borrow.Rule.Slice.PartMut.{mid_of}
+use Rattle.std.specs.Prelude.{Result, Ok, Err}
 use Rattle.definitions.specs.Polynomials.{L}
-use Rattle.residue.specs.declared.Attempt.{Attempt}
-use Rattle.residue.specs.declared.Attempt.TheVariants.{Value, Splits}
+use Rattle.residue.specs.declared.Split.{Split}
 use Rattle.residue.specs.declared.Kind.{Kind}
 use Rattle.residue.specs.declared.Kind.TheVariants.{Unit as UnitKind, Nilpotent as NilpotentKind, Splits as SplitsKind}
 use Rattle.residue.specs.Kinds.{KindOf}
@@ -33,8 +33,8 @@ use Rattle.reduced_attempt.proofs.Whole.{later_asked, parted, other_told}
 use Rattle.reduced_attempt.proofs.Rules.{attempt}
 
 -- over the content: the highest coefficient that is not nilpotent
-module _ (n d e : ℕ) (w : List ℕ) (h : Highest) where
-  abbrev told : Highest → Type 0
+module _ (n d e : ℕ) (w : List ℕ) (h : Highest ℕ) where
+  abbrev told : Highest ℕ → Type 0
   told h = HighestOf n (mid_of (e + 1) (e + 1 + (d + 1) - (e + 1)) w) h
 
   pub lead_at : (t i : ℕ) (x y : List ℕ) → h ≡ UnitAt' t i → told h → OverAsked n d e x y w → CoreAsked n d e t i w x y
@@ -47,21 +47,21 @@ module _ (n d e : ℕ) (w : List ℕ) (h : Highest) where
   nilpotents_at x y q z = (over_nilpotents d e w (subst told q z), (refl, refl))
 
 -- the core
-module _ (n d e : ℕ) (w x y x₁ y₁ : List ℕ) (s : Attempt) where
-  pub value_at : (D : ℕ) → s ≡ Value D → CoreAnswer n d e w x y x₁ y₁ s → OverAttempted n d e w x y x₁ y₁ (Found D)
+module _ (n d e : ℕ) (w x y x₁ y₁ : List ℕ) (s : Result ℕ (Split ℕ)) where
+  pub value_at : (D : ℕ) → s ≡ Ok D → CoreAnswer n d e w x y x₁ y₁ s → OverAttempted n d e w x y x₁ y₁ (Found D)
   value_at D q = subst (CoreAnswer n d e w x y x₁ y₁) q
 
-  pub splits_at : (p q : ℕ) → s ≡ Splits p q → CoreAnswer n d e w x y x₁ y₁ s → OverAttempted n d e w x y x₁ y₁ (Divisors p q)
-  splits_at p q r = subst (CoreAnswer n d e w x y x₁ y₁) r
+  pub splits_at : (o : Split ℕ) → s ≡ Err o → CoreAnswer n d e w x y x₁ y₁ s → OverAttempted n d e w x y x₁ y₁ (Divisors o.p o.q)
+  splits_at o r = subst (CoreAnswer n d e w x y x₁ y₁) r
 
 -- the modulus has a record of its own
-pub over_told : (n ν d e : ℕ) (w x y x₁ y₁ : List ℕ) (z : HalfAttempt) → OverAttempted ν d e w x y x₁ y₁ z → ν ≡ n
+pub over_told : (n ν d e : ℕ) (w x y x₁ y₁ : List ℕ) (z : HalfAttempt ℕ) → OverAttempted ν d e w x y x₁ y₁ z → ν ≡ n
     → OverAttempted n d e w x y x₁ y₁ z
 over_told n ν d e w x y x₁ y₁ z o h = subst (λ (v : ℕ). OverAttempted v d e w x y x₁ y₁ z) h o
 
 -- what it comes to over the content
-module _ (n c r : ℕ) (a b x y w x₁ y₁ : List ℕ) (z : HalfAttempt) where
-  abbrev over : HalfAttempt → Type 0
+module _ (n c r : ℕ) (a b x y w x₁ y₁ : List ℕ) (z : HalfAttempt ℕ) where
+  abbrev over : HalfAttempt ℕ → Type 0
   over z = OverAttempted (n / c) (length a - 1) (length b - 1) w x y x₁ y₁ z
 
   pub over_word : (D m : ℕ) → z ≡ Found D → ScaledAsked n c r a b x y w → over z → n < m → c * D < m
@@ -80,17 +80,17 @@ module _ (n c r : ℕ) (a b x y w x₁ y₁ : List ℕ) (z : HalfAttempt) where
   pub over_none : z ≡ Nilpotent → ScaledAsked n c r a b x y w → over z → HalfAttempted n c a b x y x₁ y₁ Nilpotent
   over_none e s o = let k = subst over e o in (nilpotents_told s.half s.words k.0, k.1)
 
-module _ (n c : ℕ) (a b x y x' y' : List ℕ) (t : HalfAttempt) where
+module _ (n c : ℕ) (a b x y x' y' : List ℕ) (t : HalfAttempt ℕ) where
   pub found_at : (D : ℕ) → t ≡ Found D → HalfAttempted n c a b x y x' y' t → Certified n (L n (length a - 1) (length b - 1)) a b x' y' D
   found_at D e = subst (HalfAttempted n c a b x y x' y') e
 
   pub divisors_at : (p q : ℕ) → t ≡ Divisors p q → HalfAttempted n c a b x y x' y' t → Splitter n p q
   divisors_at p q e z = (subst (HalfAttempted n c a b x y x' y') e z).0
 
-  pub parted_at : (p q : ℕ) (r : Attempt) → t ≡ Divisors p q → HalfAttempted n c a b x y x' y' t → Parted n r → Attempted n a b x y x' y' r
+  pub parted_at : (p q : ℕ) (r : Result ℕ (Split ℕ)) → t ≡ Divisors p q → HalfAttempted n c a b x y x' y' t → Parted n r → Attempted n a b x y x' y' r
   parted_at p q r e z v = let k = (subst (HalfAttempted n c a b x y x' y') e z).1 in parted n a b x y x' y' r k.0 k.1 v
 
-  pub parted_from : (p q : ℕ) (r : Attempt) → t ≡ Divisors p q → HalfAttempted n c a b x y x' y' t → Parted n r
+  pub parted_from : (p q : ℕ) (r : Result ℕ (Split ℕ)) → t ≡ Divisors p q → HalfAttempted n c a b x y x' y' t → Parted n r
       → Attempted n b a y x y' x' r
   parted_from p q r e z v = let k = (subst (HalfAttempted n c a b x y x' y') e z).1 in parted n b a y x y' x' r k.1 k.0 v
 
@@ -101,11 +101,11 @@ module _ (n c : ℕ) (a b x y x' y' : List ℕ) (t : HalfAttempt) where
       → OtherAsked n c a b x' y' w'
   later_at w w' e z h sw = let k = subst (HalfAttempted n c a b x y x' y') e z in later_asked h k.1.0 k.1.1 sw k.0
 
-  pub other_at : (u v : List ℕ) (r : Attempt) → t ≡ Nilpotent → HalfAttempted n c a b x y x' y' t → Attempted n a b x' y' u v r
+  pub other_at : (u v : List ℕ) (r : Result ℕ (Split ℕ)) → t ≡ Nilpotent → HalfAttempted n c a b x y x' y' t → Attempted n a b x' y' u v r
       → Attempted n a b x y u v r
   other_at u v r e z q = let k = (subst (HalfAttempted n c a b x y x' y') e z).1 in other_told n a b x y x' y' u v r k.0 k.1 q
 
-module _ (n p : ℕ) (k : Kind) where
+module _ (n p : ℕ) (k : Kind ℕ) where
   pub unit_never : (q i : ℕ) → k ≡ UnitKind i → KindOf n p k → Splitter n p q → ⊥
   unit_never q i e x s = split_unit s (subst (KindOf n p) e x)
 

@@ -10,6 +10,7 @@ use Prim.Native.Nat.{ℕ, suc, max, ◌+◌, ◌-◌, ◌*◌, ◌%◌, ◌≤�
 use native.Mathlib.Omega.{arith}
 use native.Mathlib.Nat.{mod-mod, mod-one, mul-one, mul-le-mul_left, mod-eq-zero_of_dvd, mul-mod_right, max_comm}
 use lib.ListN.{length, replicate}
+use Rattle.std.specs.Prelude.{Result, Ok, Err}
 use Rattle.definitions.specs.Residues.{K}
 use Rattle.definitions.specs.Polynomials.{coef, L}
 use Rattle.definitions.specs.Resultants.{Combination, Reduced}
@@ -18,8 +19,7 @@ use Rattle.law_polynomials.specs.ReducedLaws.{reduced_content, reduced_one, redu
 use Rattle.law_multipliers.specs.Joining.{combination_content, combination_flip}
 use Rattle.reduced_cofactors.specs.Cofactors.{Certified, core_room}
 use Rattle.convolution.specs.Sums.{zeros_at}
-use Rattle.residue.specs.declared.Attempt.{Attempt}
-use Rattle.residue.specs.declared.Attempt.TheVariants.{Value, Splits}
+use Rattle.residue.specs.declared.Split.{Split}
 use Rattle.windows.specs.Window.{Scratch}
 use Rattle.reduced_attempt.specs.ReducedAttempts.{CommonContent, NilpotentOver, HalfAsked, HalvesAsked, OtherAsked, Parted}
 use Rattle.reduced_attempt.specs.ReducedAttempts.{attempt_room, AttemptAsked, Attempted}
@@ -124,11 +124,11 @@ later_asked hs eu ev sw x = record {
 
 -- ---- what the halves say of the attempt
 
-pub parted : (n : ℕ) (f g u v u' v' : List ℕ) (r : Attempt) → u' ≡ u → v' ≡ v → Parted n r → Attempted n f g u v u' v' r
-parted n f g u v u' v' (Value D) hu hv x = absurd x
-parted n f g u v u' v' (Splits p q) hu hv x = (x, (hu, hv))
+pub parted : (n : ℕ) (f g u v u' v' : List ℕ) (r : Result ℕ (Split ℕ)) → u' ≡ u → v' ≡ v → Parted n r → Attempted n f g u v u' v' r
+parted n f g u v u' v' (Ok D) hu hv x = absurd x
+parted n f g u v u' v' (Err p) hu hv x = (x, (hu, hv))
 
-pub other_told : (n : ℕ) (f g u v u₁ v₁ u' v' : List ℕ) (r : Attempt) → u₁ ≡ u → v₁ ≡ v → Attempted n f g u₁ v₁ u' v' r
+pub other_told : (n : ℕ) (f g u v u₁ v₁ u' v' : List ℕ) (r : Result ℕ (Split ℕ)) → u₁ ≡ u → v₁ ≡ v → Attempted n f g u₁ v₁ u' v' r
     → Attempted n f g u v u' v' r
 other_told n f g u v u₁ v₁ u' v' r hu hv x =
     subst (λ (y : List ℕ). Attempted n f g u y u' v' r) hv (subst (λ (y : List ℕ). Attempted n f g y v₁ u' v' r) hu x)

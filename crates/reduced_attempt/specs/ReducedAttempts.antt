@@ -13,15 +13,14 @@
 --   AttemptAsked           what an attempt asks
 --   Attempted              what it promises: D with cofactors, or n as a product of two coprime factors
 --   attempt_room n M       the words that an attempt needs, M the larger sent degree
-use Rattle.std.specs.Prelude.{◌≡◌, List, ℕ, max, ◌+◌, ◌-◌, ◌*◌, ◌/◌, ◌%◌, ◌<◌, ◌≤◌, length, get_or}
+use Rattle.std.specs.Prelude.{◌≡◌, Result, Ok, Err, List, ℕ, max, ◌+◌, ◌-◌, ◌*◌, ◌/◌, ◌%◌, ◌<◌, ◌≤◌, length, get_or}
 use Rattle.std.specs.Int.{◌∣◌}
 use Rattle.definitions.specs.Residues.{K, IsUnit, IsNilpotent}
 use Rattle.definitions.specs.Polynomials.{coef, L}
 use Rattle.windows.specs.Window.{piece, Below}
 use Rattle.window_factor.specs.Factors.{SplitOf, AllNilpotents}
 use Rattle.reduced_units.specs.States.{Splitter}
-use Rattle.residue.specs.declared.Attempt.{Attempt}
-use Rattle.residue.specs.declared.Attempt.TheVariants.{Value, Splits}
+use Rattle.residue.specs.declared.Split.{Split}
 use Rattle.reduced_cofactors.specs.Cofactors.{core_room, CoreLengthsAsked, Certified, CoreCertified}
 use Rattle.reduced_attempt.specs.declared.HalfAttempt.{HalfAttempt}
 use Rattle.reduced_attempt.specs.declared.HalfAttempt.TheVariants.{Found, Divisors, Nilpotent}
@@ -95,7 +94,7 @@ pub record ScaledAsked (n c r : ℕ) (a b x y w : List ℕ) : Type 0 where
 
 -- D with cofactors x' and y'; two coprime divisors of n; or no coefficient of a is more than nilpotent. In the last two, the buffers x
 -- and y are left as found.
-abbrev pub HalfAttempted : ℕ → ℕ → List ℕ → List ℕ → List ℕ → List ℕ → List ℕ → List ℕ → HalfAttempt → Type 0
+abbrev pub HalfAttempted : ℕ → ℕ → List ℕ → List ℕ → List ℕ → List ℕ → List ℕ → List ℕ → HalfAttempt ℕ → Type 0
 HalfAttempted n c a b x y x' y' (Found D) = Certified n (L n (length a - 1) (length b - 1)) a b x' y' D
 HalfAttempted n c a b x y x' y' (Divisors p q) = Splitter n p q × ((x' ≡ x) × (y' ≡ y))
 HalfAttempted n c a b x y x' y' Nilpotent = NilpotentOver n c a × ((x' ≡ x) × (y' ≡ y))
@@ -107,15 +106,15 @@ pub record OverAsked (n d e : ℕ) (x y w : List ℕ) : Type 0 where
   pub first : Below n (e + 1) (d + 1) w
 
 -- the same three answers of these words
-abbrev pub OverAttempted : ℕ → ℕ → ℕ → List ℕ → List ℕ → List ℕ → List ℕ → List ℕ → HalfAttempt → Type 0
+abbrev pub OverAttempted : ℕ → ℕ → ℕ → List ℕ → List ℕ → List ℕ → List ℕ → List ℕ → HalfAttempt ℕ → Type 0
 OverAttempted n d e w x y x' y' (Found D) = CoreCertified n d e w x' y' D
 OverAttempted n d e w x y x' y' (Divisors p q) = Splitter n p q × ((x' ≡ x) × (y' ≡ y))
 OverAttempted n d e w x y x' y' Nilpotent = AllNilpotents n (piece w (e + 1) (d + 1)) × ((x' ≡ x) × (y' ≡ y))
 
 -- n is a product of two coprime factors
-abbrev pub Parted : ℕ → Attempt → Type 0
-Parted n (Value D) = ⊥
-Parted n (Splits p q) = SplitOf n p q
+abbrev pub Parted : ℕ → Result ℕ (Split ℕ) → Type 0
+Parted n (Ok D) = ⊥
+Parted n (Err s) = SplitOf n s.p s.q
 
 -- the words that an attempt needs
 abbrev pub attempt_room : ℕ → ℕ → ℕ
@@ -131,6 +130,6 @@ pub record AttemptAsked (n : ℕ) (f g u v w : List ℕ) : Type 0 where
   pub second : L n (length f - 1) (length g - 1) ≤ length v
 
 -- D with its cofactors u' and v' in the buffers u and v; or, "At a splitting coefficient", the two factors, and the buffers as found
-abbrev pub Attempted : ℕ → List ℕ → List ℕ → List ℕ → List ℕ → List ℕ → List ℕ → Attempt → Type 0
-Attempted n f g u v u' v' (Value D) = Certified n (L n (length f - 1) (length g - 1)) f g u' v' D
-Attempted n f g u v u' v' (Splits p q) = SplitOf n p q × ((u' ≡ u) × (v' ≡ v))
+abbrev pub Attempted : ℕ → List ℕ → List ℕ → List ℕ → List ℕ → List ℕ → List ℕ → Result ℕ (Split ℕ) → Type 0
+Attempted n f g u v u' v' (Ok D) = Certified n (L n (length f - 1) (length g - 1)) f g u' v' D
+Attempted n f g u v u' v' (Err s) = SplitOf n s.p s.q × ((u' ≡ u) × (v' ≡ v))

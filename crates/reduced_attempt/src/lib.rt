@@ -28,22 +28,22 @@ ghost use Rattle.reduced_attempt.specs.ReducedAttempts.{OverAttempted, Parted, A
 
 use modulus::Modulus;
 use reduced_cofactors::Factored;
-use residue::Attempt;
+use residue::Split;
 
 // What the half of an attempt comes to that factors the first polynomial: D; two coprime divisors of n; or all coefficients of that
 // polynomial, over the common content, are nilpotent.
 #[derive(Clone, Copy)]
-pub enum HalfAttempt {
-    Found(u32),
-    Divisors(u32, u32),
+pub enum HalfAttempt<W> {
+    Found(W),
+    Divisors(W, W),
     Nilpotent,
 }
 
 // The content that was taken out of the words, and the unit that they were multiplied by.
 #[derive(Clone, Copy)]
-pub struct Scale {
-    pub c: u32,
-    pub r: u32,
+pub struct Scale<W> {
+    pub c: W,
+    pub r: W,
 }
 
 // The content of f and g together.
@@ -111,7 +111,7 @@ fn half(
     c: u32,
     a: &[u32],
     b: &[u32],
-) -> HalfAttempt
+) -> HalfAttempt<u32>
     requires { (Known m) × (HalfAsked m.n c a.now b.now x.old y.old w.old) }
     ensures half_attempted { HalfAttempted m.n c a.now b.now x.old y.old
         x.new y.new result }
@@ -127,10 +127,10 @@ fn scaled_half(
     y: &mut [u32],
     w: &mut [u32],
     m: Modulus,
-    s: Scale,
+    s: Scale<u32>,
     a: &[u32],
     b: &[u32],
-) -> HalfAttempt
+) -> HalfAttempt<u32>
     requires { (Known m) × (ScaledAsked m.n s.c s.r a.now b.now x.old y.old w.old) }
     ensures half_attempted { HalfAttempted m.n s.c a.now b.now x.old y.old
         x.new y.new result }
@@ -156,7 +156,7 @@ fn over_content(
     n: u32,
     d: usize,
     e: usize,
-) -> HalfAttempt
+) -> HalfAttempt<u32>
     requires { OverAsked n d e x.old y.old w.old }
     ensures over_attempted { OverAttempted n d e w.old x.old y.old x.new y.new result }
     ensures scratch { Scratch w.old w.new }
@@ -173,7 +173,7 @@ fn attempt_over(
     m: Modulus,
     d: usize,
     e: usize,
-) -> HalfAttempt
+) -> HalfAttempt<u32>
     requires { (Known m) × (OverAsked m.n d e x.old y.old w.old) }
     ensures over_attempted { OverAttempted m.n d e w.old x.old y.old x.new y.new result }
     ensures scratch { Scratch w.old w.new }
@@ -187,28 +187,34 @@ fn attempt_over(
 }
 
 // What the core comes to there; coefficient t of the words of degree d has the inverse i, and those above are nilpotent.
-fn core_over(x: &mut [u32], y: &mut [u32], w: &mut [u32], m: Modulus, s: Factored) -> HalfAttempt
+fn core_over(
+    x: &mut [u32],
+    y: &mut [u32],
+    w: &mut [u32],
+    m: Modulus,
+    s: Factored<u32>,
+) -> HalfAttempt<u32>
     requires { (Known m) × (CoreAsked m.n s.d s.e s.t s.i w.old x.old y.old) }
     ensures over_attempted { OverAttempted m.n s.d s.e w.old x.old y.old x.new
         y.new result }
     ensures scratch { Scratch w.old w.new }
 {
     match reduced_cofactors::core(x, y, w, m, s) {
-        Attempt::Value(c) => HalfAttempt::Found(c),
-        Attempt::Splits(p, q) => HalfAttempt::Divisors(p, q),
+        Ok(c) => HalfAttempt::Found(c),
+        Err(s) => HalfAttempt::Divisors(s.p, s.q),
     }
 }
 
 // n as a product of two coprime factors, from two coprime divisors: what n has in common with p, and the rest. The first two cases are
 // never met: p is above 1 and divides n, so it is no unit; q is above 1, divides n and is coprime to p, so p is not nilpotent.
-pub fn split(n: u32, p: u32, q: u32) -> Attempt
+pub fn split(n: u32, p: u32, q: u32) -> Result<u32, Split<u32>>
     requires { (2 ≤ n) × (Splitter n p q) }
     ensures { Parted n result }
 {
     match residue::kind_of(n, p) {
-        residue::Kind::Unit(i) => Attempt::Value(i),
-        residue::Kind::Nilpotent => Attempt::Value(q),
-        residue::Kind::Splits(a, b) => Attempt::Splits(a, b),
+        residue::Kind::Unit(i) => Ok(i),
+        residue::Kind::Nilpotent => Ok(q),
+        residue::Kind::Splits(a, b) => Err(Split { p: a, q: b }),
     }
 }
 
@@ -220,7 +226,7 @@ pub fn attempt(
     m: Modulus,
     f: &[u32],
     g: &[u32],
-) -> Attempt
+) -> Result<u32, Split<u32>>
     requires { (Known m) × (AttemptAsked m.n f.now g.now u.old v.old w.old) }
     ensures attempted { Attempted m.n f.now g.now u.old v.old
         u.new v.new result }
@@ -230,7 +236,7 @@ pub fn attempt(
     if c == m.n {
         windows::wipe(u);
         windows::wipe(v);
-        return Attempt::Value(m.n);
+        return Ok(m.n);
     }
     both_halves(u, v, w, m, c, f, g)
 }
@@ -244,14 +250,14 @@ fn both_halves(
     c: u32,
     f: &[u32],
     g: &[u32],
-) -> Attempt
+) -> Result<u32, Split<u32>>
     requires { (Known m) × (HalvesAsked m.n c f.now g.now u.old v.old w.old) }
     ensures attempted { Attempted m.n f.now g.now u.old v.old
         u.new v.new result }
     ensures scratch { Scratch w.old w.new }
 {
     match half(u, v, w, m, c, f, g) {
-        HalfAttempt::Found(d) => Attempt::Value(d),
+        HalfAttempt::Found(d) => Ok(d),
         HalfAttempt::Divisors(p, q) => split(m.n, p, q),
         HalfAttempt::Nilpotent => other_half(u, v, w, m, c, f, g),
     }
@@ -266,15 +272,15 @@ fn other_half(
     c: u32,
     f: &[u32],
     g: &[u32],
-) -> Attempt
+) -> Result<u32, Split<u32>>
     requires { (Known m) × (OtherAsked m.n c f.now g.now u.old v.old w.old) }
     ensures attempted { Attempted m.n f.now g.now u.old v.old
         u.new v.new result }
     ensures scratch { Scratch w.old w.new }
 {
     match half(v, u, w, m, c, g, f) {
-        HalfAttempt::Found(d) => Attempt::Value(d),
+        HalfAttempt::Found(d) => Ok(d),
         HalfAttempt::Divisors(p, q) => split(m.n, p, q),
-        HalfAttempt::Nilpotent => Attempt::Value(m.n),
+        HalfAttempt::Nilpotent => Ok(m.n),
     }
 }

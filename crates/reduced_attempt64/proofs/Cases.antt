@@ -1,125 +1,28 @@
--- The answers of the enums of this width, taken apart by the arm that the code is in.
+-- A half over the content, where the words stand for themselves: the cofactors leave as they are.
 --
---   lead_at, factors_at, nilpotents_at       of the highest coefficient that is not nilpotent
---   value_at, splits_at, over_told           of the core
---   over_word, over_found, over_splits, over_none    of a half over the content
---   found_at, divisors_at, parted_at, parted_from, nilpotent_at, later_at, other_at    of a half
---   unit_never, nilpotent_never, kind_splits    of the kind of a residue
---   attempts                                 the rules
-use mathlib.Core.Path.{◌≡◌, refl, subst}
+--   over_found    what it comes to
+--   attempts      the rules
+use mathlib.Core.Path.{◌≡◌, subst}
 use mathlib.Core.List.{List}
-use Prim.Native.Nat.{ℕ, ◌+◌, ◌-◌, ◌*◌, ◌/◌, ◌<◌}
+use Prim.Native.Nat.{ℕ, ◌-◌, ◌*◌, ◌/◌}
 use lib.ListN.{length}
-use borrow.Rule.Slice.PartMut.{mid_of}
 use Rattle.definitions.specs.Polynomials.{L}
-use Rattle.residue64.specs.declared.Attempt.{Attempt}
-use Rattle.residue64.specs.declared.Attempt.TheVariants.{Value, Splits}
-use Rattle.residue64.specs.Readings.{attempt_of}
-use Rattle.residue64.specs.declared.Kind.{Kind}
-use Rattle.residue64.specs.declared.Kind.TheVariants.{Unit as UnitKind, Nilpotent as NilpotentKind, Splits as SplitsKind}
-use Rattle.residue64.specs.Kinds.{KindOf}
-use Rattle.window_factor64.specs.declared.Highest.{Highest}
-use Rattle.window_factor64.specs.declared.Highest.TheVariants.{UnitAt as UnitAt', Splits as SplitsAt, AllNilpotent}
-use Rattle.window_factor64.specs.Factors.{HighestOf, SplitOf}
-use Rattle.windows.specs.Window.{Scratch}
-use Rattle.reduced_units.specs.States.{Splitter}
-use Rattle.reduced_cofactors64.specs.Cofactors.{Certified, CoreAsked, CoreAnswer}
-use Rattle.reduced_attempt64.specs.declared.HalfAttempt.{HalfAttempt}
-use Rattle.reduced_attempt64.specs.declared.HalfAttempt.TheVariants.{Found, Divisors, Nilpotent}
-use Rattle.reduced_attempt64.specs.ReducedAttempts.{NilpotentOver, HalvesAsked, OtherAsked, ScaledAsked, HalfAttempted}
-use Rattle.reduced_attempt64.specs.ReducedAttempts.{OverAsked, OverAttempted, Parted, Attempted}
-use Rattle.reduced_attempt.proofs.Halves.{core_asked, unit_splits, over_nilpotents, nilpotents_told, over_splitter, product_word}
-use Rattle.reduced_attempt.proofs.Halves.{plain_certified, split_unit, split_nilpotent, split_factors}
-use Rattle.reduced_attempt.proofs.Whole.{later_asked, parted, other_told}
+use Rattle.reduced_cofactors.specs.Cofactors.{Certified}
+use Rattle.reduced_attempt.specs.declared.HalfAttempt.{HalfAttempt}
+use Rattle.reduced_attempt.specs.declared.HalfAttempt.TheVariants.{Found}
+use Rattle.reduced_attempt.specs.ReducedAttempts.{ScaledAsked, OverAttempted}
+use Rattle.reduced_attempt.proofs.Halves.{plain_certified}
+use Rattle.reduced_attempt.proofs.Cases.{highest, over_word, over_splits, over_none, half_attempts, kinds}
 use Rattle.reduced_attempt.proofs.Rules.{attempt}
 
--- over the content: the highest coefficient that is not nilpotent
-module _ (n d e : ℕ) (w : List ℕ) (h : Highest) where
-  abbrev told : Highest → Type 0
-  told h = HighestOf n (mid_of (e + 1) (e + 1 + (d + 1) - (e + 1)) w) h
-
-  pub lead_at : (t i : ℕ) (x y : List ℕ) → h ≡ UnitAt' t i → told h → OverAsked n d e x y w → CoreAsked n d e t i w x y
-  lead_at t i x y q z o = core_asked o (subst told q z)
-
-  pub factors_at : (p q : ℕ) (x y : List ℕ) → h ≡ SplitsAt p q → told h → OverAttempted n d e w x y x y (Divisors p q)
-  factors_at p q x y r z = (unit_splits (subst told r z), (refl, refl))
-
-  pub nilpotents_at : (x y : List ℕ) → h ≡ AllNilpotent → told h → OverAttempted n d e w x y x y Nilpotent
-  nilpotents_at x y q z = (over_nilpotents d e w (subst told q z), (refl, refl))
-
--- the core
-module _ (n d e : ℕ) (w x y x₁ y₁ : List ℕ) (s : Attempt) where
-  pub value_at : (D : ℕ) → s ≡ Value D → CoreAnswer n d e w x y x₁ y₁ s → OverAttempted n d e w x y x₁ y₁ (Found D)
-  value_at D q = subst (CoreAnswer n d e w x y x₁ y₁) q
-
-  pub splits_at : (p q : ℕ) → s ≡ Splits p q → CoreAnswer n d e w x y x₁ y₁ s → OverAttempted n d e w x y x₁ y₁ (Divisors p q)
-  splits_at p q r = subst (CoreAnswer n d e w x y x₁ y₁) r
-
--- the modulus has a record of its own
-pub over_told : (n ν d e : ℕ) (w x y x₁ y₁ : List ℕ) (z : HalfAttempt) → OverAttempted ν d e w x y x₁ y₁ z → ν ≡ n
-    → OverAttempted n d e w x y x₁ y₁ z
-over_told n ν d e w x y x₁ y₁ z o h = subst (λ (v : ℕ). OverAttempted v d e w x y x₁ y₁ z) h o
-
--- what it comes to over the content
-module _ (n c : ℕ) (a b x y w x₁ y₁ : List ℕ) (z : HalfAttempt) where
-  abbrev over : HalfAttempt → Type 0
+module _ (n c : ℕ) (a b x y w x₁ y₁ : List ℕ) (z : HalfAttempt ℕ) where
+  abbrev over : HalfAttempt ℕ → Type 0
   over z = OverAttempted (n / c) (length a - 1) (length b - 1) w x y x₁ y₁ z
-
-  pub over_word : (D m : ℕ) → z ≡ Found D → ScaledAsked n c 1 a b x y w → over z → n < m → c * D < m
-  over_word D m q s o l = product_word s (subst over q o) l
 
   pub over_found : (D : ℕ) → z ≡ Found D → ScaledAsked n c 1 a b x y w → over z
       → Certified n (L n (length a - 1) (length b - 1)) a b x₁ y₁ (c * D)
   over_found D q s o = plain_certified s (subst over q o)
 
-  pub over_splits : (p q : ℕ) → z ≡ Divisors p q → ScaledAsked n c 1 a b x y w → over z → HalfAttempted n c a b x y x₁ y₁ (Divisors p q)
-  over_splits p q e s o = over_splitter s (subst over e o)
-
-  pub over_none : z ≡ Nilpotent → ScaledAsked n c 1 a b x y w → over z → HalfAttempted n c a b x y x₁ y₁ Nilpotent
-  over_none e s o = let k = subst over e o in (nilpotents_told s.half s.words k.0, k.1)
-
-module _ (n c : ℕ) (a b x y x' y' : List ℕ) (t : HalfAttempt) where
-  pub found_at : (D : ℕ) → t ≡ Found D → HalfAttempted n c a b x y x' y' t → Certified n (L n (length a - 1) (length b - 1)) a b x' y' D
-  found_at D e = subst (HalfAttempted n c a b x y x' y') e
-
-  pub divisors_at : (p q : ℕ) → t ≡ Divisors p q → HalfAttempted n c a b x y x' y' t → Splitter n p q
-  divisors_at p q e z = (subst (HalfAttempted n c a b x y x' y') e z).0
-
-  pub parted_at : (p q : ℕ) (r : Attempt) → t ≡ Divisors p q → HalfAttempted n c a b x y x' y' t → Parted n r → Attempted n a b x y x' y' r
-  parted_at p q r e z v = let k = (subst (HalfAttempted n c a b x y x' y') e z).1 in parted n a b x y x' y' (attempt_of r) k.0 k.1 v
-
-  pub parted_from : (p q : ℕ) (r : Attempt) → t ≡ Divisors p q → HalfAttempted n c a b x y x' y' t → Parted n r
-      → Attempted n b a y x y' x' r
-  parted_from p q r e z v = let k = (subst (HalfAttempted n c a b x y x' y') e z).1 in parted n b a y x y' x' (attempt_of r) k.1 k.0 v
-
-  pub nilpotent_at : t ≡ Nilpotent → HalfAttempted n c a b x y x' y' t → NilpotentOver n c a
-  nilpotent_at e z = (subst (HalfAttempted n c a b x y x' y') e z).0
-
-  pub later_at : (w w' : List ℕ) → t ≡ Nilpotent → HalfAttempted n c a b x y x' y' t → HalvesAsked n c a b x y w → Scratch w w'
-      → OtherAsked n c a b x' y' w'
-  later_at w w' e z h sw = let k = subst (HalfAttempted n c a b x y x' y') e z in later_asked h k.1.0 k.1.1 sw k.0
-
-  pub other_at : (u v : List ℕ) (r : Attempt) → t ≡ Nilpotent → HalfAttempted n c a b x y x' y' t → Attempted n a b x' y' u v r
-      → Attempted n a b x y u v r
-  other_at u v r e z q =
-      let k = (subst (HalfAttempted n c a b x y x' y') e z).1 in other_told n a b x y x' y' u v (attempt_of r) k.0 k.1 q
-
-module _ (n p : ℕ) (k : Kind) where
-  pub unit_never : (q i : ℕ) → k ≡ UnitKind i → KindOf n p k → Splitter n p q → ⊥
-  unit_never q i e x s = split_unit s (subst (KindOf n p) e x)
-
-  pub nilpotent_never : (q : ℕ) → k ≡ NilpotentKind → KindOf n p k → Splitter n p q → ⊥
-  nilpotent_never q e x s = split_nilpotent s (subst (KindOf n p) e x)
-
-  pub kind_splits : (a b : ℕ) → k ≡ SplitsKind a b → KindOf n p k → SplitOf n a b
-  kind_splits a b e x = split_factors (subst (KindOf n p) e x)
-
-pub ruleset highest = (lead_at, factors_at, nilpotents_at, value_at, splits_at, over_told)
-
 pub ruleset cores = (over_word, over_found, over_splits, over_none)
-
-pub ruleset half_attempts = (found_at, divisors_at, parted_at, parted_from, nilpotent_at, later_at, other_at)
-
-pub ruleset kinds = (unit_never, nilpotent_never, kind_splits)
 
 pub ruleset attempts = (attempt, highest, cores, half_attempts, kinds)

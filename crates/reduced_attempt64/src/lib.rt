@@ -1,6 +1,5 @@
 // An attempt at the reduced resultant of two polynomials in words of 64 bits. The 32-bit twin `reduced_attempt` has the laws.
 //
-//   HalfAttempt       what the half of an attempt comes to
 //   common_content    the content of both polynomials, which divides D
 //   split             two coprime divisors of n, made two coprime factors
 //   attempt           D, or a coefficient that splits n into two coprime factors
@@ -12,22 +11,14 @@ ghost use Rattle.std.specs.Prelude.{◌+◌, ◌≤◌, length};
 ghost use Rattle.windows.specs.Window.{Scratch};
 ghost use Rattle.reduction64.specs.Moduli.{Ready};
 ghost use Rattle.reduced_units.specs.States.{Splitter};
-ghost use Rattle.reduced_cofactors64.specs.Cofactors.{CoreAsked};
-ghost use Rattle.reduced_attempt64.specs.ReducedAttempts.{CommonContent, Arranged, HalfAsked, HalvesAsked, OtherAsked, ScaledAsked};
-ghost use Rattle.reduced_attempt64.specs.ReducedAttempts.{HalfAttempted, OverAsked, OverAttempted, Parted, AttemptAsked, Attempted};
+ghost use Rattle.reduced_cofactors.specs.Cofactors.{CoreAsked};
+ghost use Rattle.reduced_attempt.specs.ReducedAttempts.{CommonContent, Arranged, HalfAsked, HalvesAsked, OtherAsked, ScaledAsked};
+ghost use Rattle.reduced_attempt.specs.ReducedAttempts.{HalfAttempted, OverAsked, OverAttempted, Parted, AttemptAsked, Attempted};
 
-use reduced_cofactors64::Factored;
+use reduced_attempt::HalfAttempt;
+use reduced_cofactors::Factored;
 use reduction64::Reciprocal;
-use residue64::Attempt;
-
-// What the half of an attempt comes to that factors the first polynomial: D; two coprime divisors of n; or all coefficients of that
-// polynomial, over the common content, are nilpotent.
-#[derive(Clone, Copy)]
-pub enum HalfAttempt {
-    Found(u64),
-    Divisors(u64, u64),
-    Nilpotent,
-}
+use residue::Split;
 
 // The content of f and g together.
 pub fn common_content(w: &mut [u64], n: u64, f: &[u64], g: &[u64]) -> u64
@@ -63,7 +54,7 @@ fn half(
     c: u64,
     a: &[u64],
     b: &[u64],
-) -> HalfAttempt
+) -> HalfAttempt<u64>
     requires { HalfAsked n c a.now b.now x.old y.old w.old }
     ensures half_attempted { HalfAttempted n c a.now b.now x.old y.old
         x.new y.new result }
@@ -82,7 +73,7 @@ fn scaled_half(
     c: u64,
     a: &[u64],
     b: &[u64],
-) -> HalfAttempt
+) -> HalfAttempt<u64>
     requires { ScaledAsked n c 1 a.now b.now x.old y.old w.old }
     ensures half_attempted { HalfAttempted n c a.now b.now x.old y.old
         x.new y.new result }
@@ -104,7 +95,7 @@ fn over_content(
     n: u64,
     d: usize,
     e: usize,
-) -> HalfAttempt
+) -> HalfAttempt<u64>
     requires { OverAsked n d e x.old y.old w.old }
     ensures over_attempted { OverAttempted n d e w.old x.old y.old x.new y.new result }
     ensures scratch { Scratch w.old w.new }
@@ -121,42 +112,48 @@ fn attempt_over(
     m: Reciprocal,
     d: usize,
     e: usize,
-) -> HalfAttempt
+) -> HalfAttempt<u64>
     requires { (Ready m) × (OverAsked m.n d e x.old y.old w.old) }
     ensures over_attempted { OverAttempted m.n d e w.old x.old y.old x.new y.new result }
     ensures scratch { Scratch w.old w.new }
 {
     let b = e + 1;
     match window_factor64::highest_of(&w[b..b + (d + 1)], m) {
-        window_factor64::Highest::UnitAt(t, i) => core_over(x, y, w, m, Factored { d, e, t, i }),
-        window_factor64::Highest::Splits(p, q) => HalfAttempt::Divisors(p, q),
-        window_factor64::Highest::AllNilpotent => HalfAttempt::Nilpotent,
+        window_factor::Highest::UnitAt(t, i) => core_over(x, y, w, m, Factored { d, e, t, i }),
+        window_factor::Highest::Splits(p, q) => HalfAttempt::Divisors(p, q),
+        window_factor::Highest::AllNilpotent => HalfAttempt::Nilpotent,
     }
 }
 
 // What the core comes to there; coefficient t of the words of degree d has the inverse i, and those above are nilpotent.
-fn core_over(x: &mut [u64], y: &mut [u64], w: &mut [u64], m: Reciprocal, s: Factored) -> HalfAttempt
+fn core_over(
+    x: &mut [u64],
+    y: &mut [u64],
+    w: &mut [u64],
+    m: Reciprocal,
+    s: Factored<u64>,
+) -> HalfAttempt<u64>
     requires { (Ready m) × (CoreAsked m.n s.d s.e s.t s.i w.old x.old y.old) }
     ensures over_attempted { OverAttempted m.n s.d s.e w.old x.old y.old x.new
         y.new result }
     ensures scratch { Scratch w.old w.new }
 {
     match reduced_cofactors64::core(x, y, w, m, s) {
-        Attempt::Value(c) => HalfAttempt::Found(c),
-        Attempt::Splits(p, q) => HalfAttempt::Divisors(p, q),
+        Ok(c) => HalfAttempt::Found(c),
+        Err(s) => HalfAttempt::Divisors(s.p, s.q),
     }
 }
 
 // n as a product of two coprime factors, from two coprime divisors: what n has in common with p, and the rest. The first two cases are
 // never met: p is above 1 and divides n, so it is no unit; q is above 1, divides n and is coprime to p, so p is not nilpotent.
-pub fn split(m: Reciprocal, p: u64, q: u64) -> Attempt
+pub fn split(m: Reciprocal, p: u64, q: u64) -> Result<u64, Split<u64>>
     requires { (2 ≤ m.n) × ((Ready m) × (Splitter m.n p q)) }
     ensures { Parted m.n result }
 {
     match residue64::kind_of(m, p) {
-        residue64::Kind::Unit(i) => Attempt::Value(i),
-        residue64::Kind::Nilpotent => Attempt::Value(q),
-        residue64::Kind::Splits(a, b) => Attempt::Splits(a, b),
+        residue::Kind::Unit(i) => Ok(i),
+        residue::Kind::Nilpotent => Ok(q),
+        residue::Kind::Splits(a, b) => Err(Split { p: a, q: b }),
     }
 }
 
@@ -168,7 +165,7 @@ pub fn attempt(
     m: Reciprocal,
     f: &[u64],
     g: &[u64],
-) -> Attempt
+) -> Result<u64, Split<u64>>
     requires { (Ready m) × (AttemptAsked m.n f.now g.now u.old v.old w.old) }
     ensures attempted { Attempted m.n f.now g.now u.old v.old
         u.new v.new result }
@@ -178,7 +175,7 @@ pub fn attempt(
     if c == m.n {
         windows64::wipe(u);
         windows64::wipe(v);
-        return Attempt::Value(m.n);
+        return Ok(m.n);
     }
     both_halves(u, v, w, m, c, f, g)
 }
@@ -192,14 +189,14 @@ fn both_halves(
     c: u64,
     f: &[u64],
     g: &[u64],
-) -> Attempt
+) -> Result<u64, Split<u64>>
     requires { (Ready m) × (HalvesAsked m.n c f.now g.now u.old v.old w.old) }
     ensures attempted { Attempted m.n f.now g.now u.old v.old
         u.new v.new result }
     ensures scratch { Scratch w.old w.new }
 {
     match half(u, v, w, m.n, c, f, g) {
-        HalfAttempt::Found(d) => Attempt::Value(d),
+        HalfAttempt::Found(d) => Ok(d),
         HalfAttempt::Divisors(p, q) => split(m, p, q),
         HalfAttempt::Nilpotent => other_half(u, v, w, m, c, f, g),
     }
@@ -214,15 +211,15 @@ fn other_half(
     c: u64,
     f: &[u64],
     g: &[u64],
-) -> Attempt
+) -> Result<u64, Split<u64>>
     requires { (Ready m) × (OtherAsked m.n c f.now g.now u.old v.old w.old) }
     ensures attempted { Attempted m.n f.now g.now u.old v.old
         u.new v.new result }
     ensures scratch { Scratch w.old w.new }
 {
     match half(v, u, w, m.n, c, g, f) {
-        HalfAttempt::Found(d) => Attempt::Value(d),
+        HalfAttempt::Found(d) => Ok(d),
         HalfAttempt::Divisors(p, q) => split(m, p, q),
-        HalfAttempt::Nilpotent => Attempt::Value(m.n),
+        HalfAttempt::Nilpotent => Ok(m.n),
     }
 }

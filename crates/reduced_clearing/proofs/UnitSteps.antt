@@ -256,10 +256,10 @@ module _ (n ν ρ a l c : ℕ) (P : Places) (w w₁ : List ℕ) (st : StageAt n 
   pub cleared_kept : (w₂ : List ℕ) → Kept (P.t + 1) w₁ w₂ → Kept (P.t + 1) w w₂
   cleared_kept w₂ k = kept_trans (content_kept _ _ _ _ _ _ _ _ _ _ _ st ct ne _ taken) k
 
-  pub cleared : (w₂ : List ℕ) (r : Clearing) → UnitClears n ρ c P a l w₁ w₂ r → Clears n ν P a w w₂ r
+  pub cleared : (w₂ : List ℕ) (r : Clearing ℕ) → UnitClears n ρ c P a l w₁ w₂ r → Clears n ν P a w w₂ r
   cleared w₂ r x = answer r (subst (λ (y : ℕ). UnitClears n y c P a l w₁ w₂ r) e x)
     where
-      answer : (r : Clearing) → UnitClears n (ν / c) c P a l w₁ w₂ r → Clears n ν P a w w₂ r
+      answer : (r : Clearing ℕ) → UnitClears n (ν / c) c P a l w₁ w₂ r → Clears n ν P a w w₂ r
       answer (Done D) x = subst (λ (y : ℕ). Solved n ν P.t P.pa a P.pb a P.al P.be y w w₂) (sym x.answer)
           (last_solved _ _ _ _ _ _ _ _ _ _ _ _ _ _ _ st ct ne taken x.shorter x.taken x.none _ x.copied)
       answer (Parts p q) x = split_splitter ν (ν / c) p q

@@ -58,13 +58,13 @@ pub record UnitNext (n ν c : ℕ) (p : Places) (a l D s m : ℕ) (w w' : List �
   pub shorter : s < a
   pub taken : UnitTaken n ν p.t p.pb a p.be s l m w w'
 
-abbrev pub UnitClears : ℕ → ℕ → ℕ → Places → ℕ → ℕ → List ℕ → List ℕ → Clearing → Type 0
+abbrev pub UnitClears : ℕ → ℕ → ℕ → Places → ℕ → ℕ → List ℕ → List ℕ → Clearing ℕ → Type 0
 UnitClears n ν c p a l w w' (Done D) = UnitLast n ν c p a l D w w'
 UnitClears n ν c p a l w w' (Parts x y) = SplitOf ν x y
 UnitClears n ν c p a l w w' (Next D s m) = UnitNext n ν c p a l D s m w w'
 
 -- the reduced resultant of A and B; two coprime divisors of ν; or A and a monic B modulo ν / c, for the division stage
-abbrev pub Clears : ℕ → ℕ → Places → ℕ → List ℕ → List ℕ → Clearing → Type 0
+abbrev pub Clears : ℕ → ℕ → Places → ℕ → List ℕ → List ℕ → Clearing ℕ → Type 0
 Clears n ν p a w w' (Done D) = Solved n ν p.t p.pa a p.pb a p.al p.be D w w'
 Clears n ν p a w w' (Parts x y) = Splitter ν x y
 Clears n ν p a w w' (Next c s l) = UnitCleared n ν p.t p.pa a p.pb p.al p.be c s l w w'

@@ -24,10 +24,10 @@ use reduced_units::{Places, Sizes, UnitAt};
 // What the clearing of contents and unit factors comes to: the reduced resultant; two coprime divisors of the modulus; or the content,
 // the degree of the second polynomial, monic now, and the words of the multipliers, for the division stage.
 #[derive(Clone, Copy)]
-pub enum Clearing {
-    Done(u32),
-    Parts(u32, u32),
-    Next(u32, usize, usize),
+pub enum Clearing<W> {
+    Done(W),
+    Parts(W, W),
+    Next(W, usize, usize),
 }
 
 // B over its content c, the multiplier of A times c, and A modulo r, the modulus over c.
@@ -49,8 +49,8 @@ fn take_monic(
     c: u32,
     p: Places,
     z: Sizes,
-    u: UnitAt,
-) -> Clearing
+    u: UnitAt<u32>,
+) -> Clearing<u32>
     requires { (Known m) × ((Known v) × (MonicAsked m.n v.n p z.a z.l u.s u.i w.old)) }
     ensures unit_clears { UnitClears m.n v.n c p z.a z.l w.old w.new result }
     ensures kept { Kept (p.t + 1) w.old w.new }
@@ -73,7 +73,7 @@ fn clear_unit(
     p: Places,
     a: usize,
     l: usize,
-) -> Clearing
+) -> Clearing<u32>
     requires { (Known m) × ((Known v) × (UnitAsked m.n v.n p a l w.old)) }
     ensures unit_clears { UnitClears m.n v.n c p a l w.old w.new result }
     ensures kept { Kept (p.t + 1) w.old w.new }
@@ -107,7 +107,7 @@ pub fn clear_contents(
     p: Places,
     a: usize,
     l: usize,
-) -> Clearing
+) -> Clearing<u32>
     requires { (Known m) × ((Known v) × (StageAt m.n v.n p a a l w.old)) }
     ensures clears { Clears m.n v.n p a w.old w.new result }
     ensures kept { Kept (p.t + 1) w.old w.new }

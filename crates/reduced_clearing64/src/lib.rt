@@ -1,7 +1,6 @@
 // The clearing of contents and unit factors in the reduced run, in words of 64 bits. The 32-bit twin `reduced_clearing` has the
-// description and the laws.
+// description and the laws, and `Clearing`.
 //
-//   Clearing          what it comes to
 //   modulus_over      the modulus over a content
 //   clear_contents    the content, then the unit factor
 #![tactic(auto)]
@@ -10,20 +9,11 @@ ghost use Rattle.std.specs.Prelude.{◌≡◌, ◌+◌, ◌/◌, ◌≤◌};
 ghost use Rattle.reduction64.specs.Moduli.{Ready};
 ghost use Rattle.windows.specs.Window.{Kept};
 ghost use Rattle.reduced_units.specs.States.{StageAt};
-ghost use Rattle.reduced_clearing64.specs.Clearings.{ContentAsked, ContentTaken, MonicAsked, UnitAsked, UnitClears, Clears};
+ghost use Rattle.reduced_clearing.specs.Clearings.{ContentAsked, ContentTaken, MonicAsked, UnitAsked, UnitClears, Clears};
 
-use reduced_units::{Places, Sizes};
-use reduced_units64::UnitAt;
+use reduced_clearing::Clearing;
+use reduced_units::{Places, Sizes, UnitAt};
 use reduction64::Reciprocal;
-
-// What the clearing of contents and unit factors comes to: the reduced resultant; two coprime divisors of the modulus; or the content,
-// the degree of the second polynomial, monic now, and the words of the multipliers, for the division stage.
-#[derive(Clone, Copy)]
-pub enum Clearing {
-    Done(u64),
-    Parts(u64, u64),
-    Next(u64, usize, usize),
-}
 
 // B over its content c, the multiplier of A times c, and A modulo r, the modulus over c.
 fn take_content(w: &mut [u64], m: Reciprocal, r: Reciprocal, c: u64, p: Places, a: usize)
@@ -44,8 +34,8 @@ fn take_monic(
     c: u64,
     p: Places,
     z: Sizes,
-    u: UnitAt,
-) -> Clearing
+    u: UnitAt<u64>,
+) -> Clearing<u64>
     requires { (Ready m) × ((Ready v) × (MonicAsked m.n v.n p z.a z.l u.s u.i w.old)) }
     ensures unit_clears { UnitClears m.n v.n c p z.a z.l w.old w.new result }
     ensures kept { Kept (p.t + 1) w.old w.new }
@@ -68,18 +58,18 @@ fn clear_unit(
     p: Places,
     a: usize,
     l: usize,
-) -> Clearing
+) -> Clearing<u64>
     requires { (Ready m) × ((Ready v) × (UnitAsked m.n v.n p a l w.old)) }
     ensures unit_clears { UnitClears m.n v.n c p a l w.old w.new result }
     ensures kept { Kept (p.t + 1) w.old w.new }
 {
     let pb = p.pb;
     match window_factor64::highest_of(&w[pb..pb + a], v) {
-        window_factor64::Highest::UnitAt(s, i) => {
+        window_factor::Highest::UnitAt(s, i) => {
             take_monic(w, m, v, c, p, Sizes { a, l }, UnitAt { s, i })
         }
-        window_factor64::Highest::Splits(f, g) => Clearing::Parts(f, g),
-        window_factor64::Highest::AllNilpotent => Clearing::Done(v.n),
+        window_factor::Highest::Splits(f, g) => Clearing::Parts(f, g),
+        window_factor::Highest::AllNilpotent => Clearing::Done(v.n),
     }
 }
 
@@ -102,7 +92,7 @@ pub fn clear_contents(
     p: Places,
     a: usize,
     l: usize,
-) -> Clearing
+) -> Clearing<u64>
     requires { (Ready m) × ((Ready v) × (StageAt m.n v.n p a a l w.old)) }
     ensures clears { Clears m.n v.n p a w.old w.new result }
     ensures kept { Kept (p.t + 1) w.old w.new }

@@ -1,3 +1,2 @@
 pub mod Finishing
 pub mod Solving
-pub mod Cases

@@ -3,7 +3,7 @@
 --
 --   prepare_asked, solve_second, solve_monic, solve_lead, solve_stage    what the calls of `find` ask
 --   find_answer, find_scratch                                            what `find` promises
---   find_asked, found_asked, found_certified, found_scratch              what `solve` asks and promises
+--   found_asked, found_certified                                         what `solve` asks and promises
 --   core-…                                                               what `core` does
 --   finds, cores                                                         the rules
 use mathlib.Core.Path.{◌≡◌, refl, sym, ap, subst, ◌∙◌}
@@ -17,6 +17,7 @@ use lib.ListN.{length, get_or}
 use mir.Syntax.{w64}
 use mir.Val.{Fits}
 use borrow.Rule.Slice.PartMut.{put_mid, mid_of}
+use Rattle.std.specs.Prelude.{Result, Ok, Err}
 use Rattle.definitions.specs.Residues.{K, IsNilpotent}
 use Rattle.definitions.specs.Polynomials.{coef, constant, L, Multiplied, Divided, UnitPolynomial}
 use Rattle.definitions.specs.Resultants.{Combination, Reduced}
@@ -28,8 +29,7 @@ use Rattle.windows.proofs.Lift.{moved_around, moved_copy, mid_length, was, piece
 use Rattle.window_factor.specs.Factors.{Given, Factored}
 use Rattle.law_multipliers.specs.Multipliers.{HasMultiplier, Completes, NegatedInverse, multiplier_first, multiplier_second}
 use Rattle.law_multipliers.specs.Multipliers.{inverse_of_negated}
-use Rattle.residue.specs.declared.Attempt.{Attempt}
-use Rattle.residue.specs.declared.Attempt.TheVariants.{Value, Splits}
+use Rattle.residue.specs.declared.Split.{Split}
 use Rattle.reduced_units.specs.declared.Places.{Places}
 use Rattle.reduced_units.specs.States.{Stage, Solved, stage_room}
 use Rattle.reduced_units.proofs.Regions.{apart_low, piece_apart, below_apart}
@@ -280,10 +280,10 @@ module _ {n d e t : ℕ} {w w₁ : List ℕ} (asked : FindAsked n d e t w)
                 (sym (piece_put (monic_place d e) m w₂ inside ws lw (t + 1) t (omega (arith, long_m)))) completes;
           }
 
-      pub find_answer : (r : Attempt) → StageAnswer n n (first_places t) t t (mid_of (monic_place d e) m w₂) ws r
+      pub find_answer : (r : Result ℕ (Split ℕ)) → StageAnswer n n (first_places t) t t (mid_of (monic_place d e) m w₂) ws r
           → Found n d e t w (put_mid (monic_place d e) m w₂ ws) r
-      find_answer (Value D) sv = found D sv
-      find_answer (Splits p q) sp = sp
+      find_answer (Ok D) sv = found D sv
+      find_answer (Err p) sp = sp
 
       pub find_scratch : Scratch w (put_mid (monic_place d e) m w₂ ws)
       find_scratch = record { same = long_now }
@@ -291,12 +291,6 @@ module _ {n d e t : ℕ} {w w₁ : List ℕ} (asked : FindAsked n d e t w)
 pub ruleset finds = (prepare_asked, solve_second, solve_monic, solve_lead, solve_stage, find_answer, find_scratch)
 
 -- ---- D is found
-
-pub find_asked : {n d e t : ℕ} {w x y : List ℕ} → CoreLengthsAsked n d e w x y → 1 ≤ t → t ≤ d → FactoredAt n d e t w → FindAsked n d e t w
-find_asked sp one within fa = record { above = sp.above; degree = one; within = within; room = sp.room; factored = fa }
-
-pub found_scratch : {w w₁ w₂ : List ℕ} → Scratch w w₁ → Scratch w₁ w₂ → Scratch w w₂
-found_scratch p q = record { same = q.same ∙ p.same }
 
 module _ {n d e t D : ℕ} {w w' x y : List ℕ} (sp : CoreLengthsAsked n d e w x y) (one : 1 ≤ t) (within : t ≤ d) (fa : FactoredAt n d e t w)
     (fd : FoundAt n d e t D w w') where
@@ -455,9 +449,9 @@ module _ {n d e t i : ℕ} {w x y : List ℕ} (asked : CoreAsked n d e t i w x y
           subst (λ (f : List ℕ). Certified n (L n d e) f (piece w 0 (e + 1)) u v D) core_f
           (subst (λ (g : List ℕ). Certified n (L n d e) (piece (put_mid (e + 1) span w ys) (e + 1) (d + 1)) g u v D) core_g c)
 
-      pub core_answer : (u v : List ℕ) (r : Attempt) → CoreAnswer n d e (put_mid (e + 1) span w ys) x y u v r → CoreAnswer n d e w x y u v r
-      core_answer u v (Value D) c = core_certified c
-      core_answer u v (Splits p q) c = c
+      pub core_answer : (u v : List ℕ) (r : Result ℕ (Split ℕ)) → CoreAnswer n d e (put_mid (e + 1) span w ys) x y u v r → CoreAnswer n d e w x y u v r
+      core_answer u v (Ok D) c = core_certified c
+      core_answer u v (Err p) c = c
 
 pub ruleset sums = (core_sum, core_sum_two, core_sum_three, core_sum_all)
 

@@ -5,7 +5,7 @@
 --   Certified n len f g u v D         D is the reduced resultant of f and g, u f + v g = D, the cofactors have at most len words
 --   CoreCertified, CoreAnswer         such a D for F and G; or two coprime divisors of n, with nothing written to the cofactors
 --   FactoredAt, FindAsked, FoundAt, Found, DivideAsked, DividedBy, FinishAsked, Finished    what the parts of the core ask and promise
-use Rattle.std.specs.Prelude.{◌≡◌, List, ℕ, ◌+◌, ◌-◌, ◌*◌, ◌<◌, ◌≤◌, length, get_or}
+use Rattle.std.specs.Prelude.{◌≡◌, Result, Ok, Err, List, ℕ, ◌+◌, ◌-◌, ◌*◌, ◌<◌, ◌≤◌, length, get_or}
 use Rattle.definitions.specs.Residues.{K}
 use Rattle.definitions.specs.Polynomials.{coef, L, Multiplied, UnitPolynomial}
 use Rattle.definitions.specs.Resultants.{Combination, Reduced}
@@ -14,8 +14,7 @@ use Rattle.window_factor.specs.Factors.{LeadingUnit}
 use Rattle.law_multipliers.specs.Multipliers.{NegatedInverse, Completes}
 use Rattle.reduced_units.specs.States.{Splitter}
 use Rattle.reduced_quotients.specs.Quotients.{ExactQuotient}
-use Rattle.residue.specs.declared.Attempt.{Attempt}
-use Rattle.residue.specs.declared.Attempt.TheVariants.{Value, Splits}
+use Rattle.residue.specs.declared.Split.{Split}
 
 -- the words that an attempt needs where F of degree d is the polynomial that is factored
 abbrev pub core_room : ℕ → ℕ → ℕ → ℕ
@@ -50,9 +49,9 @@ abbrev pub CoreCertified : ℕ → ℕ → ℕ → List ℕ → List ℕ → Lis
 CoreCertified n d e w u v D = Certified n (L n d e) (piece w (e + 1) (d + 1)) (piece w 0 (e + 1)) u v D
 
 -- the cofactor buffers x and y hold u and v afterwards; where n splits they are left as found
-abbrev pub CoreAnswer : ℕ → ℕ → ℕ → List ℕ → List ℕ → List ℕ → List ℕ → List ℕ → Attempt → Type 0
-CoreAnswer n d e w x y u v (Value D) = CoreCertified n d e w u v D
-CoreAnswer n d e w x y u v (Splits p q) = Splitter n p q × ((u ≡ x) × (v ≡ y))
+abbrev pub CoreAnswer : ℕ → ℕ → ℕ → List ℕ → List ℕ → List ℕ → List ℕ → List ℕ → Result ℕ (Split ℕ) → Type 0
+CoreAnswer n d e w x y u v (Ok D) = CoreCertified n d e w u v D
+CoreAnswer n d e w x y u v (Err s) = Splitter n s.p s.q × ((u ≡ x) × (v ≡ y))
 
 -- the unit polynomial of k + 1 words at e + 1, H at q and the t words of a multiplier after it; room for the cofactors
 pub record FinishAsked (n e q t k : ℕ) (w x y : List ℕ) : Type 0 where
@@ -131,6 +130,6 @@ pub record FoundAt (n d e t D : ℕ) (w w' : List ℕ) : Type 0 where
   pub completes : Completes n (piece w (monic_place d e) (t + 1)) (piece w 0 (e + 1)) (piece w' (monic_place d e + (t + 1)) t) D
 
 -- such a D; or two coprime divisors of n
-abbrev pub Found : ℕ → ℕ → ℕ → ℕ → List ℕ → List ℕ → Attempt → Type 0
-Found n d e t w w' (Value D) = FoundAt n d e t D w w'
-Found n d e t w w' (Splits p q) = Splitter n p q
+abbrev pub Found : ℕ → ℕ → ℕ → ℕ → List ℕ → List ℕ → Result ℕ (Split ℕ) → Type 0
+Found n d e t w w' (Ok D) = FoundAt n d e t D w w'
+Found n d e t w w' (Err s) = Splitter n s.p s.q

@@ -25,15 +25,15 @@ ghost use Rattle.reduced_cofactors.specs.Cofactors.{FinishAsked, Finished, Divid
 
 use modulus::Modulus;
 use reduced_units::Places;
-use residue::Attempt;
+use residue::Split;
 
 // F, of degree d, with a unit and its inverse i at t and nilpotents above it, and G, of degree e.
 #[derive(Clone, Copy)]
-pub struct Factored {
+pub struct Factored<W> {
     pub d: usize,
     pub e: usize,
     pub t: usize,
-    pub i: u32,
+    pub i: W,
 }
 
 // c less the product of G and the multiplier at q + (t + 1), over H, and behind it a copy of the unit polynomial of k + 1 words at e + 1.
@@ -50,7 +50,7 @@ fn divide(w: &mut [u32], m: Modulus, d: usize, e: usize, t: usize, c: u32)
 
 // The cofactors of c, from the multiplier at q + (t + 1): y is that multiplier, and x is the exact quotient over the unit polynomial of
 // k + 1 words at e + 1.
-fn finish(x: &mut [u32], y: &mut [u32], w: &mut [u32], m: Modulus, s: Factored, c: u32)
+fn finish(x: &mut [u32], y: &mut [u32], w: &mut [u32], m: Modulus, s: Factored<u32>, c: u32)
     requires known { (Known m) × (s.t ≤ s.d) }
     requires finish_asked { FinishAsked m.n s.e (monic_place s.d s.e) s.t (s.d - s.t) w.old x.old y.old }
     ensures finished { Finished m.n s.e (monic_place s.d s.e) s.t (s.d - s.t) c w.old x.new
@@ -80,7 +80,7 @@ fn constant(x: &mut [u32], y: &mut [u32], w: &mut [u32], m: Modulus, d: usize, e
 }
 
 // H has degree t above 0: the stages find D and the multiplier of G, which is left behind H; U is moved to the place of F.
-fn find(w: &mut [u32], m: Modulus, d: usize, e: usize, t: usize) -> Attempt
+fn find(w: &mut [u32], m: Modulus, d: usize, e: usize, t: usize) -> Result<u32, Split<u32>>
     requires { (Known m) × (FindAsked m.n d e t w.old) }
     ensures found { Found m.n d e t w.old w.new result }
     ensures scratch { Scratch w.old w.new }
@@ -100,25 +100,33 @@ fn find(w: &mut [u32], m: Modulus, d: usize, e: usize, t: usize) -> Attempt
 }
 
 // H has degree t above 0: D is found, and the cofactors from the multiplier of G.
-fn solve(x: &mut [u32], y: &mut [u32], w: &mut [u32], m: Modulus, s: Factored) -> Attempt
+fn solve(
+    x: &mut [u32],
+    y: &mut [u32],
+    w: &mut [u32],
+    m: Modulus,
+    s: Factored<u32>,
+) -> Result<u32, Split<u32>>
     requires known { (Known m) × (CoreLengthsAsked m.n s.d s.e w.old x.old y.old) }
     requires le_t { (1 ≤ s.t) × ((s.t ≤ s.d) × (FactoredAt m.n s.d s.e s.t w.old)) }
     ensures core_answer { CoreAnswer m.n s.d s.e w.old x.old y.old x.new
         y.new result }
     ensures scratch { Scratch w.old w.new }
 {
-    match find(w, m, s.d, s.e, s.t) {
-        Attempt::Value(c) => {
-            finish(x, y, w, m, s, c);
-            Attempt::Value(c)
-        }
-        Attempt::Splits(f, g) => Attempt::Splits(f, g),
-    }
+    let c = find(w, m, s.d, s.e, s.t)?;
+    finish(x, y, w, m, s, c);
+    Ok(c)
 }
 
 // The reduced resultant of F, of degree d at e + 1, and of G, of degree e at 0, with the cofactors x of F and y of G. The coefficient of F
 // at t has the inverse i, and those above it are nilpotent.
-pub fn core(x: &mut [u32], y: &mut [u32], w: &mut [u32], m: Modulus, s: Factored) -> Attempt
+pub fn core(
+    x: &mut [u32],
+    y: &mut [u32],
+    w: &mut [u32],
+    m: Modulus,
+    s: Factored<u32>,
+) -> Result<u32, Split<u32>>
     requires { (Known m) × (CoreAsked m.n s.d s.e s.t s.i w.old x.old y.old) }
     ensures core_answer { CoreAnswer m.n s.d s.e w.old x.old y.old x.new
         y.new result }
@@ -131,7 +139,7 @@ pub fn core(x: &mut [u32], y: &mut [u32], w: &mut [u32], m: Modulus, s: Factored
     window_factor::unit_times_monic(&mut w[b..b + (d + 1 + (t + 1 + (d + 1)))], m, d, t, s.i);
     if t == 0 {
         constant(x, y, w, m, d, e);
-        return Attempt::Value(1);
+        return Ok(1);
     }
     solve(x, y, w, m, s)
 }

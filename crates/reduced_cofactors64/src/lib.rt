@@ -7,22 +7,14 @@
 ghost use Rattle.std.specs.Prelude.{◌-◌, ◌≤◌};
 ghost use Rattle.reduction64.specs.Moduli.{Ready};
 ghost use Rattle.windows.specs.Window.{Scratch};
-ghost use Rattle.reduced_cofactors64.specs.Cofactors.{CoreLengthsAsked, CoreAsked, CoreCertified, CoreAnswer};
-ghost use Rattle.reduced_cofactors64.specs.Cofactors.{FactoredAt, FindAsked, Found, monic_place};
-ghost use Rattle.reduced_cofactors64.specs.Cofactors.{FinishAsked, Finished, DivideAsked, DividedBy};
+ghost use Rattle.reduced_cofactors.specs.Cofactors.{CoreLengthsAsked, CoreAsked, CoreCertified, CoreAnswer};
+ghost use Rattle.reduced_cofactors.specs.Cofactors.{FactoredAt, FindAsked, Found, monic_place};
+ghost use Rattle.reduced_cofactors.specs.Cofactors.{FinishAsked, Finished, DivideAsked, DividedBy};
 
+use reduced_cofactors::Factored;
 use reduced_units::Places;
 use reduction64::Reciprocal;
-use residue64::Attempt;
-
-// F, of degree d, with a unit and its inverse i at t and nilpotents above it, and G, of degree e.
-#[derive(Clone, Copy)]
-pub struct Factored {
-    pub d: usize,
-    pub e: usize,
-    pub t: usize,
-    pub i: u64,
-}
+use residue::Split;
 
 // c less the product of G and the multiplier at q + (t + 1), over H, and behind it a copy of the unit polynomial of k + 1 words at e + 1.
 fn divide(w: &mut [u64], m: Reciprocal, d: usize, e: usize, t: usize, c: u64)
@@ -38,7 +30,7 @@ fn divide(w: &mut [u64], m: Reciprocal, d: usize, e: usize, t: usize, c: u64)
 
 // The cofactors of c, from the multiplier at q + (t + 1): y is that multiplier, and x is the exact quotient over the unit polynomial of
 // k + 1 words at e + 1.
-fn finish(x: &mut [u64], y: &mut [u64], w: &mut [u64], m: Reciprocal, s: Factored, c: u64)
+fn finish(x: &mut [u64], y: &mut [u64], w: &mut [u64], m: Reciprocal, s: Factored<u64>, c: u64)
     requires ready { (Ready m) × (s.t ≤ s.d) }
     requires finish_asked { FinishAsked m.n s.e (monic_place s.d s.e) s.t (s.d - s.t) w.old x.old y.old }
     ensures finished { Finished m.n s.e (monic_place s.d s.e) s.t (s.d - s.t) c w.old x.new
@@ -68,7 +60,7 @@ fn constant(x: &mut [u64], y: &mut [u64], w: &mut [u64], m: Reciprocal, d: usize
 }
 
 // H has degree t above 0: the stages find D and the multiplier of G, which is left behind H; U is moved to the place of F.
-fn find(w: &mut [u64], m: Reciprocal, d: usize, e: usize, t: usize) -> Attempt
+fn find(w: &mut [u64], m: Reciprocal, d: usize, e: usize, t: usize) -> Result<u64, Split<u64>>
     requires { (Ready m) × (FindAsked m.n d e t w.old) }
     ensures found { Found m.n d e t w.old w.new result }
     ensures scratch { Scratch w.old w.new }
@@ -88,25 +80,33 @@ fn find(w: &mut [u64], m: Reciprocal, d: usize, e: usize, t: usize) -> Attempt
 }
 
 // H has degree t above 0: D is found, and the cofactors from the multiplier of G.
-fn solve(x: &mut [u64], y: &mut [u64], w: &mut [u64], m: Reciprocal, s: Factored) -> Attempt
+fn solve(
+    x: &mut [u64],
+    y: &mut [u64],
+    w: &mut [u64],
+    m: Reciprocal,
+    s: Factored<u64>,
+) -> Result<u64, Split<u64>>
     requires ready { (Ready m) × (CoreLengthsAsked m.n s.d s.e w.old x.old y.old) }
     requires le_t { (1 ≤ s.t) × ((s.t ≤ s.d) × (FactoredAt m.n s.d s.e s.t w.old)) }
     ensures core_answer { CoreAnswer m.n s.d s.e w.old x.old y.old x.new
         y.new result }
     ensures scratch { Scratch w.old w.new }
 {
-    match find(w, m, s.d, s.e, s.t) {
-        Attempt::Value(c) => {
-            finish(x, y, w, m, s, c);
-            Attempt::Value(c)
-        }
-        Attempt::Splits(f, g) => Attempt::Splits(f, g),
-    }
+    let c = find(w, m, s.d, s.e, s.t)?;
+    finish(x, y, w, m, s, c);
+    Ok(c)
 }
 
 // The reduced resultant of F, of degree d at e + 1, and of G, of degree e at 0, with the cofactors x of F and y of G. The coefficient of F
 // at t has the inverse i, and those above it are nilpotent.
-pub fn core(x: &mut [u64], y: &mut [u64], w: &mut [u64], m: Reciprocal, s: Factored) -> Attempt
+pub fn core(
+    x: &mut [u64],
+    y: &mut [u64],
+    w: &mut [u64],
+    m: Reciprocal,
+    s: Factored<u64>,
+) -> Result<u64, Split<u64>>
     requires { (Ready m) × (CoreAsked m.n s.d s.e s.t s.i w.old x.old y.old) }
     ensures core_answer { CoreAnswer m.n s.d s.e w.old x.old y.old x.new
         y.new result }
@@ -119,7 +119,7 @@ pub fn core(x: &mut [u64], y: &mut [u64], w: &mut [u64], m: Reciprocal, s: Facto
     window_factor64::unit_times_monic(&mut w[b..b + (d + 1 + (t + 1 + (d + 1)))], m, d, t, s.i);
     if t == 0 {
         constant(x, y, w, m, d, e);
-        return Attempt::Value(1);
+        return Ok(1);
     }
     solve(x, y, w, m, s)
 }

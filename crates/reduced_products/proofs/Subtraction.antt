@@ -7,9 +7,9 @@
 use mathlib.Core.Path.{◌≡◌, refl, sym, ap, ap₂, subst, ◌∙◌, fun_ext}
 use mathlib.Core.List.{List}
 use mathlib.Core.Logic.{⊎_elim}
-use Prim.Native.Nat.{ℕ, zero, suc, ◌+◌, ◌-◌, ◌*◌, ◌%◌, ◌≤◌, ◌<◌}
+use Prim.Native.Nat.{ℕ, zero, suc, ◌+◌, ◌-◌, ◌*◌, ◌/◌, ◌%◌, ◌≤◌, ◌<◌}
 use native.Mathlib.Omega.{arith}
-use native.Mathlib.Nat.{mod-lt, zero-add, add-zero, add_assoc, add_comm, mul-zero, eq-or-lt_of_le, le_of_lt}
+use native.Mathlib.Nat.{mod-lt, zero-add, add-zero, add_assoc, mul-zero, div-add-mod, eq-or-lt_of_le, le_of_lt}
 use native.Mathlib.Decide.{ℕ_discrete}
 use borrow.Author.Rules.{rules}
 use lib.ListN.{length, get_or, set, length-set}
@@ -311,70 +311,84 @@ module _ (n p lp q lq dst l j m : ℕ) (w₀ w : List ℕ) (pos : 0 < n) (some :
 
 -- ---- as the code has it
 
-pub record Taking (n p lp q lq dst : ℕ) (w₀ w : List ℕ) (j : ℕ) : Type 0 where
-  pub most : j ≤ lp
-  pub done : Subtracting n p lp q lq dst (lp + lq - 1) j w₀ w
+-- i pairs of words of the first factor have been taken
+pub record Taking (n p lp q lq dst : ℕ) (w₀ w : List ℕ) (i : ℕ) : Type 0 where
+  pub most : 2 * i ≤ lp
+  pub done : Subtracting n p lp q lq dst (lp + lq - 1) (2 * i) w₀ w
 
 pub taking_start : (n p lp q lq dst : ℕ) (w : List ℕ) → Factors n p lp q lq dst w → Taking n p lp q lq dst w w 0
 taking_start n p lp q lq dst w fs = record { most = omega arith; done = subtracting_start _ _ _ _ _ _ _ _ fs.product }
 
-pub taking_end : (n p lp q lq dst j : ℕ) (w₀ w : List ℕ) → Taking n p lp q lq dst w₀ w j → j ≡ lp → Subtracted n p lp q lq dst w₀ w
-taking_end n p lp q lq dst j w₀ w x e = subtracting_end _ _ _ _ _ _ _ j _ _ e refl x.done
+module _ (n p lp q lq dst i : ℕ) (w₀ w : List ℕ) (x : Taking n p lp q lq dst w₀ w i) where
+  pub taking_end : lp / 2 ≤ i → lp % 2 ≡ 0 → Subtracted n p lp q lq dst w₀ w
+  taking_end l e = subtracting_end _ _ _ _ _ _ _ (2 * i) _ _ (omega (arith, x.most, div-add-mod lp 2)) refl x.done
 
-module _ (n p lp q lq dst j : ℕ) (w₀ w : List ℕ) (x : Taking n p lp q lq dst w₀ w j) (room : ProductAsked n p lp q lq dst w₀)
-    (fs : Factors n p lp q lq dst w₀) where
-  small : (i : ℕ) → i < lp → get_or w (p + i) 0 < n
-  small = first_small x.done fs.apart_first fs.first
+  -- one word is left
+  left : lp / 2 ≤ i → (lp % 2 ≡ 0 → ⊥) → lp ≡ 2 * i + 1
+  left l ne = omega (arith, x.most, div-add-mod lp 2)
 
-  pub first_most : j + 1 < lp → get_or w (p + j) 0 ≤ n
-  first_most h = le_of_lt (small j (omega arith))
+  pairs : i < lp / 2 → 2 * i + 1 < lp
+  pairs l = omega (arith, div-add-mod lp 2)
 
-  pub second_most : j + 1 < lp → get_or w (p + (j + 1)) 0 ≤ n
-  second_most h = le_of_lt (small (j + 1) h)
+  module _ (room : ProductAsked n p lp q lq dst w₀) (fs : Factors n p lp q lq dst w₀) where
+    small : (k : ℕ) → k < lp → get_or w (p + k) 0 < n
+    small = first_small x.done fs.apart_first fs.first
 
-  pub last_most : (j ≡ lp → ⊥) → get_or w (p + j) 0 ≤ n
-  last_most ne = le_of_lt (small j (omega (arith, x.most)))
+    pub first_most : i < lp / 2 → get_or w (p + 2 * i) 0 ≤ n
+    first_most l = le_of_lt (small (2 * i) (omega (arith, pairs l)))
 
-  asked_at : (m : ℕ) → j < lp → PairAsked n (n - m) q (dst + j) lq w
-  asked_at m h = record {
-    modulus = room.modulus;
-    factor = omega arith;
-    source = omega (arith, room.second, x.done.around.same);
-    target = omega (arith, room.product, x.done.around.same);
-    apart = round_apart fs.apart_second j (omega arith);
-    below = round_under x.done (omega arith);
-  }
+    pub second_most : i < lp / 2 → get_or w (p + (2 * i + 1)) 0 ≤ n
+    second_most l = le_of_lt (small (2 * i + 1) (pairs l))
 
-  pub pair_asked : (m : ℕ) → j + 1 < lp → PairAsked n (n - m) q (dst + j) lq w
-  pair_asked m h = asked_at m (omega arith)
+    pub last_most : get_or w (p + (lp - 1)) 0 ≤ n
+    last_most = le_of_lt (small (lp - 1) (omega (arith, room.some_first)))
 
-  pub last_asked : (m : ℕ) → (j ≡ lp → ⊥) → PairAsked n (n - m) q (dst + j) lq w
-  last_asked m ne = asked_at m (omega (arith, x.most))
+    asked_at : (m : ℕ) → 2 * i < lp → PairAsked n (n - m) q (dst + 2 * i) lq w
+    asked_at m h = record {
+      modulus = room.modulus;
+      factor = omega arith;
+      source = omega (arith, room.second, x.done.around.same);
+      target = omega (arith, room.product, x.done.around.same);
+      apart = round_apart fs.apart_second (2 * i) (omega arith);
+      below = round_under x.done (omega arith);
+    }
 
-  -- the second factor is as it was
-  pub factor_below : Below n q lq w
-  factor_below = record {
-    at = λ k l. subst (λ (y : ℕ). y < n) (sym (apart_at fs.apart_second x.done.around k l)) (fs.second.at k l);
-  }
+    pub pair_asked : (m : ℕ) → i < lp / 2 → PairAsked n (n - m) q (dst + 2 * i) lq w
+    pair_asked m l = asked_at m (omega (arith, pairs l))
 
-  pub taking_next : (v j' : ℕ) (w' w'' : List ℕ) → j + 1 < lp
-      → Paired n (n - get_or w (p + (j + 1)) 0) (n - get_or w (p + j) 0) q (dst + j) lq w w'
-      → v ≡ (get_or w' (dst + (j + lq)) 0 + (n - get_or w (p + (j + 1)) 0) * get_or w' (q + (lq - 1)) 0) % n
-      → w'' ≡ set w' (dst + (j + lq)) v → j' ≡ j + 2 → Taking n p lp q lq dst w₀ w'' j'
-  taking_next v j' w' w'' h mv is ew ej =
-      rw (ew, ej) (record {
-        most = omega arith;
-        done = subtracting_two _ _ _ _ _ _ _ j _ w₀ w room.modulus room.some_second fs.apart_first fs.apart_second
-            (small j (omega arith)) refl x.done _ v w' (small (j + 1) h) h (omega arith)
-            (omega (arith, room.product, x.done.around.same)) refl mv is;
-      })
+    pub last_asked : (m : ℕ) → lp / 2 ≤ i → (lp % 2 ≡ 0 → ⊥) → PairAsked n (n - m) q (dst + (lp - 1)) lq w
+    last_asked m l ne = subst (λ (k : ℕ). PairAsked n (n - m) q (dst + k) lq w) (omega (arith, left l ne))
+        (asked_at m (omega (arith, left l ne)))
 
-  pub taking_last : (w' : List ℕ) → (j ≡ lp → ⊥) → lp ≤ j + 1 → Moved (addMul n (n - get_or w (p + j) 0)) q (dst + j) lq w w'
-      → Subtracted n p lp q lq dst w₀ w'
-  taking_last w' ne h mv =
-      subtracting_end _ _ _ _ _ _ _ (j + 1) _ _ (omega (arith, x.most)) refl
-      (subtracting_one _ _ _ _ _ _ _ j _ w₀ w room.modulus room.some_second fs.apart_first fs.apart_second
-      (small j (omega (arith, x.most))) refl x.done w' (omega (arith, x.most)) (omega (arith, x.most, room.some_second)) mv)
+    -- the second factor is as it was
+    pub factor_below : Below n q lq w
+    factor_below = record {
+      at = λ k l. subst (λ (y : ℕ). y < n) (sym (apart_at fs.apart_second x.done.around k l)) (fs.second.at k l);
+    }
+
+    pub taking_next : (v : ℕ) (w' w'' : List ℕ) → i < lp / 2
+        → Paired n (n - get_or w (p + (2 * i + 1)) 0) (n - get_or w (p + 2 * i) 0) q (dst + 2 * i) lq w w'
+        → v ≡ (get_or w' (dst + (2 * i + lq)) 0 + (n - get_or w (p + (2 * i + 1)) 0) * get_or w' (q + (lq - 1)) 0) % n
+        → w'' ≡ set w' (dst + (2 * i + lq)) v → Taking n p lp q lq dst w₀ w'' (i + 1)
+    taking_next v w' w'' l mv is ew =
+        let h : 2 * i + 1 < lp = pairs l in
+        rw ew (record {
+          most = omega arith;
+          done = subst (λ (k : ℕ). Subtracting n p lp q lq dst (lp + lq - 1) k w₀ (set w' (dst + (2 * i + lq)) v)) (omega arith)
+              (subtracting_two _ _ _ _ _ _ _ (2 * i) _ w₀ w room.modulus room.some_second fs.apart_first fs.apart_second
+              (small (2 * i) (omega arith)) refl x.done _ v w' (small (2 * i + 1) h) h (omega arith)
+              (omega (arith, room.product, x.done.around.same)) refl mv is);
+        })
+
+    pub taking_last : (w' : List ℕ) → lp / 2 ≤ i → (lp % 2 ≡ 0 → ⊥)
+        → Moved (addMul n (n - get_or w (p + (lp - 1)) 0)) q (dst + (lp - 1)) lq w w' → Subtracted n p lp q lq dst w₀ w'
+    taking_last w' l ne mv =
+        let e : lp ≡ 2 * i + 1 = left l ne in
+        let k : lp - 1 ≡ 2 * i = omega arith in
+        subtracting_end _ _ _ _ _ _ _ (2 * i + 1) _ _ (sym e) refl
+        (subtracting_one _ _ _ _ _ _ _ (2 * i) _ w₀ w room.modulus room.some_second fs.apart_first fs.apart_second
+        (small (2 * i) (omega arith)) refl x.done w' (omega arith) (omega (arith, room.some_second))
+        (subst (λ (y : ℕ). Moved (addMul n (n - get_or w (p + y) 0)) q (dst + y) lq w w') k mv))
 
 pub ruleset asked = (first_most, second_most, last_most, pair_asked, last_asked, factor_below)
 

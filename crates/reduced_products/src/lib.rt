@@ -30,18 +30,18 @@ pub fn sub_product(w: &mut [u32], m: Modulus, p: usize, lp: usize, q: usize, lq:
     ensures { Subtracted m.n p lp q lq dst w.old w.new }
 {
     let n = m.n;
-    let mut j: usize = 0;
-    while j + 1 < lp {
+    for i in 0..lp / 2 {
+        let j = 2 * i;
         let b = w[p + j];
         let c = w[p + (j + 1)];
         modulus_windows::add_pair(w, m, n - c, n - b, q, dst + j, lq);
         let top = modulus::multiply_add(m, w[dst + (j + lq)], n - c, w[q + (lq - 1)]);
         w[dst + (j + lq)] = top;
-        j += 2;
     }
-    if j == lp {
+    if lp % 2 == 0 {
         return;
     }
+    let j = lp - 1;
     let b = w[p + j];
     modulus_windows::add_scaled(w, m, n - b, q, dst + j, lq);
 }

@@ -29,18 +29,18 @@ pub fn sub_product(
     ensures { Subtracted m.n p lp q lq dst w.old w.new }
 {
     let n = m.n;
-    let mut j: usize = 0;
-    while j + 1 < lp {
+    for i in 0..lp / 2 {
+        let j = 2 * i;
         let b = w[p + j];
         let c = w[p + (j + 1)];
         modulus_windows64::add_pair(w, m, n - c, n - b, q, dst + j, lq);
         let top = reduction64::add_product(m, w[dst + (j + lq)], n - c, w[q + (lq - 1)]);
         w[dst + (j + lq)] = top;
-        j += 2;
     }
-    if j == lp {
+    if lp % 2 == 0 {
         return;
     }
+    let j = lp - 1;
     let b = w[p + j];
     modulus_windows64::add_scaled(w, m, n - b, q, dst + j, lq);
 }

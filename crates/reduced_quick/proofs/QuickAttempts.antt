@@ -15,6 +15,7 @@ use native.Mathlib.Omega.{arith}
 use native.Mathlib.Nat.{mod-lt, mul-zero, zero-mod, one-dvd, mul-le-mul, max_comm}
 use lib.ListN.{length}
 use borrow.Author.Rules.{rules}
+use Rattle.std.specs.Prelude.{Result}
 use Rattle.definitions.specs.Residues.{K}
 use Rattle.definitions.specs.Polynomials.{coef, L}
 use Rattle.definitions.specs.Resultants.{Combination}
@@ -29,7 +30,7 @@ use Rattle.euclid_steps.specs.declared.Ending.{Ending}
 use Rattle.euclid_steps.specs.Multiplied.{Asked, Multiplied}
 use Rattle.multiplier_words.specs.Words.{Put, HandAsked, Handed}
 use Rattle.multiplier_words.proofs.Scaling.{handed_combination}
-use Rattle.residue.specs.declared.Attempt.{Attempt}
+use Rattle.residue.specs.declared.Split.{Split}
 use Rattle.reduced_cofactors.specs.Cofactors.{Certified}
 use Rattle.reduced_attempt.specs.ReducedAttempts.{AttemptAsked, Attempted}
 use Rattle.reduced_attempt.proofs.Whole.{certified_flip}
@@ -79,7 +80,7 @@ pub run_asked : {n : ℕ} {f g w : List ℕ} (u v : List ℕ) → QuickAsked n f
 run_asked u v k l = record { some = k.some_f; order = l; room = omega (arith, k.room) }
 
 module _ {m : Modulus} {f g u v w : List ℕ} (k : QuickAsked m.n f g u v w) (l : length f ≤ length g)
-    {r : Ending} {w' : List ℕ} (mu : Multiplied m f g r w') where
+    {r : Ending ℕ} {w' : List ℕ} (mu : Multiplied m f g r w') where
   pub hand_asked : Known m → HandAsked m r (length g) (length g) w' u v
   hand_asked known = record {
     known = known;
@@ -105,14 +106,14 @@ module _ {m : Modulus} {f g u v w : List ℕ} (k : QuickAsked m.n f g u v w) (l 
   attempted_here u' v' true x = certified_quick x
   attempted_here u' v' false x = x
 
-pub settled_attempt : {n : ℕ} {m : Modulus} {f g w w' : List ℕ} {r : Ending} (u v u' v' : List ℕ) (b : Bool) → Multiplied m f g r w'
+pub settled_attempt : {n : ℕ} {m : Modulus} {f g w w' : List ℕ} {r : Ending ℕ} (u v u' v' : List ℕ) (b : Bool) → Multiplied m f g r w'
     → Settled m r (length g) w' u v u' v' b → QuickAsked n f g u v w → length f ≤ length g → m.n ≡ n → QuickAttempted n f g u v u' v' b
 settled_attempt {f = f} {g} {w} u v u' v' b mu x k l is =
     subst (λ (z : ℕ). QuickAttempted z f g u v u' v' b) is
     (attempted_here (subst (λ (z : ℕ). QuickAsked z f g u v w) (sym is) k) l mu u' v' b x)
 
 -- the constant c is decoded, and s is its inverse
-pub unit_found : {m : Modulus} {r : Ending} {h c i s : ℕ} {w u v u' v' : List ℕ} → c ≡ value m r.c → GcdCofactor m.n c i s → i ≡ 1
+pub unit_found : {m : Modulus} {r : Ending ℕ} {h c i s : ℕ} {w u v u' v' : List ℕ} → c ≡ value m r.c → GcdCofactor m.n c i s → i ≡ 1
     → Handed m r s h h w u v u' v' → Unit m r h w u v u' v'
 unit_found {m} {s = s} e g is h = record {
   s = s;
@@ -156,7 +157,7 @@ pub attempted_true : (n : ℕ) (f g u v u' v' : List ℕ) (r : Bool) → r ≡ t
 attempted_true n f g u v u' v' r e t = subst (λ (x : Bool). QuickAttempted n f g u v u' v' x) e t
 
 -- the buffers are as found, and the general attempt has to try
-pub attempted_later : (n : ℕ) (f g u v u₁ v₁ u' v' : List ℕ) (r : Bool) (x : Attempt) → r ≡ false → QuickAttempted n f g u v u₁ v₁ r
+pub attempted_later : (n : ℕ) (f g u v u₁ v₁ u' v' : List ℕ) (r : Bool) (x : Result ℕ (Split ℕ)) → r ≡ false → QuickAttempted n f g u v u₁ v₁ r
     → Attempted n f g u₁ v₁ u' v' x → Attempted n f g u v u' v' x
 attempted_later n f g u v u₁ v₁ u' v' r x h t a =
     let e = subst (λ (b : Bool). QuickAttempted n f g u v u₁ v₁ b) h t in

@@ -19,11 +19,11 @@ ghost use Rattle.reduced_quick.specs.Quick.{QuickAsked, Settled, QuickAttempted}
 
 use euclid_steps::Ending;
 use modulus::Modulus;
-use residue::Attempt;
+use residue::Split;
 
 // A last constant that is a unit gives the cofactors of 1 by one inverse: true, and they are in u and v. Otherwise false, and u and v are
 // as found. r is where Euclid ended, h the number of words of a multiplier.
-fn settle(u: &mut [u32], v: &mut [u32], w: &[u32], m: Modulus, r: Ending, h: usize) -> bool
+fn settle(u: &mut [u32], v: &mut [u32], w: &[u32], m: Modulus, r: Ending<u32>, h: usize) -> bool
     requires { HandAsked m r h h w.now u.old v.old }
     ensures { Settled m r h w.now u.old v.old u.new v.new result }
 {
@@ -68,14 +68,14 @@ pub fn attempt(
     m: Modulus,
     f: &[u32],
     g: &[u32],
-) -> Attempt
+) -> Result<u32, Split<u32>>
     requires { (Known m) × (AttemptAsked m.n f.now g.now u.old v.old w.old) }
     ensures attempted { Attempted m.n f.now g.now u.old v.old
         u.new v.new result }
     ensures scratch { Scratch w.old w.new }
 {
     if quick(u, v, w, m, f, g) {
-        return Attempt::Value(1);
+        return Ok(1);
     }
     reduced_attempt::attempt(u, v, w, m, f, g)
 }

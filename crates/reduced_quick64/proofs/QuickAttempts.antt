@@ -12,12 +12,11 @@ use Rattle.reduced_quick.proofs.QuickAttempts.{long_enough, tries}
 use Rattle.reduction64.specs.declared.Reciprocal.{Reciprocal}
 use Rattle.reduction64.specs.Moduli.{Ready}
 use Rattle.modulus64.specs.Plain.{plain}
-use Rattle.euclid_steps64.specs.declared.Ending.{Ending}
-use Rattle.euclid_steps64.specs.EuclidStages.{ending_of}
+use Rattle.euclid_steps.specs.declared.Ending.{Ending}
 use Rattle.multiplier_words64.specs.Words.{HandAsked}
 
-pub hand_asked : {m : Reciprocal} {f g u v w : List ℕ} {r : Ending} {w' : List ℕ} → QuickAsked m.n f g u v w → length f ≤ length g
-    → Multiplied (plain m) f g (ending_of r) w' → Ready m → HandAsked m r (length g) (length g) w' u v
+pub hand_asked : {m : Reciprocal} {f g u v w : List ℕ} {r : Ending ℕ} {w' : List ℕ} → QuickAsked m.n f g u v w → length f ≤ length g
+    → Multiplied (plain m) f g r w' → Ready m → HandAsked m r (length g) (length g) w' u v
 hand_asked k l mu ready = record {
   known = ready;
   factor = omega (arith, mu.k_below);

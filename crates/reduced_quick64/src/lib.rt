@@ -13,20 +13,19 @@ ghost use Rattle.std.specs.Prelude.{◌≤◌, length};
 ghost use Rattle.windows.specs.Window.{Scratch};
 ghost use Rattle.reduction64.specs.Moduli.{Ready};
 ghost use Rattle.modulus64.specs.Plain.{plain};
-ghost use Rattle.euclid_steps64.specs.EuclidStages.{ending_of};
 ghost use Rattle.multiplier_words64.specs.Words.{HandAsked};
-ghost use Rattle.reduced_attempt64.specs.ReducedAttempts.{AttemptAsked, Attempted};
+ghost use Rattle.reduced_attempt.specs.ReducedAttempts.{AttemptAsked, Attempted};
 ghost use Rattle.reduced_quick.specs.Quick.{QuickAsked, Settled, QuickAttempted};
 
-use euclid_steps64::Ending;
+use euclid_steps::Ending;
 use reduction64::Reciprocal;
-use residue64::Attempt;
+use residue::Split;
 
 // A last constant that is a unit gives the cofactors of 1 by one inverse: true, and they are in u and v. Otherwise false, and u and v are
 // as found. r is where Euclid ended, h the number of words of a multiplier.
-fn settle(u: &mut [u64], v: &mut [u64], w: &[u64], m: Reciprocal, r: Ending, h: usize) -> bool
+fn settle(u: &mut [u64], v: &mut [u64], w: &[u64], m: Reciprocal, r: Ending<u64>, h: usize) -> bool
     requires { HandAsked m r h h w.now u.old v.old }
-    ensures { Settled (plain m) (ending_of r) h w.now u.old v.old u.new
+    ensures { Settled (plain m) r h w.now u.old v.old u.new
         v.new result }
 {
     let c = modulus64::leave(m, r.c);
@@ -70,14 +69,14 @@ pub fn attempt(
     m: Reciprocal,
     f: &[u64],
     g: &[u64],
-) -> Attempt
+) -> Result<u64, Split<u64>>
     requires { (Ready m) × (AttemptAsked m.n f.now g.now u.old v.old w.old) }
     ensures attempted { Attempted m.n f.now g.now u.old v.old
         u.new v.new result }
     ensures scratch { Scratch w.old w.new }
 {
     if quick(u, v, w, m, f, g) {
-        return Attempt::Value(1);
+        return Ok(1);
     }
     reduced_attempt64::attempt(u, v, w, m, f, g)
 }

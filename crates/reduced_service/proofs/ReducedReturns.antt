@@ -1,11 +1,9 @@
 -- The reduced resultant's promise at each place where it returns, and that the run has the words that it asks for, over any width W.
 --
 --   first_some, second_some, cofactor_fits             what the code asks after the refusals 1, 2 and 3
---   refused, first_short, second_short, work_short     the refusals
---   reduced_asked                                      none applies
+--   late                                               the refusals 6 and 7
 --   Serves W k         K of a modulus of the width is at most k, and the working words of the width are enough for it
 --   first_room, second_room, run_asked, run_swapped, done     what the run asks, and the answer
---   refusals, runs     the rules
 use mathlib.Core.Path.{◌≡◌, refl, sym, ap, ap₂, subst, ◌∙◌}
 use mathlib.Core.List.{List, [], ◌∷◌, ◌++◌}
 use Prim.Native.Nat.{ℕ, zero, suc, max, ◌+◌, ◌-◌, ◌*◌, ◌≤◌, ◌<◌}
@@ -66,13 +64,6 @@ abbrev later : Width → List ℕ → List ℕ → List ℕ → ℕ → List Tes
 later W u v work m = (6, short (length u) m) ∷ (6, short (length v) m) ∷ (7, short (length work) W.working) ∷ []
 
 module _ (W : Width) (n : ℕ) (f g u v work : List ℕ) (s : ℕ) (e : s ≡ first_refusal (refusals_of_pair W n f g)) where
-  pub refused : (s ≡ 0 → ⊥) → ReducedAnswer W n f g u u v v work work 0 s
-  refused z = record {
-    status_is = refused_early (refusals_of_pair W n f g) (later W u v work (L n (deg f) (deg g))) s e z;
-    result = left_alone s n f g u v z;
-    work_is = left_refused s work z;
-  }
-
   module _ (z : s ≡ 0) (l : ℕ) (el : l ≡ L n (length f - 1) (length g - 1)) where
     length_is : l ≡ L n (deg f) (deg g)
     length_is = el ∙ ap₂ (L n) (sub-one (length f)) (sub-one (length g))
@@ -83,36 +74,8 @@ module _ (W : Width) (n : ℕ) (f g u v work : List ℕ) (s : ℕ) (e : s ≡ fi
         passed_on (refusals_of_pair W n f g) (later W u v work (L n (deg f) (deg g))) s t e z
         (subst (λ (m : ℕ). t ≡ first_refusal (later W u v work m)) length_is h)
 
-    stopped : (t : ℕ) → suc t ≡ first_refusal (later W u v work l) → ReducedAnswer W n f g u u v v work work 0 (suc t)
-    stopped t h = record { status_is = found (suc t) h; result = left_alone (suc t) n f g u v (λ b. absurd (omega arith)); work_is = refl }
-
-    pub first_short : length u < l → ReducedAnswer W n f g u u v v work work 0 6
-    first_short h = stopped 5 (too_short 5 (length u) l ((6, short (length v) l) ∷ (7, short (length work) W.working) ∷ []) h)
-
-    module _ (a : l ≤ length u) where
-      -- u is long enough
-      past : (t : ℕ) → t ≡ first_refusal ((6, short (length v) l) ∷ (7, short (length work) W.working) ∷ [])
-          → t ≡ first_refusal (later W u v work l)
-      past t h = long_enough 6 (length u) l ((6, short (length v) l) ∷ (7, short (length work) W.working) ∷ []) t a h
-
-      pub second_short : length v < l → ReducedAnswer W n f g u u v v work work 0 6
-      second_short h = stopped 5 (past 6 (too_short 5 (length v) l ((7, short (length work) W.working) ∷ []) h))
-
-      module _ (b : l ≤ length v) where
-        -- and so is v
-        last : (t : ℕ) → t ≡ first_refusal ((7, short (length work) W.working) ∷ []) → t ≡ first_refusal (later W u v work l)
-        last t h = past t (long_enough 6 (length v) l ((7, short (length work) W.working) ∷ []) t b h)
-
-        pub work_short : length work < W.working → ReducedAnswer W n f g u u v v work work 0 7
-        work_short h = stopped 6 (last 7 (too_short 6 (length work) W.working [] h))
-
-        pub reduced_asked : W.working ≤ length work → {n' l' : ℕ} {f' g' u' v' work' : List ℕ} → n' ≡ n → l' ≡ l → f' ≡ f → g' ≡ g
-            → u' ≡ u → v' ≡ v → work' ≡ work → ReducedAsked W n' f' g' l' u' v' work'
-        reduced_asked h en el' ef eg eu ev ew =
-            rw (en, el', ef, eg, eu, ev, ew) (record {
-              none = sym (found 0 (last 0 (long_enough 7 (length work) W.working [] 0 h refl)));
-              words = length_is;
-            })
+    pub late : (t : ℕ) → t ≡ first_refusal (later W u v work l) → (t ≡ 0 → ⊥) → ReducedAnswer W n f g u u v v work work 0 t
+    late t h b = record { status_is = found t h; result = left_alone t n f g u v b; work_is = left_refused t work b }
 
 -- ---- the answer
 
@@ -202,7 +165,3 @@ module _ {W : Width} {n l : ℕ} {f g u v work : List ℕ} (asked : ReducedAsked
         };
         work_is = ew ∙ ap (λ (i : ℕ). replicate i 0) sc.same;
       })
-
-pub ruleset refusals = (tt, first_some, second_some, cofactor_fits, refused, first_short, second_short, work_short, reduced_asked)
-
-pub ruleset runs = (tt, first_room, second_room, run_asked, run_swapped, done)

@@ -5,17 +5,18 @@
 //   served, reduced_resultant  the answer once none of the refusals applies; the service
 #![tactic(auto)]
 
-ghost use Rattle.std.specs.Prelude.{◌-◌, ◌≤◌, length};
+ghost use Rattle.std.specs.Prelude.{◌≡◌, [], ◌∷◌, ◌-◌, ◌≤◌, length};
 ghost use Rattle.definitions.specs.Polynomials.{L};
 ghost use Rattle.windows.specs.Window.{Scratch};
-ghost use Rattle.refusals.specs.Refusals.{narrow};
+ghost use Rattle.refusals.specs.Refusal.{status_of};
+ghost use Rattle.refusals.specs.Refusals.{narrow, short, first_refusal};
 ghost use Rattle.reduced_cofactors.specs.Cofactors.{Certified};
 ghost use Rattle.reduced.specs.Runs.{RunAsked};
 ghost use Rattle.reduced_service.specs.ReducedService.{LeastConstants, ReducedAnswer};
 ghost use Rattle.reduced_service.specs.Asked.{ReducedAsked};
 ghost use Rattle.reduced_service.specs.Constants.{HoldsConstant, ConstantsAsked, ConstantCofactors};
 
-use refusals::Answer;
+use refusals::{Answer, Refusal};
 
 // The constant x, zeros above.
 fn put_constant(u: &mut [u32], x: u32)
@@ -83,6 +84,15 @@ fn served(
     answers::answered(found, work)
 }
 
+// Refusals 6 and 7: a cofactor has l words, and the buffers first, second and working.
+fn room_refusal(l: usize, first: usize, second: usize, working: usize) -> Result<(), Refusal>
+    ensures { status_of result ≡ first_refusal ((6, short first l) ∷ (6, short second l) ∷ (7, short working 8192) ∷ []) }
+{
+    refusals::room(first, l, Refusal::ShortResult)?;
+    refusals::room(second, l, Refusal::ShortResult)?;
+    refusals::room(working, refusals::WORKING_WORDS, Refusal::ShortWork)
+}
+
 // The reduced resultant D of f and g modulo n, with cofactors in the first L words of u and of v.
 pub fn reduced_resultant(
     n: u32,
@@ -95,31 +105,12 @@ pub fn reduced_resultant(
     ensures { ReducedAnswer narrow n f.now g.now u.old u.new v.old
         v.new work.old work.new result.value result.status }
 {
-    let refusal = refusals::refusal_of_pair(n, f, g);
-    if refusal != 0 {
-        return Answer {
-            value: 0,
-            status: refusal,
-        };
+    if let Err(refusal) = refusals::refusal_of_pair(n, f, g) {
+        return Answer::from(refusal);
     }
     let l = reduced::cofactor_length(n, f.len(), g.len());
-    if u.len() < l {
-        return Answer {
-            value: 0,
-            status: 6,
-        };
-    }
-    if v.len() < l {
-        return Answer {
-            value: 0,
-            status: 6,
-        };
-    }
-    if work.len() < refusals::WORKING_WORDS {
-        return Answer {
-            value: 0,
-            status: 7,
-        };
+    if let Err(refusal) = room_refusal(l, u.len(), v.len(), work.len()) {
+        return Answer::from(refusal);
     }
     served(n, f, g, l, u, v, work)
 }

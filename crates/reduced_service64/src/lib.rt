@@ -4,16 +4,19 @@
 //   reduced_resultant    the service
 #![tactic(auto)]
 
-ghost use Rattle.std.specs.Prelude.{◌-◌, ◌≤◌, length};
+ghost use Rattle.std.specs.Prelude.{◌≡◌, [], ◌∷◌, ◌-◌, ◌≤◌, length};
 ghost use Rattle.definitions.specs.Polynomials.{L};
 ghost use Rattle.windows.specs.Window.{Scratch};
+ghost use Rattle.refusals.specs.Refusal.{status_of};
+ghost use Rattle.refusals.specs.Refusals.{short, first_refusal};
 ghost use Rattle.refusals64.specs.Wide.{wide};
-ghost use Rattle.reduced_cofactors64.specs.Cofactors.{Certified};
+ghost use Rattle.reduced_cofactors.specs.Cofactors.{Certified};
 ghost use Rattle.reduced.specs.Runs.{RunAsked};
 ghost use Rattle.reduced_service.specs.ReducedService.{LeastConstants, ReducedAnswer};
 ghost use Rattle.reduced_service.specs.Asked.{ReducedAsked};
 ghost use Rattle.reduced_service.specs.Constants.{HoldsConstant, ConstantsAsked, ConstantCofactors};
 
+use refusals::Refusal;
 use refusals64::Answer;
 
 // The constant x, zeros above.
@@ -82,6 +85,15 @@ fn served(
     answers64::answered(found, work)
 }
 
+// Refusals 6 and 7: a cofactor has l words, and the buffers first, second and working.
+fn room_refusal(l: usize, first: usize, second: usize, working: usize) -> Result<(), Refusal>
+    ensures { status_of result ≡ first_refusal ((6, short first l) ∷ (6, short second l) ∷ (7, short working 16384) ∷ []) }
+{
+    refusals::room(first, l, Refusal::ShortResult)?;
+    refusals::room(second, l, Refusal::ShortResult)?;
+    refusals::room(working, refusals64::WORKING_WORDS, Refusal::ShortWork)
+}
+
 // The reduced resultant D of f and g modulo n, with cofactors in the first L words of u and of v.
 pub fn reduced_resultant(
     n: u64,
@@ -94,31 +106,12 @@ pub fn reduced_resultant(
     ensures { ReducedAnswer wide n f.now g.now u.old u.new v.old
         v.new work.old work.new result.value result.status }
 {
-    let refusal = refusals64::refusal_of_pair(n, f, g);
-    if refusal != 0 {
-        return Answer {
-            value: 0,
-            status: refusal,
-        };
+    if let Err(refusal) = refusals64::refusal_of_pair(n, f, g) {
+        return Answer::from(refusal);
     }
     let l = reduced64::cofactor_length(n, f.len(), g.len());
-    if u.len() < l {
-        return Answer {
-            value: 0,
-            status: 6,
-        };
-    }
-    if v.len() < l {
-        return Answer {
-            value: 0,
-            status: 6,
-        };
-    }
-    if work.len() < refusals64::WORKING_WORDS {
-        return Answer {
-            value: 0,
-            status: 7,
-        };
+    if let Err(refusal) = room_refusal(l, u.len(), v.len(), work.len()) {
+        return Answer::from(refusal);
     }
     served(n, f, g, l, u, v, work)
 }

@@ -1,19 +1,15 @@
--- The answers of the two enums of this width, taken apart by the arm that the code is in.
+-- The answers of the clearing and of a stage, taken apart by the arm that the code is in.
 --
 --   done_at, parts_at       of the clearing: the stage ends
 --   next-…                  of the clearing: the division stage goes on, and what its answer comes to
---   product_fits, …-told    the content put back
---   answers, stages         the rules, the latter with those of both widths
-use mathlib.Core.Path.{◌≡◌, refl, sym, subst}
+--   nexts, stages           the rules, the latter with those of both widths
+use mathlib.Core.Path.{◌≡◌, sym, subst}
 use mathlib.Core.List.{List}
 use Prim.Native.Nat.{ℕ, ◌+◌, ◌*◌, ◌/◌, ◌≤◌, ◌<◌}
-use mir.Syntax.{Width}
-use mir.Val.{Fits}
-use mir.Facts.{Fits-le}
 use borrow.Author.Rules.{rules}
+use Rattle.std.specs.Prelude.{Result, Ok, Err}
 use Rattle.windows.specs.Window.{Kept}
-use Rattle.residue.specs.declared.Attempt.{Attempt}
-use Rattle.residue.specs.declared.Attempt.TheVariants.{Value, Splits}
+use Rattle.residue.specs.declared.Split.{Split}
 use Rattle.reduced_units.specs.States.{StageAt, Splitter, UnitCleared}
 use Rattle.reduced_units.specs.declared.Places.{Places}
 use Rattle.reduced_clearing.specs.declared.Clearing.{Clearing}
@@ -23,8 +19,8 @@ use Rattle.reduced_stages.specs.StageAnswers.{ContentFits, times_content, Divisi
 use Rattle.reduced_stages.proofs.Steps.{steps}
 use Rattle.reduced_stages.proofs.Endings.{cleared_falls, cleared_asked, cleared_splitter, product_most, cleared_solved, endings}
 
-module _ (n ν a : ℕ) (p : Places) (w w₁ : List ℕ) (r : Clearing) (x : Clears n ν p a w w₁ r) where
-  pub done_at : (D : ℕ) → r ≡ Done D → StageAnswer n ν p a a w w₁ (Value D)
+module _ (n ν a : ℕ) (p : Places) (w w₁ : List ℕ) (r : Clearing ℕ) (x : Clears n ν p a w w₁ r) where
+  pub done_at : (D : ℕ) → r ≡ Done D → StageAnswer n ν p a a w w₁ (Ok D)
   done_at D e = subst (Clears n ν p a w w₁) e x
 
   pub parts_at : (f g : ℕ) → r ≡ Parts f g → Splitter ν f g
@@ -44,30 +40,17 @@ module _ (n ν a : ℕ) (p : Places) (w w₁ : List ℕ) (r : Clearing) (x : Cle
         → l' ≡ l → v ≡ w₁ → DivisionAsked n' ν' p' a' s' i' l' v
     next_asked en eν ep ea es ei el ev = rw (en, eν, ep, ea, es, ei, el, ev) (cleared_asked p cleared)
 
-    module _ (w' : List ℕ) (q : Attempt) (y : StageAnswer n (ν / c) p a (s + 1) w₁ w' q) where
+    module _ (w' : List ℕ) (q : Result ℕ (Split ℕ)) (y : StageAnswer n (ν / c) p a (s + 1) w₁ w' q) where
       pub next_fits : ContentFits ν c q
       next_fits = record { most = λ D h. product_most cleared (subst (StageAnswer n (ν / c) p a (s + 1) w₁ w') h y) }
 
-      pub next_answer : (k : ℕ) (q' : Attempt) → q' ≡ times_content c q → StageAt n ν p a a k w → Kept (p.t + 1) w w₁
+      pub next_answer : (k : ℕ) (q' : Result ℕ (Split ℕ)) → q' ≡ times_content c q → StageAt n ν p a a k w → Kept (p.t + 1) w w₁
           → StageAnswer n ν p a a w w' q'
       next_answer k q' h st kept = subst (StageAnswer n ν p a a w w') (sym h) (answer_of q y)
         where
-          answer_of : (q : Attempt) → StageAnswer n (ν / c) p a (s + 1) w₁ w' q → StageAnswer n ν p a a w w' (times_content c q)
-          answer_of (Value D) z = cleared_solved cleared z st kept
-          answer_of (Splits f g) z = cleared_splitter cleared z
-
--- the content put back
-module _ (n c : ℕ) (r : Attempt) where
-  pub product_fits : (u : Width) (D x : ℕ) → r ≡ Value D → ContentFits n c r → Fits u n → x ≡ c * D → Fits u x
-  product_fits u D x e h v ex = rw ex (Fits-le (h.most D e) v)
-
-  pub value_told : (D : ℕ) → r ≡ Value D → Value (c * D) ≡ times_content c r
-  value_told D e = rw e refl
-
-  pub splits_told : (f g : ℕ) → r ≡ Splits f g → Splits f g ≡ times_content c r
-  splits_told f g e = rw e refl
-
-pub ruleset answers = (rules, product_fits, value_told, splits_told)
+          answer_of : (q : Result ℕ (Split ℕ)) → StageAnswer n (ν / c) p a (s + 1) w₁ w' q → StageAnswer n ν p a a w w' (times_content c q)
+          answer_of (Ok D) z = cleared_solved cleared z st kept
+          answer_of (Err p) z = cleared_splitter cleared z
 
 pub ruleset nexts = (next_positive, next_falls, next_asked, next_answer)
 

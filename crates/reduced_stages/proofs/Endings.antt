@@ -12,6 +12,7 @@ use Prim.Native.Nat.{ℕ, zero, suc, ◌+◌, ◌-◌, ◌*◌, ◌/◌, ◌%◌
 use native.Mathlib.Omega.{arith}
 use native.Mathlib.Nat.{mod-lt, mod-mod, mul-zero, mul_assoc, mul-pos, mul-one, one-mul, mul-le-mul_left, dvd_trans, dvd-mul_left}
 use lib.ListN.{length, get_or}
+use Rattle.std.specs.Prelude.{Result}
 use Rattle.definitions.specs.Polynomials.{coef, constant}
 use Rattle.law_numbers.specs.Divisors.{GcdCofactor}
 use Rattle.windows.specs.Window.{piece, Moved, mulBy, Clear, Kept}
@@ -22,7 +23,7 @@ use Rattle.law_multipliers.specs.Reductions.{reduced_unit_constant}
 use Rattle.reduced_units.specs.States.{Stage, StageAt, Solved, Splitter, UnitCleared}
 use Rattle.reduced_units.specs.declared.Places.{Places}
 use Rattle.reduced_units.proofs.Regions.{kept_around, kept_piece, kept_trans}
-use Rattle.residue.specs.declared.Attempt.{Attempt}
+use Rattle.residue.specs.declared.Split.{Split}
 use Rattle.reduced_stages.specs.StageAnswers.{DivisionAsked, StageAnswer}
 
 leading_inverse : {ν x g s : ℕ} → GcdCofactor ν x g s → g ≡ 1 → (s * x) % ν ≡ 1 % ν
@@ -86,7 +87,7 @@ leading_asked {n} {ν} {a} {b} {g} {i} {l} p {w} st cf is_one more is_b = record
   inverse = subst (λ (x : ℕ). (i * get_or w (p.pb + x) 0) % ν ≡ 1 % ν) (sym is_b) (leading_inverse cf is_one);
 }
 
-pub counted : (n ν a l : ℕ) (p : Places) (w w' : List ℕ) (r : Attempt) → StageAt n ν p a a l w → StageAnswer n ν p a (a - 1 + 1) w w' r
+pub counted : (n ν a l : ℕ) (p : Places) (w w' : List ℕ) (r : Result ℕ (Split ℕ)) → StageAt n ν p a a l w → StageAnswer n ν p a (a - 1 + 1) w w' r
     → StageAnswer n ν p a a w w' r
 counted n ν a l p w w' r st x = subst (λ (y : ℕ). StageAnswer n ν p a y w w' r) (let z : a - 1 + 1 ≡ a = omega (arith, st.degree) in z) x
 
@@ -95,7 +96,7 @@ module _ (n ν ν' a b i l : ℕ) (p : Places) (w : List ℕ) where
   pub over_asked : DivisionAsked n ν p a b i l w → ν' ≡ ν → DivisionAsked n ν' p a b i l w
   over_asked x e = rw e x
 
-  pub over_answer : (w' : List ℕ) (c : ℕ) (r : Attempt) → StageAnswer n ν' p a c w w' r → ν' ≡ ν → StageAnswer n ν p a c w w' r
+  pub over_answer : (w' : List ℕ) (c : ℕ) (r : Result ℕ (Split ℕ)) → StageAnswer n ν' p a c w w' r → ν' ≡ ν → StageAnswer n ν p a c w w' r
   over_answer w' c r x e = subst (λ (y : ℕ). StageAnswer n y p a c w w' r) e x
 
 pub over_positive : {n ν a b i l : ℕ} {p : Places} {w : List ℕ} → DivisionAsked n ν p a b i l w → 1 ≤ ν

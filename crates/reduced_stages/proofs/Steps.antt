@@ -12,6 +12,7 @@ use Prim.Native.Nat.{ℕ, zero, suc, ◌+◌, ◌-◌, ◌*◌, ◌%◌, ◌≤�
 use native.Mathlib.Omega.{arith}
 use native.Mathlib.Nat.{le_of_dvd, le_of_lt, add_assoc, mul-pos}
 use lib.ListN.{length, get_or}
+use Rattle.std.specs.Prelude.{Result, Ok, Err}
 use Rattle.definitions.specs.Residues.{IsUnit, K}
 use Rattle.definitions.specs.Polynomials.{coef, convolve, Divided}
 use Rattle.definitions.specs.Resultants.{Reduced}
@@ -25,8 +26,7 @@ use Rattle.reduced_products.specs.Products.{ProductAsked, Factors, FactorsModulo
 use Rattle.reduced_units.specs.States.{Multiplier, StageAt, Solved}
 use Rattle.reduced_units.specs.declared.Places.{Places}
 use Rattle.reduced_stages.specs.StageAnswers.{DivisionAsked, StageAnswer}
-use Rattle.residue.specs.declared.Attempt.{Attempt}
-use Rattle.residue.specs.declared.Attempt.TheVariants.{Value, Splits}
+use Rattle.residue.specs.declared.Split.{Split}
 use Rattle.reduced_units.proofs.Regions.{apart_low, apart_swap, below_apart, piece_apart, kept_around, kept_trans, kept_piece}
 use Rattle.reduced_units.proofs.Regions.{multiplier_apart, multiplier_more, multiplier_short, monic_apart, places_swap}
 
@@ -268,9 +268,9 @@ module _ {n ν a b i l : ℕ} {p : Places} {w : List ℕ} (asked : DivisionAsked
       }
 
       -- what the stage promises
-      pub step_answers : (w' : List ℕ) (r : Attempt) → StageAnswer n ν (exchanged p) b b w₂ w' r → StageAnswer n ν p a (b + 1) w w' r
-      step_answers w' (Value D) s = step_solved D w' s
-      step_answers w' (Splits f g) s = s
+      pub step_answers : (w' : List ℕ) (r : Result ℕ (Split ℕ)) → StageAnswer n ν (exchanged p) b b w₂ w' r → StageAnswer n ν p a (b + 1) w w' r
+      step_answers w' (Ok D) s = step_solved D w' s
+      step_answers w' (Err p) s = s
 
       pub step_kept : {w' : List ℕ} → Kept (t + 1) w₂ w' → Kept (t + 1) w w'
       step_kept k = kept_trans kept₂ k

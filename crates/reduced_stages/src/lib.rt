@@ -24,17 +24,14 @@ ghost use Rattle.reduced_stages.specs.StageAnswers.{ContentFits, times_content, 
 use modulus::Modulus;
 use reduced_products::Span;
 use reduced_units::{Places, UnitAt};
-use residue::Attempt;
+use residue::Split;
 
 // The answer r modulo n / c, with the content c that was taken out.
-fn with_content(n: u32, c: u32, r: Attempt) -> Attempt
+fn with_content(n: u32, c: u32, r: Result<u32, Split<u32>>) -> Result<u32, Split<u32>>
     requires { ContentFits n c r }
     ensures { result ≡ times_content c r }
 {
-    match r {
-        Attempt::Value(d) => Attempt::Value(c * d),
-        Attempt::Splits(f, g) => Attempt::Splits(f, g),
-    }
+    Ok(c * r?)
 }
 
 // The content and the unit factor of B are cleared, unless the leading word of B is a unit; the division stage goes on.
@@ -46,7 +43,7 @@ pub fn content_stage(
     p: Places,
     a: usize,
     l: usize,
-) -> Attempt
+) -> Result<u32, Split<u32>>
     requires { (Known m) × ((Known v) × (StageAt m.n v.n p a a l w.old)) }
     ensures stage_answer { StageAnswer m.n v.n p a a w.old w.new result }
     ensures kept { Kept (p.t + 1) w.old w.new }
@@ -57,7 +54,7 @@ pub fn content_stage(
     if x.g == 1 {
         if a == 1 {
             modulus_windows::set_scaled(w, m, x.s, p.be, t + 1, t);
-            return Attempt::Value(1);
+            return Ok(1);
         }
         let u = UnitAt { s: a - 1, i: x.s };
         return division_stage(w, m, v, p, a, u, l);
@@ -67,14 +64,21 @@ pub fn content_stage(
 
 // The content and the unit factor of B are cleared, and the division stage goes on.
 #[cycle(cleared_stage_clearing_stage_content_stage_division_stage)]
-fn clearing_stage(w: &mut [u32], m: Modulus, v: Modulus, p: Places, a: usize, l: usize) -> Attempt
+fn clearing_stage(
+    w: &mut [u32],
+    m: Modulus,
+    v: Modulus,
+    p: Places,
+    a: usize,
+    l: usize,
+) -> Result<u32, Split<u32>>
     requires { (Known m) × ((Known v) × (StageAt m.n v.n p a a l w.old)) }
     ensures stage_answer { StageAnswer m.n v.n p a a w.old w.new result }
     ensures kept { Kept (p.t + 1) w.old w.new }
 {
     match reduced_clearing::clear_contents(w, m, v, p, a, l) {
-        reduced_clearing::Clearing::Done(d) => Attempt::Value(d),
-        reduced_clearing::Clearing::Parts(f, g) => Attempt::Splits(f, g),
+        reduced_clearing::Clearing::Done(d) => Ok(d),
+        reduced_clearing::Clearing::Parts(f, g) => Err(Split { p: f, q: g }),
         reduced_clearing::Clearing::Next(c, s, k) => {
             let r = cleared_stage(w, m, v, p, Cleared { c, b: s, l: k }, a);
             with_content(v.n, c, r)
@@ -84,15 +88,22 @@ fn clearing_stage(w: &mut [u32], m: Modulus, v: Modulus, p: Places, a: usize, l:
 
 // What the clearing left: B is monic of degree b once its content c was taken out, and the multipliers have l words.
 #[derive(Clone, Copy)]
-pub struct Cleared {
-    pub c: u32,
+pub struct Cleared<W> {
+    pub c: W,
     pub b: usize,
     pub l: usize,
 }
 
 // The division stage modulo v / c, after the clearing.
 #[cycle(cleared_stage_clearing_stage_content_stage_division_stage)]
-fn cleared_stage(w: &mut [u32], m: Modulus, v: Modulus, p: Places, x: Cleared, a: usize) -> Attempt
+fn cleared_stage(
+    w: &mut [u32],
+    m: Modulus,
+    v: Modulus,
+    p: Places,
+    x: Cleared<u32>,
+    a: usize,
+) -> Result<u32, Split<u32>>
     requires known { (Known m) × ((Known v) × (1 ≤ x.c)) }
     requires division_asked { DivisionAsked m.n (v.n / x.c) p a x.b 1 x.l w.old }
     ensures stage_answer { StageAnswer m.n (v.n / x.c) p a (x.b + 1) w.old w.new result }
@@ -112,9 +123,9 @@ pub fn division_stage(
     v: Modulus,
     p: Places,
     a: usize,
-    u: UnitAt,
+    u: UnitAt<u32>,
     l: usize,
-) -> Attempt
+) -> Result<u32, Split<u32>>
     requires { (Known m) × ((Known v) × (DivisionAsked m.n v.n p a u.s u.i l w.old)) }
     ensures stage_answer { StageAnswer m.n v.n p a (u.s + 1) w.old w.new result }
     ensures kept { Kept (p.t + 1) w.old w.new }

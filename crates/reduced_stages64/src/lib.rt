@@ -8,23 +8,21 @@ ghost use Rattle.std.specs.Prelude.{◌≡◌, ◌+◌, ◌/◌, ◌≤◌};
 ghost use Rattle.reduction64.specs.Moduli.{Ready};
 ghost use Rattle.windows.specs.Window.{Kept};
 ghost use Rattle.reduced_units.specs.States.{StageAt};
-ghost use Rattle.reduced_stages64.specs.StageAnswers.{ContentFits, times_content, DivisionAsked, StageAnswer};
+ghost use Rattle.reduced_stages.specs.StageAnswers.{ContentFits, times_content, DivisionAsked, StageAnswer};
 
+use reduced_clearing::Clearing;
 use reduced_products::Span;
-use reduced_units::Places;
-use reduced_units64::UnitAt;
+use reduced_stages::Cleared;
+use reduced_units::{Places, UnitAt};
 use reduction64::Reciprocal;
-use residue64::Attempt;
+use residue::Split;
 
 // The answer r modulo n / c, with the content c that was taken out.
-fn with_content(n: u64, c: u64, r: Attempt) -> Attempt
+fn with_content(n: u64, c: u64, r: Result<u64, Split<u64>>) -> Result<u64, Split<u64>>
     requires { ContentFits n c r }
     ensures { result ≡ times_content c r }
 {
-    match r {
-        Attempt::Value(d) => Attempt::Value(c * d),
-        Attempt::Splits(f, g) => Attempt::Splits(f, g),
-    }
+    Ok(c * r?)
 }
 
 // The content and the unit factor of B are cleared, unless the leading word of B is a unit; the division stage goes on.
@@ -36,7 +34,7 @@ pub fn content_stage(
     p: Places,
     a: usize,
     l: usize,
-) -> Attempt
+) -> Result<u64, Split<u64>>
     requires { (Ready m) × ((Ready v) × (StageAt m.n v.n p a a l w.old)) }
     ensures stage_answer { StageAnswer m.n v.n p a a w.old w.new result }
     ensures kept { Kept (p.t + 1) w.old w.new }
@@ -47,7 +45,7 @@ pub fn content_stage(
     if x.g == 1 {
         if a == 1 {
             modulus_windows64::set_scaled(w, m, x.s, p.be, t + 1, t);
-            return Attempt::Value(1);
+            return Ok(1);
         }
         let u = UnitAt { s: a - 1, i: x.s };
         return division_stage(w, m, v, p, a, u, l);
@@ -64,27 +62,19 @@ fn clearing_stage(
     p: Places,
     a: usize,
     l: usize,
-) -> Attempt
+) -> Result<u64, Split<u64>>
     requires { (Ready m) × ((Ready v) × (StageAt m.n v.n p a a l w.old)) }
     ensures stage_answer { StageAnswer m.n v.n p a a w.old w.new result }
     ensures kept { Kept (p.t + 1) w.old w.new }
 {
     match reduced_clearing64::clear_contents(w, m, v, p, a, l) {
-        reduced_clearing64::Clearing::Done(d) => Attempt::Value(d),
-        reduced_clearing64::Clearing::Parts(f, g) => Attempt::Splits(f, g),
-        reduced_clearing64::Clearing::Next(c, s, k) => {
+        Clearing::Done(d) => Ok(d),
+        Clearing::Parts(f, g) => Err(Split { p: f, q: g }),
+        Clearing::Next(c, s, k) => {
             let r = cleared_stage(w, m, v, p, Cleared { c, b: s, l: k }, a);
             with_content(v.n, c, r)
         }
     }
-}
-
-// What the clearing left: B is monic of degree b once its content c was taken out, and the multipliers have l words.
-#[derive(Clone, Copy)]
-pub struct Cleared {
-    pub c: u64,
-    pub b: usize,
-    pub l: usize,
 }
 
 // The division stage modulo v / c, after the clearing.
@@ -94,9 +84,9 @@ fn cleared_stage(
     m: Reciprocal,
     v: Reciprocal,
     p: Places,
-    x: Cleared,
+    x: Cleared<u64>,
     a: usize,
-) -> Attempt
+) -> Result<u64, Split<u64>>
     requires ready { (Ready m) × ((Ready v) × (1 ≤ x.c)) }
     requires division_asked { DivisionAsked m.n (v.n / x.c) p a x.b 1 x.l w.old }
     ensures stage_answer { StageAnswer m.n (v.n / x.c) p a (x.b + 1) w.old w.new result }
@@ -116,9 +106,9 @@ pub fn division_stage(
     v: Reciprocal,
     p: Places,
     a: usize,
-    u: UnitAt,
+    u: UnitAt<u64>,
     l: usize,
-) -> Attempt
+) -> Result<u64, Split<u64>>
     requires { (Ready m) × ((Ready v) × (DivisionAsked m.n v.n p a u.s u.i l w.old)) }
     ensures stage_answer { StageAnswer m.n v.n p a (u.s + 1) w.old w.new result }
     ensures kept { Kept (p.t + 1) w.old w.new }

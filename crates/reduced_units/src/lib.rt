@@ -46,9 +46,9 @@ pub struct Sizes {
 
 // A coefficient at s that is a unit, with its inverse i.
 #[derive(Clone, Copy)]
-pub struct UnitAt {
+pub struct UnitAt<W> {
     pub s: usize,
-    pub i: u32,
+    pub i: W,
 }
 
 // B of a words at pb, whose highest coefficient that is not nilpotent is that at s, with the inverse i: the monic factor of degree s
@@ -89,7 +89,14 @@ fn over_unit(w: &mut [u32], m: Modulus, t: usize, f: Span, g: Span, y: usize) ->
 
 // The unit factor of B is taken out of it and of its multiplier. The highest coefficient of B that is not nilpotent is u. Answers the
 // number of words of the multiplier.
-pub fn take_unit(w: &mut [u32], m: Modulus, v: Modulus, p: Places, z: Sizes, u: UnitAt) -> usize
+pub fn take_unit(
+    w: &mut [u32],
+    m: Modulus,
+    v: Modulus,
+    p: Places,
+    z: Sizes,
+    u: UnitAt<u32>,
+) -> usize
     requires known { (Known m) × (Known v) }
     requires stage_at { (StageAt m.n v.n p z.a z.a z.l w.old) × (u.s < z.a) }
     requires leading_unit { LeadingUnit v.n u.s u.i (piece w.old p.pb z.a) }

@@ -10,20 +10,13 @@ ghost use Rattle.definitions.specs.Residues.{K};
 ghost use Rattle.definitions.specs.Polynomials.{UnitPolynomial};
 ghost use Rattle.reduction64.specs.Moduli.{Ready};
 ghost use Rattle.windows.specs.Window.{piece};
-ghost use Rattle.window_factor64.specs.Factors.{LeadingUnit};
+ghost use Rattle.window_factor.specs.Factors.{LeadingUnit};
 ghost use Rattle.reduced_units.specs.States.{StageAt};
 ghost use Rattle.reduced_units.specs.Factorings.{SplitAsked, UnitSplit, Negated, OverAsked, OverUnit, UnitTaken};
 
 use reduced_products::Span;
-use reduced_units::{Places, Sizes};
+use reduced_units::{Places, Sizes, UnitAt};
 use reduction64::Reciprocal;
-
-// A coefficient at s that is a unit, with its inverse i.
-#[derive(Clone, Copy)]
-pub struct UnitAt {
-    pub s: usize,
-    pub i: u64,
-}
 
 // B of a words at pb, whose highest coefficient that is not nilpotent is that at s, with the inverse i: the monic factor of degree s
 // takes its place.
@@ -69,7 +62,7 @@ pub fn take_unit(
     v: Reciprocal,
     p: Places,
     z: Sizes,
-    u: UnitAt,
+    u: UnitAt<u64>,
 ) -> usize
     requires ready { (Ready m) × (Ready v) }
     requires stage_at { (StageAt m.n v.n p z.a z.a z.l w.old) × (u.s < z.a) }

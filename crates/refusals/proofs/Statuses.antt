@@ -4,12 +4,18 @@
 --   refused_early, passed_on      the same of a part of the list at the front
 --   front_passes                  no refusal of that part applies where none of the list does
 --   refused_value, left_refused, replaced_refused     the value and the lent words after a refusal
-use mathlib.Core.Path.{◌≡◌, refl, sym, ap, subst, ◌∙◌}
+--   number_some                   no refusal has the number 0
+use mathlib.Core.Path.{◌≡◌, refl, sym, ap, ◌∙◌}
 use mathlib.Core.Bool.{Bool, true, false, cond}
 use mathlib.Core.List.{List, [], ◌∷◌, ◌++◌}
 use Prim.Native.Nat.{ℕ, zero, suc, ◌≤◌, ◌<◌}
 use native.Mathlib.Omega.{arith}
 use borrow.Author.Tests.{lt-ltb, le-ltb}
+use Rattle.refusals.specs.declared.Refusal.{Refusal}
+use Rattle.refusals.specs.declared.Refusal.TheVariants.{BadModulus, BadLength, BadWord, LeadNoUnit, NoUnitFactor, ShortResult, ShortWork}
+use Rattle.refusals.specs.declared.Refusal.TheVariants.{NoFrame, NoCofactors, EmptyTop, PrimeDivides, TooManyPoints, FactorsFull, BadNumber}
+use Rattle.refusals.specs.declared.Refusal.TheVariants.{BadFrames, BadMultiplier, NoText}
+use Rattle.refusals.specs.Refusal.{number_of}
 use Rattle.refusals.specs.Refusals.{Tested, short, first_of, first_refusal, answered, left, replaced}
 
 pub row_applies : (k : ℕ) (b : Bool) (r : List Tested) → b ≡ true → suc k ≡ first_refusal ((suc k, b) ∷ r)
@@ -72,3 +78,25 @@ left_refused (suc s) w n = refl
 pub replaced_refused : (s : ℕ) (x w : List ℕ) → (s ≡ 0 → ⊥) → w ≡ replaced s x w
 replaced_refused zero x w n = absurd (n refl)
 replaced_refused (suc s) x w n = refl
+
+-- ---- a refusal's number
+
+-- no refusal has the number 0
+pub number_some : (r : Refusal) → number_of r ≡ 0 → ⊥
+number_some BadModulus e = absurd (omega (arith, e))
+number_some BadLength e = absurd (omega (arith, e))
+number_some BadWord e = absurd (omega (arith, e))
+number_some LeadNoUnit e = absurd (omega (arith, e))
+number_some NoUnitFactor e = absurd (omega (arith, e))
+number_some ShortResult e = absurd (omega (arith, e))
+number_some ShortWork e = absurd (omega (arith, e))
+number_some NoFrame e = absurd (omega (arith, e))
+number_some NoCofactors e = absurd (omega (arith, e))
+number_some EmptyTop e = absurd (omega (arith, e))
+number_some PrimeDivides e = absurd (omega (arith, e))
+number_some TooManyPoints e = absurd (omega (arith, e))
+number_some FactorsFull e = absurd (omega (arith, e))
+number_some BadNumber e = absurd (omega (arith, e))
+number_some BadFrames e = absurd (omega (arith, e))
+number_some BadMultiplier e = absurd (omega (arith, e))
+number_some NoText e = absurd (omega (arith, e))

@@ -1,3 +1,4 @@
+pub mod Refusal
 pub mod Refusals
 pub mod Conditions
 pub mod Fronts

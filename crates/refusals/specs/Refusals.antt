@@ -8,7 +8,7 @@
 --   refusals_one, refusals_of_pair      1, 2 and 3 of one polynomial and of two, in their order
 --   answered s x               the value of a service: x where the status s is 0, else 0
 --   left s w, replaced s x w   working words and result words after a call of status s
-use Rattle.std.specs.Prelude.{◌≡◌, Bool, true, false, cond, not, List, [], ◌∷◌, ◌++◌, ℕ, zero, suc, ltb, eqb, length, drop, replicate}
+use Rattle.std.specs.Prelude.{Bool, true, false, cond, not, List, [], ◌∷◌, ◌++◌, ℕ, zero, suc, ltb, eqb, length, drop, replicate}
 
 -- S3, S27: moduli are below `bound`; "Working buffer: at least" `working` words
 pub record Width : Type 0 where
@@ -24,7 +24,7 @@ abbrev pub bad_modulus_of : Width → ℕ → Bool
 bad_modulus_of W n = cond (ltb n 2) true (not (ltb n W.bound))
 
 -- S29: "2: a polynomial has no word or more than 49"
-abbrev pub bad_length_of : List ℕ → Bool
+abbrev pub bad_length_of : {A : Type 0} → List A → Bool
 bad_length_of f = cond (eqb (length f) 0) true (ltb 49 (length f))
 
 -- S29: "3: a word of a polynomial … is n or more": false where there is such a word

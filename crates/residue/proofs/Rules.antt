@@ -6,25 +6,26 @@
 --   with_cofactors, least_cofactors    the least cofactors of two residues
 --   cofactor_fits, idempotent-…, second_below, join-…    joining two residues of coprime moduli
 --   product_fits, sum_fits          a multiple in 64 bits
---   halved_fits, halved_is          counting halvings
---   kinds, joins, divisors, cofactors, halvings    the rules
-use mathlib.Core.Path.{◌≡◌, sym, ap, subst, ◌∙◌}
-use Prim.Native.Nat.{ℕ, ◌+◌, ◌-◌, ◌*◌, ◌/◌, ◌%◌, ◌^◌, ◌<◌, ◌≤◌}
+--   K_none, leading_bits            K n by the place of the first bit
+--   kinds, joins, divisors, cofactors    the rules
+use mathlib.Core.Path.{◌≡◌, refl, sym, ap, ◌∙◌}
+use Prim.Native.Nat.{ℕ, zero, suc, ◌+◌, ◌-◌, ◌*◌, ◌/◌, ◌%◌, ◌^◌, ◌<◌, ◌≤◌}
 use native.Mathlib.Nat.{mod-eq_of_lt, mod-lt, le_trans, mul_comm, mul-pos, mul-le-mul_right, le-mul_of_pos_right, le_of_dvd, div-lt_self}
-use native.Mathlib.Nat.{pos_of_dvd_of_pos}
+use native.Mathlib.Nat.{pos_of_dvd_of_pos, pow-zero, pow-suc}
 use native.Mathlib.Omega.{arith}
 use mir.Syntax.{Width, w32, w64}
 use mir.Val.{Fits, bits}
 use borrow.Author.Rules.{rules}
+use lib.Count.{count_leading_zeros, leading_length}
 use Rattle.arithmetic.proofs.Widths.{below, sum_below}
-use Rattle.definitions.specs.Residues.{K, IsNilpotent, GcdWithCofactors, LeastCofactors}
+use Rattle.definitions.specs.Residues.{halvings, K, IsNilpotent, GcdWithCofactors, LeastCofactors}
 use Rattle.law_numbers.specs.Divisors.{IsGcd, GcdCofactor}
 use Rattle.law_numbers.specs.Units.{gcd_of_coprime, cofactor_inverse}
 use Rattle.law_numbers.specs.Chinese.{Idempotent, Joined, idempotent_of, joined_of}
 use Rattle.law_numbers.specs.Kinds as numbers
 use Rattle.law_numbers.specs.Kinds.{Parts, parts_start, parts_step, parts_nilpotent, parts_splitting}
 use Rattle.law_numbers.specs.LeastCofactors.{positive, least_from}
-use Rattle.law_numbers.specs.Logarithm.{K_below, Halved, halved_start, halved_step, halved_end}
+use Rattle.law_numbers.specs.Logarithm.{K_unique}
 use Rattle.residue.specs.Moduli.{CoprimeModuli}
 
 -- ---- the kind of a residue
@@ -122,14 +123,22 @@ module _ {B n₁ n₂ : ℕ} (m : CoprimeModuli B n₁ n₂) where
     pub join_second : r % n₂ ≡ y
     join_second = joined.second ∙ mod-eq_of_lt by
 
--- ---- counting halvings
+-- ---- the place of the first bit
 
-module _ {n m k : ℕ} (h : Halved n m k) where
-  pub halved_fits : {W : Width} → Fits W n → 2 ≤ m → bits W ≤ 64 → Fits w32 (k + 1)
-  halved_fits {W} f l b = record { fits = omega (arith, K_below n (bits W) (omega (arith, h.few)) f.fits, h.is) }
+pub K_none : {n : ℕ} → n ≡ 0 → 0 ≡ K n
+unfolding K halvings
+K_none e = rw e refl
 
-  pub halved_is : m < 2 → k ≡ K n
-  halved_is l = halved_end l h
+module _ (B n : ℕ) (some : 1 ≤ n) (word : n < 2 ^ B) where
+  -- n has K n + 1 of B bits
+  pub leading_bits : count_leading_zeros B n + suc (K n) ≡ B
+  leading_bits = let s = leading_length B n word in go s.0 s.1 s.2 s.3
+    where
+      go : (j : ℕ) → count_leading_zeros B n + j ≡ B → n < 2 ^ j → 2 ^ j ≤ 2 * n + 1 → count_leading_zeros B n + suc (K n) ≡ B
+      go zero e lt le = absurd (omega (arith, pow-zero 2))
+      go (suc j) e lt le =
+          let k : K n ≡ j = K_unique n j (record { low = omega (arith, pow-suc 2 j, le); high = lt }) in
+          omega (arith, e, k)
 
 pub ruleset kinds = (
   rules,
@@ -162,5 +171,3 @@ pub ruleset joins = (
 pub ruleset divisors = (rules, divisor_positive, quotient_positive, both_positive, divisor_most, residue_most)
 
 pub ruleset cofactors = (divisors, product_fits, sum_fits, with_cofactors, least_cofactors)
-
-pub ruleset halvings = (rules, halved_start, halved_step, halved_fits, halved_is)

@@ -12,7 +12,7 @@ use Rattle.law_numbers.specs.Kinds.{Splits, unit_not_nilpotent, unit_not_splitti
 use Rattle.residue.specs.declared.Kind.{Kind}
 use Rattle.residue.specs.declared.Kind.TheVariants.{Unit as Unit', Nilpotent, Splits as Splits'}
 
-abbrev pub KindOf : ℕ → ℕ → Kind → Type 0
+abbrev pub KindOf : ℕ → ℕ → Kind ℕ → Type 0
 KindOf n a (Unit' i) = Inverse n a i
 KindOf n a Nilpotent = IsNilpotent n a
 KindOf n a (Splits' n₁ n₂) = Splitting n a n₁ n₂
@@ -21,7 +21,7 @@ unit_is : {n a i : ℕ} → Inverse n a i → IsUnit n a
 unit_is {n} {a} {i} x = record { inverse = i; is = x }
 
 -- two answers that are true of a are one
-pub kind_unique : (n a : ℕ) → 2 ≤ n → (r r' : Kind) → KindOf n a r → KindOf n a r' → r ≡ r'
+pub kind_unique : (n a : ℕ) → 2 ≤ n → (r r' : Kind ℕ) → KindOf n a r → KindOf n a r' → r ≡ r'
 kind_unique n a l (Unit' i) (Unit' j) x y = ap Unit' (inverse_unique x y)
 kind_unique n a l (Unit' i) Nilpotent x y = absurd (unit_not_nilpotent l (unit_is x) y)
 kind_unique n a l (Unit' i) (Splits' p q) x y = absurd (unit_not_splitting (unit_is x) y)
@@ -33,9 +33,9 @@ kind_unique n a l (Splits' n₁ n₂) Nilpotent x y = absurd (nilpotent_not_spli
 kind_unique n a l (Splits' n₁ n₂) (Splits' p q) x y = let e = splitting_unique x y in ap₂ Splits' e.0 e.1
 
 pub record TheKind (n a : ℕ) : Type 0 where
-  pub kind : Kind
+  pub kind : Kind ℕ
   pub is : KindOf n a kind
-  pub only : (r : Kind) → KindOf n a r → r ≡ kind
+  pub only : (r : Kind ℕ) → KindOf n a r → r ≡ kind
 
 -- S13: "every residue is one of three"
 pub kind_one : (n a : ℕ) → 2 ≤ n → TheKind n a
@@ -45,5 +45,5 @@ kind_one n a l =
     ⊎_elim (λ (x : IsNilpotent n a). the Nilpotent x) (λ (z : Splits n a). the (Splits' z.n₁ z.n₂) z.is) y)
     (kind_exists n a l)
   where
-    the : (r : Kind) → KindOf n a r → TheKind n a
+    the : (r : Kind ℕ) → KindOf n a r → TheKind n a
     the r x = record { kind = r; is = x; only = λ s y. kind_unique n a l s r y x }

@@ -1,7 +1,7 @@
 // Kinds of residues, greatest common divisors with cofactors, joining residues of coprime moduli, and the modulus with its K. The
 // functions here ask for what they need; the services that refuse stand in `residue_service`.
 //
-//   Attempt       a value, or a split of the modulus
+//   Split         two coprime factors; an attempt comes to Ok of a value, or to Err of a split
 //   kind_of       what a residue is: a unit, nilpotent, or splitting
 //   idempotent    the residue modulo n1 n2 that is 1 modulo n1 and 0 modulo n2
 //   join          the residue modulo n1 n2 that is x modulo n1 and y modulo n2
@@ -16,22 +16,22 @@ ghost use Rattle.residue.specs.Moduli.{CoprimeModuli};
 
 // S13, S79: "unit with its inverse, nilpotent, or splitting with two factors"
 #[derive(Clone, Copy)]
-pub enum Kind {
-    Unit(u32),
+pub enum Kind<W> {
+    Unit(W),
     Nilpotent,
-    Splits(u32, u32),
+    Splits(W, W),
 }
 
-// What an attempt modulo n comes to: a value, or two coprime factors above 1, of n or of a divisor of n.
+// Two coprime factors above 1, of n or of a divisor of n: what an attempt modulo n comes to where it finds no value.
 #[derive(Clone, Copy)]
-pub enum Attempt {
-    Value(u32),
-    Splits(u32, u32),
+pub struct Split<W> {
+    pub p: W,
+    pub q: W,
 }
 
 // What a is modulo n. A nilpotent residue shows by a high power at once. Otherwise what n has in common with a is divided out of it
 // until nothing is left in common; the rest, m, is the factor modulo which a is a unit.
-pub fn kind_of(n: u32, a: u32) -> Kind
+pub fn kind_of(n: u32, a: u32) -> Kind<u32>
     requires { 2 ≤ n }
     ensures { KindOf n a result }
 {
@@ -77,10 +77,10 @@ pub fn join(n1: u32, n2: u32, x: u32, y: u32) -> u32
 
 // A greatest common divisor g with the cofactors s and t.
 #[derive(Clone, Copy)]
-pub struct Cofactors {
-    pub g: u32,
-    pub s: u32,
-    pub t: u32,
+pub struct Cofactors<W> {
+    pub g: W,
+    pub s: W,
+    pub t: W,
 }
 
 // (s a + (h - g)) / h, in 64 bits.
@@ -105,7 +105,7 @@ fn least(m: u32, g: u32, s: u32) -> u32
 // S14: "g = gcd(a, b, n) from 1 to n, with residues s and t so that s times a plus t times b is g modulo n." "s is the least number from
 // 0 upward for which some t fits, and t is then the least that fits." The divisor h of n and b is t1 b modulo n, and g, that of h
 // and a, is s a + (1 - c) h. What differs from s by a multiple of h / g serves as well, and what differs from t by one of n / h.
-pub fn gcd_with_cofactors(n: u32, a: u32, b: u32) -> Cofactors
+pub fn gcd_with_cofactors(n: u32, a: u32, b: u32) -> Cofactors<u32>
     requires { 1 ≤ n }
     ensures { GcdWithCofactors n a b result.g result.s result.t × LeastCofactors n a b result.g result.s result.t }
 {
@@ -132,11 +132,9 @@ pub struct Modulus {
 pub fn modulus_of(n: u32) -> Modulus
     ensures { (result.n ≡ n) × (result.k ≡ K n) }
 {
-    let mut m = n;
-    let mut k: u32 = 0;
-    while m >= 2 {
-        m = m / 2;
-        k += 1;
+    if n == 0 {
+        return Modulus { n: 0, k: 0 };
     }
+    let k = 31 - u32::leading_zeros(n);
     Modulus { n: n as u64, k }
 }

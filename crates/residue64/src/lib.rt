@@ -2,7 +2,6 @@
 // of 64 bits. The 32-bit twin `residue` has the laws. The functions here ask for what they need; the services that refuse stand in
 // `residue_services64`.
 //
-//   Attempt       a value, or a split of the modulus
 //   kind_of       what a residue is: a unit, nilpotent, or splitting
 //   idempotent    the residue modulo n1 n2 that is 1 modulo n1 and 0 modulo n2
 //   join          the residue modulo n1 n2 that is x modulo n1 and y modulo n2
@@ -14,31 +13,16 @@
 
 ghost use Rattle.std.specs.Prelude.{◌≡◌, ℕ, ◌+◌, ◌-◌, ◌*◌, ◌/◌, ◌%◌, ◌<◌, ◌≤◌};
 ghost use Rattle.definitions.specs.Residues.{K, GcdWithCofactors, LeastCofactors};
+ghost use Rattle.residue.specs.Kinds.{KindOf};
 ghost use Rattle.residue.specs.Moduli.{CoprimeModuli};
 ghost use Rattle.reduction64.specs.Moduli.{Ready};
-ghost use Rattle.residue64.specs.Kinds.{KindOf};
 
 use reduction64::Reciprocal;
-use residue::Modulus;
-
-// S13, S79: "unit with its inverse, nilpotent, or splitting with two factors"
-#[derive(Clone, Copy)]
-pub enum Kind {
-    Unit(u64),
-    Nilpotent,
-    Splits(u64, u64),
-}
-
-// What an attempt modulo n comes to: a value, or two coprime factors above 1, of n or of a divisor of n.
-#[derive(Clone, Copy)]
-pub enum Attempt {
-    Value(u64),
-    Splits(u64, u64),
-}
+use residue::{Cofactors, Kind, Modulus};
 
 // What a is modulo n. A nilpotent residue shows by a high power at once. Otherwise what n has in common with a is divided out of it
 // until nothing is left in common; the rest, q, is the factor modulo which a is a unit.
-pub fn kind_of(m: Reciprocal, a: u64) -> Kind
+pub fn kind_of(m: Reciprocal, a: u64) -> Kind<u64>
     requires { (2 ≤ m.n) × Ready m }
     ensures { KindOf m.n a result }
 {
@@ -82,14 +66,6 @@ pub fn join(m: Reciprocal, n1: u64, n2: u64, x: u64, y: u64) -> u64
     reduction64::add_product(m, y, e, reduction64::difference(m, x, y))
 }
 
-// A greatest common divisor g with the cofactors s and t.
-#[derive(Clone, Copy)]
-pub struct Cofactors {
-    pub g: u64,
-    pub s: u64,
-    pub t: u64,
-}
-
 // The least number that differs from s by a multiple of m / g.
 fn least(m: u64, g: u64, s: u64) -> u64
     requires { (1 ≤ g) × (1 ≤ m / g) }
@@ -103,7 +79,7 @@ fn least(m: u64, g: u64, s: u64) -> u64
 // 0 upward for which some t fits, and t is then the least that fits." The divisor h of n and b is t1 b modulo n, and g, that of h
 // and a, is s a modulo h: g - s a is a multiple of h, and so of b. What differs from s by a multiple of h / g serves as well, and what
 // differs from t by one of n / h. No product passes n.
-pub fn gcd_with_cofactors(n: u64, a: u64, b: u64) -> Cofactors
+pub fn gcd_with_cofactors(n: u64, a: u64, b: u64) -> Cofactors<u64>
     requires { 1 ≤ n }
     ensures { GcdWithCofactors n a b result.g result.s result.t × LeastCofactors n a b result.g result.s result.t }
 {
@@ -125,11 +101,9 @@ pub fn gcd_with_cofactors(n: u64, a: u64, b: u64) -> Cofactors
 pub fn modulus_of(n: u64) -> Modulus
     ensures { (result.n ≡ n) × (result.k ≡ K n) }
 {
-    let mut m = n;
-    let mut k: u32 = 0;
-    while m >= 2 {
-        m = m / 2;
-        k += 1;
+    if n == 0 {
+        return Modulus { n: 0, k: 0 };
     }
+    let k = 63 - u64::leading_zeros(n);
     Modulus { n, k }
 }

@@ -8,7 +8,7 @@
 --   KindAnswers                            all that is promised of the kind
 --   residue_listed, residues_listed        each refusal under its condition and no other
 --   values_one                             the values that are true of a residue are one list
-use Rattle.std.specs.Prelude.{◌≡◌, refl, not, List, [], ◌∷◌, ℕ, zero, suc, ◌+◌, ◌-◌, ◌*◌, ◌%◌, ◌^◌, ◌≤◌, ◌<◌, ltb}
+use Rattle.std.specs.Prelude.{◌≡◌, Result, Ok, Err, refl, not, List, [], ◌∷◌, ℕ, zero, suc, ◌+◌, ◌-◌, ◌*◌, ◌%◌, ◌^◌, ◌≤◌, ◌<◌, ltb}
 use Rattle.std.proofs.Common.{sym, ap, ◌∙◌, arith}
 use Rattle.definitions.specs.Residues.{Inverse, IsNilpotent, Splitting, GcdWithCofactors, LeastCofactors}
 use Rattle.refusals.specs.Refusals.{Width, Tested, bad_modulus_of, first_refusal, answered}
@@ -16,8 +16,8 @@ use Rattle.refusals.specs.Conditions.{Listed, ServedModulus, modulus_fails, belo
 use Rattle.residue.specs.declared.Kind.{Kind}
 use Rattle.residue.specs.declared.Kind.TheVariants.{Unit as Unit', Nilpotent, Splits}
 use Rattle.residue.specs.Kinds.{KindOf, kind_unique}
-use Rattle.residue_service.specs.declared.KindAnswer.{KindAnswer}
-use Rattle.residue_service.specs.declared.KindAnswer.TheVariants.{Known, Refused}
+use Rattle.refusals.specs.declared.Refusal.{Refusal}
+use Rattle.refusals.specs.Refusal.{status_of}
 
 -- S29: "3: … a single residue given, is n or more."
 abbrev pub refusals_residue : Width → ℕ → ℕ → List Tested
@@ -55,19 +55,18 @@ pub record GcdAnswers (W : Width) (n a b g s t status : ℕ) : Type 0 where
   pub values_are : GcdValues status n a b g s t
 
 -- the number of each case: 0, or that of the refusal
-abbrev pub answer_number : KindAnswer → ℕ
-answer_number (Known k) = 0
-answer_number (Refused r) = r
+abbrev pub answer_number : Result (Kind ℕ) Refusal → ℕ
+answer_number r = status_of r
 
 -- the values of each case: "unit with its inverse, nilpotent, or splitting with two factors"; after a refusal the value 0
-abbrev pub kind_values : Kind → List ℕ
+abbrev pub kind_values : Kind ℕ → List ℕ
 kind_values (Unit' i) = i ∷ []
 kind_values Nilpotent = []
 kind_values (Splits n₁ n₂) = n₁ ∷ n₂ ∷ []
 
-abbrev pub answer_values : KindAnswer → List ℕ
-answer_values (Known k) = kind_values k
-answer_values (Refused r) = 0 ∷ []
+abbrev pub answer_values : Result (Kind ℕ) Refusal → List ℕ
+answer_values (Ok k) = kind_values k
+answer_values (Err r) = 0 ∷ []
 
 -- no value: nilpotent; one: the inverse; two: the factors
 abbrev pub TrueValues : ℕ → ℕ → List ℕ → Type 0
@@ -80,7 +79,7 @@ abbrev pub KindValues : (status n a : ℕ) → List ℕ → Type 0
 KindValues zero n a v = TrueValues n a v
 KindValues (suc r) n a v = v ≡ 0 ∷ []
 
-pub record KindAnswers (W : Width) (n a : ℕ) (r : KindAnswer) : Type 0 where
+pub record KindAnswers (W : Width) (n a : ℕ) (r : Result (Kind ℕ) Refusal) : Type 0 where
   pub status_is : answer_number r ≡ first_refusal (refusals_residue W n a)
   pub values_are : KindValues (answer_number r) n a (answer_values r)
 
@@ -93,7 +92,7 @@ residues_listed W n a b =
     ((omega arith, modulus_fails W n), ((omega arith, below_fails a n), ((omega arith, below_fails b n), tt)))
 
 -- The promise fixes the answer: the values that are true of a residue are one list, so is the case.
-values_kind : (n a : ℕ) (v : List ℕ) → TrueValues n a v → (k : Kind) × (KindOf n a k × (kind_values k ≡ v))
+values_kind : (n a : ℕ) (v : List ℕ) → TrueValues n a v → (k : Kind ℕ) × (KindOf n a k × (kind_values k ≡ v))
 values_kind n a [] h = (Nilpotent, (h, refl))
 values_kind n a (i ∷ []) h = (Unit' i, (h, refl))
 values_kind n a (n₁ ∷ n₂ ∷ []) h = (Splits n₁ n₂, (h, refl))

@@ -7,12 +7,13 @@
 #![tactic(auto)]
 
 ghost use Rattle.std.specs.Prelude.{◌≡◌};
+ghost use Rattle.refusals.specs.Refusal.{status_of};
 ghost use Rattle.refusals.specs.Refusals.{narrow, first_refusal};
 ghost use Rattle.residue_service.specs.Services.{refusals_residue, refusals_residues};
 ghost use Rattle.residue_service.specs.Services.{SumAnswer, DifferenceAnswer, ResidueProductAnswer, PowerAnswer};
 ghost use Rattle.residue_service.specs.Services.{GcdAnswers, KindAnswers};
 
-use refusals::Answer;
+use refusals::{Answer, Refusal};
 use residue::Kind;
 
 // A greatest common divisor with its cofactors, and 0 or the number of the refusal.
@@ -25,35 +26,24 @@ pub struct GcdAnswer {
     pub status: u32,
 }
 
-// The kind of a residue, or the number of the refusal.
-#[derive(Clone, Copy)]
-pub enum KindAnswer {
-    Known(Kind),
-    Refused(u32),
-}
-
-// Refusals 1 and 3 of one residue; 0 where neither applies.
-fn refusal_residue(n: u32, a: u32) -> u32
-    ensures { result ≡ first_refusal (refusals_residue narrow n a) }
+// Refusals 1 and 3 of one residue.
+fn refusal_residue(n: u32, a: u32) -> Result<(), Refusal>
+    ensures { status_of result ≡ first_refusal (refusals_residue narrow n a) }
 {
-    let bad = refusals::bad_modulus(n);
-    if bad {
-        return 1;
+    if refusals::bad_modulus(n) {
+        return Err(Refusal::BadModulus);
     }
     if a >= n {
-        return 3;
+        return Err(Refusal::BadWord);
     }
-    0
+    Ok(())
 }
 
-// Refusals 1 and 3 of two residues; 0 where neither applies.
-fn refusal_residues(n: u32, a: u32, b: u32) -> u32
-    ensures { result ≡ first_refusal (refusals_residues narrow n a b) }
+// Refusals 1 and 3 of two residues.
+fn refusal_residues(n: u32, a: u32, b: u32) -> Result<(), Refusal>
+    ensures { status_of result ≡ first_refusal (refusals_residues narrow n a b) }
 {
-    let first = refusal_residue(n, a);
-    if first != 0 {
-        return first;
-    }
+    refusal_residue(n, a)?;
     refusal_residue(n, b)
 }
 
@@ -61,13 +51,12 @@ fn refusal_residues(n: u32, a: u32, b: u32) -> u32
 pub fn sum(n: u32, a: u32, b: u32) -> Answer
     ensures { SumAnswer narrow n a b result.value result.status }
 {
-    let status = refusal_residues(n, a, b);
-    if status != 0 {
-        return Answer { value: 0, status };
+    if let Err(refusal) = refusal_residues(n, a, b) {
+        return Answer::from(refusal);
     }
     Answer {
         value: arithmetic::add_mod(n, a, b),
-        status,
+        status: 0,
     }
 }
 
@@ -75,13 +64,12 @@ pub fn sum(n: u32, a: u32, b: u32) -> Answer
 pub fn difference(n: u32, a: u32, b: u32) -> Answer
     ensures { DifferenceAnswer narrow n a b result.value result.status }
 {
-    let status = refusal_residues(n, a, b);
-    if status != 0 {
-        return Answer { value: 0, status };
+    if let Err(refusal) = refusal_residues(n, a, b) {
+        return Answer::from(refusal);
     }
     Answer {
         value: arithmetic::sub_mod(n, a, b),
-        status,
+        status: 0,
     }
 }
 
@@ -89,13 +77,12 @@ pub fn difference(n: u32, a: u32, b: u32) -> Answer
 pub fn product(n: u32, a: u32, b: u32) -> Answer
     ensures { ResidueProductAnswer narrow n a b result.value result.status }
 {
-    let status = refusal_residues(n, a, b);
-    if status != 0 {
-        return Answer { value: 0, status };
+    if let Err(refusal) = refusal_residues(n, a, b) {
+        return Answer::from(refusal);
     }
     Answer {
         value: arithmetic::mul_mod(n, a, b),
-        status,
+        status: 0,
     }
 }
 
@@ -103,13 +90,12 @@ pub fn product(n: u32, a: u32, b: u32) -> Answer
 pub fn power(n: u32, a: u32, k: usize) -> Answer
     ensures { PowerAnswer narrow n a k result.value result.status }
 {
-    let status = refusal_residue(n, a);
-    if status != 0 {
-        return Answer { value: 0, status };
+    if let Err(refusal) = refusal_residue(n, a) {
+        return Answer::from(refusal);
     }
     Answer {
         value: arithmetic::power(n, a, k),
-        status,
+        status: 0,
     }
 }
 
@@ -118,13 +104,12 @@ pub fn power(n: u32, a: u32, k: usize) -> Answer
 pub fn gcd_with_cofactors(n: u32, a: u32, b: u32) -> GcdAnswer
     ensures { GcdAnswers narrow n a b result.g result.s result.t result.status }
 {
-    let status = refusal_residues(n, a, b);
-    if status != 0 {
+    if let Err(refusal) = refusal_residues(n, a, b) {
         return GcdAnswer {
             g: 0,
             s: 0,
             t: 0,
-            status,
+            status: refusal.number(),
         };
     }
     let c = residue::gcd_with_cofactors(n, a, b);
@@ -132,17 +117,16 @@ pub fn gcd_with_cofactors(n: u32, a: u32, b: u32) -> GcdAnswer
         g: c.g,
         s: c.s,
         t: c.t,
-        status,
+        status: 0,
     }
 }
 
 // S13: "unit with its inverse, nilpotent, or splitting with two factors"
-pub fn classify(n: u32, a: u32) -> KindAnswer
+pub fn classify(n: u32, a: u32) -> Result<Kind<u32>, Refusal>
     ensures { KindAnswers narrow n a result }
 {
-    let status = refusal_residue(n, a);
-    if status != 0 {
-        return KindAnswer::Refused(status);
+    match refusal_residue(n, a) {
+        Ok(()) => Ok(residue::kind_of(n, a)),
+        Err(refusal) => Err(refusal),
     }
-    KindAnswer::Known(residue::kind_of(n, a))
 }

@@ -7,14 +7,16 @@
 #![tactic(auto)]
 
 ghost use Rattle.std.specs.Prelude.{◌≡◌};
+ghost use Rattle.refusals.specs.Refusal.{status_of};
 ghost use Rattle.refusals.specs.Refusals.{first_refusal};
 ghost use Rattle.refusals64.specs.Wide.{wide};
-ghost use Rattle.residue_service64.specs.Services.{refusals_residue, refusals_residues};
-ghost use Rattle.residue_service64.specs.Services.{SumAnswer, DifferenceAnswer, ResidueProductAnswer, PowerAnswer};
-ghost use Rattle.residue_service64.specs.Services.{GcdAnswers, KindAnswers};
+ghost use Rattle.residue_service.specs.Services.{refusals_residue, refusals_residues};
+ghost use Rattle.residue_service.specs.Services.{SumAnswer, DifferenceAnswer, ResidueProductAnswer, PowerAnswer};
+ghost use Rattle.residue_service.specs.Services.{GcdAnswers, KindAnswers};
 
+use refusals::Refusal;
 use refusals64::Answer;
-use residue64::Kind;
+use residue::Kind;
 
 // A greatest common divisor with its cofactors, and 0 or the number of the refusal.
 #[repr(C)]
@@ -26,35 +28,24 @@ pub struct GcdAnswer {
     pub status: u32,
 }
 
-// The kind of a residue, or the number of the refusal.
-#[derive(Clone, Copy)]
-pub enum KindAnswer {
-    Known(Kind),
-    Refused(u32),
-}
-
-// Refusals 1 and 3 of one residue; 0 where neither applies.
-fn refusal_residue(n: u64, a: u64) -> u32
-    ensures { result ≡ first_refusal (refusals_residue wide n a) }
+// Refusals 1 and 3 of one residue.
+fn refusal_residue(n: u64, a: u64) -> Result<(), Refusal>
+    ensures { status_of result ≡ first_refusal (refusals_residue wide n a) }
 {
-    let bad = refusals64::bad_modulus(n);
-    if bad {
-        return 1;
+    if refusals64::bad_modulus(n) {
+        return Err(Refusal::BadModulus);
     }
     if a >= n {
-        return 3;
+        return Err(Refusal::BadWord);
     }
-    0
+    Ok(())
 }
 
-// Refusals 1 and 3 of two residues; 0 where neither applies.
-fn refusal_residues(n: u64, a: u64, b: u64) -> u32
-    ensures { result ≡ first_refusal (refusals_residues wide n a b) }
+// Refusals 1 and 3 of two residues.
+fn refusal_residues(n: u64, a: u64, b: u64) -> Result<(), Refusal>
+    ensures { status_of result ≡ first_refusal (refusals_residues wide n a b) }
 {
-    let first = refusal_residue(n, a);
-    if first != 0 {
-        return first;
-    }
+    refusal_residue(n, a)?;
     refusal_residue(n, b)
 }
 
@@ -62,13 +53,12 @@ fn refusal_residues(n: u64, a: u64, b: u64) -> u32
 pub fn sum(n: u64, a: u64, b: u64) -> Answer
     ensures { SumAnswer wide n a b result.value result.status }
 {
-    let status = refusal_residues(n, a, b);
-    if status != 0 {
-        return Answer { value: 0, status };
+    if let Err(refusal) = refusal_residues(n, a, b) {
+        return Answer::from(refusal);
     }
     Answer {
         value: arithmetic64::add_mod(n, a, b),
-        status,
+        status: 0,
     }
 }
 
@@ -76,13 +66,12 @@ pub fn sum(n: u64, a: u64, b: u64) -> Answer
 pub fn difference(n: u64, a: u64, b: u64) -> Answer
     ensures { DifferenceAnswer wide n a b result.value result.status }
 {
-    let status = refusal_residues(n, a, b);
-    if status != 0 {
-        return Answer { value: 0, status };
+    if let Err(refusal) = refusal_residues(n, a, b) {
+        return Answer::from(refusal);
     }
     Answer {
         value: arithmetic64::sub_mod(n, a, b),
-        status,
+        status: 0,
     }
 }
 
@@ -90,13 +79,12 @@ pub fn difference(n: u64, a: u64, b: u64) -> Answer
 pub fn product(n: u64, a: u64, b: u64) -> Answer
     ensures { ResidueProductAnswer wide n a b result.value result.status }
 {
-    let status = refusal_residues(n, a, b);
-    if status != 0 {
-        return Answer { value: 0, status };
+    if let Err(refusal) = refusal_residues(n, a, b) {
+        return Answer::from(refusal);
     }
     Answer {
         value: arithmetic64::mul_mod(n, a, b),
-        status,
+        status: 0,
     }
 }
 
@@ -104,13 +92,12 @@ pub fn product(n: u64, a: u64, b: u64) -> Answer
 pub fn power(n: u64, a: u64, k: usize) -> Answer
     ensures { PowerAnswer wide n a k result.value result.status }
 {
-    let status = refusal_residue(n, a);
-    if status != 0 {
-        return Answer { value: 0, status };
+    if let Err(refusal) = refusal_residue(n, a) {
+        return Answer::from(refusal);
     }
     Answer {
         value: arithmetic64::power(n, a, k),
-        status,
+        status: 0,
     }
 }
 
@@ -119,13 +106,12 @@ pub fn power(n: u64, a: u64, k: usize) -> Answer
 pub fn gcd_with_cofactors(n: u64, a: u64, b: u64) -> GcdAnswer
     ensures { GcdAnswers wide n a b result.g result.s result.t result.status }
 {
-    let status = refusal_residues(n, a, b);
-    if status != 0 {
+    if let Err(refusal) = refusal_residues(n, a, b) {
         return GcdAnswer {
             g: 0,
             s: 0,
             t: 0,
-            status,
+            status: refusal.number(),
         };
     }
     let c = residue64::gcd_with_cofactors(n, a, b);
@@ -133,18 +119,19 @@ pub fn gcd_with_cofactors(n: u64, a: u64, b: u64) -> GcdAnswer
         g: c.g,
         s: c.s,
         t: c.t,
-        status,
+        status: 0,
     }
 }
 
 // S13: "unit with its inverse, nilpotent, or splitting with two factors"
-pub fn classify(n: u64, a: u64) -> KindAnswer
+pub fn classify(n: u64, a: u64) -> Result<Kind<u64>, Refusal>
     ensures { KindAnswers wide n a result }
 {
-    let status = refusal_residue(n, a);
-    if status != 0 {
-        return KindAnswer::Refused(status);
+    match refusal_residue(n, a) {
+        Ok(()) => {
+            let m = reduction64::modulus_of(n);
+            Ok(residue64::kind_of(m, a))
+        }
+        Err(refusal) => Err(refusal),
     }
-    let m = reduction64::modulus_of(n);
-    KindAnswer::Known(residue64::kind_of(m, a))
 }

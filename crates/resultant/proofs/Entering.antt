@@ -13,6 +13,7 @@ use native.Mathlib.Nat.{mul_assoc, mul_comm, mul-one, mod-eq_of_lt}
 use lib.ListN.{length, get_or}
 use lib.Pow.{pow-add}
 use borrow.Author.Rules.{rules}
+use Rattle.std.specs.Prelude.{Result}
 use Rattle.law_numbers.specs.Congruence.{Cong, c_refl, c_trans, c_eq, c_mod, c_mul}
 use Rattle.definitions.specs.Polynomials.{coef, deg}
 use Rattle.definitions.specs.Resultants.{resultant}
@@ -20,7 +21,7 @@ use Rattle.law_polynomials.specs.ReachedSteps.{Times}
 use Rattle.law_polynomials.specs.ResultantLaws.{resultant_scale_first, resultant_scale_second}
 use Rattle.windows.specs.Window.{piece}
 use Rattle.windows.proofs.Leaf.{lt_or_le, piece_at, piece_over, piece_length}
-use Rattle.residue.specs.declared.Attempt.{Attempt}
+use Rattle.residue.specs.declared.Split.{Split}
 use Rattle.modulus.specs.declared.Modulus.{Modulus}
 use Rattle.modulus.specs.Values.{Known, value, values}
 use Rattle.modulus.proofs.Valuing.{value_none, value_scaled}
@@ -28,7 +29,7 @@ use Rattle.modulus_windows.specs.LoopPromises.{Entered}
 use Rattle.modulus_windows.proofs.Forms.{values_length, values_at}
 use Rattle.resultant_signs.specs.Degrees.{deg_of}
 use Rattle.resultant_pseudo.specs.StandingRuns.{Placed as PairPlaced, EuclidAttempted}
-use Rattle.resultant_pseudo.specs.declared.EuclidAttempt.{EuclidAttempt}
+use Rattle.resultant_pseudo.specs.declared.NotUnit.{NotUnit}
 use Rattle.resultant_euclid.proofs.Placing.{placed_words}
 use Rattle.resultant_steps.specs.AttemptAnswers.{ValueOrSplit, Follows}
 use Rattle.resultant_attempt.specs.AttemptStages.{Placed}
@@ -93,7 +94,7 @@ module _ (m : Modulus) (f g w w₁ w₂ : List ℕ) (two : 2 ≤ m.n) (s : RunLe
         pair = words_placed.pair;
       }
 
-  entered_attempt : (r : EuclidAttempt) → EuclidAttempted m.n
+  entered_attempt : (r : Result ℕ (NotUnit ℕ)) → EuclidAttempted m.n
       (resultant m.n (piece (values m w₂) 0 (length f - 1 + 1)) (piece (values m w₂) (length f) (length g - 1 + 1))) r
       → EuclidAttempted m.n (resultant m.n f g) r
   entered_attempt = loaded_attempt m.n f g (values m w) (values m w₁) (values m w₂) two sizes near lf.stands lg.stands
@@ -115,7 +116,7 @@ module _ (m : Modulus) (f g w w₁ w₂ : List ℕ) (two : 2 ≤ m.n) (s : RunLe
       (values_degree m known w₂ 0 (length f - 1 + 1) hf) (values_degree m known w₂ (length f) (length g - 1 + 1) hg)
       (values_times m known w₂ 0 (length f - 1 + 1)) (values_times m known w₂ (length f) (length g - 1 + 1)))
 
-  pub entered_answer : Known m → (c x : ℕ) (r a : Attempt) → x ≡ value m 1 → c ≡ (x ^ (length f - 1 + (length g - 1))) % m.n
+  pub entered_answer : Known m → (c x : ℕ) (r a : Result ℕ (Split ℕ)) → x ≡ value m 1 → c ≡ (x ^ (length f - 1 + (length g - 1))) % m.n
       → ValueOrSplit m.n (resultant m.n (piece w₂ 0 (length f - 1 + 1)) (piece w₂ (length f) (length g - 1 + 1))) r
       → Follows m.n (λ (y : ℕ). (c * y) % m.n) r a → ValueOrSplit m.n (resultant m.n f g) a
   entered_answer known c x r a hx hc v follows =
@@ -129,7 +130,7 @@ placed_found {n} {m} {f} {g} {w} {w₁} {w₂} lf lg is two s near =
     subst (λ (z : ℕ). PairPlaced z 0 (length f - 1) (length f) (length g - 1) w₂) is
     (words_placed m f g w w₁ w₂ (omega arith) s near lf lg)
 
-pub attempted_found : {n : ℕ} {m : Modulus} {f g w w₁ w₂ : List ℕ} (r : EuclidAttempt) → Entered m 0 f w w₁ → Entered m (length f) g w₁ w₂
+pub attempted_found : {n : ℕ} {m : Modulus} {f g w w₁ w₂ : List ℕ} (r : Result ℕ (NotUnit ℕ)) → Entered m 0 f w w₁ → Entered m (length f) g w₁ w₂
     → m.n ≡ n
     → 2 ≤ n → RunLengthsAsked f g w → length f ≤ length g
     → EuclidAttempted m.n

@@ -17,16 +17,16 @@ ghost use Rattle.std.specs.Prelude.{◌≡◌, ◌≤◌, length};
 ghost use Rattle.definitions.specs.Resultants.{resultant};
 ghost use Rattle.windows.specs.Window.{Scratch};
 ghost use Rattle.reduction64.specs.Moduli.{Ready};
-ghost use Rattle.euclid_steps64.specs.EuclidStages.{EuclidAttempted};
-ghost use Rattle.resultant_steps64.specs.AttemptAnswers.{ValueOrSplit};
+ghost use Rattle.resultant_pseudo.specs.StandingRuns.{EuclidAttempted};
+ghost use Rattle.resultant_steps.specs.AttemptAnswers.{ValueOrSplit};
 ghost use Rattle.resultant.specs.Sizes.{RunLengthsAsked};
 
-use euclid_steps64::EuclidAttempt;
 use reduction64::Reciprocal;
-use residue64::Attempt;
+use residue::{Kind, Split};
+use resultant_pseudo::NotUnit;
 
 // f and g are loaded modulo n, f first.
-fn general(w: &mut [u64], m: Reciprocal, f: &[u64], g: &[u64]) -> Attempt
+fn general(w: &mut [u64], m: Reciprocal, f: &[u64], g: &[u64]) -> Result<u64, Split<u64>>
     requires { ((Ready m) × (2 ≤ m.n)) × (RunLengthsAsked f.now g.now w.old × (length f.now ≤ length g.now)) }
     ensures { ValueOrSplit m.n (resultant m.n f.now g.now) result }
 {
@@ -38,7 +38,7 @@ fn general(w: &mut [u64], m: Reciprocal, f: &[u64], g: &[u64]) -> Attempt
 }
 
 // The same by Euclid without inverses.
-fn attempted(w: &mut [u64], m: Reciprocal, f: &[u64], g: &[u64]) -> EuclidAttempt
+fn attempted(w: &mut [u64], m: Reciprocal, f: &[u64], g: &[u64]) -> Result<u64, NotUnit<u64>>
     requires { ((Ready m) × (2 ≤ m.n)) × (RunLengthsAsked f.now g.now w.old × (length f.now ≤ length g.now)) }
     ensures { EuclidAttempted m.n (resultant m.n f.now g.now) result }
 {
@@ -50,30 +50,30 @@ fn attempted(w: &mut [u64], m: Reciprocal, f: &[u64], g: &[u64]) -> EuclidAttemp
 }
 
 // Some leading word is no unit, and x is their product: it splits n, or the general attempt goes on from the sent words.
-fn settled(w: &mut [u64], m: Reciprocal, f: &[u64], g: &[u64], x: u64) -> Attempt
+fn settled(w: &mut [u64], m: Reciprocal, f: &[u64], g: &[u64], x: u64) -> Result<u64, Split<u64>>
     requires { ((Ready m) × (2 ≤ m.n)) × (RunLengthsAsked f.now g.now w.old × (length f.now ≤ length g.now)) }
     ensures { ValueOrSplit m.n (resultant m.n f.now g.now) result }
 {
     match residue64::kind_of(m, x) {
-        residue64::Kind::Splits(p, q) => Attempt::Splits(p, q),
-        residue64::Kind::Unit(_) => general(w, m, f, g),
-        residue64::Kind::Nilpotent => general(w, m, f, g),
+        Kind::Splits(p, q) => Err(Split { p, q }),
+        Kind::Unit(_) => general(w, m, f, g),
+        Kind::Nilpotent => general(w, m, f, g),
     }
 }
 
 // Euclid without inverses first.
-fn ordered(w: &mut [u64], m: Reciprocal, f: &[u64], g: &[u64]) -> Attempt
+fn ordered(w: &mut [u64], m: Reciprocal, f: &[u64], g: &[u64]) -> Result<u64, Split<u64>>
     requires { ((Ready m) × (2 ≤ m.n)) × (RunLengthsAsked f.now g.now w.old × (length f.now ≤ length g.now)) }
     ensures { ValueOrSplit m.n (resultant m.n f.now g.now) result }
 {
     match attempted(w, m, f, g) {
-        EuclidAttempt::Value(v) => Attempt::Value(v),
-        EuclidAttempt::NotUnit(x) => settled(w, m, f, g, x),
+        Ok(v) => Ok(v),
+        Err(x) => settled(w, m, f, g, x.product),
     }
 }
 
 // A swap costs the sign (-1)^(d e).
-fn swapped(w: &mut [u64], m: Reciprocal, f: &[u64], g: &[u64]) -> Attempt
+fn swapped(w: &mut [u64], m: Reciprocal, f: &[u64], g: &[u64]) -> Result<u64, Split<u64>>
     requires { ((Ready m) × (2 ≤ m.n)) × (RunLengthsAsked f.now g.now w.old × (length g.now ≤ length f.now)) }
     ensures { ValueOrSplit m.n (resultant m.n f.now g.now) result }
 {
@@ -84,7 +84,7 @@ fn swapped(w: &mut [u64], m: Reciprocal, f: &[u64], g: &[u64]) -> Attempt
 }
 
 // The polynomial with fewer words goes first.
-fn once(w: &mut [u64], m: Reciprocal, f: &[u64], g: &[u64]) -> Attempt
+fn once(w: &mut [u64], m: Reciprocal, f: &[u64], g: &[u64]) -> Result<u64, Split<u64>>
     requires { ((Ready m) × (2 ≤ m.n)) × RunLengthsAsked f.now g.now w.old }
     ensures { ValueOrSplit m.n (resultant m.n f.now g.now) result }
 {
@@ -103,11 +103,11 @@ pub fn run(w: &mut [u64], n: u64, f: &[u64], g: &[u64]) -> u64
 {
     let m = reduction64::modulus_of(n);
     match once(w, m, f, g) {
-        Attempt::Value(v) => v,
-        Attempt::Splits(p, q) => {
-            let x = run(w, p, f, g);
-            let y = run(w, q, f, g);
-            residue64::join(m, p, q, x, y)
+        Ok(v) => v,
+        Err(s) => {
+            let x = run(w, s.p, f, g);
+            let y = run(w, s.q, f, g);
+            residue64::join(m, s.p, s.q, x, y)
         }
     }
 }

@@ -13,13 +13,13 @@ use lib.Dec.{T, ltb, ltb→lt}
 use lib.ListN.{length, get_or}
 use borrow.Author.Rules.{rules}
 use borrow.Rule.Slice.PartMut.{mid_of, put_mid}
+use Rattle.std.specs.Prelude.{Result, Ok}
 use Rattle.definitions.specs.Residues.{IsUnit}
 use Rattle.definitions.specs.Resultants.{resultant}
 use Rattle.law_numbers.specs.Divisors.{GcdCofactor}
 use Rattle.law_polynomials.specs.ResultantLaws.{signed}
 use Rattle.windows.specs.Window.{piece, Below, Kept, Scratch}
-use Rattle.residue.specs.declared.Attempt.{Attempt}
-use Rattle.residue.specs.declared.Attempt.TheVariants.{Value}
+use Rattle.residue.specs.declared.Split.{Split}
 use Rattle.window_division.specs.Remainders.{Remainder}
 use Rattle.window_factor.specs.Factors.{LeadingUnit, AllNilpotents, Given, Factored}
 use Rattle.resultant_steps.specs.AttemptAnswers.{ValueOrSplit, Follows, IsAnswer, Partial, Lifted}
@@ -68,7 +68,7 @@ module _ {n d e : ℕ} {w : List ℕ} (st : Stacked n d e w) where
   clear_asked = (stacked_fits n d e w st, record { at = λ k l. st.below.at k (omega arith) })
 
   module _ {c : ℕ} {w' : List ℕ} (cl : ContentCleared n d e c w w') where
-    pub whole_answer : c ≡ n → ValueOrSplit n (resultant n (piece w (e + 1) (d + 1)) (piece w 0 (e + 1))) (Value 0)
+    pub whole_answer : c ≡ n → ValueOrSplit n (resultant n (piece w (e + 1) (d + 1)) (piece w 0 (e + 1))) (Ok 0)
     whole_answer = content_whole n c d e w w' st.two st.one st.near (stacked_fits n d e w st) st.below cl
 
     -- n' is the modulus that is left
@@ -79,12 +79,12 @@ module _ {n d e : ℕ} {w : List ℕ} (st : Stacked n d e w) where
       pub cleared_primitive : Primitive n' (piece w' (e + 1) (d + 1))
       cleared_primitive = rw is (cleared_asked n c d e w w' st cl ne).1
 
-    module _ {n' : ℕ} {r : Attempt} (a : ValueOrSplit n' (resultant n' (piece w' (e + 1) (d + 1)) (piece w' 0 (e + 1))) r)
+    module _ {n' : ℕ} {r : Result ℕ (Split ℕ)} (a : ValueOrSplit n' (resultant n' (piece w' (e + 1) (d + 1)) (piece w' 0 (e + 1))) r)
         (is : n' ≡ n / c) where
       pub lifted_asked : Partial n r
       lifted_asked = record { m = n'; divides = rw is (cleared_divides n c d e w w' cl); answer = record { x = _; is = a } }
 
-      pub content_answer : {p : ℕ} {s u : Attempt} → (c ≡ n → ⊥) → p ≡ (c ^ e) % n → Lifted n r s → Follows n (λ x. (p * x) % n) s u
+      pub content_answer : {p : ℕ} {s u : Result ℕ (Split ℕ)} → (c ≡ n → ⊥) → p ≡ (c ^ e) % n → Lifted n r s → Follows n (λ x. (p * x) % n) s u
           → ValueOrSplit n (resultant n (piece w (e + 1) (d + 1)) (piece w 0 (e + 1))) u
       content_answer {p} ne hp li fo =
           followed fo (li.at _ _ (cleared_divides n c d e w w' cl) (rw is at a))
@@ -92,13 +92,13 @@ module _ {n d e : ℕ} {w : List ℕ} (st : Stacked n d e w) where
 
 -- ---- a leading word that is 0
 
-pub answer_of : {n : ℕ} {r : Attempt} (x : ℕ) → ValueOrSplit n x r → IsAnswer n r
+pub answer_of : {n : ℕ} {r : Result ℕ (Split ℕ)} (x : ℕ) → ValueOrSplit n x r → IsAnswer n r
 answer_of x a = record { x = x; is = a }
 
-pub sign_asked : {n : ℕ} {F : ℕ → ℕ} {r s : Attempt} (x : ℕ) → Follows n F r s → ValueOrSplit n x r → IsAnswer n s
+pub sign_asked : {n : ℕ} {F : ℕ → ℕ} {r s : Result ℕ (Split ℕ)} (x : ℕ) → Follows n F r s → ValueOrSplit n x r → IsAnswer n s
 sign_asked x f a = answer_follows f (answer_of x a)
 
-pub dropped_answer : {n a d b e s : ℕ} {w : List ℕ} {q r u : Attempt} → Placed n a d b e s w → 1 ≤ d → get_or w (a + d) 0 ≡ 0
+pub dropped_answer : {n a d b e s : ℕ} {w : List ℕ} {q r u : Result ℕ (Split ℕ)} → Placed n a d b e s w → 1 ≤ d → get_or w (a + d) 0 ≡ 0
     → ValueOrSplit n (resultant n (piece w a (d - 1 + 1)) (piece w b (e + 1))) q → Follows n (λ x. (get_or w (b + e) 0 * x) % n) q r
     → Follows n (signed n (1 * e)) r u → ValueOrSplit n (resultant n (piece w a (d + 1)) (piece w b (e + 1))) u
 dropped_answer {n} {a} {d} {b} {e} {s} {w} pl one z v f g = followed g (f.at _ v) (dropped_sign n a d b e s w pl one z)
@@ -106,13 +106,13 @@ dropped_answer {n} {a} {d} {b} {e} {s} {w} pl one z v f g = followed g (f.at _ v
 -- ---- a division
 
 pub constant_answer : {n a d b e s r : ℕ} {w : List ℕ} → Placed n a d b e s w → d ≡ 0 → r ≡ (get_or w (a + d) 0 ^ e) % n
-    → ValueOrSplit n (resultant n (piece w a (d + 1)) (piece w b (e + 1))) (Value r)
+    → ValueOrSplit n (resultant n (piece w a (d + 1)) (piece w b (e + 1))) (Ok r)
 constant_answer {n} {a} {d} {b} {e} {s} {r} {w} pl z h = at_constant n a d b e s r w pl z h
 
 pub inverse_of : {n x g i : ℕ} → GcdCofactor n x g i → g ≡ 1 → (i * x) % n ≡ 1 % n
 inverse_of {n} c e = c.bezout ∙ ap (λ (y : ℕ). y % n) e
 
-pub step_answer : {n a d b e s i p : ℕ} {w w₁ : List ℕ} {r u : Attempt} → DivisorPlaced n a d b e s i w → Remainder n a d b e w w₁
+pub step_answer : {n a d b e s i p : ℕ} {w w₁ : List ℕ} {r u : Result ℕ (Split ℕ)} → DivisorPlaced n a d b e s i w → Remainder n a d b e w w₁
     → p ≡ (get_or w (a + d) 0 ^ (e + 1 - d)) % n → ValueOrSplit n (resultant n (piece w₁ b (d - 1 + 1)) (piece w₁ a (d + 1))) r
     → Follows n (λ x. (p * x) % n) r u → ValueOrSplit n (resultant n (piece w a (d + 1)) (piece w b (e + 1))) u
 step_answer {n} {a} {d} {b} {e} {s} {i} {p} {w} {w₁} dv rem hp v f = followed f v (times_next n a d b e s i w w₁ dv rem p hp)
@@ -127,19 +127,19 @@ module _ {n a d b e s : ℕ} {w : List ℕ} (pl : Placed n a d b e s w) (one : 1
     pub content_asked : Stacked n d e (onward w₁ s)
     content_asked = stacked_asked n a d b e s w w₁ pl (not_zero one) bs
 
-    pub copies_answer : (r : Attempt) → ValueOrSplit n (resultant n (piece (onward w₁ s) (e + 1) (d + 1)) (piece (onward w₁ s) 0 (e + 1))) r
+    pub copies_answer : (r : Result ℕ (Split ℕ)) → ValueOrSplit n (resultant n (piece (onward w₁ s) (e + 1) (d + 1)) (piece (onward w₁ s) 0 (e + 1))) r
         → ValueOrSplit n (resultant n (piece w a (d + 1)) (piece w b (e + 1))) r
     copies_answer r = stacked_answer n a d b e s w w₁ pl (not_zero one) bs r
 
 pub one_answer : {n a t e x : ℕ} {w : List ℕ} → Part n a t 0 e x w → get_or w (a + t) 0 ≡ 1 → t ≡ 0
-    → ValueOrSplit n (resultant n (piece w a (t + 1)) (piece w 0 (e + 1))) (Value 1)
+    → ValueOrSplit n (resultant n (piece w a (t + 1)) (piece w 0 (e + 1))) (Ok 1)
 one_answer {n} {a} {t} {e} {x} {w} pt h z = monic_constant n a t e x w pt h z
 
 module _ {n a t e x : ℕ} {w w₁ : List ℕ} (pt : Part n a t 0 e x w) (bs : Beside (words_at w a) (words_at w 0) (t + 1) (e + 1) x w w₁) where
   pub monic_step_asked : get_or w (a + t) 0 ≡ 1 → (t ≡ 0 → ⊥) → DivisorPlaced n 0 t (t + 1) e (t + 1 + (e + 1)) 1 (onward w₁ x)
   monic_step_asked = monic_asked n a t e x w w₁ pt bs
 
-  pub monic_step_answer : (r : Attempt)
+  pub monic_step_answer : (r : Result ℕ (Split ℕ))
       → ValueOrSplit n (resultant n (piece (onward w₁ x) 0 (t + 1)) (piece (onward w₁ x) (t + 1) (e + 1))) r
       → ValueOrSplit n (resultant n (piece w a (t + 1)) (piece w 0 (e + 1))) r
   monic_step_answer r = monic_answer n a t e x w w₁ pt bs r
@@ -152,12 +152,12 @@ module _ {n a k b e x : ℕ} {w w₁ : List ℕ} (pt : Part n a k b e x w)
   pub reversed_step_asked : {i : ℕ} → 1 ≤ k → (i * get_or w a 0) % n ≡ 1 % n → DivisorPlaced n 0 k (k + 1) e (k + 1 + (e + 1)) i (onward w₁ x)
   reversed_step_asked {i} = reversed_asked n a k b e x w w₁ pt bs i
 
-  pub reversed_is_answer : {r : Attempt}
+  pub reversed_is_answer : {r : Result ℕ (Split ℕ)}
       → ValueOrSplit n (resultant n (piece (onward w₁ x) 0 (k + 1)) (piece (onward w₁ x) (k + 1) (e + 1))) r
       → IsAnswer n r
   reversed_is_answer v = record { x = _; is = v }
 
-  pub reversed_answer : {r u : Attempt}
+  pub reversed_answer : {r u : Result ℕ (Split ℕ)}
       → ValueOrSplit n (resultant n (piece (onward w₁ x) 0 (k + 1)) (piece (onward w₁ x) (k + 1) (e + 1))) r
       → Follows n (signed n (k * e)) r u → ValueOrSplit n (resultant n (piece w a (k + 1)) (piece w b (e + 1))) u
   reversed_answer v f = followed f v (reversed_sign n a k b e x w w₁ pt bs)
@@ -174,7 +174,7 @@ module _ {n d e t i : ℕ} {w : List ℕ} (st : Stacked n d e w) (u : LeadingUni
   pub lead_below_degree : (t ≡ d → ⊥) → t < d
   lead_below_degree h = lead_below n d e t i w st (lead_lent n d e t i w u) h
 
-pub nilpotent_answer : {n d e : ℕ} {w : List ℕ} (x : ℕ) (r : Attempt) → Stacked n d e w → Primitive n (piece w (e + 1) (d + 1))
+pub nilpotent_answer : {n d e : ℕ} {w : List ℕ} (x : ℕ) (r : Result ℕ (Split ℕ)) → Stacked n d e w → Primitive n (piece w (e + 1) (d + 1))
     → AllNilpotents n (first_of d e w) → ValueOrSplit n x r
 nilpotent_answer {n} {d} {e} {w} x r st p h =
     absurd (not_all_nilpotent n (piece w (e + 1) (d + 1)) st.two p (lent (AllNilpotents n) d e w h))
@@ -207,8 +207,8 @@ module _ {n d e t : ℕ} {w ys : List ℕ} (st : Stacked n d e w) (lt : t < d) (
     unit_constant_asked = unit_constant n d e t w ys st lt ly fc w₂ kp
 
     -- at a place too deep to search for a record that holds the conclusion's own numbers: variables, with an equation for each
-    pub factors_answer : {y n' x' : ℕ} {q r u u' : Attempt}
-        → ValueOrSplit n (resultant n (piece joined (e + 1 + (d + 1)) (t + 1)) (piece joined 0 (e + 1))) q → q ≡ Value y
+    pub factors_answer : {y n' x' : ℕ} {q r u u' : Result ℕ (Split ℕ)}
+        → ValueOrSplit n (resultant n (piece joined (e + 1 + (d + 1)) (t + 1)) (piece joined 0 (e + 1))) q → q ≡ Ok y
         → ValueOrSplit n (resultant n (piece w₂ (e + 1 + (d + 1) + (t + 1) + t) (d - t + 1)) (piece w₂ 0 (e + 1))) r
         → Follows n (λ x. (y * x) % n) r u → n' ≡ n → x' ≡ resultant n (piece w (e + 1) (d + 1)) (piece w 0 (e + 1)) → u' ≡ u
         → ValueOrSplit n' x' u'

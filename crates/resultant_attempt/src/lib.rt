@@ -25,7 +25,8 @@ ghost use Rattle.window_factor.specs.Factors.{LeadingUnit};
 ghost use Rattle.resultant_attempt.specs.AttemptStages.{Placed, DivisorPlaced, Stacked, Part};
 
 use modulus::Modulus;
-use residue::Attempt;
+use residue::Split;
+use window_factor::Highest;
 
 // f of degree d at a, and g of degree e at b.
 #[derive(Clone, Copy)]
@@ -46,7 +47,7 @@ pub fn euclid(
     b: usize,
     e: usize,
     s: usize,
-) -> Attempt
+) -> Result<u32, Split<u32>>
     requires known { Known m }
     requires placed { Placed m.n a d b e s w.old }
     ensures value_or_split { ValueOrSplit m.n (resultant m.n (piece w.old a (d + 1)) (piece w.old b (e + 1))) result }
@@ -54,7 +55,7 @@ pub fn euclid(
 {
     let lead = w[a + d];
     if d == 0 {
-        return Attempt::Value(arithmetic::power(m.n, lead, e));
+        return Ok(arithmetic::power(m.n, lead, e));
     }
     if lead == 0 {
         return dropped(w, m, a, d, b, e, s);
@@ -68,7 +69,15 @@ pub fn euclid(
 
 // The same, where the leading word of f is 0: it is dropped, which costs the leading word of g with the sign (-1)^e.
 #[cycle(by_content_dropped_euclid_factors_from_below_monic_part_primitive_reversed_step_unit_part)]
-fn dropped(w: &mut [u32], m: Modulus, a: usize, d: usize, b: usize, e: usize, s: usize) -> Attempt
+fn dropped(
+    w: &mut [u32],
+    m: Modulus,
+    a: usize,
+    d: usize,
+    b: usize,
+    e: usize,
+    s: usize,
+) -> Result<u32, Split<u32>>
     requires known { Known m }
     requires placed { (Placed m.n a d b e s w.old) × ((1 ≤ d) × (get_or w.old (a + d) 0 ≡ 0)) }
     ensures { ValueOrSplit m.n (resultant m.n (piece w.old a (d + 1)) (piece w.old b (e + 1))) result }
@@ -88,7 +97,7 @@ fn from_below(
     b: usize,
     e: usize,
     s: usize,
-) -> Attempt
+) -> Result<u32, Split<u32>>
     requires known { Known m }
     requires placed { (Placed m.n a d b e s w.old) × (1 ≤ d) }
     ensures { ValueOrSplit m.n (resultant m.n (piece w.old a (d + 1)) (piece w.old b (e + 1))) result }
@@ -103,7 +112,7 @@ fn from_below(
 
 // The same, where the constant of f has the inverse i: both are reversed, which brings it to the lead.
 #[cycle(by_content_dropped_euclid_factors_from_below_monic_part_primitive_reversed_step_unit_part)]
-fn reversed(w: &mut [u32], m: Modulus, p: Pair, s: usize, i: u32) -> Attempt
+fn reversed(w: &mut [u32], m: Modulus, p: Pair, s: usize, i: u32) -> Result<u32, Split<u32>>
     requires known { Known m }
     requires part { (Part m.n p.a p.d p.b p.e s w.old) × ((1 ≤ p.d) × ((i * get_or w.old p.a 0) % m.n ≡ 1 % m.n)) }
     ensures { ValueOrSplit m.n
@@ -120,7 +129,7 @@ fn reversed(w: &mut [u32], m: Modulus, p: Pair, s: usize, i: u32) -> Attempt
 
 // The same, where the leading word of f has the inverse i: a division, and the remainder and f after it.
 #[cycle(by_content_dropped_euclid_factors_from_below_monic_part_primitive_reversed_step_unit_part)]
-fn step(w: &mut [u32], m: Modulus, p: Pair, s: usize, i: u32) -> Attempt
+fn step(w: &mut [u32], m: Modulus, p: Pair, s: usize, i: u32) -> Result<u32, Split<u32>>
     requires known { Known m }
     requires divisor_placed { DivisorPlaced m.n p.a p.d p.b p.e s i w.old }
     ensures { ValueOrSplit m.n
@@ -134,7 +143,7 @@ fn step(w: &mut [u32], m: Modulus, p: Pair, s: usize, i: u32) -> Attempt
 
 // The same for g at 0 and f above it, whose leading word is no unit: the content of f is taken out first.
 #[cycle(by_content_dropped_euclid_factors_from_below_monic_part_primitive_reversed_step_unit_part)]
-fn by_content(w: &mut [u32], m: Modulus, d: usize, e: usize) -> Attempt
+fn by_content(w: &mut [u32], m: Modulus, d: usize, e: usize) -> Result<u32, Split<u32>>
     requires known { Known m }
     requires stacked { Stacked m.n d e w.old }
     ensures { ValueOrSplit m.n (resultant m.n (piece w.old (e + 1) (d + 1))
@@ -142,7 +151,7 @@ fn by_content(w: &mut [u32], m: Modulus, d: usize, e: usize) -> Attempt
 {
     let x = resultant_steps::clear_content(w, m, d, e);
     if x.c == m.n {
-        return Attempt::Value(0);
+        return Ok(0);
     }
     let r = resultant_steps::lifted(m.n, primitive(w, x.v, d, e));
     resultant_steps::times(m, arithmetic::power(m.n, x.c, e), r)
@@ -150,7 +159,7 @@ fn by_content(w: &mut [u32], m: Modulus, d: usize, e: usize) -> Attempt
 
 // The same where f is primitive: some coefficient is not nilpotent.
 #[cycle(by_content_dropped_euclid_factors_from_below_monic_part_primitive_reversed_step_unit_part)]
-fn primitive(w: &mut [u32], m: Modulus, d: usize, e: usize) -> Attempt
+fn primitive(w: &mut [u32], m: Modulus, d: usize, e: usize) -> Result<u32, Split<u32>>
     requires known { Known m }
     requires stacked { Stacked m.n d e w.old }
     requires primitive { Primitive m.n (piece w.old (e + 1) (d + 1)) }
@@ -160,21 +169,28 @@ fn primitive(w: &mut [u32], m: Modulus, d: usize, e: usize) -> Attempt
     let a = e + 1;
     let s = a + (d + 1);
     match window_factor::highest_of(&w[a..s], m.n) {
-        window_factor::Highest::UnitAt(t, i) => {
+        Highest::UnitAt(t, i) => {
             if t == d {
                 return step(w, m, Pair { a, d, b: 0, e }, s, i);
             }
             factors(w, m, d, e, t, i)
         }
-        window_factor::Highest::Splits(p, q) => Attempt::Splits(p, q),
-        window_factor::Highest::AllNilpotent => Attempt::Value(0),
+        Highest::Splits(p, q) => Err(Split { p, q }),
+        Highest::AllNilpotent => Ok(0),
     }
 }
 
 // The same where coefficient t of f, below the leading one, has the inverse i and those above it are nilpotent: f is a unit
 // polynomial times a monic one of degree t, and the resultant is the product of theirs.
 #[cycle(by_content_dropped_euclid_factors_from_below_monic_part_primitive_reversed_step_unit_part)]
-fn factors(w: &mut [u32], m: Modulus, d: usize, e: usize, t: usize, i: u32) -> Attempt
+fn factors(
+    w: &mut [u32],
+    m: Modulus,
+    d: usize,
+    e: usize,
+    t: usize,
+    i: u32,
+) -> Result<u32, Split<u32>>
     requires known { Known m }
     requires stacked { (Stacked m.n d e w.old) × (t < d) }
     requires leading_unit { LeadingUnit m.n t i (piece w.old (e + 1) (d + 1)) }
@@ -188,22 +204,30 @@ fn factors(w: &mut [u32], m: Modulus, d: usize, e: usize, t: usize, i: u32) -> A
     let u = v + t;
     let x = v + l;
     window_factor::unit_times_monic(&mut w[a..], m, d, t, i);
+    // Kept: a `match` where `?` would do; tried, and the proof of the ten functions that call one another did not close.
     match monic_part(w, m, h, t, e, x) {
-        Attempt::Value(y) => resultant_steps::times(m, y, unit_part(w, m, u, d - t, e, x)),
-        Attempt::Splits(p, q) => Attempt::Splits(p, q),
+        Ok(y) => resultant_steps::times(m, y, unit_part(w, m, u, d - t, e, x)),
+        Err(s) => Err(s),
     }
 }
 
 // The resultant of the monic polynomial of degree t at a and of g at 0, worked from x on.
 #[cycle(by_content_dropped_euclid_factors_from_below_monic_part_primitive_reversed_step_unit_part)]
-fn monic_part(w: &mut [u32], m: Modulus, a: usize, t: usize, e: usize, x: usize) -> Attempt
+fn monic_part(
+    w: &mut [u32],
+    m: Modulus,
+    a: usize,
+    t: usize,
+    e: usize,
+    x: usize,
+) -> Result<u32, Split<u32>>
     requires known { Known m }
     requires part { (Part m.n a t 0 e x w.old) × (get_or w.old (a + t) 0 ≡ 1) }
     ensures value_or_split { ValueOrSplit m.n (resultant m.n (piece w.old a (t + 1)) (piece w.old 0 (e + 1))) result }
     ensures kept { Kept x w.old w.new }
 {
     if t == 0 {
-        return Attempt::Value(1);
+        return Ok(1);
     }
     let l = t + 1;
     let k = e + 1;
@@ -219,7 +243,14 @@ fn monic_part(w: &mut [u32], m: Modulus, a: usize, t: usize, e: usize, x: usize)
 
 // The same for a polynomial of degree k whose constant is a unit.
 #[cycle(by_content_dropped_euclid_factors_from_below_monic_part_primitive_reversed_step_unit_part)]
-fn unit_part(w: &mut [u32], m: Modulus, a: usize, k: usize, e: usize, x: usize) -> Attempt
+fn unit_part(
+    w: &mut [u32],
+    m: Modulus,
+    a: usize,
+    k: usize,
+    e: usize,
+    x: usize,
+) -> Result<u32, Split<u32>>
     requires known { Known m }
     requires part { (Part m.n a k 0 e x w.old) × ((1 ≤ k) × (IsUnit m.n (get_or w.old a 0))) }
     ensures { ValueOrSplit m.n (resultant m.n (piece w.old a (k + 1)) (piece w.old 0 (e + 1))) result }

@@ -20,13 +20,14 @@ ghost use Rattle.definitions.specs.Residues.{IsUnit};
 ghost use Rattle.definitions.specs.Resultants.{resultant};
 ghost use Rattle.windows.specs.Window.{piece, Kept, Scratch};
 ghost use Rattle.reduction64.specs.Moduli.{Ready};
-ghost use Rattle.resultant_steps64.specs.AttemptAnswers.{ValueOrSplit};
+ghost use Rattle.resultant_steps.specs.AttemptAnswers.{ValueOrSplit};
 ghost use Rattle.resultant_steps.specs.Layouts.{Primitive};
-ghost use Rattle.window_factor64.specs.Factors.{LeadingUnit};
+ghost use Rattle.window_factor.specs.Factors.{LeadingUnit};
 ghost use Rattle.resultant_attempt.specs.AttemptStages.{Placed, DivisorPlaced, Stacked, Part};
 
 use reduction64::Reciprocal;
-use residue64::Attempt;
+use residue::Split;
+use window_factor::Highest;
 
 // f of degree d at a, and g of degree e at b.
 #[derive(Clone, Copy)]
@@ -47,7 +48,7 @@ pub fn euclid(
     b: usize,
     e: usize,
     s: usize,
-) -> Attempt
+) -> Result<u64, Split<u64>>
     requires ready { Ready m }
     requires placed { Placed m.n a d b e s w.old }
     ensures value_or_split { ValueOrSplit m.n (resultant m.n (piece w.old a (d + 1)) (piece w.old b (e + 1))) result }
@@ -55,7 +56,7 @@ pub fn euclid(
 {
     let lead = w[a + d];
     if d == 0 {
-        return Attempt::Value(reduction64::power(m, lead, e));
+        return Ok(reduction64::power(m, lead, e));
     }
     if lead == 0 {
         return dropped(w, m, a, d, b, e, s);
@@ -77,7 +78,7 @@ fn dropped(
     b: usize,
     e: usize,
     s: usize,
-) -> Attempt
+) -> Result<u64, Split<u64>>
     requires ready { Ready m }
     requires placed { (Placed m.n a d b e s w.old) × ((1 ≤ d) × (get_or w.old (a + d) 0 ≡ 0)) }
     ensures { ValueOrSplit m.n (resultant m.n (piece w.old a (d + 1)) (piece w.old b (e + 1))) result }
@@ -97,7 +98,7 @@ fn from_below(
     b: usize,
     e: usize,
     s: usize,
-) -> Attempt
+) -> Result<u64, Split<u64>>
     requires ready { Ready m }
     requires placed { (Placed m.n a d b e s w.old) × (1 ≤ d) }
     ensures { ValueOrSplit m.n (resultant m.n (piece w.old a (d + 1)) (piece w.old b (e + 1))) result }
@@ -112,7 +113,7 @@ fn from_below(
 
 // The same, where the constant of f has the inverse i: both are reversed, which brings it to the lead.
 #[cycle(by_content_dropped_euclid_factors_from_below_monic_part_primitive_reversed_step_unit_part)]
-fn reversed(w: &mut [u64], m: Reciprocal, p: Pair, s: usize, i: u64) -> Attempt
+fn reversed(w: &mut [u64], m: Reciprocal, p: Pair, s: usize, i: u64) -> Result<u64, Split<u64>>
     requires ready { Ready m }
     requires part { (Part m.n p.a p.d p.b p.e s w.old) × ((1 ≤ p.d) × ((i * get_or w.old p.a 0) % m.n ≡ 1 % m.n)) }
     ensures { ValueOrSplit m.n
@@ -129,7 +130,7 @@ fn reversed(w: &mut [u64], m: Reciprocal, p: Pair, s: usize, i: u64) -> Attempt
 
 // The same, where the leading word of f has the inverse i: a division, and the remainder and f after it.
 #[cycle(by_content_dropped_euclid_factors_from_below_monic_part_primitive_reversed_step_unit_part)]
-fn step(w: &mut [u64], m: Reciprocal, p: Pair, s: usize, i: u64) -> Attempt
+fn step(w: &mut [u64], m: Reciprocal, p: Pair, s: usize, i: u64) -> Result<u64, Split<u64>>
     requires ready { Ready m }
     requires divisor_placed { DivisorPlaced m.n p.a p.d p.b p.e s i w.old }
     ensures { ValueOrSplit m.n
@@ -143,7 +144,7 @@ fn step(w: &mut [u64], m: Reciprocal, p: Pair, s: usize, i: u64) -> Attempt
 
 // The same for g at 0 and f above it, whose leading word is no unit: the content of f is taken out first.
 #[cycle(by_content_dropped_euclid_factors_from_below_monic_part_primitive_reversed_step_unit_part)]
-fn by_content(w: &mut [u64], m: Reciprocal, d: usize, e: usize) -> Attempt
+fn by_content(w: &mut [u64], m: Reciprocal, d: usize, e: usize) -> Result<u64, Split<u64>>
     requires ready { Ready m }
     requires stacked { Stacked m.n d e w.old }
     ensures { ValueOrSplit m.n (resultant m.n (piece w.old (e + 1) (d + 1))
@@ -151,7 +152,7 @@ fn by_content(w: &mut [u64], m: Reciprocal, d: usize, e: usize) -> Attempt
 {
     let x = resultant_steps64::clear_content(w, m, d, e);
     if x.c == m.n {
-        return Attempt::Value(0);
+        return Ok(0);
     }
     let r = resultant_steps64::lifted(m, primitive(w, x.v, d, e));
     resultant_steps64::times(m, reduction64::power(m, x.c, e), r)
@@ -159,7 +160,7 @@ fn by_content(w: &mut [u64], m: Reciprocal, d: usize, e: usize) -> Attempt
 
 // The same where f is primitive: some coefficient is not nilpotent.
 #[cycle(by_content_dropped_euclid_factors_from_below_monic_part_primitive_reversed_step_unit_part)]
-fn primitive(w: &mut [u64], m: Reciprocal, d: usize, e: usize) -> Attempt
+fn primitive(w: &mut [u64], m: Reciprocal, d: usize, e: usize) -> Result<u64, Split<u64>>
     requires ready { Ready m }
     requires stacked { Stacked m.n d e w.old }
     requires primitive { Primitive m.n (piece w.old (e + 1) (d + 1)) }
@@ -169,21 +170,28 @@ fn primitive(w: &mut [u64], m: Reciprocal, d: usize, e: usize) -> Attempt
     let a = e + 1;
     let s = a + (d + 1);
     match window_factor64::highest_of(&w[a..s], m) {
-        window_factor64::Highest::UnitAt(t, i) => {
+        Highest::UnitAt(t, i) => {
             if t == d {
                 return step(w, m, Pair { a, d, b: 0, e }, s, i);
             }
             factors(w, m, d, e, t, i)
         }
-        window_factor64::Highest::Splits(p, q) => Attempt::Splits(p, q),
-        window_factor64::Highest::AllNilpotent => Attempt::Value(0),
+        Highest::Splits(p, q) => Err(Split { p, q }),
+        Highest::AllNilpotent => Ok(0),
     }
 }
 
 // The same where coefficient t of f, below the leading one, has the inverse i and those above it are nilpotent: f is a unit
 // polynomial times a monic one of degree t, and the resultant is the product of theirs.
 #[cycle(by_content_dropped_euclid_factors_from_below_monic_part_primitive_reversed_step_unit_part)]
-fn factors(w: &mut [u64], m: Reciprocal, d: usize, e: usize, t: usize, i: u64) -> Attempt
+fn factors(
+    w: &mut [u64],
+    m: Reciprocal,
+    d: usize,
+    e: usize,
+    t: usize,
+    i: u64,
+) -> Result<u64, Split<u64>>
     requires ready { Ready m }
     requires stacked { (Stacked m.n d e w.old) × (t < d) }
     requires leading_unit { LeadingUnit m.n t i (piece w.old (e + 1) (d + 1)) }
@@ -197,22 +205,30 @@ fn factors(w: &mut [u64], m: Reciprocal, d: usize, e: usize, t: usize, i: u64) -
     let u = v + t;
     let x = v + l;
     window_factor64::unit_times_monic(&mut w[a..], m, d, t, i);
+    // Kept: a `match` where `?` would do; tried, and the proof of the ten functions that call one another did not close.
     match monic_part(w, m, h, t, e, x) {
-        Attempt::Value(y) => resultant_steps64::times(m, y, unit_part(w, m, u, d - t, e, x)),
-        Attempt::Splits(p, q) => Attempt::Splits(p, q),
+        Ok(y) => resultant_steps64::times(m, y, unit_part(w, m, u, d - t, e, x)),
+        Err(s) => Err(s),
     }
 }
 
 // The resultant of the monic polynomial of degree t at a and of g at 0, worked from x on.
 #[cycle(by_content_dropped_euclid_factors_from_below_monic_part_primitive_reversed_step_unit_part)]
-fn monic_part(w: &mut [u64], m: Reciprocal, a: usize, t: usize, e: usize, x: usize) -> Attempt
+fn monic_part(
+    w: &mut [u64],
+    m: Reciprocal,
+    a: usize,
+    t: usize,
+    e: usize,
+    x: usize,
+) -> Result<u64, Split<u64>>
     requires ready { Ready m }
     requires part { (Part m.n a t 0 e x w.old) × (get_or w.old (a + t) 0 ≡ 1) }
     ensures value_or_split { ValueOrSplit m.n (resultant m.n (piece w.old a (t + 1)) (piece w.old 0 (e + 1))) result }
     ensures kept { Kept x w.old w.new }
 {
     if t == 0 {
-        return Attempt::Value(1);
+        return Ok(1);
     }
     let l = t + 1;
     let k = e + 1;
@@ -228,7 +244,14 @@ fn monic_part(w: &mut [u64], m: Reciprocal, a: usize, t: usize, e: usize, x: usi
 
 // The same for a polynomial of degree k whose constant is a unit.
 #[cycle(by_content_dropped_euclid_factors_from_below_monic_part_primitive_reversed_step_unit_part)]
-fn unit_part(w: &mut [u64], m: Reciprocal, a: usize, k: usize, e: usize, x: usize) -> Attempt
+fn unit_part(
+    w: &mut [u64],
+    m: Reciprocal,
+    a: usize,
+    k: usize,
+    e: usize,
+    x: usize,
+) -> Result<u64, Split<u64>>
     requires ready { Ready m }
     requires part { (Part m.n a k 0 e x w.old) × ((1 ≤ k) × (IsUnit m.n (get_or w.old a 0))) }
     ensures { ValueOrSplit m.n (resultant m.n (piece w.old a (k + 1)) (piece w.old 0 (e + 1))) result }

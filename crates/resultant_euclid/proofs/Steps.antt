@@ -16,6 +16,7 @@ use Prim.Native.Nat.{ℕ, ◌+◌, ◌-◌, ◌*◌, ◌%◌, ◌^◌, ◌≤◌
 use native.Mathlib.Omega.{arith}
 use native.Mathlib.Nat.{mod-eq_of_lt, mod-lt, zero-add}
 use lib.ListN.{length, get_or}
+use Rattle.std.specs.Prelude.{Result, Ok}
 use borrow.Author.Rules.{rules}
 use Rattle.definitions.specs.Resultants.{resultant}
 use Rattle.law_numbers.specs.Congruence.{Cong, c_refl, c_eq, c_add, c_mul}
@@ -31,8 +32,7 @@ use Rattle.modulus_windows.proofs.Forms.{values_length}
 use Rattle.resultant_signs.specs.RunLaws.{Run}
 use Rattle.resultant_signs.specs.Signs.{signed_even, signed_odd}
 use Rattle.resultant_pseudo.specs.StandingRuns.{Placed, StateReached, EuclidAttempted, standing}
-use Rattle.resultant_pseudo.specs.declared.EuclidAttempt.{EuclidAttempt}
-use Rattle.resultant_pseudo.specs.declared.EuclidAttempt.TheVariants.{Value}
+use Rattle.resultant_pseudo.specs.declared.NotUnit.{NotUnit}
 use Rattle.resultant_pseudo.proofs.Stepping.{pair_stepped, last_stepped, elimination_stepped, drop_stepped, next_placed}
 use Rattle.resultant_pseudo.proofs.Stepping.{eliminated_placed, state_reached_self, state_reached_trans, run_value, answered, descended}
 use Rattle.resultant_pseudo.proofs.Stepping.{first_inside}
@@ -45,15 +45,15 @@ use Rattle.resultant_euclid.proofs.Moving.{pair_moves, last_moves, elimination_m
 -- ---- the stage after a step: the remainder and f; f and what an elimination leaves of g; f without its leading word and g
 -- Where a step leads does not depend on what is kept of it: the last four are any.
 
-abbrev pub exchanged : Stage → ℕ → ℕ → ℕ → ℕ → ℕ → Bool → Stage
+abbrev pub exchanged : Stage ℕ → ℕ → ℕ → ℕ → ℕ → ℕ → Bool → Stage ℕ
 exchanged x s p y c k z =
     record { a = x.b; d = x.d - 1; b = x.a; e = x.d; s = s; p = p; t = x.t; y = y; c = c; k = k; swap = z }
 
-abbrev pub eliminated : Stage → ℕ → ℕ → ℕ → ℕ → Bool → Stage
+abbrev pub eliminated : Stage ℕ → ℕ → ℕ → ℕ → ℕ → Bool → Stage ℕ
 eliminated x p y c k z =
     record { a = x.a; d = x.d; b = x.b; e = x.e - 1; s = x.s; p = p; t = x.t; y = y; c = c; k = k; swap = z }
 
-abbrev pub dropped : Stage → ℕ → ℕ → ℕ → ℕ → ℕ → Bool → Stage
+abbrev pub dropped : Stage ℕ → ℕ → ℕ → ℕ → ℕ → ℕ → Bool → Stage ℕ
 dropped x s t y c k z =
     record { a = x.a; d = x.d - 1; b = x.b; e = x.e; s = s; p = x.p; t = t; y = y; c = c; k = k; swap = z }
 
@@ -90,7 +90,7 @@ module _ (m : Modulus) (sound : Sound m) where
     };
   }
 
-  module _ (x : Stage) (w w' : List ℕ) (st : Standing m x w) (one : 1 ≤ x.d) where
+  module _ (x : Stage ℕ) (w w' : List ℕ) (st : Standing m x w) (one : 1 ≤ x.d) where
     at : (i : ℕ) → value m (get_or w i 0) ≡ get_or (values m w) i 0
     at i = sym (values_at m sound w i)
 
@@ -310,7 +310,7 @@ module _ (m : Modulus) (sound : Sound m) where
 
   -- ---- the whole run
 
-  pub reaches_self : {x : Stage} {w : List ℕ} → Standing m x w → Reaches m x w x w
+  pub reaches_self : {x : Stage ℕ} {w : List ℕ} → Standing m x w → Reaches m x w x w
   reaches_self {x} {w} st = record {
     standing = st;
     state_reached =
@@ -318,35 +318,35 @@ module _ (m : Modulus) (sound : Sound m) where
   }
 
 -- the value at the end of a run, from what the code found
-pub value_is : {n : ℕ} (m : Modulus) (y : Stage) (w : List ℕ) (R₀ i g s l c z u v : ℕ) → Standing m y w → y.d ≡ 0
+pub value_is : {n : ℕ} (m : Modulus) (y : Stage ℕ) (w : List ℕ) (R₀ i g s l c z u v : ℕ) → Standing m y w → y.d ≡ 0
     → Run m.n (value m y.s) (value m y.p) (value m y.t) y.d R₀ (standing m.n y.a y.d y.b y.e (values m w))
     → R₀ < m.n
     → s ≡ value m y.s → (i * s) % m.n ≡ g % m.n → g ≡ 1 → l ≡ value m (get_or w y.a 0) → c ≡ (l ^ y.e) % m.n
     → value m z ≡ (value m y.p * value m y.t) % m.n → u ≡ (value m z * c) % m.n → v ≡ (i * u) % m.n → Sound m → m.n ≡ n
-    → EuclidAttempted n R₀ (Value v)
+    → EuclidAttempted n R₀ (Ok v)
 value_is m y w R₀ i g s l c z u v st h run small hs hi hg hl hc hz hu hv sound is =
-    subst (λ (N : ℕ). EuclidAttempted N R₀ (Value v)) is
+    subst (λ (N : ℕ). EuclidAttempted N R₀ (Ok v)) is
     (run_value m.n m.n y.a y.d y.b y.e (value m y.s) (value m y.p) (value m y.t) R₀ i g c (value m z) u v
     (values m w) refl
     (standing_values m sound y.a y.d y.b y.e w st.placed) h run small
     (subst (λ (q : ℕ). (i * q) % m.n ≡ g % m.n) hs hi) hg
     (hc ∙ ap (λ (q : ℕ). (q ^ y.e) % m.n) (hl ∙ sym (values_at m sound w y.a))) hz hu hv)
 
-pub reaches_trans : {m : Modulus} {x y z : Stage} {w w' w'' : List ℕ} → Reaches m x w y w' → Reaches m y w' z w'' → Reaches m x w z w''
+pub reaches_trans : {m : Modulus} {x y z : Stage ℕ} {w w' w'' : List ℕ} → Reaches m x w y w' → Reaches m y w' z w'' → Reaches m x w z w''
 reaches_trans p q = record { standing = q.standing; state_reached = state_reached_trans p.state_reached q.state_reached }
 
-pub reaches_same : {m : Modulus} {x y : Stage} {w w' : List ℕ} → Reaches m x w y w' → length w' ≡ length w
+pub reaches_same : {m : Modulus} {x y : Stage ℕ} {w w' : List ℕ} → Reaches m x w y w' → length w' ≡ length w
 reaches_same {m} {w = w} {w' = w'} h = sym (values_length m w') ∙ h.state_reached.same ∙ values_length m w
 
 -- ---- a run that begins
 
-abbrev pub beginning : ℕ → ℕ → ℕ → ℕ → ℕ → Stage
+abbrev pub beginning : ℕ → ℕ → ℕ → ℕ → ℕ → Stage ℕ
 beginning a d b e u = record { a = a; d = d; b = b; e = e; s = u; p = u; t = u; y = 0; c = 0; k = 0; swap = false }
 
 pub begun : {m : Modulus} {a d b e : ℕ} {w : List ℕ} (u : ℕ) → Placed m.n a d b e w → u < m.n → Standing m (beginning a d b e u) w
 begun u pl l = record { placed = pl; s_below = l; p_below = l; t_below = l }
 
-pub began : {m : Modulus} {a d b e : ℕ} {w w' : List ℕ} (u : ℕ) (y : Stage) → 2 ≤ m.n → value m u ≡ 1 % m.n → Reaches m
+pub began : {m : Modulus} {a d b e : ℕ} {w w' : List ℕ} (u : ℕ) (y : Stage ℕ) → 2 ≤ m.n → value m u ≡ 1 % m.n → Reaches m
     (beginning a d b e u) w y w'
     → StateReached m.n a d b e 1 1 1 (values m w) y.a y.d y.b y.e (value m y.s) (value m y.p) (value m y.t)
     (values m w')
@@ -440,7 +440,7 @@ sign_odd m e x r sound l h s =
 
 -- ---- the answer
 
-pub attempted : {m : Modulus} {n a d b e u : ℕ} {w w₁ : List ℕ} {x : Stage} (r : EuclidAttempt) → Placed n a d b e w → Enters m 1 u
+pub attempted : {m : Modulus} {n a d b e u : ℕ} {w w₁ : List ℕ} {x : Stage ℕ} (r : Result ℕ (NotUnit ℕ)) → Placed n a d b e w → Enters m 1 u
     → Reaches m (beginning a d b e u) w x w₁ → Answering m x w₁ r → m.n ≡ n → 2 ≤ n
     → EuclidAttempted n (resultant n (piece (values m w) a (d + 1)) (piece (values m w) b (e + 1))) r
 attempted {m} {n} {a} {d} {b} {e} {u} {w} {w₁} {x} r pl en l an is two =
@@ -448,17 +448,17 @@ attempted {m} {n} {a} {d} {b} {e} {u} {w} {w₁} {x} r pl en l an is two =
     (began u x (omega arith) en.1 l) an.at
 
 -- what is known at the end is known before
-pub answers_before : {m : Modulus} {x y : Stage} {w v : List ℕ} {r : EuclidAttempt} → Reaches m x w y v → Answering m y v r
+pub answers_before : {m : Modulus} {x y : Stage ℕ} {w v : List ℕ} {r : Result ℕ (NotUnit ℕ)} → Reaches m x w y v → Answering m y v r
     → Answering m x w r
 answers_before l an = record { at = λ R₀ h run. an.at R₀ h (l.state_reached.run R₀ run) }
 
-pub reaches_scratch : {m : Modulus} {x y : Stage} {w w₁ : List ℕ} → Reaches m x w y w₁ → Scratch w w₁
+pub reaches_scratch : {m : Modulus} {x y : Stage ℕ} {w w₁ : List ℕ} → Reaches m x w y w₁ → Scratch w w₁
 reaches_scratch l = record { same = reaches_same l }
 
-pub scratch_after : {m : Modulus} {x y : Stage} {w w₁ w₂ : List ℕ} → Reaches m x w y w₁ → Scratch w₁ w₂ → Scratch w w₂
+pub scratch_after : {m : Modulus} {x y : Stage ℕ} {w w₁ w₂ : List ℕ} → Reaches m x w y w₁ → Scratch w₁ w₂ → Scratch w w₂
 scratch_after l s = record { same = s.same ∙ reaches_same l }
 
-pub descends : {m : Modulus} {a d b e u : ℕ} {w w₁ : List ℕ} {y : Stage} → Sound m → 2 ≤ m.n → Placed m.n a d b e w → Enters m 1 u
+pub descends : {m : Modulus} {a d b e u : ℕ} {w w₁ : List ℕ} {y : Stage ℕ} → Sound m → 2 ≤ m.n → Placed m.n a d b e w → Enters m 1 u
     → Finished m (beginning a d b e u) w y w₁ → Descends m a d b e w y w₁
 descends {m} {a} {d} {b} {e} {u} {w} {w₁} {y} sound two pl en f = record {
   same = reaches_same f.0;

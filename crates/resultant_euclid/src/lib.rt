@@ -28,7 +28,7 @@ ghost use Rattle.resultant_euclid.specs.Running.{Descends, Answering};
 
 use euclid_steps::Stage;
 use modulus::Modulus;
-use resultant_pseudo::EuclidAttempt;
+use resultant_pseudo::NotUnit;
 
 // x with the sign (-1)^e.
 fn with_sign(m: Modulus, e: usize, y: u32) -> u32
@@ -41,7 +41,7 @@ fn with_sign(m: Modulus, e: usize, y: u32) -> u32
     modulus::difference(m, 0, y)
 }
 
-fn pair_step(w: &mut [u32], m: Modulus, x: Stage) -> Stage
+fn pair_step(w: &mut [u32], m: Modulus, x: Stage<u32>) -> Stage<u32>
     requires known { Known m }
     requires standing { (Standing m x w.old) × ((1 ≤ x.d) × (x.e ≡ x.d + 1)) }
     ensures stepped { Stepped m x w.old result w.new }
@@ -73,7 +73,7 @@ fn pair_step(w: &mut [u32], m: Modulus, x: Stage) -> Stage
     }
 }
 
-fn last_step(w: &mut [u32], m: Modulus, x: Stage) -> Stage
+fn last_step(w: &mut [u32], m: Modulus, x: Stage<u32>) -> Stage<u32>
     requires known { Known m }
     requires standing { (Standing m x w.old) × ((1 ≤ x.d) × (x.e ≡ x.d)) }
     ensures stepped { Stepped m x w.old result w.new }
@@ -102,7 +102,7 @@ fn last_step(w: &mut [u32], m: Modulus, x: Stage) -> Stage
     }
 }
 
-fn elimination_step(w: &mut [u32], m: Modulus, x: Stage) -> Stage
+fn elimination_step(w: &mut [u32], m: Modulus, x: Stage<u32>) -> Stage<u32>
     requires known { Known m }
     requires standing { (Standing m x w.old) × ((1 ≤ x.d) × (x.d < x.e)) }
     ensures stepped { Stepped m x w.old result w.new }
@@ -133,7 +133,7 @@ fn elimination_step(w: &mut [u32], m: Modulus, x: Stage) -> Stage
     }
 }
 
-pub fn step(w: &mut [u32], m: Modulus, x: Stage) -> Stage
+pub fn step(w: &mut [u32], m: Modulus, x: Stage<u32>) -> Stage<u32>
     requires known { (Known m) × (2 ≤ m.n) }
     requires standing { (Standing m x w.old) × (1 ≤ x.d) }
     ensures stepped { Stepped m x w.old result w.new }
@@ -171,7 +171,7 @@ pub fn step(w: &mut [u32], m: Modulus, x: Stage) -> Stage
 }
 
 // Steps down to degree 0.
-fn finish(w: &mut [u32], m: Modulus, x: Stage) -> Stage
+fn finish(w: &mut [u32], m: Modulus, x: Stage<u32>) -> Stage<u32>
     requires known { (Known m) × (2 ≤ m.n) }
     requires standing { Standing m x w.old }
     ensures { Finished m x w.old result w.new }
@@ -184,7 +184,7 @@ fn finish(w: &mut [u32], m: Modulus, x: Stage) -> Stage
 }
 
 // Two steps, where there are so many.
-fn two_steps(w: &mut [u32], m: Modulus, x: Stage) -> Stage
+fn two_steps(w: &mut [u32], m: Modulus, x: Stage<u32>) -> Stage<u32>
     requires known { (Known m) × (2 ≤ m.n) }
     requires standing { Standing m x w.old }
     ensures { Reaches m x w.old result w.new }
@@ -200,7 +200,7 @@ fn two_steps(w: &mut [u32], m: Modulus, x: Stage) -> Stage
 }
 
 // All steps from f of degree d at a and g of degree e at b; both are lost.
-pub fn descend(w: &mut [u32], m: Modulus, a: usize, d: usize, b: usize, e: usize) -> Stage
+pub fn descend(w: &mut [u32], m: Modulus, a: usize, d: usize, b: usize, e: usize) -> Stage<u32>
     requires known { (Known m) × (2 ≤ m.n) }
     requires placed { Placed m.n a d b e w.old }
     ensures { Descends m a d b e w.old result w.new }
@@ -226,7 +226,7 @@ pub fn descend(w: &mut [u32], m: Modulus, a: usize, d: usize, b: usize, e: usize
 }
 
 // The value, from a state of degree 0: s times the resultant is p t times the power of the constant, and s is a unit.
-fn value_of(w: &[u32], m: Modulus, y: Stage) -> EuclidAttempt
+fn value_of(w: &[u32], m: Modulus, y: Stage<u32>) -> Result<u32, NotUnit<u32>>
     requires known { Known m }
     requires standing { (Standing m y w.now) × (y.d ≡ 0) }
     ensures { Answering m y w.now result }
@@ -235,17 +235,17 @@ fn value_of(w: &[u32], m: Modulus, y: Stage) -> EuclidAttempt
     let s = modulus::leave(m, y.s);
     let i = bezout::cofactor(n, s);
     if i.g != 1 {
-        return EuclidAttempt::NotUnit(s);
+        return Err(NotUnit { product: s });
     }
     let k = y.a;
     let c = arithmetic::power(n, modulus::leave(m, w[k]), y.e);
     let z = modulus::product(m, y.p, y.t);
     let u = modulus::times(m, z, c);
-    EuclidAttempt::Value(modulus::multiply(m, i.s, u))
+    Ok(modulus::multiply(m, i.s, u))
 }
 
 // All other steps, and the value.
-fn rest(w: &mut [u32], m: Modulus, x: Stage) -> EuclidAttempt
+fn rest(w: &mut [u32], m: Modulus, x: Stage<u32>) -> Result<u32, NotUnit<u32>>
     requires known { (Known m) × (2 ≤ m.n) }
     requires standing { Standing m x w.old }
     ensures answering { Answering m x w.old result }
@@ -257,7 +257,14 @@ fn rest(w: &mut [u32], m: Modulus, x: Stage) -> EuclidAttempt
 
 // The resultant of what the words stand for: f of degree d at a and g of degree e at b; both are lost. Where a test after the second
 // step already shows a zero divisor, nothing more is tried; where few steps are left the test costs more than they do.
-pub fn attempt(w: &mut [u32], m: Modulus, a: usize, d: usize, b: usize, e: usize) -> EuclidAttempt
+pub fn attempt(
+    w: &mut [u32],
+    m: Modulus,
+    a: usize,
+    d: usize,
+    b: usize,
+    e: usize,
+) -> Result<u32, NotUnit<u32>>
     requires known { (Known m) × (2 ≤ m.n) }
     requires placed { Placed m.n a d b e w.old }
     ensures euclid_attempted { EuclidAttempted m.n (resultant m.n (piece (values m w.old) a (d + 1))
@@ -284,7 +291,7 @@ pub fn attempt(w: &mut [u32], m: Modulus, a: usize, d: usize, b: usize, e: usize
     );
     if 16 <= x.d {
         if bezout::gcd(m.n, x.s) != 1 {
-            return EuclidAttempt::NotUnit(x.s);
+            return Err(NotUnit { product: x.s });
         }
     }
     rest(w, m, x)

@@ -23,12 +23,13 @@ ghost use Rattle.windows.specs.Window.{piece, Scratch};
 ghost use Rattle.modulus.specs.Values.{value, values};
 ghost use Rattle.reduction64.specs.Moduli.{Ready};
 ghost use Rattle.modulus64.specs.Plain.{plain};
-ghost use Rattle.resultant_pseudo.specs.StandingRuns.{Placed};
-ghost use Rattle.euclid_steps64.specs.EuclidStages.{Standing, Reaches, Stepped, Finished, Told, EuclidAttempted};
-ghost use Rattle.resultant_euclid64.specs.Running.{Answering};
+ghost use Rattle.resultant_pseudo.specs.StandingRuns.{Placed, EuclidAttempted};
+ghost use Rattle.euclid_steps.specs.EuclidStages.{Standing, Reaches, Stepped, Finished, Told};
+ghost use Rattle.resultant_euclid.specs.Running.{Answering};
 
-use euclid_steps64::{EuclidAttempt, Stage};
+use euclid_steps::Stage;
 use reduction64::Reciprocal;
+use resultant_pseudo::NotUnit;
 
 // x with the sign (-1)^e.
 fn with_sign(m: Reciprocal, e: usize, y: u64) -> u64
@@ -41,11 +42,11 @@ fn with_sign(m: Reciprocal, e: usize, y: u64) -> u64
     modulus64::difference(m, 0, y)
 }
 
-fn pair_step(w: &mut [u64], m: Reciprocal, x: Stage) -> Stage
+fn pair_step(w: &mut [u64], m: Reciprocal, x: Stage<u64>) -> Stage<u64>
     requires ready { Ready m }
-    requires standing { (Standing m x w.old) × ((1 ≤ x.d) × (x.e ≡ x.d + 1)) }
-    ensures stepped { Stepped m x w.old result w.new }
-    ensures told { Told m x w.old result w.new }
+    requires standing { (Standing (plain m) x w.old) × ((1 ≤ x.d) × (x.e ≡ x.d + 1)) }
+    ensures stepped { Stepped (plain m) x w.old result w.new }
+    ensures told { Told (plain m) x w.old result w.new }
 {
     let a = x.a;
     let d = x.d;
@@ -73,11 +74,11 @@ fn pair_step(w: &mut [u64], m: Reciprocal, x: Stage) -> Stage
     }
 }
 
-fn last_step(w: &mut [u64], m: Reciprocal, x: Stage) -> Stage
+fn last_step(w: &mut [u64], m: Reciprocal, x: Stage<u64>) -> Stage<u64>
     requires ready { Ready m }
-    requires standing { (Standing m x w.old) × ((1 ≤ x.d) × (x.e ≡ x.d)) }
-    ensures stepped { Stepped m x w.old result w.new }
-    ensures told { Told m x w.old result w.new }
+    requires standing { (Standing (plain m) x w.old) × ((1 ≤ x.d) × (x.e ≡ x.d)) }
+    ensures stepped { Stepped (plain m) x w.old result w.new }
+    ensures told { Told (plain m) x w.old result w.new }
 {
     let a = x.a;
     let d = x.d;
@@ -102,11 +103,11 @@ fn last_step(w: &mut [u64], m: Reciprocal, x: Stage) -> Stage
     }
 }
 
-fn elimination_step(w: &mut [u64], m: Reciprocal, x: Stage) -> Stage
+fn elimination_step(w: &mut [u64], m: Reciprocal, x: Stage<u64>) -> Stage<u64>
     requires ready { Ready m }
-    requires standing { (Standing m x w.old) × ((1 ≤ x.d) × (x.d < x.e)) }
-    ensures stepped { Stepped m x w.old result w.new }
-    ensures told { Told m x w.old result w.new }
+    requires standing { (Standing (plain m) x w.old) × ((1 ≤ x.d) × (x.d < x.e)) }
+    ensures stepped { Stepped (plain m) x w.old result w.new }
+    ensures told { Told (plain m) x w.old result w.new }
 {
     let a = x.a;
     let d = x.d;
@@ -133,11 +134,11 @@ fn elimination_step(w: &mut [u64], m: Reciprocal, x: Stage) -> Stage
     }
 }
 
-pub fn step(w: &mut [u64], m: Reciprocal, x: Stage) -> Stage
+pub fn step(w: &mut [u64], m: Reciprocal, x: Stage<u64>) -> Stage<u64>
     requires ready { (Ready m) × (2 ≤ m.n) }
-    requires standing { (Standing m x w.old) × (1 ≤ x.d) }
-    ensures stepped { Stepped m x w.old result w.new }
-    ensures told { Told m x w.old result w.new }
+    requires standing { (Standing (plain m) x w.old) × (1 ≤ x.d) }
+    ensures stepped { Stepped (plain m) x w.old result w.new }
+    ensures told { Told (plain m) x w.old result w.new }
 {
     let a = x.a;
     let d = x.d;
@@ -171,10 +172,10 @@ pub fn step(w: &mut [u64], m: Reciprocal, x: Stage) -> Stage
 }
 
 // Steps down to degree 0.
-fn finish(w: &mut [u64], m: Reciprocal, x: Stage) -> Stage
+fn finish(w: &mut [u64], m: Reciprocal, x: Stage<u64>) -> Stage<u64>
     requires ready { (Ready m) × (2 ≤ m.n) }
-    requires standing { Standing m x w.old }
-    ensures { Finished m x w.old result w.new }
+    requires standing { Standing (plain m) x w.old }
+    ensures { Finished (plain m) x w.old result w.new }
 {
     let mut y = x;
     while 0 < y.d {
@@ -184,10 +185,10 @@ fn finish(w: &mut [u64], m: Reciprocal, x: Stage) -> Stage
 }
 
 // Two steps, where there are so many.
-fn two_steps(w: &mut [u64], m: Reciprocal, x: Stage) -> Stage
+fn two_steps(w: &mut [u64], m: Reciprocal, x: Stage<u64>) -> Stage<u64>
     requires ready { (Ready m) × (2 ≤ m.n) }
-    requires standing { Standing m x w.old }
-    ensures { Reaches m x w.old result w.new }
+    requires standing { Standing (plain m) x w.old }
+    ensures { Reaches (plain m) x w.old result w.new }
 {
     if x.d == 0 {
         return x;
@@ -200,29 +201,29 @@ fn two_steps(w: &mut [u64], m: Reciprocal, x: Stage) -> Stage
 }
 
 // The value, from a state of degree 0: s times the resultant is p t times the power of the constant, and s is a unit.
-fn value_of(w: &[u64], m: Reciprocal, y: Stage) -> EuclidAttempt
+fn value_of(w: &[u64], m: Reciprocal, y: Stage<u64>) -> Result<u64, NotUnit<u64>>
     requires ready { Ready m }
-    requires standing { (Standing m y w.now) × (y.d ≡ 0) }
-    ensures { Answering m y w.now result }
+    requires standing { (Standing (plain m) y w.now) × (y.d ≡ 0) }
+    ensures { Answering (plain m) y w.now result }
 {
     let n = m.n;
     let s = modulus64::leave(m, y.s);
     let i = bezout64::cofactor(n, s);
     if i.g != 1 {
-        return EuclidAttempt::NotUnit(s);
+        return Err(NotUnit { product: s });
     }
     let k = y.a;
     let c = reduction64::power(m, modulus64::leave(m, w[k]), y.e);
     let z = modulus64::product(m, y.p, y.t);
     let u = modulus64::times(m, z, c);
-    EuclidAttempt::Value(modulus64::multiply(m, i.s, u))
+    Ok(modulus64::multiply(m, i.s, u))
 }
 
 // All other steps, and the value.
-fn rest(w: &mut [u64], m: Reciprocal, x: Stage) -> EuclidAttempt
+fn rest(w: &mut [u64], m: Reciprocal, x: Stage<u64>) -> Result<u64, NotUnit<u64>>
     requires ready { (Ready m) × (2 ≤ m.n) }
-    requires standing { Standing m x w.old }
-    ensures answering { Answering m x w.old result }
+    requires standing { Standing (plain m) x w.old }
+    ensures answering { Answering (plain m) x w.old result }
     ensures scratch { Scratch w.old w.new }
 {
     let y = finish(w, m, x);
@@ -238,7 +239,7 @@ pub fn attempt(
     d: usize,
     b: usize,
     e: usize,
-) -> EuclidAttempt
+) -> Result<u64, NotUnit<u64>>
     requires ready { (Ready m) × (2 ≤ m.n) }
     requires placed { Placed m.n a d b e w.old }
     ensures euclid_attempted { EuclidAttempted m.n (resultant m.n (piece (values (plain m) w.old) a (d + 1))
@@ -265,7 +266,7 @@ pub fn attempt(
     );
     if 16 <= x.d {
         if bezout64::gcd(m.n, x.s) != 1 {
-            return EuclidAttempt::NotUnit(x.s);
+            return Err(NotUnit { product: x.s });
         }
     }
     rest(w, m, x)

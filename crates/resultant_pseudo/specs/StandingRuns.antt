@@ -11,15 +11,14 @@
 --   Answers          the same of a state, for any resultant that is known by it
 --
 -- Letters: n is the modulus; R₀ is the resultant asked for; x, y are states, w, v the words with them.
-use Rattle.std.specs.Prelude.{◌≡◌, List, ℕ, ◌+◌, ◌*◌, ◌%◌, ◌^◌, ◌<◌, ◌≤◌, length, get_or}
+use Rattle.std.specs.Prelude.{◌≡◌, Result, Ok, Err, List, ℕ, ◌+◌, ◌*◌, ◌%◌, ◌^◌, ◌<◌, ◌≤◌, length, get_or}
 use Rattle.definitions.specs.Resultants.{resultant, Reached}
 use Rattle.windows.specs.Window.{piece}
 use Rattle.window_division.specs.Remainders.{Pair}
 use Rattle.resultant_signs.specs.RunLaws.{Run}
 use Rattle.resultant_signs.specs.EliminationLaws.{Within}
 use Rattle.resultant_pseudo.specs.declared.State.{State}
-use Rattle.resultant_pseudo.specs.declared.EuclidAttempt.{EuclidAttempt}
-use Rattle.resultant_pseudo.specs.declared.EuclidAttempt.TheVariants.{Value, NotUnit}
+use Rattle.resultant_pseudo.specs.declared.NotUnit.{NotUnit}
 
 pub record Placed (n a d b e : ℕ) (w : List ℕ) : Type 0 where
   pub pos : 1 ≤ n
@@ -61,10 +60,10 @@ pub record Descended (n a d b e : ℕ) (w : List ℕ) (y : State) (v : List ℕ)
   pub within : Within n (piece w a (d + 1)) (piece w b (e + 1)) (piece v y.a 1) (piece v y.b (y.e + 1))
 
 -- the value, if every lead was a unit
-abbrev pub EuclidAttempted : ℕ → ℕ → EuclidAttempt → Type 0
-EuclidAttempted n x (Value v) = (v ≡ x) × (v < n)
-EuclidAttempted n x (NotUnit s) = Unit
+abbrev pub EuclidAttempted : ℕ → ℕ → Result ℕ (NotUnit ℕ) → Type 0
+EuclidAttempted n x (Ok v) = (v ≡ x) × (v < n)
+EuclidAttempted n x (Err s) = Unit
 
-abbrev pub Answers : ℕ → State → List ℕ → EuclidAttempt → Type 0
+abbrev pub Answers : ℕ → State → List ℕ → Result ℕ (NotUnit ℕ) → Type 0
 Answers n y w r = (R₀ : ℕ) → R₀ < n → Run n y.s y.p y.t y.d R₀ (standing n y.a y.d y.b y.e w)
     → EuclidAttempted n R₀ r

@@ -1,15 +1,14 @@
 // Euclid without inverses: what it keeps and what it answers. The laws of its steps, for words of any width and form, are in
 // proofs/Stepping, and what they are about in specs/Standing; the functions are those of `resultant_euclid` and `resultant_euclid64`.
 //
-//   EuclidAttempt    a value, or a product of leading words that is no unit
-//   State            where the run stands
+//   NotUnit    what stands in place of a value: a product of leading words that is no unit
+//   State      where the run stands
 #![tactic(auto)]
 
-// The value, by one inverse, if every lead was a unit; otherwise a product of leading words that is no unit.
+// A product of leading words that is no unit. Where every lead is a unit, the attempt comes to the value, by one inverse.
 #[derive(Clone, Copy)]
-pub enum EuclidAttempt {
-    Value(u32),
-    NotUnit(u32),
+pub struct NotUnit<W> {
+    pub product: W,
 }
 
 // f of degree d at a, g of degree e at b. p is the product of the powers of leading words taken so far, s that of the p's at each degree,

@@ -12,6 +12,7 @@ use Prim.Native.Nat.{ℕ, ◌*◌, ◌%◌, ◌≤◌, ◌<◌, ◌∣◌}
 use native.Mathlib.Omega.{arith}
 use native.Mathlib.Nat.{mod-lt, le_of_dvd, dvd_refl, dvd_trans, dvd-mul_right, dvd-mul_left, dvd_of_mod-eq-zero}
 use borrow.Author.Rules.{rules}
+use Rattle.std.specs.Prelude.{Result, Ok, Err}
 use Rattle.law_numbers.specs.Units.{coprime_of_unit}
 use Rattle.law_numbers.specs.Coprimality.{coprime_sym, coprime_power}
 use Rattle.law_polynomials.specs.ResultantLaws.{signed}
@@ -20,43 +21,42 @@ use Rattle.window_factor.proofs.Cases.{splits_kind}
 use Rattle.residue.specs.Kinds.{KindOf}
 use Rattle.residue.specs.declared.Kind.{Kind}
 use Rattle.residue.specs.declared.Kind.TheVariants.{Unit as Unit', Nilpotent}
-use Rattle.residue.specs.declared.Attempt.{Attempt}
-use Rattle.residue.specs.declared.Attempt.TheVariants.{Value, Splits}
+use Rattle.residue.specs.declared.Split.{Split}
 use Rattle.resultant_signs.specs.Signs.{signed_lt, sign_first, sign_odd}
 use Rattle.resultant_steps.specs.AttemptAnswers.{ValueOrSplit, IsAnswer, Partial, Follows, Lifted}
 
-module _ {n v : ℕ} {a : Attempt} where
-  pub value_times : {r : ℕ} {F : ℕ → ℕ} (c : ℕ) → r ≡ (c * v) % n → a ≡ Value v → 1 ≤ n → F ≡ (λ x. (c * x) % n) → Follows n F a (Value r)
-  value_times {r} c h e l f = subst (λ F. Follows n F a (Value r)) (sym f) (record {
+module _ {n v : ℕ} {a : Result ℕ (Split ℕ)} where
+  pub value_times : {r : ℕ} {F : ℕ → ℕ} (c : ℕ) → r ≡ (c * v) % n → a ≡ Ok v → 1 ≤ n → F ≡ (λ x. (c * x) % n) → Follows n F a (Ok r)
+  value_times {r} c h e l f = subst (λ F. Follows n F a (Ok r)) (sym f) (record {
     at = λ x p. let q = subst (ValueOrSplit n x) e p in
         (h ∙ ap (λ (y : ℕ). (c * y) % n) q.0, subst (λ (y : ℕ). y < n) (sym h) (mod-lt (c * v) l));
   })
 
-  pub value_sign : {r : ℕ} (k : ℕ) → r ≡ signed n k v → a ≡ Value v → Follows n (signed n k) a (Value r)
+  pub value_sign : {r : ℕ} (k : ℕ) → r ≡ signed n k v → a ≡ Ok v → Follows n (signed n k) a (Ok r)
   value_sign k h e = record {
     at = λ x p. let q = subst (ValueOrSplit n x) e p in
         (h ∙ ap (signed n k) q.0, subst (λ (y : ℕ). y < n) (sym h) (signed_lt n k v q.1));
   }
 
-  pub value_lift : a ≡ Value v → 2 ≤ n → Lifted n a (Value v)
+  pub value_lift : a ≡ Ok v → 2 ≤ n → Lifted n a (Ok v)
   value_lift e l = record {
     at = λ m x d p. let q = subst (ValueOrSplit m x) e p in (q.0, omega (arith, q.1, le_of_dvd {n = n} (omega arith) d));
   }
 
-  pub value_below : IsAnswer n a → a ≡ Value v → v < n
+  pub value_below : IsAnswer n a → a ≡ Ok v → v < n
   value_below p e = (subst (ValueOrSplit n p.x) e p.is).1
 
-module _ {n p q : ℕ} {a : Attempt} where
-  pub split_same : {F : ℕ → ℕ} → a ≡ Splits p q → Follows n F a (Splits p q)
+module _ {n : ℕ} {s : Split ℕ} {a : Result ℕ (Split ℕ)} where
+  pub split_same : {F : ℕ → ℕ} → a ≡ Err s → Follows n F a (Err s)
   split_same e = record { at = λ x h. subst (ValueOrSplit n x) e h }
 
   -- a split of a divisor of n is one of the product of its factors
-  pub split_own : Partial n a → a ≡ Splits p q → SplitOf (p * q) p q
+  pub split_own : Partial n a → a ≡ Err s → SplitOf (s.p * s.q) s.p s.q
   split_own h e =
-      let s = subst (ValueOrSplit h.m h.answer.x) e h.answer.is in
-      record { product = refl; above₁ = s.above₁; above₂ = s.above₂; coprime = s.coprime }
+      let y = subst (ValueOrSplit h.m h.answer.x) e h.answer.is in
+      record { product = refl; above₁ = y.above₁; above₂ = y.above₂; coprime = y.coprime }
 
-  pub split_divides : Partial n a → a ≡ Splits p q → p * q ∣ n
+  pub split_divides : Partial n a → a ≡ Err s → s.p * s.q ∣ n
   split_divides h e =
       subst (λ (x : ℕ). x ∣ n) (sym (subst (ValueOrSplit h.m h.answer.x) e h.answer.is).product) h.divides
 
@@ -67,11 +67,11 @@ module _ {n x : ℕ} (d e : ℕ) (l : x < n) where
   pub sign_changed : {r : ℕ} → r ≡ signed n e x → (d % 2 ≡ 0 → ⊥) → r ≡ signed n (d * e) x
   sign_changed h o = h ∙ sign_odd n d e x l (omega arith)
 
-pub followed : {n : ℕ} {F : ℕ → ℕ} {x y : ℕ} {r s : Attempt} → Follows n F r s → ValueOrSplit n x r → F x ≡ y → ValueOrSplit n y s
+pub followed : {n : ℕ} {F : ℕ → ℕ} {x y : ℕ} {r s : Result ℕ (Split ℕ)} → Follows n F r s → ValueOrSplit n x r → F x ≡ y → ValueOrSplit n y s
 followed {n} {F} {x} {y} {r} {s} f a e = subst (λ (z : ℕ). ValueOrSplit n z s) e (f.at x a)
 
 -- an answer that follows from an answer
-pub answer_follows : {n : ℕ} {F : ℕ → ℕ} {r s : Attempt} → Follows n F r s → IsAnswer n r → IsAnswer n s
+pub answer_follows : {n : ℕ} {F : ℕ → ℕ} {r s : Result ℕ (Split ℕ)} → Follows n F r s → IsAnswer n r → IsAnswer n s
 answer_follows {n} {F} h a = record { x = F a.x; is = h.at a.x a.is }
 
 pub ruleset rotated = (
@@ -89,7 +89,7 @@ pub ruleset rotated = (
 
 -- ---- a split of a divisor of n leads to one of n: a factor p of it is neither a unit nor nilpotent modulo n
 
-module _ {n p q : ℕ} {k : Kind} (r : KindOf n p k) where
+module _ {n p q : ℕ} {k : Kind ℕ} (r : KindOf n p k) where
   pub no_unit : {i : ℕ} → k ≡ Unit' i → SplitOf (p * q) p q → p * q ∣ n → SplitOf n p q
   no_unit {i} u s h =
       let e : p ≡ 1 = (coprime_of_unit (record { inverse = i; is = subst (KindOf n p) u r })).only p (dvd_trans p (dvd-mul_right p q) h)

@@ -22,20 +22,13 @@ ghost use Rattle.resultant_steps.specs.AttemptAnswers.{IsAnswer, Partial, Follow
 ghost use Rattle.resultant_steps.specs.Layouts.{ContentCleared, Beside, words_at, words_back};
 
 use modulus::Modulus;
-use residue::Attempt;
+use residue::{Kind, Split};
 
 // A content, and the record of the modulus that is left.
 #[derive(Clone, Copy)]
 pub struct Cleared {
     pub c: u32,
     pub v: Modulus,
-}
-
-// Two coprime factors.
-#[derive(Clone, Copy)]
-struct Split {
-    p: u32,
-    q: u32,
 }
 
 // x with the sign (-1)^(d e).
@@ -86,51 +79,44 @@ pub fn clear_content(w: &mut [u32], m: Modulus, d: usize, e: usize) -> Cleared
     Cleared { c, v }
 }
 
-// A factor p of a split of a divisor of n splits n as well. The last two cases are never met: p is above 1 and divides n, so it is no
-// unit; q is above 1, divides n and is coprime to p, so no power of p is 0 modulo n.
-fn lift_split(n: u32, p: u32, q: u32) -> Split
-    requires { (2 ≤ n) × (SplitOf (p * q) p q × (p * q ∣ n)) }
+// The first factor p of a split s of a divisor of n splits n as well. The last two cases are never met: p is above 1 and divides n, so it
+// is no unit; the other factor is above 1, divides n and is coprime to p, so no power of p is 0 modulo n.
+fn lift_split(n: u32, s: Split<u32>) -> Split<u32>
+    requires { (2 ≤ n) × (SplitOf (s.p * s.q) s.p s.q × (s.p * s.q ∣ n)) }
     ensures { SplitOf n result.p result.q }
 {
-    match residue::kind_of(n, p) {
-        residue::Kind::Splits(x, y) => Split { p: x, q: y },
-        residue::Kind::Unit(_) => Split { p, q },
-        residue::Kind::Nilpotent => Split { p, q },
+    match residue::kind_of(n, s.p) {
+        Kind::Splits(x, y) => Split { p: x, q: y },
+        Kind::Unit(_) => s,
+        Kind::Nilpotent => s,
     }
 }
 
 // The answer times c.
-pub fn times(m: Modulus, c: u32, r: Attempt) -> Attempt
+pub fn times(m: Modulus, c: u32, r: Result<u32, Split<u32>>) -> Result<u32, Split<u32>>
     requires { Known m }
     ensures { Follows m.n (λ x. (c * x) % m.n) r result }
 {
-    match r {
-        Attempt::Value(v) => Attempt::Value(modulus::multiply(m, c, v)),
-        Attempt::Splits(p, q) => Attempt::Splits(p, q),
-    }
+    let v = r?;
+    Ok(modulus::multiply(m, c, v))
 }
 
 // The answer with the sign (-1)^(d e).
-pub fn times_sign(n: u32, d: usize, e: usize, r: Attempt) -> Attempt
+pub fn times_sign(n: u32, d: usize, e: usize, r: Result<u32, Split<u32>>) -> Result<u32, Split<u32>>
     requires { IsAnswer n r }
     ensures { Follows n (signed n (d * e)) r result }
 {
-    match r {
-        Attempt::Value(v) => Attempt::Value(exchanged(n, d, e, v)),
-        Attempt::Splits(p, q) => Attempt::Splits(p, q),
-    }
+    let v = r?;
+    Ok(exchanged(n, d, e, v))
 }
 
 // The answer modulo a divisor of n, as one modulo n.
-pub fn lifted(n: u32, r: Attempt) -> Attempt
+pub fn lifted(n: u32, r: Result<u32, Split<u32>>) -> Result<u32, Split<u32>>
     requires { (2 ≤ n) × Partial n r }
     ensures { Lifted n r result }
 {
     match r {
-        Attempt::Value(v) => Attempt::Value(v),
-        Attempt::Splits(p, q) => {
-            let s = lift_split(n, p, q);
-            Attempt::Splits(s.p, s.q)
-        }
+        Ok(v) => Ok(v),
+        Err(s) => Err(lift_split(n, s)),
     }
 }

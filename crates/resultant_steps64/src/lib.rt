@@ -17,25 +17,18 @@ ghost use Rattle.std.specs.Int.{◌∣◌};
 ghost use Rattle.law_polynomials.specs.ResultantLaws.{signed};
 ghost use Rattle.windows.specs.Window.{Below};
 ghost use Rattle.reduction64.specs.Moduli.{Ready};
-ghost use Rattle.window_factor64.specs.Factors.{SplitOf};
-ghost use Rattle.resultant_steps64.specs.AttemptAnswers.{IsAnswer, Partial, Follows, Lifted};
+ghost use Rattle.window_factor.specs.Factors.{SplitOf};
+ghost use Rattle.resultant_steps.specs.AttemptAnswers.{IsAnswer, Partial, Follows, Lifted};
 ghost use Rattle.resultant_steps.specs.Layouts.{ContentCleared, Beside, words_at, words_back};
 
 use reduction64::Reciprocal;
-use residue64::Attempt;
+use residue::{Kind, Split};
 
 // A content, and the record of the modulus that is left.
 #[derive(Clone, Copy)]
 pub struct Cleared {
     pub c: u64,
     pub v: Reciprocal,
-}
-
-// Two coprime factors.
-#[derive(Clone, Copy)]
-struct Split {
-    p: u64,
-    q: u64,
 }
 
 // x with the sign (-1)^(d e).
@@ -86,51 +79,44 @@ pub fn clear_content(w: &mut [u64], m: Reciprocal, d: usize, e: usize) -> Cleare
     Cleared { c, v }
 }
 
-// A factor p of a split of a divisor of n splits n as well. The last two cases are never met: p is above 1 and divides n, so it is no
-// unit; q is above 1, divides n and is coprime to p, so no power of p is 0 modulo n.
-fn lift_split(m: Reciprocal, p: u64, q: u64) -> Split
-    requires { ((2 ≤ m.n) × Ready m) × (SplitOf (p * q) p q × (p * q ∣ m.n)) }
+// The first factor p of a split s of a divisor of n splits n as well. The last two cases are never met: p is above 1 and divides n, so it
+// is no unit; the other factor is above 1, divides n and is coprime to p, so no power of p is 0 modulo n.
+fn lift_split(m: Reciprocal, s: Split<u64>) -> Split<u64>
+    requires { ((2 ≤ m.n) × Ready m) × (SplitOf (s.p * s.q) s.p s.q × (s.p * s.q ∣ m.n)) }
     ensures { SplitOf m.n result.p result.q }
 {
-    match residue64::kind_of(m, p) {
-        residue64::Kind::Splits(x, y) => Split { p: x, q: y },
-        residue64::Kind::Unit(_) => Split { p, q },
-        residue64::Kind::Nilpotent => Split { p, q },
+    match residue64::kind_of(m, s.p) {
+        Kind::Splits(x, y) => Split { p: x, q: y },
+        Kind::Unit(_) => s,
+        Kind::Nilpotent => s,
     }
 }
 
 // The answer times c.
-pub fn times(m: Reciprocal, c: u64, r: Attempt) -> Attempt
+pub fn times(m: Reciprocal, c: u64, r: Result<u64, Split<u64>>) -> Result<u64, Split<u64>>
     requires { Ready m }
     ensures { Follows m.n (λ x. (c * x) % m.n) r result }
 {
-    match r {
-        Attempt::Value(v) => Attempt::Value(modulus64::multiply(m, c, v)),
-        Attempt::Splits(p, q) => Attempt::Splits(p, q),
-    }
+    let v = r?;
+    Ok(modulus64::multiply(m, c, v))
 }
 
 // The answer with the sign (-1)^(d e).
-pub fn times_sign(n: u64, d: usize, e: usize, r: Attempt) -> Attempt
+pub fn times_sign(n: u64, d: usize, e: usize, r: Result<u64, Split<u64>>) -> Result<u64, Split<u64>>
     requires { IsAnswer n r }
     ensures { Follows n (signed n (d * e)) r result }
 {
-    match r {
-        Attempt::Value(v) => Attempt::Value(exchanged(n, d, e, v)),
-        Attempt::Splits(p, q) => Attempt::Splits(p, q),
-    }
+    let v = r?;
+    Ok(exchanged(n, d, e, v))
 }
 
 // The answer modulo a divisor of n, as one modulo n.
-pub fn lifted(m: Reciprocal, r: Attempt) -> Attempt
+pub fn lifted(m: Reciprocal, r: Result<u64, Split<u64>>) -> Result<u64, Split<u64>>
     requires { ((2 ≤ m.n) × Ready m) × Partial m.n r }
     ensures { Lifted m.n r result }
 {
     match r {
-        Attempt::Value(v) => Attempt::Value(v),
-        Attempt::Splits(p, q) => {
-            let s = lift_split(m, p, q);
-            Attempt::Splits(s.p, s.q)
-        }
+        Ok(v) => Ok(v),
+        Err(s) => Err(lift_split(m, s)),
     }
 }

@@ -2,7 +2,6 @@
 use mathlib.Core.Path.{◌≡◌, ap₂, ◌∙◌}
 use mathlib.Core.List.{List}
 use Prim.Native.Nat.{ℕ, ◌+◌, ◌-◌, ◌*◌}
-use borrow.Author.Rules.{rules}
 use borrow.Rule.Slice.PartMut.{mid_of}
 use Rattle.definitions.specs.Resultants.{resultant}
 use Rattle.batch_pairs.specs.Batches.{piece}
@@ -13,5 +12,3 @@ pub resultant_of : (n i d e r : ℕ) (f g : List ℕ)
     (mid_of (i * (e + 1)) (i * (e + 1) + (e + 1) - i * (e + 1)) g)
     → r ≡ resultant n (piece d i f) (piece e i g)
 resultant_of n i d e r f g h = h ∙ ap₂ (resultant n) (part_is i d f) (part_is i e g)
-
-pub ruleset pieces = (rules, resultant_of)

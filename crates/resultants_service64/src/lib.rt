@@ -33,19 +33,15 @@ fn pair(n: u64, f: &[u64], g: &[u64], b: Batch, i: usize, work: &mut [u64]) -> u
     resultant64::run(work, n, &f[x..x + k], &g[y..y + l])
 }
 
-// The resultants of all pairs, in the first count words of out. The number after i is next.
+// The resultants of all pairs, in the first count words of out.
 fn each_pair(n: u64, f: &[u64], g: &[u64], b: Batch, out: &mut [u64], work: &mut [u64])
     requires { BatchAsked wide n f.now b.d g.now b.e b.count out.old work.old }
     ensures pairs { Pairs (IsResultant n) f.now b.d g.now b.e b.count
         out.old out.new }
     ensures scratch { Scratch work.old work.new }
 {
-    let mut i: usize = 0;
-    let mut next: usize = 1;
-    while next <= b.count {
+    for i in 0..b.count {
         out[i] = pair(n, f, g, b, i, work);
-        i = next;
-        next += 1;
     }
 }
 
@@ -64,9 +60,8 @@ pub fn resultants(
         work.old work.new result.value result.status }
 {
     let b = Batch { d, e, count };
-    let status = batch_pairs64::refusal_batch(n, f, g, b, out.len(), work.len());
-    if status != 0 {
-        return Answer { value: 0, status };
+    if let Err(refusal) = batch_pairs64::refusal_batch(n, f, g, b, out.len(), work.len()) {
+        return Answer::from(refusal);
     }
     each_pair(n, f, g, b, out, work);
     answers64::answered(0, work)

@@ -10,13 +10,13 @@ ghost use Rattle.std.specs.Prelude.{◌≡◌, [], ◌∷◌, ℕ, ◌+◌, ◌<
 ghost use Rattle.shares_service.specs.GivingOut.{first_waiting_of, give_frame_of, giving};
 ghost use Rattle.shares_service.specs.SharesService.{SharesAnswer};
 
+use refusals::Refusal;
+
 // The groups.
 pub const GROUPS: usize = 4;
 
-// The most frames of a run, and the refusal of a run of more, or of none.
+// The most frames of a run.
 const MAX_FRAMES: u32 = 1024;
-
-const BAD_FRAMES: u32 = 15;
 
 #[repr(C)]
 #[derive(Clone, Copy)]
@@ -39,13 +39,11 @@ fn first_waiting(waiting: [u32; GROUPS], turn: usize) -> usize
     ensures { result ≡ first_waiting_of waiting 4 turn }
 {
     let mut i = turn;
-    let mut k: usize = GROUPS;
-    while 0 < k {
+    for k in 0..GROUPS {
         if 0 < waiting[i] {
             return i;
         }
         i = (i + 1) % GROUPS;
-        k -= 1;
     }
     GROUPS
 }
@@ -78,7 +76,7 @@ pub fn shares(frames: u32, waiting1: u32, waiting2: u32, waiting3: u32, waiting4
     if frames < 1 || MAX_FRAMES < frames {
         return Plan {
             share: [0; GROUPS],
-            status: BAD_FRAMES,
+            status: Refusal::BadFrames.number(),
         };
     }
     let mut s = Giving {

@@ -28,13 +28,13 @@ fn put_case(rt: &impl Print, c: Claim) -> io::Result<()> {
         Claim::Accepted => {
             put_name(rt, b" accepted")?;
         }
-        Claim::Fails(k) => {
+        Claim::Fails(failure) => {
             put_name(rt, b" fails")?;
-            put(rt, k)?;
+            put(rt, failure.number())?;
         }
-        Claim::Refused(s) => {
+        Claim::Refused(refusal) => {
             put_name(rt, b" refused")?;
-            put(rt, s)?;
+            put(rt, refusal.number())?;
         }
     }
     Ok(())
@@ -78,10 +78,8 @@ fn claim(
 fn scale(w: &mut [u32], n: u32, c: u32)
     requires { 1 ≤ n }
 {
-    let mut i: usize = 0;
-    while i < w.len() {
-        w[i] = arithmetic::mul_mod(n, c, w[i]);
-        i += 1;
+    for x in w.iter_mut() {
+        *x = arithmetic::mul_mod(n, c, *x);
     }
 }
 
@@ -143,10 +141,8 @@ fn continued(sent: &[u32], w: &[u32], i: usize, step: usize) -> u32 {
 
 fn continue_words(sent: &[u32], w: &mut [u32], step: u32) {
     let back = step as usize;
-    let mut i: usize = 0;
-    while i < w.len() {
+    for i in 0..w.len() {
         w[i] = continued(sent, w, i, back);
-        i += 1;
     }
 }
 

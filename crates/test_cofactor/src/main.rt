@@ -33,13 +33,11 @@ fn add_coefficient(n: u32, x: u32, f: &[u32], u: &[u32], l: usize, k: usize) -> 
     requires { 1 ≤ n }
 {
     let mut s = x;
-    let mut i: usize = 0;
-    while i < f.len() {
+    for i in 0..f.len() {
         if i > k {
             return s;
         }
         s = arithmetic::mul_add_mod(n, s, f[i], coefficient(u, l, k - i));
-        i += 1;
     }
     s
 }
@@ -64,13 +62,11 @@ fn combines(n: u32, f: &[u32], g: &[u32], u: &[u32], v: &[u32], c: u32) -> bool
     }
     let d = f.len() - 1;
     let e = g.len() - 1;
-    let mut k: usize = 0;
-    while k < f.len() + g.len() {
+    for k in 0..f.len() + g.len() {
         let x = add_coefficient(n, 0, f, u, e, k);
         if add_coefficient(n, x, g, v, d, k) != constant(c, k) {
             return false;
         }
-        k += 1;
     }
     true
 }

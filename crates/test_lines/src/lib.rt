@@ -38,14 +38,12 @@ fn read_to(input: &mut impl Read, line: &mut [u8], k: usize) -> io::Result<bool>
 pub fn next_line(input: &mut impl Read, line: &mut [u8]) -> io::Result<usize>
     ensures { IfOk result (λ count. count ≤ length line.new) }
 {
-    let mut l: usize = 0;
-    while l < line.len() {
+    for l in 0..line.len() {
         if !read_to(input, line, l)? {
             return Ok(l);
         }
-        l += 1;
     }
-    Ok(l)
+    Ok(line.len())
 }
 
 // A number, and the place after the character that ends it.
@@ -69,21 +67,18 @@ fn number_at(text: &[u8], at: usize) -> Token
     ensures { (at < result.next) × (result.next ≤ length text.now) }
 {
     let mut x: u64 = 0;
-    let mut i = at;
-    while i < text.len() {
-        let c = text[i];
-        i += 1;
-        if c < b'0' {
+    for i in at..text.len() {
+        if text[i] < b'0' {
             return Token {
                 value: x as u32,
-                next: i,
+                next: i + 1,
             };
         }
-        x = with_digit(x, c);
+        x = with_digit(x, text[i]);
     }
     Token {
         value: x as u32,
-        next: i,
+        next: text.len(),
     }
 }
 
@@ -91,18 +86,16 @@ fn number_at(text: &[u8], at: usize) -> Token
 fn numbers(text: &[u8], words: &mut [u32]) -> usize
     ensures { FrontWritten words.old words.new result }
 {
-    let mut k: usize = 0;
     let mut at: usize = 0;
-    while at < text.len() {
-        if words.len() <= k {
+    for k in 0..words.len() {
+        if text.len() <= at {
             return k;
         }
         let t = number_at(text, at);
         words[k] = t.value;
-        k += 1;
         at = t.next;
     }
-    k
+    words.len()
 }
 
 // Reads the next line, decimal numbers below 2^32 with a blank between, into the front of words; how many they are, 0 at the end of the
@@ -158,13 +151,11 @@ pub fn spelt64(text: &[u8], at: usize, end: usize) -> u64
     ensures { result ≡ spelled 0 (part text.now at end) % 18446744073709551616 }
 {
     let mut x: u64 = 0;
-    let mut i = at;
-    while i < end {
+    for i in at..end {
         if text.len() <= i {
             return x;
         }
         x = with_hexadecimal(x, text[i]);
-        i += 1;
     }
     x
 }
@@ -190,34 +181,30 @@ fn left(text: &[u8], i: usize) -> usize
 pub fn spelt_words(text: &[u8], at: usize, words: &mut [u32]) -> usize
     ensures { FrontWritten words.old words.new result }
 {
-    let mut count: usize = 0;
     let mut i = at;
-    while count < words.len() {
+    for count in 0..words.len() {
         if left(text, i) < 8 {
             return count;
         }
         words[count] = (spelt64(text, i, i + 8) % 4294967296) as u32;
         i += 8;
-        count += 1;
     }
-    count
+    words.len()
 }
 
 // The same of sixteen characters each.
 pub fn spelt_words64(text: &[u8], at: usize, words: &mut [u64]) -> usize
     ensures { FrontWritten words.old words.new result }
 {
-    let mut got: usize = 0;
     let mut i = at;
-    while got < words.len() {
+    for got in 0..words.len() {
         if left(text, i) < 16 {
             return got;
         }
         words[got] = spelt64(text, i, i + 16);
         i += 16;
-        got += 1;
     }
-    got
+    words.len()
 }
 
 // ---- what is written
@@ -308,16 +295,12 @@ pub fn put_digit(rt: &impl Print, x: u32) -> io::Result<()> {
 }
 
 fn put_sign(rt: &impl Print, x: u32) -> io::Result<()> {
-    if x == 62 {
-        return put_name(rt, b"+");
+    match x {
+        62 => put_name(rt, b"+"),
+        63 => put_name(rt, b"/"),
+        64 => put_name(rt, b"="),
+        _ => put_name(rt, b"?"),
     }
-    if x == 63 {
-        return put_name(rt, b"/");
-    }
-    if x == 64 {
-        return put_name(rt, b"=");
-    }
-    put_name(rt, b"?")
 }
 
 // In a line of many answers: the digit of the value, or an exclamation mark and the status.
@@ -340,11 +323,7 @@ pub fn end_line(rt: &impl Print) -> io::Result<()> {
 pub fn fill(w: &mut [u32], x: u32)
     ensures { w.new ≡ replicate (length w.old) x }
 {
-    let mut j: usize = 0;
-    while j < w.len() {
-        w[j] = x;
-        j += 1;
-    }
+    w.fill(x);
 }
 
 // How many words at the end of w are x.
@@ -352,37 +331,29 @@ pub fn ending(w: &[u32], x: u32) -> usize
     ensures { Ending x w.now result }
 {
     let l = w.len();
-    let mut i = l;
-    while 0 < i {
-        if w[i - 1] != x {
-            return l - i;
+    for i in (0..l).rev() {
+        if w[i] != x {
+            return l - 1 - i;
         }
-        i -= 1;
     }
     l
 }
 
 // The same for words of 64 bits.
-pub fn fill64(w: &mut [u64], x: u64)
-    ensures { w.new ≡ replicate (length w.old) x }
+pub fn fill64(words: &mut [u64], x: u64)
+    ensures { words.new ≡ replicate (length words.old) x }
 {
-    let mut m: usize = 0;
-    while m < w.len() {
-        w[m] = x;
-        m += 1;
-    }
+    words.fill(x);
 }
 
 pub fn ending64(w: &[u64], x: u64) -> usize
     ensures { Ending x w.now result }
 {
     let all = w.len();
-    let mut j = all;
-    while 0 < j {
-        if w[j - 1] != x {
-            return all - j;
+    for j in (0..all).rev() {
+        if w[j] != x {
+            return all - 1 - j;
         }
-        j -= 1;
     }
     all
 }

@@ -85,9 +85,9 @@ fn degree_line(rt: &impl Print, n: u32, f: &[u32]) -> io::Result<()> {
             put_name(rt, b"degree")?;
             put(rt, k)?;
         }
-        Degree::Refused(s) => {
+        Degree::Refused(refusal) => {
             put_name(rt, b"degree refused")?;
-            put(rt, s)?;
+            put(rt, refusal.number())?;
         }
     }
     test_lines::put_words(rt, degree_service::leading(n, f))
@@ -95,12 +95,11 @@ fn degree_line(rt: &impl Print, n: u32, f: &[u32]) -> io::Result<()> {
 
 // The product word by word, for k from 0 to d + e + 2: the answer to the last.
 fn words_apart(n: u32, f: &[u32], g: &[u32], a: &mut [u32]) -> Answer {
-    let mut k: usize = 0;
-    while k < f.len() + g.len() {
+    let all = f.len() + g.len();
+    for k in 0..all {
         product_word_service::product_word(n, f, g, a, k);
-        k += 1;
     }
-    product_word_service::product_word(n, f, g, a, k)
+    product_word_service::product_word(n, f, g, a, all)
 }
 
 fn words_line(rt: &impl Print, n: u32, f: &[u32], g: &[u32], a: &mut [u32]) -> io::Result<()> {

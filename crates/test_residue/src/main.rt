@@ -10,7 +10,7 @@ ghost use Rattle.residue.specs.Moduli.{CoprimeModuli};
 
 use refusals::Answer;
 use residue::Kind;
-use residue_service::{GcdAnswer, KindAnswer};
+use residue_service::GcdAnswer;
 use std::io;
 use std::io::{BufReader, Read};
 use test_lines::{put, put_answer, put_name};
@@ -75,7 +75,7 @@ fn kind_line(rt: &impl Print, n: u32, a: u32) -> io::Result<()> {
     put_name(rt, b"kind")?;
     put(rt, residue::modulus_of(n).k)?;
     match residue_service::classify(n, a) {
-        KindAnswer::Known(k) => match k {
+        Ok(k) => match k {
             Kind::Unit(i) => {
                 put_name(rt, b" unit")?;
                 put(rt, i)?;
@@ -89,9 +89,9 @@ fn kind_line(rt: &impl Print, n: u32, a: u32) -> io::Result<()> {
                 put(rt, q)?;
             }
         },
-        KindAnswer::Refused(s) => {
+        Err(refusal) => {
             put_name(rt, b" refused")?;
-            put(rt, s)?;
+            put(rt, refusal.number())?;
         }
     }
     Ok(())

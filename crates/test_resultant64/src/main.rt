@@ -9,7 +9,7 @@
 
 ghost use Rattle.std.specs.Prelude.{◌+◌, ◌≤◌, ◌≡◌, length};
 
-use product_law_service64::Numbers;
+use product_law_service::Numbers;
 use refusals64::Answer;
 use std::io;
 use std::io::{BufReader, Read};
@@ -52,9 +52,7 @@ fn value_at(n: u64, f: &[u64], count: usize, x: u64) -> u64
     requires { (1 ≤ n) × (count ≤ length f.now) }
 {
     let mut s: u64 = 0;
-    let mut i = count;
-    while 0 < i {
-        i -= 1;
+    for i in (0..count).rev() {
         s = arithmetic64::mul_add_mod(n, f[i], s, x);
     }
     s
@@ -139,7 +137,7 @@ fn how_far_line(
     put_working64(rt, work)
 }
 
-fn put_numbers(rt: &impl Print, a: Numbers) -> io::Result<()> {
+fn put_numbers(rt: &impl Print, a: Numbers<u64>) -> io::Result<()> {
     put_answer64(rt, b"law", a.status, a.r)?;
     put64(rt, a.rf)?;
     put64(rt, a.rg)?;

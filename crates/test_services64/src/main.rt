@@ -10,8 +10,7 @@ ghost use Rattle.std.specs.Prelude.{◌+◌, ◌≤◌, ◌≡◌, length};
 
 use degree_service::Degree;
 use refusals64::Answer;
-use residue_service64::KindAnswer;
-use residue64::Kind;
+use residue::Kind;
 use std::io;
 use std::io::{BufReader, Read};
 use test_lines::{
@@ -61,7 +60,7 @@ fn gcd_line(rt: &impl Print, n: u64, a: u64, b: u64) -> io::Result<()> {
 
 fn kind_line(rt: &impl Print, n: u64, a: u64) -> io::Result<()> {
     match residue_service64::classify(n, a) {
-        KindAnswer::Known(k) => match k {
+        Ok(k) => match k {
             Kind::Unit(i) => {
                 put_name(rt, b"unit")?;
                 put64(rt, i)?;
@@ -75,9 +74,9 @@ fn kind_line(rt: &impl Print, n: u64, a: u64) -> io::Result<()> {
                 put64(rt, q)?;
             }
         },
-        KindAnswer::Refused(s) => {
+        Err(refusal) => {
             put_name(rt, b"no kind")?;
-            put(rt, s)?;
+            put(rt, refusal.number())?;
         }
     }
     Ok(())
@@ -131,9 +130,9 @@ fn degree_line(rt: &impl Print, n: u64, f: &[u64]) -> io::Result<()> {
             put_name(rt, b"degree")?;
             put(rt, k)?;
         }
-        Degree::Refused(s) => {
+        Degree::Refused(refusal) => {
             put_name(rt, b"no degree")?;
-            put(rt, s)?;
+            put(rt, refusal.number())?;
         }
     }
     Ok(())

@@ -18,28 +18,17 @@ const BYTE: u8 = 9;
 
 const WRITE: u32 = 1;
 
-// x in each byte.
-fn fill(text: &mut [u8], x: u8) {
-    let mut i: usize = 0;
-    while i < text.len() {
-        text[i] = x;
-        i += 1;
-    }
-}
-
 // The place after the bytes that are x from place `at` on.
 fn passed(text: &[u8], at: usize, x: u8) -> usize
     requires { at ≤ length text.now }
     ensures { (at ≤ result) × (result ≤ length text.now) }
 {
-    let mut i = at;
-    while i < text.len() {
+    for i in at..text.len() {
         if text[i] != x {
             return i;
         }
-        i += 1;
     }
-    i
+    text.len()
 }
 
 fn put_text(rt: &impl Print, text: &[u8]) -> io::Result<()> {
@@ -59,7 +48,7 @@ fn put_bytes(rt: &impl Print, text: &[u8], count: usize) -> io::Result<()> {
 }
 
 fn writer_line(rt: &impl Print, n: u32, f: &[u32], text: &mut [u8]) -> io::Result<()> {
-    fill(text, BYTE);
+    text.fill(BYTE);
     let r: Answer = text_writer_service::write_text(n, f, text);
     test_lines::put_answer(rt, b"write", r.status, r.value)?;
     put_bytes(rt, text, r.value as usize)
@@ -86,15 +75,13 @@ fn byte(x: u32) -> u8 {
 fn characters(codes: &[u32], text: &mut [u8]) -> usize
     ensures { result ≤ length text.old }
 {
-    let mut i: usize = 0;
-    while i < text.len() {
+    for i in 0..text.len() {
         if codes.len() <= i {
             return i;
         }
         text[i] = byte(codes[i]);
-        i += 1;
     }
-    i
+    text.len()
 }
 
 // The words of a line; whether they were all there.

@@ -29,13 +29,11 @@ fn add_coefficient(n: u32, x: u32, a: &[u32], b: &[u32], k: usize) -> u32
     requires { 1 ≤ n }
 {
     let mut s = x;
-    let mut i: usize = 0;
-    while i < a.len() {
+    for i in 0..a.len() {
         if i > k {
             return s;
         }
         s = arithmetic::mul_add_mod(n, s, a[i], coefficient(b, k - i));
-        i += 1;
     }
     s
 }
@@ -52,13 +50,11 @@ fn constant(c: u32, k: usize) -> u32 {
 fn combines(n: u32, f: &[u32], g: &[u32], u: &[u32], v: &[u32], c: u32, count: usize) -> bool
     requires { 1 ≤ n }
 {
-    let mut k: usize = 0;
-    while k < count {
+    for k in 0..count {
         let x = add_coefficient(n, 0, f, u, k);
         if add_coefficient(n, x, g, v, k) != constant(c % n, k) {
             return false;
         }
-        k += 1;
     }
     true
 }

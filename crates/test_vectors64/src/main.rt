@@ -27,13 +27,11 @@ fn add_coefficient(n: u64, x: u64, a: &[u64], b: &[u64], k: usize) -> u64
     requires { 1 ≤ n }
 {
     let mut s = x;
-    let mut i: usize = 0;
-    while i < a.len() {
+    for i in 0..a.len() {
         if i > k {
             return s;
         }
         s = arithmetic64::mul_add_mod(n, s, a[i], coefficient(b, k - i));
-        i += 1;
     }
     s
 }
@@ -50,13 +48,11 @@ fn constant(c: u64, k: usize) -> u64 {
 fn combines(n: u64, f: &[u64], g: &[u64], u: &[u64], v: &[u64], c: u64, count: usize) -> bool
     requires { 1 ≤ n }
 {
-    let mut k: usize = 0;
-    while k < count {
+    for k in 0..count {
         let x = add_coefficient(n, 0, f, u, k);
         if add_coefficient(n, x, g, v, k) != constant(c % n, k) {
             return false;
         }
-        k += 1;
     }
     true
 }

@@ -26,30 +26,18 @@ const HEAD: usize = 8;
 
 // Whether m divides each word of f.
 fn multiples(m: u32, f: &[u32]) -> bool {
-    let mut i: usize = 0;
-    while i < f.len() {
-        if m == 0 {
-            return false;
-        }
-        if f[i] % m != 0 {
-            return false;
-        }
-        i += 1;
-    }
-    true
+    f.iter().all(|x| m != 0 && *x % m == 0)
 }
 
 // The words of f modulo m, as far as room goes.
 fn reduce_into(m: u32, f: &[u32], room: &mut [u32])
     requires { 1 ≤ m }
 {
-    let mut i: usize = 0;
-    while i < room.len() {
+    for i in 0..room.len() {
         if i >= f.len() {
             return;
         }
         room[i] = f[i] % m;
-        i += 1;
     }
 }
 

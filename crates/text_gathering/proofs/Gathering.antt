@@ -3,38 +3,23 @@
 --   Gathering s i c x w₀ w     the rest of s from place i on, read on from here, comes to what the whole of s comes to: the invariant
 --                              of `gather`. c and x are the coefficient and the number being read
 --   gathers                    the rules
-use mathlib.Core.Path.{◌≡◌, refl, sym, ap, ap₂, ◌∙◌}
+use mathlib.Core.Path.{◌≡◌, sym, ap, ◌∙◌}
 use mathlib.Core.Bool.{cond}
 use mathlib.Core.List.{List}
-use Prim.Native.Nat.{ℕ, zero, suc, ◌+◌, ◌≤◌, ◌<◌}
+use Prim.Native.Nat.{ℕ, ◌+◌, ◌≤◌, ◌<◌}
 use native.Mathlib.Numerals.{add-one}
 use native.Mathlib.Omega.{arith}
 use borrow.Author.Rules.{rules}
-use borrow.Author.Tests.{eq-eqb, ne_eqb, lt-ltb, le-ltb}
+use borrow.Author.Tests.{lt-ltb}
 use lib.Dec.{eqb}
-use lib.ListN.{length, get_or, drop, set, drop_of_length-le}
-use lib.Seq.{drop-cons, set_out}
+use lib.ListN.{length, get_or, drop, drop_of_length-le}
+use lib.Seq.{drop-cons}
 use Rattle.text_notation.specs.Candidates.{number_after_of, coefficient_after_of, stored, gathered}
 use Rattle.text_notation.proofs.NotationLaws.{after_length}
 use Rattle.text_gathering.specs.InWord.{in_word}
 
 pub fits_in_word : (y : ℕ) → y < 4294967296 → in_word y ≡ y
 fits_in_word y h = rw (lt-ltb y 4294967296 h)
-
--- ---- one term
-
-pub stored_alone : (c x : ℕ) (w : List ℕ) → c ≡ 0 → set w 0 x ≡ stored c x w
-stored_alone zero x w e = refl
-stored_alone (suc c) x w e = absurd (omega arith)
-
-pub stored_power : (c x : ℕ) (w : List ℕ) → (c ≡ 0 → ⊥) → set w x c ≡ stored c x w
-stored_power zero x w n = absurd (n refl)
-stored_power (suc c) x w n = refl
-
-pub stored_beyond : (c x : ℕ) (w : List ℕ) → (c ≡ 0 → ⊥) → length w ≤ x → w ≡ stored c x w
-stored_beyond c x w n h = sym (set_out w x c h) ∙ stored_power c x w n
-
--- ---- one character
 
 pub record Gathering (s : List ℕ) (i c x : ℕ) (w₀ w : List ℕ) : Type 0 where
   pub most : i ≤ length s
@@ -61,6 +46,4 @@ module _ {s : List ℕ} {i c x : ℕ} {w₀ w : List ℕ} (g : Gathering s i c x
   unfolding gathered
   gathering_end v h e = e ∙ sym (g.so ∙ ap (λ (t : List ℕ). gathered in_word t c x w) (drop_of_length-le s {i = i} h))
 
-pub ruleset characters = (rules, eq-eqb, ne_eqb, lt-ltb, le-ltb)
-
-pub ruleset gathers = (rules, stored_alone, stored_power, stored_beyond, gathering_next, gathering_end)
+pub ruleset gathers = (rules, gathering_next, gathering_end)

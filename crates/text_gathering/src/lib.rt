@@ -84,13 +84,10 @@ pub fn gather(s: &[u8], words: &mut [u32])
 {
     let mut c: u32 = 0;
     let mut x: u32 = 0;
-    let mut i: usize = 0;
-    while i < s.len() {
-        let b = s[i];
+    for &b in s {
         end_term(b, c, x, words);
         c = coefficient_after(b, c, x);
         x = number_after(b, x);
-        i += 1;
     }
     store(c, x, words);
 }
@@ -98,17 +95,7 @@ pub fn gather(s: &[u8], words: &mut [u32])
 fn same_text(s: &[u8], t: &[u8]) -> bool
     ensures { result ≡ same_text_of s.now t.now }
 {
-    if s.len() != t.len() {
-        return false;
-    }
-    let mut i: usize = 0;
-    while i < s.len() {
-        if s[i] != t[i] {
-            return false;
-        }
-        i += 1;
-    }
-    true
+    s == t
 }
 
 // Whether s is the text of the words f.

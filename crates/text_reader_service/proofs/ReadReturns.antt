@@ -2,24 +2,24 @@
 -- w the words lent, v and st what is answered.
 --
 --   kept d                    how many words are kept where the degree is told as d
---   lent_short, all_lent      the ends of `hand_over`
+--   all_lent                  the end of `hand_over`
 --   by_degree                 the rules of `read_words`
 --   by_text                   the rules of `read_text`
 use mathlib.Core.Path.{◌≡◌, refl, sym, ap, ap₂, ◌∙◌, subst}
-use mathlib.Core.Bool.{Bool, true, false, not, cond, ◌&&◌, and-true, and-false}
+use mathlib.Core.Bool.{Bool, true, false, not, ◌&&◌, and-true, and-false}
 use mathlib.Core.List.{List, [], ◌∷◌, ◌++◌}
-use Prim.Native.Nat.{ℕ, zero, suc, ◌+◌, ◌≤◌, ◌<◌}
+use Prim.Native.Nat.{ℕ, suc, ◌+◌, ◌≤◌, ◌<◌}
 use native.Mathlib.Omega.{arith}
-use lib.Dec.{T, ltb, eqb, ltb→lt}
+use lib.Dec.{T, ltb, ltb→lt}
 use lib.ListN.{length, take, drop, replicate}
 use lib.Seq.{take_all}
 use mir.Syntax.{w32}
 use mir.Val.{Fits}
 use Rattle.definitions.specs.Polynomials.{TrueDegree, none, place, true_degree}
-use Rattle.refusals.specs.Refusals.{Tested, narrow, bad_modulus_of, bad_length_of, all_below_of, short, first_refusal, refusals_one}
+use Rattle.refusals.specs.Refusals.{Tested, narrow, bad_modulus_of, all_below_of, short, first_refusal, refusals_one}
 use Rattle.refusals.specs.Refusals.{answered, replaced}
 use Rattle.refusals.specs.Conditions.{accepted_one, modulus_fails, residues_below}
-use Rattle.refusals.proofs.Statuses.{row_applies, row_passes, too_short, long_enough}
+use Rattle.refusals.proofs.Statuses.{row_applies, row_passes, long_enough}
 use Rattle.degree_service.specs.declared.Degree.{Degree}
 use Rattle.degree_service.specs.declared.Degree.TheVariants.{None, At, Refused}
 use Rattle.degree_service.specs.DegreeService.{told, degree_number, TrueDegreeAnswer}
@@ -46,20 +46,7 @@ kept_told : (t : TrueDegree) → kept (told 0 t) ≡ suc (last_place t)
 kept_told none = refl
 kept_told (place k) = omega arith
 
-some_number : (k : ℕ) (t : TrueDegree) → Refused k ≡ told k t → k ≡ 0 → ⊥
-some_number zero none e z = omega (arith, ap kept e)
-some_number zero (place i) e z = omega (arith, ap kept e)
-some_number (suc k) t e z = omega arith
-
 -- ---- what is handed over
-
-pub lent_short : {g w : List ℕ} {count v st : ℕ} → length w < 49 → v ≡ 0 → st ≡ 6 → HandedOver g count w w v st
-lent_short {g} {w} {count} {v} {st} h e z =
-    subst (λ (x : ℕ). HandedOver g count w w x st) (sym e) (subst (λ (x : ℕ). HandedOver g count w w 0 x) (sym z) (record {
-      status_is = too_short 5 (length w) 49 [] h;
-      value_is = refl;
-      words_are = refl;
-    }))
 
 pub all_lent : {g w w' : List ℕ} {count : ℕ} → length g ≡ 49 → 49 ≤ length w → w' ≡ take 49 g ++ drop 49 w → HandedOver g count w w' count 0
 all_lent {g} {w} l h e = record {
@@ -80,28 +67,10 @@ module _ {n : ℕ} {g : List ℕ} {r : Degree} (b : bad_modulus_of narrow n ≡ 
   kept_is : (d : Degree) → r ≡ d → degree_number d ≡ 0 → kept d ≡ suc (last_place (true_degree g))
   kept_is d e z = ap kept (case_told d e) ∙ ap (λ (k : ℕ). kept (told k (true_degree g))) z ∙ kept_told (true_degree g)
 
-  below_passes : all_below_of n g ≡ true → 0 ≡ first_refusal (refusals_one narrow n g)
-  below_passes e =
-      row_passes 1 (bad_modulus_of narrow n) ((2, bad_length_of g) ∷ (3, not (all_below_of n g)) ∷ []) 0 b
-      (row_passes 2 (bad_length_of g) ((3, not (all_below_of n g)) ∷ []) 0
-      (ap (λ (k : ℕ). cond (eqb k 0) true (ltb 49 k)) l) (row_passes 3 (not (all_below_of n g)) [] 0 (ap not e) refl))
-
   -- the sum of an answer, whatever small number is added
   pub count_fits : {k : ℕ} (j : ℕ) → r ≡ At k → T (ltb j 49) → Fits w32 (k + j)
   count_fits {k} j e h =
       record { fits = omega (arith, kept_is (At k) e refl, dropped_within g (omega (arith, l)), l, ltb→lt j 49 h) }
-
-  pub word_refused : {k v st : ℕ} {w : List ℕ} → r ≡ Refused k → v ≡ 0 → st ≡ 17 → WordsAnswer n g w w v st
-  word_refused {k} {v} {st} {w} e y z = go (all_below_of n g) refl
-    where
-      go : (x : Bool) → all_below_of n g ≡ x → WordsAnswer n g w w v st
-      go true h = absurd (some_number k (true_degree g) (case_told (Refused k) e) (number_is (Refused k) e ∙ sym (below_passes h)))
-      go false h =
-          subst (λ (x : ℕ). WordsAnswer n g w w x st) (sym y) (subst (λ (x : ℕ). WordsAnswer n g w w 0 x) (sym z) (record {
-            status_is = row_applies 16 (not (all_below_of n g)) ((6, short (length w) 49) ∷ []) (ap not h);
-            value_is = refl;
-            words_are = refl;
-          }))
 
   handed : (d : Degree) → r ≡ d → degree_number d ≡ 0 → {w w' : List ℕ} {v st : ℕ} → HandedOver g (kept d) w w' v st
       → WordsAnswer n g w w' v st
@@ -115,13 +84,10 @@ module _ {n : ℕ} {g : List ℕ} {r : Degree} (b : bad_modulus_of narrow n ≡ 
         words_are = h.words_are;
       }
 
-  pub none_handed : {w w' : List ℕ} {v st : ℕ} → r ≡ None → HandedOver g 1 w w' v st → WordsAnswer n g w w' v st
-  none_handed e h = handed None e refl h
-
   pub at_handed : {w w' : List ℕ} {v st k : ℕ} → r ≡ At k → HandedOver g (k + 1) w w' v st → WordsAnswer n g w w' v st
   at_handed {w} {w'} {v} {st} {k} e h = handed (At k) e refl h
 
-pub ruleset by_degree = (tt, count_fits, word_refused, none_handed, at_handed)
+pub ruleset by_degree = (tt, count_fits, at_handed)
 
 -- ---- the text
 
@@ -139,10 +105,6 @@ refused_answer {n} {k} {s} {w} {v} {st} h e z =
       value_is = refl;
       words_are = refl;
     }))
-
-pub modulus_refused : {n v st : ℕ} {s w : List ℕ} (t : Bool) → t ≡ bad_modulus_of narrow n → t ≡ true → v ≡ 0 → st ≡ 1
-    → ReadAnswer narrow n s w w v st
-modulus_refused {n} {v} {st} {s} {w} t b e = refused_answer (row_applies 0 (bad_modulus_of narrow n) (after_modulus n s w) (sym b ∙ e))
 
 pub modulus_passed : (n : ℕ) (t : Bool) → t ≡ bad_modulus_of narrow n → t ≡ false → bad_modulus_of narrow n ≡ false
 modulus_passed n t b e = sym b ∙ e
@@ -185,4 +147,4 @@ module _ (n : ℕ) (s w : List ℕ) (t : Bool) (b : t ≡ bad_modulus_of narrow 
           words_are = h.words_are ∙ ap (λ (x : List ℕ). replaced st x w) words;
         }
 
-pub ruleset by_text = (modulus_refused, modulus_passed, gathered_49, long_refused, text_refused, words_answered)
+pub ruleset by_text = (modulus_passed, gathered_49, long_refused, text_refused, words_answered)

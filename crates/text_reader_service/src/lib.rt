@@ -2,7 +2,6 @@
 // text_notation/specs/Notation.antt. "A text that is read is the text that would be written": the characters are gathered into
 // words with no eye to their order (`text_gathering`), those words are written, and any other text than that is refused.
 //
-//   refused                            the answer where a call is refused
 //   put_words, hand_over, read_words   words into the lent buffer, and the answer
 //   read_text                          the service
 #![tactic(auto)]
@@ -12,7 +11,7 @@ ghost use Rattle.refusals.specs.Refusals.{narrow, bad_modulus_of};
 ghost use Rattle.text_reader_service.specs.TextReader.{HandedOver, WordsAnswer, ReadAnswer};
 
 use degree_service::Degree;
-use refusals::Answer;
+use refusals::{Answer, Refusal};
 
 // The words that the reader needs.
 const ROOM: usize = 49;
@@ -20,28 +19,13 @@ const ROOM: usize = 49;
 // The characters of the longest text (text_notation/proofs/Lengths.antt).
 const LONGEST: usize = 767;
 
-// The refusal of what is no text of a polynomial modulo n.
-const NO_TEXT: u32 = 17;
-
 // The first count words of f, at the front of the words lent.
 fn put_words(f: &[u32], count: usize, words: &mut [u32])
     requires { (count ≤ length f.now) × (count ≤ length words.old) }
     ensures { words.new ≡ take count f.now ++ drop count words.old }
 {
-    let mut i: usize = 0;
-    while i < count {
+    for i in 0..count {
         words[i] = f[i];
-        i += 1;
-    }
-}
-
-// Refusal k.
-fn refused(k: u32) -> Answer
-    ensures { (result.value ≡ 0) × (result.status ≡ k) }
-{
-    Answer {
-        value: 0,
-        status: k,
     }
 }
 
@@ -51,7 +35,7 @@ fn hand_over(f: &[u32], count: u32, words: &mut [u32]) -> Answer
     ensures { HandedOver f.now count words.old words.new result.value result.status }
 {
     if words.len() < ROOM {
-        return refused(6);
+        return Answer::from(Refusal::ShortResult);
     }
     put_words(f, ROOM, words);
     Answer {
@@ -68,7 +52,7 @@ fn read_words(n: u32, f: &[u32], words: &mut [u32]) -> Answer
     match degree_service::true_degree(n, f) {
         Degree::None => hand_over(f, 1, words),
         Degree::At(k) => hand_over(f, k + 1, words),
-        Degree::Refused(_) => refused(NO_TEXT),
+        Degree::Refused(_) => Answer::from(Refusal::NoText),
     }
 }
 
@@ -78,16 +62,16 @@ pub fn read_text(n: u32, text: &[u8], words: &mut [u32]) -> Answer
     ensures { ReadAnswer narrow n text.now words.old words.new result.value result.status }
 {
     if refusals::bad_modulus(n) {
-        return refused(1);
+        return Answer::from(Refusal::BadModulus);
     }
     if LONGEST < text.len() {
-        return refused(NO_TEXT);
+        return Answer::from(Refusal::NoText);
     }
     let mut f = [0u32; ROOM];
     text_gathering::gather(text, &mut f);
     if text_gathering::is_text_of(text, &f) {
         read_words(n, &f, words)
     } else {
-        refused(NO_TEXT)
+        Answer::from(Refusal::NoText)
     }
 }

@@ -3,16 +3,17 @@
 //
 //   put_number, put_power, put_plus, put_term    write one part from place `at` on, and answer the place after it
 //   put_text                                     the text of lent words
-//   write_text                                   the service
+//   refusal, write_text                          the first refusal that applies; the service
 #![tactic(auto)]
 
 ghost use Rattle.std.specs.Prelude.{◌≡◌, ◌+◌, ◌-◌, ◌≤◌, length, replicate};
+ghost use Rattle.refusals.specs.Refusal.{status_of};
 ghost use Rattle.refusals.specs.Refusals.{narrow};
 ghost use Rattle.text_notation.specs.Notation.{decimal, power_text, text};
 ghost use Rattle.text_writer_service.specs.Parts.{Put, Room, plus, added};
-ghost use Rattle.text_writer_service.specs.TextWriter.{WriteAnswer};
+ghost use Rattle.text_writer_service.specs.TextWriter.{write_status, WriteAnswer};
 
-use refusals::Answer;
+use refusals::{Answer, Refusal};
 
 // The code of the digit 0.
 const ZERO: u32 = 48;
@@ -82,9 +83,7 @@ pub fn put_text(out: &mut [u8], f: &[u32]) -> usize
     ensures { Put (text f.now) 0 result out.old out.new }
 {
     let mut at: usize = 0;
-    let mut k = f.len();
-    while 0 < k {
-        k -= 1;
+    for k in (0..f.len()).rev() {
         at = put_term(out, at, f[k], k);
     }
     if at == 0 {
@@ -99,26 +98,25 @@ fn put_zeros(out: &mut [u8], at: usize, end: usize)
     requires { (at ≤ end) × (end ≤ length out.old) }
     ensures { Put (replicate (end - at) 0) at end out.old out.new }
 {
-    let mut i = at;
-    while i < end {
+    for i in at..end {
         out[i] = 0;
-        i += 1;
     }
+}
+
+// Refusals 1, 2, 3 and 6; l bytes are lent.
+fn refusal(n: u32, f: &[u32], l: usize) -> Result<(), Refusal>
+    ensures { status_of result ≡ write_status narrow n f.now l }
+{
+    refusals::refusal_one(n, f)?;
+    refusals::room(l, ROOM, Refusal::ShortResult)
 }
 
 // S56: "the writer answers the number of characters and needs 800 bytes, zeros above"
 pub fn write_text(n: u32, f: &[u32], text: &mut [u8]) -> Answer
     ensures { WriteAnswer narrow n f.now text.old text.new result.value result.status }
 {
-    let status = refusals::refusal_one(n, f);
-    if status != 0 {
-        return Answer { value: 0, status };
-    }
-    if text.len() < ROOM {
-        return Answer {
-            value: 0,
-            status: 6,
-        };
+    if let Err(refusal) = refusal(n, f, text.len()) {
+        return Answer::from(refusal);
     }
     let count = put_text(text, f);
     put_zeros(text, count, ROOM);

@@ -47,8 +47,8 @@ handing_next v h l e ew ek = rw (ew, ek) (record {
       (omega (arith, h.done.same)) e;
 })
 
-pub handing_end : {F : ℕ → ℕ} {k : ℕ} {w₀ w : List ℕ} → Handing F w₀ w k → length w ≤ k → w ≡ tabulate (length w₀) F
-handing_end h l = filled_end h.done h.most l
+pub handing_end : {F : ℕ → ℕ} {k : ℕ} {w₀ w : List ℕ} → Handing F w₀ w k → length w₀ ≤ k → w ≡ tabulate (length w₀) F
+handing_end h l = filled_end h.done h.most (omega (arith, h.done.same))
 
 -- ---- the leading place
 

@@ -13,7 +13,7 @@ use Rattle.residue.specs.declared.Kind.TheVariants.{Unit as Unit', Nilpotent, Sp
 use Rattle.residue.specs.Kinds.{KindOf}
 use Rattle.law_polynomial_tests.specs.UnitTests.{is_nilpotent, no_test, test_nilpotent, nilpotent_test}
 
-module _ (n a : ℕ) (r : Kind) (p : KindOf n a r) where
+module _ (n a : ℕ) (r : Kind ℕ) (p : KindOf n a r) where
   pub unit_no : (i : ℕ) → r ≡ Unit' i → 2 ≤ n → false ≡ is_nilpotent n a
   unit_no i e l =
       sym (no_test _ (λ t. unit_not_nilpotent l (record { inverse = i; is = subst (KindOf n a) e p }) (test_nilpotent t)))

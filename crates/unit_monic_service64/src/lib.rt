@@ -7,17 +7,20 @@
 
 ghost use Rattle.std.specs.Prelude.{◌≡◌, not, [], ◌∷◌, ◌+◌, ◌≤◌, eqb, length, replicate};
 ghost use Rattle.definitions.specs.Polynomials.{coef, tabulate, UnitTimesMonic};
+ghost use Rattle.refusals.specs.Refusal.{status_of};
 ghost use Rattle.refusals.specs.Refusals.{short, first_refusal};
 ghost use Rattle.reduction64.specs.Moduli.{Ready};
 ghost use Rattle.refusals64.specs.Wide.{wide};
 ghost use Rattle.windows.specs.Window.{piece};
-ghost use Rattle.window_factor64.specs.Factors.{Given, Factored};
+ghost use Rattle.window_factor.specs.Factors.{Given, Factored};
 ghost use Rattle.law_polynomial_tests.specs.UnitTests.{is_nilpotent, lead_place};
 ghost use Rattle.unit_monic_service.specs.UnitMonicStages.{FactorsAsked};
 ghost use Rattle.unit_monic_service.specs.FactorsService.{UnitTimesMonicAnswer};
 
 use reduction64::Reciprocal;
+use refusals::Refusal;
 use refusals64::Answer;
+use residue::Kind;
 
 // ---- the leading coefficient
 
@@ -27,9 +30,9 @@ fn nilpotent(m: Reciprocal, a: u64) -> bool
     ensures { result ≡ is_nilpotent m.n a }
 {
     match residue64::kind_of(m, a) {
-        residue64::Kind::Unit(i) => false,
-        residue64::Kind::Nilpotent => true,
-        residue64::Kind::Splits(p, q) => false,
+        Kind::Unit(i) => false,
+        Kind::Nilpotent => true,
+        Kind::Splits(p, q) => false,
     }
 }
 
@@ -39,12 +42,10 @@ pub fn leading_place(n: u64, f: &[u64]) -> usize
     ensures { result ≡ lead_place n f.now }
 {
     let m = reduction64::modulus_of(n);
-    let mut t = f.len();
-    while 0 < t {
-        if !nilpotent(m, f[t - 1]) {
-            return t - 1;
+    for t in (0..f.len()).rev() {
+        if !nilpotent(m, f[t]) {
+            return t;
         }
-        t -= 1;
     }
     0
 }
@@ -67,10 +68,8 @@ pub fn hand_out(out: &mut [u64], w: &[u64], a: usize, len: usize)
     requires { a + len ≤ length w.now }
     ensures { out.new ≡ tabulate (length out.old) (coef (piece w.now a len)) }
 {
-    let mut k: usize = 0;
-    while k < out.len() {
+    for k in 0..out.len() {
         out[k] = coefficient_at(w, a, len, k);
-        k += 1;
     }
 }
 
@@ -102,22 +101,15 @@ fn factor_words(n: u64, f: &[u64], t: usize, i: u64, u: &mut [u64], h: &mut [u64
 
 // The refusals 5, 6 and 7 of unit times monic: g is what the leading coefficient has in common with n; the buffers have lu, lh and l
 // words, and the results need len each.
-fn refusal_factors(g: u64, lu: usize, lh: usize, len: usize, l: usize) -> u32
-    ensures { result ≡ first_refusal ((5, not (eqb g 1)) ∷ (6, short lu len) ∷ (6, short lh len) ∷ (7, short l 16384) ∷ []) }
+fn refusal_factors(g: u64, lu: usize, lh: usize, len: usize, l: usize) -> Result<(), Refusal>
+    ensures { status_of result ≡ first_refusal ((5, not (eqb g 1)) ∷ (6, short lu len) ∷ (6, short lh len) ∷ (7, short l 16384) ∷ []) }
 {
     if g != 1 {
-        return 5;
+        return Err(Refusal::NoUnitFactor);
     }
-    if lu < len {
-        return 6;
-    }
-    if lh < len {
-        return 6;
-    }
-    if l < refusals64::WORKING_WORDS {
-        return 7;
-    }
-    0
+    refusals::room(lu, len, Refusal::ShortResult)?;
+    refusals::room(lh, len, Refusal::ShortResult)?;
+    refusals::room(l, refusals64::WORKING_WORDS, Refusal::ShortWork)
 }
 
 // "Unit times monic: if some coefficient t is a unit and all above it are nilpotent, the polynomial is u times h, h monic of degree t,
@@ -126,22 +118,14 @@ pub fn unit_times_monic(n: u64, f: &[u64], u: &mut [u64], h: &mut [u64], work: &
     ensures { UnitTimesMonicAnswer wide n f.now u.old u.new h.old h.new
         work.old work.new result.value result.status }
 {
-    let s = refusals64::refusal_one(n, f);
-    if s != 0 {
-        return Answer {
-            value: 0,
-            status: s,
-        };
+    if let Err(refusal) = refusals64::refusal_one(n, f) {
+        return Answer::from(refusal);
     }
     let t = leading_place(n, f);
     let e = bezout64::cofactor(n, f[t]);
     let l = f.len();
-    let r = refusal_factors(e.g, u.len(), h.len(), l, work.len());
-    if r != 0 {
-        return Answer {
-            value: 0,
-            status: r,
-        };
+    if let Err(refusal) = refusal_factors(e.g, u.len(), h.len(), l, work.len()) {
+        return Answer::from(refusal);
     }
     factor_words(n, f, t, e.s, &mut u[0..l], &mut h[0..l], work);
     Answer {

@@ -2,23 +2,23 @@
 //
 //   named      the ground where f and g are not coprime
 //   ground     what is said of f and g, whose reduced resultant is d
-//   room_refusal, refusal    the number of the first refusal that applies, 0 where none does
+//   refusal    the first refusal that applies
 //   served     the answer
 //   why        the service
 #![tactic(auto)]
 
-ghost use Rattle.std.specs.Prelude.{◌≡◌, [], ◌∷◌, ◌≤◌, length, replicate};
+ghost use Rattle.std.specs.Prelude.{◌≡◌, ◌≤◌, length, replicate};
 ghost use Rattle.windows.specs.Window.{Scratch};
-ghost use Rattle.refusals.specs.Refusals.{narrow, short, first_refusal};
+ghost use Rattle.refusals.specs.Refusal.{status_of};
+ghost use Rattle.refusals.specs.Refusals.{narrow};
 ghost use Rattle.why_service.specs.WhyService.{GroundHolds, HoldsReason, why_status, WhyAnswer};
 ghost use Rattle.why_service.specs.Asked.{GroundAsked, WhyAsked};
 
 use common_factor::Ground;
+use refusals::Refusal;
 
-// The words of the common divisor, and of the working buffer.
+// The words of the common divisor.
 const DIVISOR: usize = 49;
-
-const WORKING: usize = 8192;
 
 // The ground's number: 0 coprime, 1 both are zero modulo m, 2 a polynomial of that degree divides both modulo m. What says nothing is 0.
 #[repr(C)]
@@ -28,6 +28,23 @@ pub struct Reason {
     pub m: u32,
     pub degree: u32,
     pub status: u32,
+}
+
+// S23: after a refusal nothing is said.
+impl From<Refusal> for Reason {
+    ghost use Rattle.refusals.specs.Refusal.{number_of};
+
+    ghost from_gives = { λ refusal reason. (reason.ground ≡ 0) × ((reason.m ≡ 0)
+        × ((reason.degree ≡ 0) × (reason.status ≡ number_of refusal))) };
+
+    fn from(refusal: Refusal) -> Self {
+        Reason {
+            ground: 0,
+            m: 0,
+            degree: 0,
+            status: refusal.number(),
+        }
+    }
 }
 
 // One of the two grounds, modulo d above 1. The 49 words of w, zeros before, are the divisor, or stay.
@@ -76,28 +93,13 @@ fn ground(w: &mut [u32], work: &mut [u32], d: u32, f: &[u32], g: &[u32]) -> Reas
     named(w, work, d, f, g)
 }
 
-// The refusals 6 and 7; 0 where neither applies. These are the lengths of the buffers.
-fn room_refusal(words: usize, working: usize) -> u32
-    ensures { result ≡ first_refusal ((6, short words 49) ∷ (7, short working 8192) ∷ []) }
+// The refusals 1, 2, 3, 6 and 7. The last two are the lengths of the buffers.
+fn refusal(n: u32, f: &[u32], g: &[u32], words: usize, working: usize) -> Result<(), Refusal>
+    ensures { status_of result ≡ why_status narrow n f.now g.now words working }
 {
-    if words < DIVISOR {
-        return 6;
-    }
-    if working < WORKING {
-        return 7;
-    }
-    0
-}
-
-// The refusals 1, 2, 3, 6 and 7; 0 where none applies.
-fn refusal(n: u32, f: &[u32], g: &[u32], words: usize, working: usize) -> u32
-    ensures { result ≡ why_status narrow n f.now g.now words working }
-{
-    let s = refusals::refusal_of_pair(n, f, g);
-    if s != 0 {
-        return s;
-    }
-    room_refusal(words, working)
+    refusals::refusal_of_pair(n, f, g)?;
+    refusals::room(words, DIVISOR, Refusal::ShortResult)?;
+    refusals::room(working, refusals::WORKING_WORDS, Refusal::ShortWork)
 }
 
 // The ground modulo the reduced resultant, and zeros in the working buffer.
@@ -117,14 +119,8 @@ pub fn why(n: u32, f: &[u32], g: &[u32], w: &mut [u32], work: &mut [u32]) -> Rea
     ensures { WhyAnswer narrow n f.now g.now w.old w.new work.old
         work.new result.ground result.m result.degree result.status }
 {
-    let status = refusal(n, f, g, w.len(), work.len());
-    if status != 0 {
-        return Reason {
-            ground: 0,
-            m: 0,
-            degree: 0,
-            status,
-        };
+    if let Err(refusal) = refusal(n, f, g, w.len(), work.len()) {
+        return Reason::from(refusal);
     }
     served(n, f, g, w, work)
 }

@@ -2,7 +2,7 @@
 --
 --   combined                                          the word that a round writes
 --   Combining                                         the words written so far, and the word before
---   combining_none, combining_next, combining_end     its start, its round and its end
+--   combining_next                                    its round
 --   source_below, before_below, target_below          the words of a round are residues
 --   combining_never                                   so that none of those read reaches n
 --   combinations                                      the rules
@@ -14,7 +14,7 @@ use borrow.Author.Rules.{rules}
 use lib.ListN.{length, get_or, set}
 use Rattle.windows.specs.Window.{Apart, Below, Written, behind}
 use Rattle.windows.proofs.Pairs.{next_behind}
-use Rattle.windows.proofs.Leaf.{written_none, written_step, written_source}
+use Rattle.windows.proofs.Leaf.{written_step, written_source}
 use Rattle.window_combining.specs.Combined.{combination}
 
 pub combined : (n l c m src dst len i y v : ℕ) (w₀ w : List ℕ) → Written (combination n l c m src dst w₀) dst i w₀ w
@@ -31,13 +31,7 @@ pub record Combining (n l c m src dst len : ℕ) (w₀ w : List ℕ) (j y : ℕ)
   pub done : Written (combination n l c m src dst w₀) dst j w₀ w
   pub before : y ≡ behind (λ (k : ℕ). get_or w₀ (src + k) 0) j
 
-pub combining_none : (n l c m src dst len : ℕ) (w : List ℕ) → Combining n l c m src dst len w w 0 0
-combining_none n l c m src dst len w = record { most = omega arith; done = written_none _ _ _; before = refl }
-
 module _ {n l c m src dst len j y : ℕ} {w₀ w : List ℕ} (p : Combining n l c m src dst len w₀ w j y) where
-  pub combining_end : len ≤ j → Written (combination n l c m src dst w₀) dst len w₀ w
-  combining_end h = let e : j ≡ len = omega arith in rw e at p.done
-
   pub combining_next : {j' y' : ℕ} {w' : List ℕ} → Apart src len dst len → dst + len ≤ length w₀ → j < len → (r : ℕ)
       → r ≡ (l * get_or w (dst + j) 0 + c * y + m * get_or w (src + j) 0) % n → w' ≡ set w (dst + j) r → y' ≡ get_or w (src + j) 0 → j' ≡ j + 1
       → Combining n l c m src dst len w₀ w' j' y'
@@ -66,4 +60,4 @@ module _ {n l c m src dst len j y : ℕ} {w₀ w : List ℕ} (p : Combining n l 
       → Written (combination n l c m src dst w₀) dst len w₀ w
   combining_never free b less h = absurd (omega (arith, source_below free b less refl))
 
-pub ruleset combinations = (rules, combining_none, combining_next, combining_end, combining_never)
+pub ruleset combinations = (rules, combining_next, combining_never)

@@ -32,15 +32,13 @@ pub fn combine_pair(
     ensures { Written (combination modulus.n l c m src dst w.old) dst len w.old w.new }
 {
     let n = modulus.n;
-    let mut j: usize = 0;
     let mut y: u32 = 0;
-    while j < len {
+    for j in 0..len {
         let z = w[src + j];
         if z >= n {
             return;
         }
         w[dst + j] = reduction::sum_three(modulus, l, w[dst + j], c, y, m, z);
         y = z;
-        j += 1;
     }
 }

@@ -35,13 +35,11 @@ fn combine_plain(
     let fl = multipliers64::multiplier_of(modulus, l);
     let fc = multipliers64::multiplier_of(modulus, c);
     let fm = multipliers64::multiplier_of(modulus, m);
-    let mut j: usize = 0;
     let mut y: u64 = 0;
-    while j < len {
+    for j in 0..len {
         let z = w[src + j];
         w[dst + j] = multipliers64::sum_of(modulus, fl, w[dst + j], fc, y, fm, z);
         y = z;
-        j += 1;
     }
 }
 
@@ -66,13 +64,11 @@ fn combine_held(
     let hl = montgomery64::enter(n, k, s, l);
     let hc = montgomery64::enter(n, k, s, c);
     let hm = montgomery64::enter(n, k, s, m);
-    let mut j: usize = 0;
     let mut y: u64 = 0;
-    while j < len {
+    for j in 0..len {
         let x = w[src + j];
         w[dst + j] = montgomery64::sum_three(n, k, hl, w[dst + j], hc, y, hm, x);
         y = x;
-        j += 1;
     }
 }
 

@@ -2,18 +2,15 @@
 -- so that `search divisions` finds them. s quotient words are still to come before a round, and s - 2 after it.
 --
 --   Steps, KeptSteps                 the invariants of the two loops
---   word_most, pair_asked, last-…    what the places in between ask
+--   pair_asked, last-…               what the places in between ask
 --   steps-…, kept-…                  the start, a round, and the ends
---   …-of                             a division by a modulus that is n
---   divisions, words, lasts, moduli  the rules; `words` where a word is subtracted from n or written second, `lasts` before the last word,
---                                    `moduli` where the record of n is found
-use mathlib.Core.Path.{◌≡◌, refl, sym, ap, subst, ◌∙◌}
+--   divisions                        the rules
+use mathlib.Core.Path.{◌≡◌, refl, sym, subst}
 use mathlib.Core.List.{List}
 use Prim.Native.Nat.{ℕ, ◌+◌, ◌-◌, ◌*◌, ◌%◌, ◌≤◌, ◌<◌}
 use native.Mathlib.Omega.{arith}
-use native.Mathlib.Nat.{le_of_lt, mod-lt}
 use borrow.Author.Rules.{rules}
-use lib.ListN.{length, get_or, set, length-set}
+use lib.ListN.{get_or, set}
 use Rattle.windows.specs.Window.{Moved, addMul, Clear, Below, PairAsked, Paired}
 use Rattle.windows.proofs.Leaf.{apart_at}
 use Rattle.window_division.specs.Remainders.{DivisionLengthsAsked, Pair, Remainder, Quotient}
@@ -28,10 +25,6 @@ pub record Steps (n a d b e : ℕ) (w₀ w : List ℕ) (s : ℕ) : Type 0 where
 pub record KeptSteps (n a d b e : ℕ) (w₀ w : List ℕ) (s : ℕ) : Type 0 where
   pub steps : Steps n a d b e w₀ w s
   pub kept : Keeping n a d b e s w₀ w
-
--- a quotient word is a residue, and no more than n
-pub word_most : (n i y c c' n' : ℕ) → c ≡ (i * y) % n → c' ≡ c → n' ≡ n → 1 ≤ n → c' ≤ n'
-word_most n i y c c' n' e ec en l = rw (ec, en) (le_of_lt (subst (λ (x : ℕ). x < n) (sym e) (mod-lt (i * y) l)))
 
 module _ (n a d b e s : ℕ) (w : List ℕ) (sz : DivisionLengthsAsked n a d b e w) (pr : Pair n a d b e w) (is : s ≡ e + 1 - d) where
   pub steps_start : Steps n a d b e w w s
@@ -66,12 +59,6 @@ module _ (n a d b e s : ℕ) (w₀ w : List ℕ) (x : Steps n a d b e w₀ w s) 
   divisor_below = record {
     at = λ k l. subst (λ (y : ℕ). y < n) (sym (apart_at pr.apart x.done.around k (omega arith))) (pr.first.at k (omega arith));
   }
-
-  pub last_source : a + d ≤ length w
-  last_source = omega (arith, sz.divisor, x.done.around.same)
-
-  pub last_target : b + 0 + d ≤ length w
-  last_target = omega (arith, sz.near, sz.dividend, x.done.around.same)
 
   pub last_clear : Clear a (b + 0) d
   last_clear = record { ok = λ i j p q e. pr.apart.ok i j (omega arith) (omega (arith, x.most)) (omega arith) }
@@ -115,16 +102,6 @@ module _ (n a d b e s : ℕ) (w₀ w : List ℕ) (x : Steps n a d b e w₀ w s) 
         (keeping_single n a d b e i c w₀ w w' sz.modulus (omega (arith, x.most)) pr.apart sz.dividend unit ic mv
         (let z : s ≡ 0 + 1 = omega arith in rw z at kp)))
 
-  pub last_length : (p v c : ℕ) (w' : List ℕ) → Moved (addMul n c) a (b + 0) d w w' → length (set w' p v) ≡ length w₀
-  last_length p v c w' mv = length-set w' p v ∙ mv.same ∙ x.done.around.same
-
--- the second of the two words that a round writes
-pub second_write : (n a d b e s i c u m q : ℕ) (w₀ w w' z : List ℕ) → Steps n a d b e w₀ w s → DivisionLengthsAsked n a d b e w₀ → 1 < s
-    → c ≡ (i * get_or w (b + (d + (s - 2) + 1)) 0) % n → Paired n u m a (b + (s - 2)) d w w' → z ≡ set w' (b + (d + (s - 2) + 1)) c
-    → q ≡ b + (d + (s - 2)) → q < length z
-second_write n a d b e s i c u m q w₀ w w' z x sz more ic mv ez eq =
-    rw (ez, eq) (omega (arith, length-set w' (b + (d + (s - 2) + 1)) c, mv.same, x.done.around.same, x.most, sz.dividend))
-
 pub steps_end : (n a d b e s : ℕ) (w₀ w : List ℕ) → Steps n a d b e w₀ w s → s ≡ 0 → Remainder n a d b e w₀ w
 steps_end n a d b e s w₀ w x z = dividing_end n a d b e s w₀ w z x.done
 
@@ -132,31 +109,8 @@ pub kept_end : (n a d b e s : ℕ) (w₀ w : List ℕ) → KeptSteps n a d b e w
     → Quotient n a d b e w₀ w
 kept_end n a d b e s w₀ w x sz z = keeping_end n a d b e s w₀ w z sz.near sz.dividend x.kept
 
--- the same for a modulus that is n
-module _ (n n' a d b e : ℕ) (w : List ℕ) (is : n' ≡ n) where
-  pub sizes_of : DivisionLengthsAsked n a d b e w → DivisionLengthsAsked n' a d b e w
-  sizes_of s = rw is s
+pub ruleset steps = (steps_start, pair_asked, last_asked, last_clear, divisor_below, steps_next, steps_last, steps_end)
 
-  pub pair_of : Pair n a d b e w → Pair n' a d b e w
-  pair_of p = rw is p
-
-  pub unit_of : (x : ℕ) → x % n ≡ 1 % n → x % n' ≡ 1 % n'
-  unit_of x u = rw is u
-
-  pub remainder_of : (w' : List ℕ) → Remainder n' a d b e w w' → Remainder n a d b e w w'
-  remainder_of w' r = rw is at r
-
-  pub quotient_of : (w' : List ℕ) → Quotient n' a d b e w w' → Quotient n a d b e w w'
-  quotient_of w' r = rw is at r
-
-pub ruleset steps = (steps_start, pair_asked, last_asked, divisor_below, steps_next, steps_last, steps_end)
-
-pub ruleset quotients = (kept_start, kept_next, kept_last, last_length, kept_end)
+pub ruleset quotients = (kept_start, kept_next, kept_last, kept_end)
 
 pub ruleset divisions = (rules, steps, quotients)
-
-pub ruleset lasts = (tt, last_source, last_target, last_clear)
-
-pub ruleset words = (tt, word_most, second_write)
-
-pub ruleset moduli = (tt, sizes_of, pair_of, unit_of, remainder_of, quotient_of)

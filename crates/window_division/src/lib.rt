@@ -25,6 +25,7 @@ pub fn divide(w: &mut [u32], m: Modulus, a: usize, d: usize, b: usize, e: usize,
 {
     let n = m.n;
     let mut s = e + 1 - d;
+    // Kept: two words of the quotient a round, the highest first; (s % 2..s).step_by(2).rev() is no plainer.
     while 1 < s {
         s -= 2;
         let c = modulus::multiply(m, i, w[b + (d + s + 1)]);
@@ -47,6 +48,7 @@ pub fn divide_keeping(w: &mut [u32], m: Modulus, a: usize, d: usize, b: usize, e
 {
     let n = m.n;
     let mut s = e + 1 - d;
+    // Kept: two words of the quotient a round, the highest first; (s % 2..s).step_by(2).rev() is no plainer.
     while 1 < s {
         s -= 2;
         let c = modulus::multiply(m, i, w[b + (d + s + 1)]);

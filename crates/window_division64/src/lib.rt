@@ -26,6 +26,7 @@ pub fn divide(w: &mut [u64], m: Reciprocal, a: usize, d: usize, b: usize, e: usi
 {
     let n = m.n;
     let mut s = e + 1 - d;
+    // Kept: two words of the quotient a round, the highest first; (s % 2..s).step_by(2).rev() is no plainer.
     while 1 < s {
         s -= 2;
         let c = multipliers64::product(n, m, i, w[b + (d + s + 1)]);
@@ -48,6 +49,7 @@ pub fn divide_keeping(w: &mut [u64], m: Reciprocal, a: usize, d: usize, b: usize
 {
     let n = m.n;
     let mut s = e + 1 - d;
+    // Kept: two words of the quotient a round, the highest first; (s % 2..s).step_by(2).rev() is no plainer.
     while 1 < s {
         s -= 2;
         let c = multipliers64::product(n, m, i, w[b + (d + s + 1)]);

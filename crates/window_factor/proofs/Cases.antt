@@ -15,7 +15,7 @@ use Rattle.window_factor.specs.declared.Highest.TheVariants.{UnitAt as UnitAt', 
 use Rattle.window_factor.specs.Factors.{HighestOf, LeadingUnit, SplitOf, AllNilpotents}
 use Rattle.window_factor.proofs.HighestCoefficient.{leads, split_of}
 
-module _ (n a : ℕ) (r : Kind) (p : KindOf n a r) where
+module _ (n a : ℕ) (r : Kind ℕ) (p : KindOf n a r) where
   pub unit_kind : (i : ℕ) → r ≡ Unit' i → Inverse n a i
   unit_kind i e = subst (KindOf n a) e p
 
@@ -25,7 +25,7 @@ module _ (n a : ℕ) (r : Kind) (p : KindOf n a r) where
   pub nilpotent_kind : r ≡ Nilpotent → IsNilpotent n a
   nilpotent_kind e = subst (KindOf n a) e p
 
-module _ (n : ℕ) (f : List ℕ) (h : Highest) (p : HighestOf n f h) where
+module _ (n : ℕ) (f : List ℕ) (h : Highest ℕ) (p : HighestOf n f h) where
   pub unit_at : (t i : ℕ) → h ≡ UnitAt' t i → LeadingUnit n t i f
   unit_at t i e = subst (HighestOf n f) e p
 

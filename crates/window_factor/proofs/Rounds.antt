@@ -11,9 +11,6 @@ use mathlib.Core.Logic.{◌⊎◌, inl, inr, ⊎_elim}
 use Prim.Native.Nat.{ℕ, zero, suc, ◌+◌, ◌-◌, ◌*◌, ◌%◌, ◌≤◌, ◌<◌}
 use native.Mathlib.Omega.{arith}
 use native.Mathlib.Nat.{mod-lt, mod-eq_of_lt, add-zero, one-mul, mul-zero, le_of_dvd, eq-or-lt_of_le}
-use mir.Facts.{Fits-le}
-use mir.Syntax.{Width}
-use mir.Val.{Fits}
 use borrow.Author.Rules.{rules}
 use lib.ListN.{length, get_or, drop, length-drop}
 use lib.Seq.{length-take-le}
@@ -303,11 +300,9 @@ module _ (n d t i k : ℕ) (w₀ w : List ℕ) (x : Nearing n d t i w₀ k w) wh
     monic = x.holds.lead;
   })
 
-  pub round_less : n - (k + 1) < n - k
-  round_less = omega (arith, round_below (omega (arith, x.two)) x.holds)
-
-  pub round_fits : (B : Width) → Fits B n → Fits B (k + 1)
-  round_fits B h = Fits-le (let l = round_below (omega (arith, x.two)) x.holds in omega arith) h
+  -- there are fewer rounds than n
+  pub round_never : {w' : List ℕ} → n ≤ k → Factored n d t w' w
+  round_never l = absurd (omega (arith, round_below (omega (arith, x.two)) x.holds))
 
   module _ (z : ℕ) (w₃ : List ℕ) (r : RoundLeft n d t z w w₃) where
     -- what the remainder is added by
@@ -354,6 +349,6 @@ module _ (n d t i k : ℕ) (w₀ w : List ℕ) (x : Nearing n d t i w₀ k w) wh
 
 pub ruleset rounds = (rules, round_sizes, round_pair, round_lead, round, round_one, round_left)
 
-pub ruleset loop_rounds = (tt, enter, round_started, round_less, round_fits, leave, again)
+pub ruleset loop_rounds = (tt, enter, round_started, round_never, leave, again)
 
 pub ruleset addings = (again_asked, again_below)

@@ -33,7 +33,7 @@ pub record SplitOf (n p q : ℕ) : Type 0 where
 pub record AllNilpotents (n : ℕ) (f : List ℕ) : Type 0 where
   pub at : (k : ℕ) → IsNilpotent n (coef f k)
 
-abbrev pub HighestOf : ℕ → List ℕ → Highest → Type 0
+abbrev pub HighestOf : ℕ → List ℕ → Highest ℕ → Type 0
 HighestOf n f (UnitAt' t i) = LeadingUnit n t i f
 HighestOf n f (Splits p q) = SplitOf n p q
 HighestOf n f AllNilpotent = AllNilpotents n f

@@ -24,31 +24,30 @@ ghost use Rattle.window_factor.specs.Factors.{Series};
 
 use modulus::Modulus;
 use reduction::Reciprocal;
+use residue::Kind;
 
 // A unit with its place and its inverse; a coefficient that splits n into two factors; or neither.
 #[derive(Clone, Copy)]
-pub enum Highest {
-    UnitAt(usize, u32),
-    Splits(u32, u32),
+pub enum Highest<W> {
+    UnitAt(usize, W),
+    Splits(W, W),
     AllNilpotent,
 }
 
 // The highest coefficient of s that is not nilpotent.
-pub fn highest_of(s: &[u32], n: u32) -> Highest
+pub fn highest_of(s: &[u32], n: u32) -> Highest<u32>
     requires { 2 ≤ n }
     ensures { HighestOf n s.now result }
 {
-    let mut t = s.len();
-    while 0 < t {
-        t -= 1;
+    for t in (0..s.len()).rev() {
         match residue::kind_of(n, s[t]) {
-            residue::Kind::Unit(i) => {
+            Kind::Unit(i) => {
                 return Highest::UnitAt(t, i);
             }
-            residue::Kind::Splits(p, q) => {
+            Kind::Splits(p, q) => {
                 return Highest::Splits(p, q);
             }
-            residue::Kind::Nilpotent => {}
+            Kind::Nilpotent => {}
         }
     }
     Highest::AllNilpotent
@@ -88,13 +87,11 @@ pub fn unit_times_monic(w: &mut [u32], m: Modulus, d: usize, t: usize, i: u32)
     let h = d + 1;
     let v = h + (t + 1);
     modulus_windows::set_scaled(w, m, i, 0, h, t + 1);
-    let mut k: u32 = 0;
-    loop {
+    for _ in 0..m.n {
         if divide_round(w, m, d, t) == t {
             return;
         }
         modulus_windows::add_scaled(w, m, i, v, h, t);
-        k += 1;
     }
 }
 
@@ -121,10 +118,8 @@ pub fn series_inverse_by(w: &mut [u32], m: Modulus, k: usize, i: u32, s: u32, le
     requires n_value { (i * coef (piece w.old 0 (k + 1)) 0) % m.n ≡ 1 % m.n }
     ensures { Series m.n k s len w.old w.new }
 {
-    let mut j: usize = 0;
-    while j < len {
+    for j in 0..len {
         w[k + 1 + j] = series_word(w, m, k, i, s, j);
-        j += 1;
     }
 }
 

@@ -19,35 +19,27 @@ ghost use Rattle.std.specs.Prelude.{◌≡◌, ◌+◌, ◌*◌, ◌%◌, ◌<�
 ghost use Rattle.definitions.specs.Polynomials.{coef};
 ghost use Rattle.windows.specs.Window.{piece};
 ghost use Rattle.reduction64.specs.Moduli.{Ready};
-ghost use Rattle.window_factor64.specs.Factors.{HighestOf, RoundAsked, Round, RoundLeft, Given, Factored, SeriesAsked, next_word};
-ghost use Rattle.window_factor64.specs.Factors.{Series};
+ghost use Rattle.window_factor.specs.Factors.{HighestOf, RoundAsked, Round, RoundLeft, Given, Factored, SeriesAsked, next_word};
+ghost use Rattle.window_factor.specs.Factors.{Series};
 
 use reduction64::Reciprocal;
-
-// A unit with its place and its inverse; a coefficient that splits n into two factors; or neither.
-#[derive(Clone, Copy)]
-pub enum Highest {
-    UnitAt(usize, u64),
-    Splits(u64, u64),
-    AllNilpotent,
-}
+use residue::Kind;
+use window_factor::Highest;
 
 // The highest coefficient of s that is not nilpotent.
-pub fn highest_of(s: &[u64], m: Reciprocal) -> Highest
+pub fn highest_of(s: &[u64], m: Reciprocal) -> Highest<u64>
     requires { (2 ≤ m.n) × Ready m }
     ensures { HighestOf m.n s.now result }
 {
-    let mut t = s.len();
-    while 0 < t {
-        t -= 1;
+    for t in (0..s.len()).rev() {
         match residue64::kind_of(m, s[t]) {
-            residue64::Kind::Unit(i) => {
+            Kind::Unit(i) => {
                 return Highest::UnitAt(t, i);
             }
-            residue64::Kind::Splits(p, q) => {
+            Kind::Splits(p, q) => {
                 return Highest::Splits(p, q);
             }
-            residue64::Kind::Nilpotent => {}
+            Kind::Nilpotent => {}
         }
     }
     Highest::AllNilpotent
@@ -87,13 +79,11 @@ pub fn unit_times_monic(w: &mut [u64], m: Reciprocal, d: usize, t: usize, i: u64
     let h = d + 1;
     let v = h + (t + 1);
     modulus_windows64::set_scaled(w, m, i, 0, h, t + 1);
-    let mut k: u64 = 0;
-    loop {
+    for _ in 0..m.n {
         if divide_round(w, m, d, t) == t {
             return;
         }
         modulus_windows64::add_scaled(w, m, i, v, h, t);
-        k += 1;
     }
 }
 
@@ -115,10 +105,8 @@ pub fn series_inverse_by(w: &mut [u64], m: Reciprocal, k: usize, i: u64, s: u64,
     requires n_value { (i * coef (piece w.old 0 (k + 1)) 0) % m.n ≡ 1 % m.n }
     ensures { Series m.n k s len w.old w.new }
 {
-    let mut j: usize = 0;
-    while j < len {
+    for j in 0..len {
         w[k + 1 + j] = series_word(w, m, k, i, s, j);
-        j += 1;
     }
 }
 

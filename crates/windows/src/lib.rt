@@ -27,14 +27,12 @@ pub fn add_scaled(w: &mut [u32], n: u32, m: Reciprocal, c: u32, src: usize, dst:
     requires clear { Clear src dst len }
     ensures { Moved (addMul n c) src dst len w.old w.new }
 {
-    let mut j: usize = 0;
-    while j < len {
+    for j in 0..len {
         let r = reduction::add_product(m, w[dst + j], c, w[src + j]);
         if r >= n {
             return;
         }
         w[dst + j] = r;
-        j += 1;
     }
 }
 
@@ -45,10 +43,8 @@ pub fn add_scaled_masked(w: &mut [u32], n: u32, c: u32, src: usize, dst: usize, 
     requires clear { Clear src dst len }
     ensures { Moved (addMul n c) src dst len w.old w.new }
 {
-    let mut j: usize = 0;
-    while j < len {
+    for j in 0..len {
         w[dst + j] = reduction::sum_masked(n, w[dst + j], c, w[src + j], 0, 0);
-        j += 1;
     }
 }
 
@@ -59,14 +55,12 @@ pub fn scale(w: &mut [u32], n: u32, m: Reciprocal, c: u32, src: usize, dst: usiz
     requires clear { Clear src dst len }
     ensures { Moved (mulBy n c) src dst len w.old w.new }
 {
-    let mut j: usize = 0;
-    while j < len {
+    for j in 0..len {
         let r = reduction::product(m, c, w[src + j]);
         if r >= n {
             return;
         }
         w[dst + j] = r;
-        j += 1;
     }
 }
 
@@ -77,10 +71,8 @@ pub fn scale_masked(w: &mut [u32], n: u32, c: u32, src: usize, dst: usize, len: 
     requires clear { Clear src dst len }
     ensures { Moved (mulBy n c) src dst len w.old w.new }
 {
-    let mut j: usize = 0;
-    while j < len {
+    for j in 0..len {
         w[dst + j] = reduction::sum_masked(n, 0, c, w[src + j], 0, 0);
-        j += 1;
     }
 }
 
@@ -90,25 +82,14 @@ pub fn copy(w: &mut [u32], src: usize, dst: usize, len: usize)
     requires clear { Clear src dst len }
     ensures { Moved second src dst len w.old w.new }
 {
-    let mut j: usize = 0;
-    while j < len {
-        w[dst + j] = w[src + j];
-        j += 1;
-    }
+    w.copy_within(src..src + len, dst);
 }
 
 // The number of zeros at the front of s.
 pub fn zeros(s: &[u32]) -> usize
     ensures { Zeros s.now result }
 {
-    let mut j: usize = 0;
-    while j < s.len() {
-        if s[j] != 0 {
-            return j;
-        }
-        j += 1;
-    }
-    j
+    s.iter().position(|&x| x != 0).unwrap_or(s.len())
 }
 
 // w[dst + j] += c * w[src + j - 1] + e * w[src + j], for j < len, one reduction a word, with the reciprocal of n; the word before the first
@@ -127,9 +108,8 @@ pub fn add_pair(
     requires pair_asked { PairAsked n e src dst len w.old }
     ensures { Paired n c e src dst len w.old w.new }
 {
-    let mut j: usize = 0;
     let mut y: u32 = 0;
-    while j < len {
+    for j in 0..len {
         let z = w[src + j];
         let r = reduction::sum_two(m, w[dst + j], c, y, e, z);
         if r >= n {
@@ -137,7 +117,6 @@ pub fn add_pair(
         }
         w[dst + j] = r;
         y = z;
-        j += 1;
     }
 }
 
@@ -147,13 +126,11 @@ pub fn add_pair_masked(w: &mut [u32], n: u32, c: u32, e: u32, src: usize, dst: u
     requires pair_asked { PairAsked n e src dst len w.old }
     ensures { Paired n c e src dst len w.old w.new }
 {
-    let mut j: usize = 0;
     let mut y: u32 = 0;
-    while j < len {
+    for j in 0..len {
         let z = w[src + j];
         w[dst + j] = reduction::sum_masked(n, w[dst + j], c, y, e, z);
         y = z;
-        j += 1;
     }
 }
 
@@ -163,13 +140,11 @@ pub fn content(s: &[u32], n: u32) -> u32
     ensures { Content n s.now result }
 {
     let mut c = n;
-    let mut j: usize = 0;
-    while j < s.len() {
+    for &x in s {
         if c == 1 {
             return 1;
         }
-        c = bezout::gcd(s[j], c);
-        j += 1;
+        c = bezout::gcd(x, c);
     }
     c
 }
@@ -179,10 +154,8 @@ pub fn divide_words(w: &mut [u32], c: u32, at: usize, len: usize)
     requires { (1 ≤ c) × (at + len ≤ length w.old) }
     ensures { Moved (quotient_by c) at at len w.old w.new }
 {
-    let mut j: usize = 0;
-    while j < len {
+    for j in 0..len {
         w[at + j] = w[at + j] / c;
-        j += 1;
     }
 }
 
@@ -192,14 +165,12 @@ pub fn reduce_words(w: &mut [u32], n: u32, m: Reciprocal, at: usize, len: usize)
     requires len_in_bounds { at + len ≤ length w.old }
     ensures { Moved (reduced_by n) at at len w.old w.new }
 {
-    let mut j: usize = 0;
-    while j < len {
+    for j in 0..len {
         let r = reduction::product(m, w[at + j], 1);
         if r >= n {
             return;
         }
         w[at + j] = r;
-        j += 1;
     }
 }
 
@@ -209,10 +180,8 @@ pub fn copy_reversed(w: &mut [u32], src: usize, dst: usize, len: usize)
     requires apart { Apart src len dst len }
     ensures { Reversed src dst len w.old w.new }
 {
-    let mut j: usize = 0;
-    while j < len {
+    for j in 0..len {
         w[dst + j] = w[src + (len - 1 - j)];
-        j += 1;
     }
 }
 
@@ -221,22 +190,14 @@ pub fn clear(w: &mut [u32], at: usize, len: usize)
     requires { at + len ≤ length w.old }
     ensures { Moved zeroed at at len w.old w.new }
 {
-    let mut j: usize = 0;
-    while j < len {
-        w[at + j] = 0;
-        j += 1;
-    }
+    w[at..at + len].fill(0);
 }
 
 // Zero in every word.
 pub fn wipe(w: &mut [u32])
     ensures { w.new ≡ replicate (length w.old) 0 }
 {
-    let mut j: usize = 0;
-    while j < w.len() {
-        w[j] = 0;
-        j += 1;
-    }
+    w.fill(0);
 }
 
 // x modulo n; a residue costs no division.
@@ -255,9 +216,7 @@ pub fn load(w: &mut [u32], at: usize, f: &[u32], n: u32)
     requires { (1 ≤ n) × (at + length f.now ≤ length w.old) }
     ensures { Loaded n at f.now w.old w.new }
 {
-    let mut j: usize = 0;
-    while j < f.len() {
-        w[at + j] = residue(f[j], n);
-        j += 1;
+    for (j, &x) in f.iter().enumerate() {
+        w[at + j] = residue(x, n);
     }
 }

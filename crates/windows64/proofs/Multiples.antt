@@ -10,7 +10,7 @@ use Prim.Native.Nat.{ℕ, ◌+◌, ◌*◌, ◌%◌, ◌^◌, ◌<◌}
 use borrow.Author.Rules.{rules}
 use lib.ListN.{get_or, set}
 use Rattle.windows.specs.Window.{PairAsked}
-use Rattle.windows.proofs.WindowRounds.{Pairing, pairing_none, pairing_next, pairing_end, pair_word, leaves}
+use Rattle.windows.proofs.WindowRounds.{Pairing, pairing_next, leaves}
 use Rattle.montgomery64.specs.Forms.{Formed, Squared, Held, Reduced, two_words}
 use Rattle.reduction64.specs.Moduli.{Ready, formed, squared}
 use Rattle.reduction64.specs.declared.Reciprocal.{Reciprocal}
@@ -43,4 +43,4 @@ squared_as {m} r e h = subst (λ (x : ℕ). Squared x m.s) e (squared r h)
 
 pub ruleset multiples = (leaves, times_multiplier, added_multiplier, pairing_two)
 
-pub ruleset holds = (rules, pairing_none, pairing_end, pair_word, pairing_held, formed_as, squared_as)
+pub ruleset holds = (rules, pairing_held, formed_as, squared_as)

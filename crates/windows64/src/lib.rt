@@ -26,10 +26,8 @@ pub fn add_scaled(w: &mut [u64], n: u64, m: Reciprocal, c: u64, src: usize, dst:
     ensures { Moved (addMul n c) src dst len w.old w.new }
 {
     let f = multipliers64::multiplier_of(m, c);
-    let mut j: usize = 0;
-    while j < len {
+    for j in 0..len {
         w[dst + j] = multipliers64::add_times(m, w[dst + j], f, w[src + j]);
-        j += 1;
     }
 }
 
@@ -39,25 +37,14 @@ pub fn copy(w: &mut [u64], src: usize, dst: usize, len: usize)
     requires clear { Clear src dst len }
     ensures { Moved second src dst len w.old w.new }
 {
-    let mut j: usize = 0;
-    while j < len {
-        w[dst + j] = w[src + j];
-        j += 1;
-    }
+    w.copy_within(src..src + len, dst);
 }
 
 // The number of zeros at the front of s.
 pub fn zeros(s: &[u64]) -> usize
     ensures { Zeros s.now result }
 {
-    let mut j: usize = 0;
-    while j < s.len() {
-        if s[j] != 0 {
-            return j;
-        }
-        j += 1;
-    }
-    j
+    s.iter().position(|&x| x != 0).unwrap_or(s.len())
 }
 
 // w[dst + j] += c * w[src + j - 1] + e * w[src + j], for j < len; the word before the first counts as 0. By fractions: any n.
@@ -77,14 +64,12 @@ fn add_pair_plain(
 {
     let f = multipliers64::multiplier_of(m, c);
     let g = multipliers64::multiplier_of(m, e);
-    let mut j: usize = 0;
     let mut y: u64 = 0;
-    while j < len {
+    for j in 0..len {
         let z = w[src + j];
         let x = multipliers64::add_times(m, w[dst + j], f, y);
         w[dst + j] = multipliers64::add_times(m, x, g, z);
         y = z;
-        j += 1;
     }
 }
 
@@ -106,13 +91,11 @@ fn add_pair_held(
 {
     let f = montgomery64::enter(n, k, s, c);
     let g = montgomery64::enter(n, k, s, e);
-    let mut j: usize = 0;
     let mut y: u64 = 0;
-    while j < len {
+    for j in 0..len {
         let z = w[src + j];
         w[dst + j] = montgomery64::sum_two(n, k, w[dst + j], f, y, g, z);
         y = z;
-        j += 1;
     }
 }
 
@@ -144,13 +127,11 @@ pub fn content(s: &[u64], n: u64) -> u64
     ensures { Content n s.now result }
 {
     let mut c = n;
-    let mut j: usize = 0;
-    while j < s.len() {
+    for &x in s {
         if c == 1 {
             return 1;
         }
-        c = bezout64::gcd(s[j], c);
-        j += 1;
+        c = bezout64::gcd(x, c);
     }
     c
 }
@@ -160,10 +141,8 @@ pub fn divide_words(w: &mut [u64], c: u64, at: usize, len: usize)
     requires { (1 ≤ c) × (at + len ≤ length w.old) }
     ensures { Moved (quotient_by c) at at len w.old w.new }
 {
-    let mut j: usize = 0;
-    while j < len {
+    for j in 0..len {
         w[at + j] = w[at + j] / c;
-        j += 1;
     }
 }
 
@@ -173,14 +152,12 @@ pub fn reduce_words(w: &mut [u64], n: u64, m: Reciprocal, at: usize, len: usize)
     requires len_in_bounds { at + len ≤ length w.old }
     ensures { Moved (reduced_by n) at at len w.old w.new }
 {
-    let mut j: usize = 0;
-    while j < len {
+    for j in 0..len {
         let r = reduction64::product(m, w[at + j], 1);
         if r >= n {
             return;
         }
         w[at + j] = r;
-        j += 1;
     }
 }
 
@@ -190,10 +167,8 @@ pub fn copy_reversed(w: &mut [u64], src: usize, dst: usize, len: usize)
     requires apart { Apart src len dst len }
     ensures { Reversed src dst len w.old w.new }
 {
-    let mut j: usize = 0;
-    while j < len {
+    for j in 0..len {
         w[dst + j] = w[src + (len - 1 - j)];
-        j += 1;
     }
 }
 
@@ -202,22 +177,14 @@ pub fn clear(w: &mut [u64], at: usize, len: usize)
     requires { at + len ≤ length w.old }
     ensures { Moved zeroed at at len w.old w.new }
 {
-    let mut j: usize = 0;
-    while j < len {
-        w[at + j] = 0;
-        j += 1;
-    }
+    w[at..at + len].fill(0);
 }
 
 // Zero in every word.
 pub fn wipe(w: &mut [u64])
     ensures { w.new ≡ replicate (length w.old) 0 }
 {
-    let mut j: usize = 0;
-    while j < w.len() {
-        w[j] = 0;
-        j += 1;
-    }
+    w.fill(0);
 }
 
 // x modulo n; a residue costs no division.
@@ -236,9 +203,7 @@ pub fn load(w: &mut [u64], at: usize, f: &[u64], n: u64)
     requires { (1 ≤ n) × (at + length f.now ≤ length w.old) }
     ensures { Loaded n at f.now w.old w.new }
 {
-    let mut j: usize = 0;
-    while j < f.len() {
-        w[at + j] = residue(f[j], n);
-        j += 1;
+    for (j, &x) in f.iter().enumerate() {
+        w[at + j] = residue(x, n);
     }
 }

@@ -1,5 +1,6 @@
 use borrow.Author.Rules.{rules}
-use Rattle.divisor64.proofs.Cases.{falling, factors, products}
+use Rattle.divisor.proofs.Cases.{falling, products}
+use Rattle.divisor64.proofs.Cases.{factors}
 use Rattle.divisor64.proofs as own
 use Rattle.divisor64.proofs.+run as cycle
 

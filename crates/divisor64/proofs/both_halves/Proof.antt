@@ -1,6 +1,7 @@
 use borrow.Author.Rules.{rules}
 use Rattle.divisor.proofs.Halves.{half_after}
-use Rattle.divisor64.proofs.Cases.{attempts, trying}
+use Rattle.divisor.proofs.Cases.{trying}
+use Rattle.divisor64.proofs.Cases.{attempts}
 use Rattle.divisor64.proofs.both_halves.Statement.{statement}
 use Rattle.divisor64.proofs.both_halves.Tie as tie
 

@@ -1,5 +1,5 @@
 use borrow.Author.Rules.{rules}
-use Rattle.divisor64.proofs.Cases.{windows}
+use Rattle.divisor.proofs.Cases.{windows}
 use Rattle.divisor64.proofs.divided.Statement.{statement}
 use Rattle.divisor64.proofs.divided.Tie as tie
 

@@ -1,5 +1,5 @@
 use borrow.Author.Rules.{rules}
-use Rattle.divisor64.proofs.Cases.{half_attempts, fitting}
+use Rattle.divisor.proofs.Cases.{half_attempts, fitting}
 use Rattle.divisor64.proofs.half.Statement.{statement}
 use Rattle.divisor64.proofs.half.Tie as tie
 

@@ -1,5 +1,5 @@
 use borrow.Author.Rules.{rules}
-use Rattle.divisor64.proofs.Cases.{windows}
+use Rattle.divisor.proofs.Cases.{windows}
 use Rattle.divisor64.proofs.over.Statement.{statement}
 use Rattle.divisor64.proofs.over.Tie as tie
 

@@ -1,5 +1,5 @@
 use borrow.Author.Rules.{rules}
-use Rattle.divisor64.proofs.Cases.{swappings}
+use Rattle.divisor.proofs.Cases.{swappings}
 use Rattle.divisor64.proofs.swapped.Statement.{statement}
 use Rattle.divisor64.proofs.swapped.Tie as tie
 

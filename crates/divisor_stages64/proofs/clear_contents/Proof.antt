@@ -1,5 +1,5 @@
 use borrow.Author.Rules.{rules}
-use Rattle.divisor_stages64.proofs.Cases.{clearings}
+use Rattle.divisor_stages.proofs.Cases.{clearings}
 use Rattle.divisor_stages64.proofs.clear_contents.Statement.{statement}
 use Rattle.divisor_stages64.proofs.clear_contents.Tie as tie
 

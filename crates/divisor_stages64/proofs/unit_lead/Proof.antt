@@ -1,5 +1,5 @@
 use borrow.Author.Rules.{rules}
-use Rattle.divisor_stages64.proofs.Cases.{leadings}
+use Rattle.divisor_stages.proofs.Cases.{leadings}
 use Rattle.divisor_stages64.proofs.unit_lead.Statement.{statement}
 use Rattle.divisor_stages64.proofs.unit_lead.Tie as tie
 

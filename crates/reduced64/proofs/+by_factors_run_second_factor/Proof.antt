@@ -1,6 +1,6 @@
 use borrow.Author.Rules.{rules}
 use Prim.Native.Nat.{◌+◌, ◌*◌}
-use Rattle.reduced64.proofs.Cases.{runs_of}
+use Rattle.reduced.proofs.Cases.{runs_of}
 use Rattle.reduced_quick64.proofs as quick
 use Rattle.reduction64.proofs as moduli
 use Rattle.reduced64.proofs as own

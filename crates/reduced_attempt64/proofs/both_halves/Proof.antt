@@ -1,5 +1,6 @@
 use borrow.Author.Rules.{rules}
-use Rattle.reduced_attempt64.proofs.Cases.{attempts, later_at}
+use Rattle.reduced_attempt.proofs.Cases.{later_at}
+use Rattle.reduced_attempt64.proofs.Cases.{attempts}
 use Rattle.reduced_attempt64.proofs.both_halves.Statement.{statement}
 use Rattle.reduced_attempt64.proofs.both_halves.Tie as tie
 

@@ -1,5 +1,6 @@
 use borrow.Author.Rules.{rules}
-use Rattle.reduced_attempt64.proofs.Cases.{attempts, over_word}
+use Rattle.reduced_attempt.proofs.Cases.{over_word}
+use Rattle.reduced_attempt64.proofs.Cases.{attempts}
 use Rattle.reduced_attempt64.proofs.scaled_half.Statement.{statement}
 use Rattle.reduced_attempt64.proofs.scaled_half.Tie as tie
 

@@ -1,5 +1,5 @@
 use borrow.Author.Rules.{rules}
-use Rattle.window_factor64.proofs.Cases.{highest}
+use Rattle.window_factor.proofs.Cases.{highest}
 use Rattle.reduced_clearing.proofs.UnitSteps.{units}
 use Rattle.reduced_clearing64.proofs.clear_unit.Statement.{statement}
 use Rattle.reduced_clearing64.proofs.clear_unit.Tie as tie

@@ -2,7 +2,7 @@
 -- degree of A for the content stage, that of B for the division stage.
 use borrow.Author.Rules.{rules}
 use Prim.Native.Nat.{◌+◌, ◌*◌, ◌/◌}
-use Rattle.reduced_stages64.proofs.Cases.{next_fits, nexts, stages}
+use Rattle.reduced_stages.proofs.Cases.{next_fits, nexts, stages}
 use Rattle.reduced_stages.proofs.Endings.{overs, scales}
 use Rattle.bezout64.proofs as bezout
 use Rattle.modulus_windows64.proofs as windows

@@ -1,5 +1,5 @@
 use borrow.Author.Rules.{rules}
-use Rattle.resultant64.proofs.Cases.{falling, factors, moduli, wholes, joining}
+use Rattle.resultant.proofs.Joining.{falling, factors, joining}
 use Rattle.reduction64.proofs as reduction
 use Rattle.residue64.proofs as residue
 use Rattle.resultant64.proofs as own
@@ -22,5 +22,5 @@ pub +run_spec : {M : Type 1} → cycle.statement M
     _ own.run.Reads.Post (λ c κs. search rules) (λ c κs. ((search rules, search rules), search rules)) (λ c. search rules)
     (λ c. search rules) (λ c κs. (search falling, (search factors, search rules)))
     (λ c κs. (search falling, (search factors, search rules)))
-    (λ c κs. ((search rules, search wholes), (search moduli, (search factors, search factors)))) (λ c. search rules)
+    (λ c κs. ((search rules, search factors), (search factors, (search factors, search factors)))) (λ c. search rules)
     (λ c. (search joining, search rules)) (λ c. search rules) (λ c. (search joining, search rules)))

@@ -1,5 +1,5 @@
 use borrow.Author.Rules.{rules}
-use Rattle.resultant64.proofs.Cases.{loading}
+use Rattle.resultant.proofs.Loading.{loading}
 use Rattle.resultant64.proofs.swapped.Statement.{statement}
 use Rattle.resultant64.proofs.swapped.Tie as tie
 

@@ -1,6 +1,6 @@
 use borrow.Author.Rules.{rules}
 use Prim.Native.Nat.{◌+◌, ◌*◌}
-use Rattle.resultant_attempt64.proofs.Cases.{attempts, products}
+use Rattle.resultant_attempt.proofs.Cases.{attempts, products}
 use Rattle.bezout64.proofs as bezout
 use Rattle.reduction64.proofs as reduction
 use Rattle.window_division64.proofs as division

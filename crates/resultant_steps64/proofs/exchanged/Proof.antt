@@ -1,5 +1,5 @@
 use borrow.Author.Rules.{rules}
-use Rattle.resultant_steps64.proofs.AnswerChanges.{rotated}
+use Rattle.resultant_steps.proofs.AnswerChanges.{rotated}
 use Rattle.resultant_steps64.proofs.exchanged.Statement.{statement}
 use Rattle.resultant_steps64.proofs.exchanged.Tie as tie
 

@@ -1,7 +1,0 @@
-use Rattle.std.proofs.Common.{rules}
-use Rattle.convolution.proofs.Terms.{products}
-use Rattle.convolution.proofs.product_word.Statement.{statement}
-use Rattle.convolution.proofs.product_word.Tie as tie
-
-pub product_word_spec : {M : Type 1} → statement M
-product_word_spec = tie.close (tie.spec (λ c κs. search rules) (λ c κs. search rules) (λ c. search products))

@@ -1,7 +1,0 @@
-use Rattle.degree_service.proofs.Degrees.{degrees}
-use Rattle.degree_service.proofs.true_degree_words.Statement.{statement}
-use Rattle.degree_service.proofs.true_degree_words.Tie as tie
-
-pub true_degree_words_spec : {M : Type 1} → statement M
-true_degree_words_spec = tie.close (tie.spec (λ c κs. search degrees) (λ c. search degrees) (λ c. search degrees) (λ c. search degrees)
-    (λ c. search degrees) (λ c. search degrees) (λ c. search degrees))

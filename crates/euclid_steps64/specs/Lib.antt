@@ -1,2 +1,0 @@
-pub mod EuclidStages
-pub mod Backs

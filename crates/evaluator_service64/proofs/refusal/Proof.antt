@@ -1,7 +1,0 @@
-use Rattle.evaluator_service.proofs.Statuses.{statuses}
-use Rattle.evaluator_service64.proofs.refusal.Statement.{statement}
-use Rattle.evaluator_service64.proofs.refusal.Tie as tie
-
-pub refusal_spec : {M : Type 1} → statement M
-refusal_spec = tie.close (tie.spec (λ c κs. search statuses) (λ c. search statuses) (λ c κs. search statuses) (λ c. search statuses)
-    (λ c κs. search statuses) (λ c. search statuses) (λ c. search statuses))

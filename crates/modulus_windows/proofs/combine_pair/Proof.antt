@@ -1,9 +1,0 @@
-use borrow.Author.Rules.{rules}
-use Rattle.modulus_windows.proofs.Forms.{forms}
-use Rattle.modulus_windows.proofs.combine_pair.Statement.{statement}
-use Rattle.modulus_windows.proofs.combine_pair.Tie as tie
-
-pub combine_pair_spec : {M : Type 1} → statement M
-combine_pair_spec = tie.close (tie.spec (λ c. search rules) (λ c. search rules) (λ c κs. (search forms, (search rules, search rules)))
-    (λ c. search rules) (λ c. search forms) (λ c. search rules) (λ c. search rules) (λ c. search rules) (λ c κs. search forms)
-    (λ c. search rules) (λ c. search forms))

@@ -1,0 +1,5 @@
+use Rattle.modulus_windows.proofs.Adding.{additions}
+use Rattle.modulus_windows.proofs.set_scaled.Goals as goal
+
+pub returns-then-m-ne0 : goal.returns-then-m-ne0
+returns-then-m-ne0 c = search additions

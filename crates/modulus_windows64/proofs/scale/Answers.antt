@@ -1,0 +1,5 @@
+use Rattle.modulus_windows64.proofs.Loops.{loops}
+use Rattle.modulus_windows64.proofs.scale.Goals as goal
+
+pub returns : goal.returns
+returns c = search loops

@@ -1,0 +1,7 @@
+use Rattle.modulus.specs.Values.{values}
+use Rattle.modulus64.specs.Plain.{plain}
+use Rattle.multiplier_words.proofs.Putting.{Putting}
+use Rattle.multiplier_words64.proofs.put.Given as goal
+
+abbrev pub invariant-loop-j : goal.invariant-loop-j
+invariant-loop-j l = Putting l.m.n l.c l.at l.len (values (plain l.m) l.w) l.initial.u l.u l.j

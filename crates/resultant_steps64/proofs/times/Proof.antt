@@ -1,7 +1,0 @@
-use borrow.Author.Rules.{rules}
-use Rattle.resultant_steps64.proofs.AnswerChanges.{rotated}
-use Rattle.resultant_steps64.proofs.times.Statement.{statement}
-use Rattle.resultant_steps64.proofs.times.Tie as tie
-
-pub times_spec : {M : Type 1} → statement M
-times_spec = tie.close (tie.spec (λ c. search rules) (λ c κs. search rules) (λ c. search rules) (λ c. search rotated) (λ c. search rotated))

@@ -1,9 +1,0 @@
-use Prim.Native.Nat.{◌-◌}
-use borrow.Author.Rules.{rules}
-use Rattle.test_vectors.proofs.combines.Statement.{statement}
-use Rattle.test_vectors.proofs.combines.Tie as tie
-
-pub combines_spec : {M : Type 1} → statement M
-combines_spec = tie.close (tie.spec (λ n f g u v c count k₀ k. Unit {0}) (λ n f g u v c count k₀ k. count - k) (λ c. search rules)
-    (λ c κs. search rules) (λ c κs. search rules) (λ c. search rules) (λ c κs. search rules) (λ c. search rules) (λ c. search rules)
-    (λ c. search rules) (λ c. search rules) (λ c. search rules))

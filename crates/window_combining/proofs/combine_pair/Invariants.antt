@@ -1,0 +1,5 @@
+use Rattle.window_combining.proofs.Steps.{Combining}
+use Rattle.window_combining.proofs.combine_pair.Given as goal
+
+abbrev pub invariant-loop-j : goal.invariant-loop-j
+invariant-loop-j l = Combining l.modulus.n l.l l.c l.m l.src l.dst l.len l.initial.w l.w l.j l.y

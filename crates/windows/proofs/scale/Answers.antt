@@ -1,0 +1,5 @@
+use Rattle.windows.proofs.WindowRounds.{leaves}
+use Rattle.windows.proofs.scale.Goals as goal
+
+pub loop-j-preserved : goal.loop-j-preserved
+loop-j-preserved c = search leaves

@@ -1,0 +1,5 @@
+use Rattle.windows64.proofs.Multiples.{multiples}
+use Rattle.windows64.proofs.add_scaled.Goals as goal
+
+pub loop-j-preserved : goal.loop-j-preserved
+loop-j-preserved c = search multiples
