@@ -20,7 +20,8 @@ from pathlib import Path
 ROOT = Path(__file__).resolve().parent.parent
 SLOW = set()             # names of scripts that take more than a minute on one core
 # modules, and scripts whose output is not stored
-HELPERS = {"reference.py", "ideal_constants.py", "draw_frames.py", "clauses.py", "twins.py", "edits.py", "snake_names.py"}
+HELPERS = {"reference.py", "ideal_constants.py", "draw_frames.py", "clauses.py", "twins.py", "edits.py", "snake_names.py",
+           "design_counts.py"}
 MADE = re.compile(r"(?:> )?(?:crates/\w+/(?:stdin|stdout)|docs/\w+\.svg)")
 
 
