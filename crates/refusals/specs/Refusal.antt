@@ -9,7 +9,7 @@ use Rattle.refusals.specs.declared.Refusal.TheVariants.{BadModulus, BadLength, B
 use Rattle.refusals.specs.declared.Refusal.TheVariants.{NoFrame, NoCofactors, EmptyTop, PrimeDivides, TooManyPoints, FactorsFull, BadNumber}
 use Rattle.refusals.specs.declared.Refusal.TheVariants.{BadFrames, BadMultiplier, NoText}
 
--- S29, the column "Number"
+-- S29: the number of each
 abbrev pub number_of : Refusal → ℕ
 number_of BadModulus = 1
 number_of BadLength = 2

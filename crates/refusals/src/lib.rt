@@ -22,7 +22,7 @@ pub const MAX_LENGTH: usize = 49;
 // The working words that a service is lent (S27).
 pub const WORKING_WORDS: usize = 8192;
 
-// Why a call is refused: "The refusals" (S29), under their numbers.
+// Why a call is refused: the refusals of S29, under their numbers.
 #[derive(Clone, Copy, Debug, PartialEq, Eq)]
 pub enum Refusal {
     BadModulus = 1,
@@ -63,7 +63,7 @@ pub struct Answer {
     pub status: u32,
 }
 
-// S23: "After a refusal every value returned is 0".
+// S23: "Each returns its number and value 0".
 impl From<Refusal> for Answer {
     ghost use Rattle.refusals.specs.Refusal.{number_of};
 

@@ -28,7 +28,7 @@ pub struct Answer {
     pub status: u32,
 }
 
-// S23: "After a refusal every value returned is 0".
+// S23: "Each returns its number and value 0".
 impl From<Refusal> for Answer {
     ghost use Rattle.refusals.specs.Refusal.{number_of};
 
