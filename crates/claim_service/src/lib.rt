@@ -36,7 +36,7 @@ pub fn check_claim(
         return Claim::Refused(refusal);
     }
     let judged = claims::judge(work, n, f, g, d, u, v);
-    windows::wipe(work);
+    answers::answered(0, work);
     match judged {
         Ok(()) => Claim::Accepted,
         Err(failure) => Claim::Fails(failure),

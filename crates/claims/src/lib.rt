@@ -108,10 +108,12 @@ pub fn judge(
     ensures judged { Judged (number_failing result) n f.now g.now d u.now v.now }
     ensures scratch { Scratch work.old work.new }
 {
-    if !divides(n, d) {
+    let divides_n = divides(n, d);
+    let gives_d = combines(n, f, g, d, u, v);
+    if !divides_n {
         return Err(Failure::Divisor);
     }
-    if !combines(n, f, g, d, u, v) {
+    if !gives_d {
         return Err(Failure::Combination);
     }
     if !is_reduced(work, n, f, g, d) {
