@@ -7,7 +7,7 @@
 --   reduced_told                 there is one reduced resultant
 --   tests, combinations          the rules
 use mathlib.Core.Path.{◌≡◌, sym, ap₂, subst, ◌∙◌}
-use mathlib.Core.Bool.{true, false, not}
+use mathlib.Core.Bool.{Bool, true, false}
 use mathlib.Core.List.{List}
 use Prim.Native.Nat.{ℕ, zero, suc, max, ◌+◌, ◌-◌, ◌%◌, ◌<◌, ◌≤◌, ◌∣◌}
 use native.Mathlib.Nat.{zero-mod, mod-eq-zero_of_dvd, dvd_of_mod-eq-zero, pos_of_dvd_of_pos}
@@ -16,7 +16,7 @@ use native.Mathlib.Omega.{arith}
 use lib.Dec.{T, eqb}
 use lib.ListN.{length}
 use borrow.Author.Rules.{rules}
-use borrow.Author.Tests.{eq-eqb, eqb-true, eqb-false}
+use borrow.Author.Tests.{eqb-true, eqb-false}
 use Rattle.definitions.specs.Polynomials.{coef, convolve, constant}
 use Rattle.definitions.specs.Checks.{convolve_beyond}
 use Rattle.definitions.specs.Resultants.{Combination, Reduced}
@@ -35,8 +35,8 @@ no_told h = record { holds = λ e. true_false (sym e); fails = λ _. h }
 
 -- ---- the first
 
-pub tells_none : (d n : ℕ) → 1 ≤ n → d ≡ 0 → Tells (not (eqb d 0)) (d ∣ n)
-tells_none d n l z = rw (eq-eqb d 0 z) (no_told (λ h. let p = pos_of_dvd_of_pos h l in absurd (omega arith)))
+pub tells_none : (d n : ℕ) (t : Bool) → 1 ≤ n → d ≤ 0 → t ≡ false → Tells t (d ∣ n)
+tells_none d n t l z e = rw e (no_told (λ h. let p = pos_of_dvd_of_pos h l in absurd (omega arith)))
 
 pub tells_rest : (d n : ℕ) → Tells (eqb (n % d) 0) (d ∣ n)
 tells_rest d n = record {

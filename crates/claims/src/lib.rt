@@ -36,6 +36,7 @@ impl Failure {
 }
 
 // S47: "0 divides no n"
+#[tactic(auto, using(crate::proofs::Testing::tests))]
 fn divides(n: u32, d: u32) -> bool
     requires { 1 ≤ n }
     ensures { Tells result (d ∣ n) }

@@ -51,8 +51,8 @@ left_step {m} {a} {len} {c} {l} {g} {w} h p d n = record {
         subst (λ (x : ℕ). g ∣ x) (ap (λ (x : ℕ). get_or w (a + x) 0) (sym e) ∙ sym (piece_at w a len k (omega (arith, h.few)))) d.left
 
 pub left_unit : {m a len c l l' g : ℕ} {w : List ℕ} → Left m w a len c l → 0 < l → a + len ≤ length w
-    → IsGcd (get_or w (a + (l - 1)) 0) c g → g ≡ 1 → l' ≡ l → Stripped m (piece w a len) c l'
-left_unit {m} {a} {len} {c} {l} {l'} {g} {w} h p b d e el = rw el (record {
+    → IsGcd (get_or w (a + (l - 1)) 0) c g → g ≤ 1 → l' ≡ l → Stripped m (piece w a len) c l'
+left_unit {m} {a} {len} {c} {l} {l'} {g} {w} h p b d few el = rw el (record {
   divides = h.divides;
   two = h.two;
   few = subst (λ (x : ℕ). l ≤ x) (sym (piece_length w a len b)) h.few;
@@ -64,6 +64,9 @@ left_unit {m} {a} {len} {c} {l} {l'} {g} {w} h p b d e el = rw el (record {
   }));
 })
   where
+    e : g ≡ 1
+    e = let p : 0 < g = pos_of_dvd_of_pos d.right (omega (arith, h.two)) in omega arith
+
     word : coef (piece w a len) (l - 1) ≡ get_or w (a + (l - 1)) 0
     word = piece_at w a len (l - 1) (omega (arith, h.few))
 

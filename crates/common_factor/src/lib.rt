@@ -60,7 +60,8 @@ fn unit_lead(w: &[u32], n: u32, a: usize, len: usize) -> Cut
     let mut c = n;
     for l in (0..len).rev() {
         let g = bezout::gcd(w[a + l], c);
-        if g == 1 {
+        let is_unit = g == 1;
+        if is_unit {
             return Cut { n: c, len: l + 1 };
         }
         c = g;

@@ -48,8 +48,14 @@ side x u s h k = ap (λ (F : ℕ → ℕ). convolve F (coef x) k) (fun_ext h.at)
 none_above : (x : List ℕ) (s k : ℕ) → length x ≡ 1 → s * coef x (suc k) ≡ 0
 none_above x s k e = ap (λ (y : ℕ). s * y) (get_or-eq_default x 0 {n = suc k} (omega arith)) ∙ mul-zero s
 
-module _ {n D : ℕ} {f g u v : List ℕ} (x y w : List ℕ) (asked : RunAsked n f g x y w) (ef : length f ≡ 1) (eg : length g ≡ 1)
+module _ {n D : ℕ} {f g u v x y w : List ℕ} (asked : RunAsked n f g x y w) (lf : length f ≤ 1) (lg : length g ≤ 1)
     (c : ConstantCofactors n (coef f 0) (coef g 0) u v D) where
+  ef : length f ≡ 1
+  ef = omega (arith, lf, asked.some_f)
+
+  eg : length g ≡ 1
+  eg = omega (arith, lg, asked.some_g)
+
   pos : 1 ≤ n
   pos = omega (arith, asked.modulus)
 

@@ -57,8 +57,10 @@ fn worked(n: u32, f: &[u32], g: &[u32], u: &mut [u32], v: &mut [u32], w: &mut [u
     ensures scratch { Scratch w.old w.new }
     ensures least_constants { LeastConstants n f.now g.now u.new v.new result }
 {
-    if f.len() == 1 {
-        if g.len() == 1 {
+    let f_is_constant = f.len() == 1;
+    let g_is_constant = g.len() == 1;
+    if f_is_constant {
+        if g_is_constant {
             return constants(n, f[0], g[0], u, v);
         }
         return by_run(n, f, g, u, v, w);

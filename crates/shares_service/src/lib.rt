@@ -34,6 +34,7 @@ struct Giving {
 }
 
 // The first group from `turn` on, round the order, that has one waiting, or 4 where none has. The groups 1 to 4 have the places 0 to 3.
+#[tactic(auto, using(crate::proofs::Asking::asking))]
 fn first_waiting(waiting: [u32; GROUPS], turn: usize) -> usize
     requires { turn < 4 }
     ensures { result ≡ first_waiting_of waiting 4 turn }

@@ -58,6 +58,7 @@ fn read_words(n: u32, f: &[u32], words: &mut [u32]) -> Answer
 
 // "The reader answers the number of words". A text of more than 767 characters is not of the notation (text_notation/proofs/Lengths.antt)
 // and is refused unread.
+#[tactic(auto, using(crate::proofs::ReadReturns::by_text))]
 pub fn read_text(n: u32, text: &[u8], words: &mut [u32]) -> Answer
     ensures { ReadAnswer narrow n text.now words.old words.new result.value result.status }
 {
